@@ -1,0 +1,87 @@
+-- Decoding and encoding are inverse: one test over the table, and one lemma that turns it into the rule at each row.
+use Rattle.std.proofs.Common.{◌≡◌, ℕ, zero, suc, ◌+◌, ◌<◌, ◌^◌, Bool, true, false, ◌&&◌, ◌==◌, refl, sym, ap, subst, ◌∙◌, List, [], ◌∷◌, Option, Some, None, arith}
+use Rattle.std.specs.Prelude.{bit_and, nat_lt, slice_get, IsSomeAnd, IfSome, option_and_then}
+use Rattle.std.specs.Option.{option_map, option_map_or}
+use Rattle.std.specs.List.{list_all}
+use Rattle.std.proofs.lemmas.Bool.{eqb-true}
+use borrow.Author.Tests.{ltb-true}
+use Rattle.r3k_table.specs.declared.row.Shape.{Shape}
+use Rattle.r3k_table.specs.declared.row.Shape.TheVariants.{A, H, O, P}
+use Rattle.r3k_table.specs.Table.{Instruction, instructions, Matches, row_of}
+use Rattle.r3k_table.proofs.Apart.{row_from, found}
+use Rattle.r3k_decode.specs.Operation.{Operation, read_as, placed, IsZeroElsewhere, FitsFields, IsOperation}
+use Rattle.r3k_decode.specs.Decoding.{operation_of, word_of}
+use Rattle.r3k_decode.proofs.Shapes.{mask_of, whole, read_back, placed_again}
+
+-- a row's mask is that of its shape, and its value lies under it
+abbrev is_made : Instruction → Bool
+is_made r = (r.mask == mask_of r.shape) && ((bit_and r.value r.mask == r.value) && nat_lt r.value (2 ^ 32))
+
+record Made (r : Instruction) : Type 0 where
+  mask : r.mask ≡ mask_of r.shape
+  value : bit_and r.value r.mask ≡ r.value
+  word : r.value < 2 ^ 32
+
+left : (a b : Bool) → (a && b) ≡ true → a ≡ true
+left true b e = refl
+left false b e = e
+
+right : (a b : Bool) → (a && b) ≡ true → b ≡ true
+right true b e = e
+right false b e = absurd (let f : false ≡ true = e in cc)
+
+-- what the test says of each row of the table
+passes_at : (rows : List Instruction) → list_all is_made rows ≡ true → (i : ℕ) (r : Instruction) → slice_get rows i ≡ Some r → is_made r ≡ true
+passes_at [] all i r e = absurd (let f : None ≡ Some r = e in cc)
+passes_at (a ∷ rows) all zero r e =
+    let same : a ≡ r = (let f : Some a ≡ Some r = e in cc) in subst (λ (x : Instruction). is_made x ≡ true) same (left (is_made a) (list_all is_made rows) all)
+passes_at (a ∷ rows) all (suc i) r e = passes_at rows (right (is_made a) (list_all is_made rows) all) i r e
+
+made : (i : ℕ) (r : Instruction) → slice_get instructions i ≡ Some r → Made r
+made i r e =
+    let t = passes_at instructions refl i r e in
+    let rest = right (r.mask == mask_of r.shape) ((bit_and r.value r.mask == r.value) && nat_lt r.value (2 ^ 32)) t in
+    record {
+      mask = eqb-true r.mask (mask_of r.shape) (left (r.mask == mask_of r.shape) ((bit_and r.value r.mask == r.value) && nat_lt r.value (2 ^ 32)) t);
+      value = eqb-true (bit_and r.value r.mask) r.value (left (bit_and r.value r.mask == r.value) (nat_lt r.value (2 ^ 32)) rest);
+      word = ltb-true r.value (2 ^ 32) (right (bit_and r.value r.mask == r.value) (nat_lt r.value (2 ^ 32)) rest);
+    }
+
+-- an instruction's word has its row, and says it
+said : (i : Operation) (o : Option Instruction) → slice_get instructions i.row ≡ o → IsSomeAnd o (λ r. IsZeroElsewhere r.shape i) → FitsFields i → operation_of (option_map_or (λ r. r.value + placed r.shape i) o 0) ≡ Some i
+said i None e z f = absurd z
+said i (Some r) e z f =
+    let m = made i.row r e in
+    let under : bit_and r.value (mask_of r.shape) ≡ r.value = subst (λ (n : ℕ). bit_and r.value n ≡ r.value) m.mask m.value in
+    let word = r.value + placed r.shape i in
+    let match : bit_and word r.mask ≡ r.value = ap (bit_and word) m.mask ∙ whole r.shape r.value i m.word under f in
+    let matches : Matches word i.row = subst (λ (o : Option Instruction). IsSomeAnd o (λ q. bit_and word q.mask ≡ q.value)) (sym e) match in
+    let row : row_of word ≡ Some i.row = row_from instructions refl word 0 i.row matches ∙ ap Some (omega arith) in
+    ap (option_and_then (λ n. option_map (λ q. read_as n q.shape word) (slice_get instructions n))) row
+    ∙ (ap (option_map (λ q. read_as i.row q.shape word)) e
+    ∙ ap Some (read_back r.shape i.row r.value i m.word under f z refl))
+
+pub decoded : (i : Operation) → IsOperation i → operation_of (word_of i) ≡ Some i
+decoded i h = said i (slice_get instructions i.row) refl h.row h.fits
+
+-- a word keeps the number of the row that it is read as
+row_read : (shape : Shape) (row word : ℕ) → (read_as row shape word).row ≡ row
+row_read A row word = refl
+row_read H row word = refl
+row_read O row word = refl
+row_read P row word = refl
+
+-- a word with a row is the word of what it says
+spelled : (word n : ℕ) (o : Option Instruction) → word < 2 ^ 32 → slice_get instructions n ≡ o → IsSomeAnd o (λ r. bit_and word r.mask ≡ r.value) → IfSome (option_map (λ r. read_as n r.shape word) o) (λ i. word_of i ≡ word)
+spelled word n None w e h = tt
+spelled word n (Some r) w e h =
+    let i = read_as n r.shape word in
+    ap (λ (o : Option Instruction). option_map_or (λ q. q.value + placed q.shape i) o 0) (ap (slice_get instructions) (row_read r.shape n word) ∙ e)
+    ∙ placed_again r.shape n r.value word w (ap (bit_and word) (sym (made n r e).mask) ∙ h)
+
+of_row : (word : ℕ) (o : Option ℕ) → word < 2 ^ 32 → IfSome o (Matches word) → IfSome (option_and_then (λ n. option_map (λ r. read_as n r.shape word) (slice_get instructions n)) o) (λ i. word_of i ≡ word)
+of_row word None w h = tt
+of_row word (Some n) w h = spelled word n (slice_get instructions n) w refl h
+
+pub encoded : (word : ℕ) → word < 2 ^ 32 → IfSome (operation_of word) (λ i. word_of i ≡ word)
+encoded word w = of_row word (row_of word) w (found instructions word)

@@ -1,0 +1,4 @@
+pub use Rattle.r3k_table.specs.Table
+pub mod Operation
+pub mod Decoding
+pub mod Seen

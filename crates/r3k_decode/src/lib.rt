@@ -1,0 +1,10 @@
+//! Words to instructions and back, over the instruction table.
+#![tactic(auto)]
+
+mod codec;
+mod insn;
+mod laws;
+
+pub use codec::{decode, encode};
+pub use insn::Insn;
+pub use laws::word_laws;

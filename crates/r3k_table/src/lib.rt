@@ -1,0 +1,6 @@
+//! The instruction table: one row for each instruction, in code and in `specs/`, proved equal and pairwise apart.
+#![tactic(auto)]
+
+pub mod laws;
+pub mod row;
+pub mod rows;
