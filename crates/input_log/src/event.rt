@@ -1,0 +1,24 @@
+//! A timed serial byte.
+
+use std::marker::Model;
+
+/// A byte that arrives at a line of the serial part, in the step `time`. A line is at most 3.
+#[derive(Clone, Copy, Debug, PartialEq, Eq)]
+pub struct Event {
+    pub time: u64,
+    pub line: u8,
+    pub byte: u8,
+}
+
+impl Model for Event {
+    ghost use Rattle.std.specs.Prelude.{◌≤◌};
+    ghost use Rattle.input_log.specs.Event.{TimedByte};
+
+    ghost Value = { TimedByte };
+
+    ghost view = { λ event. record { time = event.time; line = event.line; byte = event.byte } };
+
+    ghost invariant = { λ event. event.line ≤ 3 };
+
+    ghost inverse = { λ event. record { time = event.time; line = event.line; byte = event.byte } };
+}

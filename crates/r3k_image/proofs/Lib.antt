@@ -1,0 +1,10 @@
+pub mod Words
+pub mod Placing
+pub mod Lookup
+pub mod Kept
+pub mod Last
+pub mod Fits
+pub mod Loop
+pub mod Fields
+pub mod Format
+pub mod RomWords

@@ -1,0 +1,4 @@
+pub mod Boot
+pub mod Segments
+pub mod Spelling
+pub mod Reading

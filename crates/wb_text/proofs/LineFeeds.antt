@@ -1,0 +1,23 @@
+-- Every reply but Nothing ends with a line feed.
+use Rattle.std.proofs.Common.{◌≢◌, ℕ, ◌+◌, ◌*◌, List, [], ◌∷◌, ◌++◌, refl, subst, sym, ap, ◌∙◌, append_assoc, codes}
+use Rattle.std.specs.Fmt.{decimal}
+use Rattle.wb_text.specs.Text.{line}
+use Rattle.wb_text.specs.Reply.{EndsWithLineFeed, text_of, state_text, row_text, rows_text, refusal_text}
+use Rattle.wb_text.specs.declared.reply.Reply.{Reply}
+use Rattle.wb_text.specs.declared.reply.Reply.TheVariants.{Position, Registers, Nothing, Fault}
+use Rattle.wb_text.proofs.Rows.{rows_text-more}
+
+-- what stands before a line changes nothing at its end
+behind : (front text : List ℕ) → EndsWithLineFeed text → EndsWithLineFeed (front ++ text)
+behind front text ends = (front ++ ends.0, ap (λ t. front ++ t) ends.1 ∙ sym (append_assoc front ends.0 (10 ∷ [])))
+
+rows_end : (registers : List ℕ) (row : ℕ) → EndsWithLineFeed (rows_text registers (row + 1))
+rows_end registers row =
+    let P : List ℕ → Type 0 = EndsWithLineFeed in
+    subst P (sym (rows_text-more registers row)) (behind (rows_text registers row) (line (row_text registers (4 * row))) (row_text registers (4 * row), refl))
+
+pub ends_with_line_feed : (reply : Reply) → reply ≢ Nothing → EndsWithLineFeed (text_of reply)
+ends_with_line_feed (Position position) some = (codes "pos " ++ decimal position, refl)
+ends_with_line_feed (Registers r) some = behind (line (state_text r)) (rows_text r.registers 8) (rows_end r.registers 7)
+ends_with_line_feed Nothing some = absurd (some refl)
+ends_with_line_feed (Fault fault) some = (refusal_text fault, refl)

@@ -1,0 +1,5 @@
+pub mod Number
+pub mod Words
+pub mod Command
+pub mod Text
+pub mod Reply

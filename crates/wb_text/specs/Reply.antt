@@ -1,0 +1,63 @@
+-- The replies of a script and their text (own).
+use Rattle.std.specs.Prelude.{◌≡◌, ℕ, zero, suc, ◌+◌, ◌*◌, List, [], ◌++◌, Bool, true, false, Option, Some, None, codes, slice_index}
+use Rattle.std.specs.Fmt.{decimal}
+use Rattle.wb_text.specs.Text.{word_text, register_text, line}
+use Rattle.wb_text.specs.declared.fault.Fault.{Fault}
+use Rattle.wb_text.specs.declared.fault.Fault.TheVariants.{Memory, Syntax, Range, NoEvent, Unaligned, NotMemory, TooFar, NotFound}
+use Rattle.wb_text.specs.declared.reply.Load.{Load}
+use Rattle.wb_text.specs.declared.reply.Registers.{Registers as AllRegisters}
+use Rattle.wb_text.specs.declared.reply.Reply.{Reply}
+use Rattle.wb_text.specs.declared.reply.Reply.TheVariants.{Position, Registers, Nothing, Fault as Refused}
+
+-- a refusal by its number and name
+abbrev pub refusal_text : Fault → List ℕ
+refusal_text Memory = codes "error 1 Memory"
+refusal_text Syntax = codes "error 2 Syntax"
+refusal_text Range = codes "error 3 Range"
+refusal_text NoEvent = codes "error 4 NoEvent"
+refusal_text Unaligned = codes "error 5 Unaligned"
+refusal_text NotMemory = codes "error 6 NotMemory"
+refusal_text TooFar = codes "error 7 TooFar"
+refusal_text NotFound = codes "error 8 NotFound"
+
+-- a flag as a digit
+abbrev pub flag_text : Bool → List ℕ
+flag_text true = codes "1"
+flag_text false = codes "0"
+
+-- the load slot
+abbrev pub load_text : Option Load → List ℕ
+load_text None = codes "none"
+load_text (Some load) = register_text load.register ++ codes " " ++ word_text load.value
+
+-- what the first line says: all that isn't one of the 32 registers
+unfoldable pub state_text : AllRegisters → List ℕ
+state_text r =
+    codes "pc " ++ word_text r.pc ++ codes " next " ++ word_text r.next_pc
+    ++ codes " hi " ++ word_text r.hi ++ codes " lo " ++ word_text r.lo
+    ++ codes " delay " ++ flag_text r.delay ++ codes " load " ++ load_text r.load
+
+-- what a row says: four registers, from one on
+unfoldable pub row_text : List ℕ → ℕ → List ℕ
+row_text registers first =
+    register_text first
+    ++ codes " " ++ word_text (slice_index registers first)
+    ++ codes " " ++ word_text (slice_index registers (first + 1))
+    ++ codes " " ++ word_text (slice_index registers (first + 2))
+    ++ codes " " ++ word_text (slice_index registers (first + 3))
+
+-- the lines of the first rows, which begin with r0, r4, r8 and so on
+unfoldable pub rows_text : List ℕ → ℕ → List ℕ
+rows_text registers zero = []
+rows_text registers (suc row) = rows_text registers row ++ line (row_text registers (4 * row))
+
+-- the text of a reply
+abbrev pub text_of : Reply → List ℕ
+text_of (Position position) = line (codes "pos " ++ decimal position)
+text_of (Registers r) = line (state_text r) ++ rows_text r.registers 8
+text_of Nothing = []
+text_of (Refused fault) = line (refusal_text fault)
+
+-- a text that isn't empty and whose last byte is a line feed
+abbrev pub EndsWithLineFeed : List ℕ → Type 0
+EndsWithLineFeed text = (front : List ℕ) × (text ≡ line front)

@@ -1,0 +1,16 @@
+//! The text of the workbench: script lines to commands, and replies to text.
+#![tactic(auto)]
+
+pub mod command;
+pub mod fault;
+mod number;
+pub mod reply;
+mod text;
+mod words;
+
+pub use command::{Command, parse_line};
+pub use fault::Fault;
+pub use reply::{Load, Registers, Reply, reply_text};
+
+#[cfg(test)]
+mod tests;

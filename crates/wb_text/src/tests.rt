@@ -1,0 +1,153 @@
+//! Lines and replies, by example.
+use super::*;
+use std::process::Abort;
+
+fn says(rt: &impl Abort, line: &[u8], wanted: Result<Option<Command>, Fault>) {
+    assert_eq!(rt; parse_line(line), wanted, "{line:?}");
+}
+
+#[test]
+fn commands(rt: HostRuntime) {
+    says(&rt, b"pos", Ok(Some(Command::Pos)));
+    says(&rt, b"regs\r", Ok(Some(Command::Regs)));
+    says(&rt, b" quit\t", Ok(Some(Command::Quit)));
+    says(&rt, b"\tgoto \t 0x1F", Ok(Some(Command::Goto(31))));
+    says(&rt, b"goto 0007", Ok(Some(Command::Goto(7))));
+    says(
+        &rt,
+        b"goto 18446744073709551615",
+        Ok(Some(Command::Goto(u64::MAX))),
+    );
+    says(
+        &rt,
+        b"goto 0xffffffffffffffff",
+        Ok(Some(Command::Goto(u64::MAX))),
+    );
+}
+
+#[test]
+fn no_command(rt: HostRuntime) {
+    says(&rt, b"", Ok(None));
+    says(&rt, b" \t\r", Ok(None));
+    says(&rt, b" #goto", Ok(None));
+    says(&rt, &[b' '; 256], Ok(None));
+    says(&rt, &[b' '; 257], Err(Fault::Syntax));
+}
+
+#[test]
+fn refusals_of_a_line(rt: HostRuntime) {
+    says(&rt, b"reg", Err(Fault::Syntax));
+    says(&rt, b"POS", Err(Fault::Syntax));
+    says(&rt, b"pos 1", Err(Fault::Syntax));
+    says(&rt, b"pos #", Err(Fault::Syntax));
+    says(&rt, b"pos\r\r", Err(Fault::Syntax));
+    says(&rt, b"goto", Err(Fault::Syntax));
+    says(&rt, b"goto 0X10", Err(Fault::Syntax));
+    says(&rt, b"goto +1", Err(Fault::Syntax));
+    says(&rt, b"goto -1", Err(Fault::Syntax));
+    says(&rt, b"goto 1_0", Err(Fault::Syntax));
+    says(&rt, b"goto 0x", Err(Fault::Syntax));
+    says(&rt, b"goto 18446744073709551616", Err(Fault::Range));
+    says(&rt, b"goto 0x10000000000000000", Err(Fault::Range));
+    says(&rt, b"goto 18446744073709551616 x", Err(Fault::Syntax));
+}
+
+fn shows(rt: &impl Abort, reply: &Reply, wanted: &[u8]) {
+    let text = reply_text(reply);
+    assert_eq!(rt; text.as_slice(), wanted);
+}
+
+#[test]
+fn reset_registers(rt: HostRuntime) {
+    let reset = Registers {
+        pc: 0xbfc00000,
+        next_pc: 0xbfc00004,
+        hi: 0,
+        lo: 0,
+        delay: false,
+        load: None,
+        registers: [0; 32],
+    };
+    shows(
+        &rt,
+        &Reply::Registers(reset),
+        b"pc 0xbfc00000 next 0xbfc00004 hi 0x00000000 lo 0x00000000 delay 0 load none\n\
+r0 0x00000000 0x00000000 0x00000000 0x00000000\n\
+r4 0x00000000 0x00000000 0x00000000 0x00000000\n\
+r8 0x00000000 0x00000000 0x00000000 0x00000000\n\
+r12 0x00000000 0x00000000 0x00000000 0x00000000\n\
+r16 0x00000000 0x00000000 0x00000000 0x00000000\n\
+r20 0x00000000 0x00000000 0x00000000 0x00000000\n\
+r24 0x00000000 0x00000000 0x00000000 0x00000000\n\
+r28 0x00000000 0x00000000 0x00000000 0x00000000\n",
+    );
+}
+
+#[test]
+fn load_slot(rt: HostRuntime) {
+    let mut registers = [0; 32];
+    registers[1] = 0xa0000000;
+    let waiting = Registers {
+        pc: 0xbfc00008,
+        next_pc: 0xbfc0000c,
+        hi: 0,
+        lo: 0,
+        delay: false,
+        load: Some(Load {
+            register: 2,
+            value: 5,
+        }),
+        registers,
+    };
+    let text = reply_text(&Reply::Registers(waiting));
+    let first_lines =
+        b"pc 0xbfc00008 next 0xbfc0000c hi 0x00000000 lo 0x00000000 delay 0 load r2 0x00000005\n\
+r0 0x00000000 0xa0000000 0x00000000 0x00000000\n";
+    assert!(rt; text.as_slice().starts_with(first_lines));
+}
+
+#[test]
+fn branch_in_delay_slot(rt: HostRuntime) {
+    let state = Registers {
+        pc: 0xbfc00010,
+        next_pc: 0xbfc00014,
+        hi: 0,
+        lo: 0,
+        delay: true,
+        load: None,
+        registers: [0; 32],
+    };
+    let text = reply_text(&Reply::Registers(state));
+    let first_line =
+        b"pc 0xbfc00010 next 0xbfc00014 hi 0x00000000 lo 0x00000000 delay 1 load none\n";
+    assert!(rt; text.as_slice().starts_with(first_line));
+}
+
+#[test]
+fn other_replies(rt: HostRuntime) {
+    shows(&rt, &Reply::Position(4294967295), b"pos 4294967295\n");
+    shows(
+        &rt,
+        &Reply::Position(u64::MAX),
+        b"pos 18446744073709551615\n",
+    );
+    shows(&rt, &Reply::Nothing, b"");
+}
+
+#[test]
+fn refusals(rt: HostRuntime) {
+    for fault in [
+        Fault::Memory,
+        Fault::Syntax,
+        Fault::Range,
+        Fault::NoEvent,
+        Fault::Unaligned,
+        Fault::NotMemory,
+        Fault::TooFar,
+        Fault::NotFound,
+    ] {
+        let text = reply_text(&Reply::Fault(fault));
+        let shown = format!(in rt.alloc(); "{fault}\n").expect(&rt, "memory");
+        assert_eq!(rt; text.as_slice(), shown.as_bytes());
+    }
+}

@@ -1,0 +1,67 @@
+//! How replies print numbers.
+
+ghost use Rattle.std.specs.Prelude.{◌≡◌, ◌+◌, ◌%◌, ◌≤◌, ◌<◌, ◌++◌, length, false};
+ghost use Rattle.std.specs.Fmt.{decimal, digit_glyph};
+ghost use Rattle.arrayvec.specs.ArrayVec.{array_vec_len};
+ghost use Rattle.wb_text.specs.Text.{word_text};
+
+use arrayvec::ArrayVec;
+
+/// The text of a reply.
+pub type Text = ArrayVec<u8, 4096>;
+
+/// Appends a text.
+pub fn push_text(text: &mut Text, piece: &[u8])
+    requires { array_vec_len text.old + length piece.now ≤ 4096 }
+    ensures items { text.new.items ≡ text.old.items ++ piece.now }
+    ensures len { array_vec_len text.new ≡ array_vec_len text.old + length piece.now }
+{
+    let _ = text.try_extend_from_slice(piece);
+}
+
+/// Appends a number in decimal, of at most 20 digits.
+pub fn push_decimal(text: &mut Text, number: u64)
+    requires { array_vec_len text.old + 20 ≤ 4096 }
+    ensures items { text.new.items ≡ text.old.items ++ decimal number }
+    ensures room { array_vec_len text.new ≤ array_vec_len text.old + 20 }
+{
+    if number < 10 {
+        text.push(b'0' + number as u8);
+        return;
+    }
+    push_decimal(text, number / 10);
+    text.push(b'0' + (number % 10) as u8);
+}
+
+/// Appends a word: 0x and eight hexadecimal digits.
+pub fn push_word(text: &mut Text, word: u32)
+    requires { array_vec_len text.old + 10 ≤ 4096 }
+    ensures items { text.new.items ≡ text.old.items ++ word_text word }
+    ensures len { array_vec_len text.new ≡ array_vec_len text.old + 10 }
+{
+    let digits = [
+        b'0',
+        b'x',
+        hexadecimal_digit(word >> 28),
+        hexadecimal_digit(word >> 24),
+        hexadecimal_digit(word >> 20),
+        hexadecimal_digit(word >> 16),
+        hexadecimal_digit(word >> 12),
+        hexadecimal_digit(word >> 8),
+        hexadecimal_digit(word >> 4),
+        hexadecimal_digit(word),
+    ];
+    push_text(text, &digits);
+}
+
+// The last hexadecimal digit of a number.
+fn hexadecimal_digit(number: u32) -> u8
+    ensures { result ≡ digit_glyph false (number % 16) }
+{
+    let digit = (number % 16) as u8;
+    if digit < 10 {
+        b'0' + digit
+    } else {
+        b'a' + (digit - 10)
+    }
+}
