@@ -1,0 +1,51 @@
+-- A run and its trace split at any point.
+use Rattle.std.proofs.Common.{◌≡◌, ℕ, zero, suc, ◌+◌, List, [], ◌∷◌, ◌++◌, length, Option, Some, None, refl, sym, ap, ◌∙◌, append_assoc, add-zero, add-one, arith, length-append}
+use Rattle.std.proofs.Math.Path.{ap₂}
+use Rattle.std.proofs.lemmas.List.{append-nil}
+use Rattle.std.proofs.lemmas.List.Elements.{filter_map-append}
+use Rattle.input_log.specs.Event.{TimedByte}
+use Rattle.r3k_machine.specs.declared.turn.Done.{Done}
+use Rattle.r3k_machine.specs.State.{State}
+use Rattle.r3k_machine.specs.Step.{next, told}
+use Rattle.r3k_machine.specs.Run.{run, trace, arriving, console_of, byte_on, last_writer, later, stores_into}
+
+pub run_split : (pages : ℕ) (log : List TimedByte) (time : ℕ) (s : State) (m n : ℕ) → run pages log time s (m + n) ≡ run pages log (time + m) (run pages log time s m) n
+unfolding run
+run_split pages log time s m zero = ap (run pages log time s) (add-zero m)
+run_split pages log time s m (suc n) =
+    ap (run pages log time s) (let e : m + suc n ≡ suc (m + n) = omega arith in e)
+    ∙ ap₂ (λ (t : ℕ) (u : State). next pages (arriving log t) u) (let e : time + (m + n) ≡ time + m + n = omega arith in e) (run_split pages log time s m n)
+
+pub trace_split : (pages : ℕ) (log : List TimedByte) (time : ℕ) (s : State) (m n : ℕ) → trace pages log time s (m + n) ≡ trace pages log time s m ++ trace pages log (time + m) (run pages log time s m) n
+unfolding trace
+trace_split pages log time s m zero = ap (trace pages log time s) (add-zero m) ∙ sym (append-nil (trace pages log time s m))
+trace_split pages log time s m (suc n) =
+    ap (trace pages log time s) (let e : m + suc n ≡ suc (m + n) = omega arith in e)
+    ∙ (ap₂ (λ (xs : List Done) (d : Done). xs ++ d ∷ []) (trace_split pages log time s m n)
+    (ap₂ (λ (t : ℕ) (u : State). told pages (arriving log t) u) (let e : time + (m + n) ≡ time + m + n = omega arith in e) (run_split pages log time s m n))
+    ∙ append_assoc (trace pages log time s m) (trace pages log (time + m) (run pages log time s m) n) (told pages (arriving log (time + m + n)) (run pages log (time + m) (run pages log time s m) n) ∷ []))
+
+pub trace_count : (pages : ℕ) (log : List TimedByte) (time : ℕ) (s : State) (n : ℕ) → length (trace pages log time s n) ≡ n
+unfolding trace
+trace_count pages log time s zero = refl
+trace_count pages log time s (suc n) =
+    length-append (trace pages log time s n) (told pages (arriving log (time + n)) (run pages log time s n) ∷ [])
+    ∙ (ap (λ (k : ℕ). k + 1) (trace_count pages log time s n) ∙ add-one n)
+
+pub console_split : (line : ℕ) (first rest : List Done) → console_of line (first ++ rest) ≡ console_of line first ++ console_of line rest
+console_split line first rest = filter_map-append (λ done. byte_on line done.sent) first rest
+
+-- the last writer of two parts
+joined : (count : ℕ) (rest first here : Option ℕ) → later 1 (later count rest first) here ≡ later (suc count) rest (later 1 first here)
+joined count None first here = refl
+joined count (Some k) first here = ap Some (omega arith)
+
+pub writer_split : (address : ℕ) (first rest : List Done) → last_writer address (first ++ rest) ≡ later (length first) (last_writer address rest) (last_writer address first)
+writer_split address [] rest = none_first (last_writer address rest)
+  where
+    none_first : (o : Option ℕ) → o ≡ later 0 o None
+    none_first None = refl
+    none_first (Some k) = ap Some (omega arith)
+writer_split address (done ∷ steps) rest =
+    ap (λ (o : Option ℕ). later 1 o (stores_into address done.stored)) (writer_split address steps rest)
+    ∙ joined (length steps) (last_writer address rest) (last_writer address steps) (stores_into address done.stored)

@@ -1,0 +1,17 @@
+use Rattle.r3k_machine.proofs.Splits.{run_split, trace_split, trace_count, console_split, writer_split}
+use Rattle.r3k_machine.proofs.laws.run_laws.Goals as goal
+
+pub returns-clause-run : goal.returns-clause-run
+returns-clause-run c = run_split
+
+pub returns-clause-trace : goal.returns-clause-trace
+returns-clause-trace c = trace_split
+
+pub returns-clause-count : goal.returns-clause-count
+returns-clause-count c = trace_count
+
+pub returns-clause-console : goal.returns-clause-console
+returns-clause-console c = console_split
+
+pub returns-clause-writer : goal.returns-clause-writer
+returns-clause-writer c = writer_split

@@ -1,0 +1,16 @@
+pub use Rattle.r3k_table.specs.Table
+pub use Rattle.r3k_decode.specs.Decoding
+pub use Rattle.r3k_decode.specs.Operation
+pub use Rattle.r3k_word.specs.Word
+pub use Rattle.r3k_word.specs.Layout
+pub use Rattle.r3k_image.specs.Boot
+pub use Rattle.input_log.specs.Event
+pub use Rattle.input_log.specs.Log
+pub mod Pending
+pub mod State
+pub mod Address
+pub mod Exceptions
+pub mod Reset
+pub mod Effects
+pub mod Step
+pub mod Run

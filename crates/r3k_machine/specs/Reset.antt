@@ -1,0 +1,33 @@
+-- Reset (own): PC and next PC stand at the start of ROM in kseg1, and Status has BEV. RAM and ROM hold the words that the
+-- image sets. All else is 0 or empty.
+use Rattle.std.specs.Prelude.{ℕ, ◌+◌, List, replicate, false, None, map, unwrap_or}
+use Rattle.std.specs.List.{range_with_len}
+use Rattle.std.specs.FinMap.{get}
+use Rattle.r3k_word.specs.Layout.{word_count_of, address_of_place}
+use Rattle.r3k_image.specs.Boot.{Boot}
+use Rattle.r3k_machine.specs.declared.state.TheConstants.{RESET_PC, RESET_STATUS}
+use Rattle.r3k_machine.specs.declared.state.Core.{Core}
+use Rattle.r3k_machine.specs.State.{State}
+
+abbrev pub reset_core : Core
+reset_core = record {
+  registers = replicate 32 0;
+  hi = 0;
+  lo = 0;
+  pc = RESET_PC;
+  next_pc = RESET_PC + 4;
+  delay = false;
+  load = None;
+  control = record { status = RESET_STATUS; cause = 0; epc = 0; bad_vaddr = 0 };
+}
+
+-- the word at a place at reset
+abbrev pub reset_word : ℕ → Boot → ℕ → ℕ
+reset_word pages image place = unwrap_or (get image.words (address_of_place pages place)) 0
+
+-- all words of RAM and ROM at reset
+abbrev pub reset_words : ℕ → Boot → List ℕ
+reset_words pages image = map (reset_word pages image) (range_with_len 0 (word_count_of pages))
+
+abbrev pub reset : ℕ → Boot → State
+reset pages image = record { core = reset_core; words = reset_words pages image }

@@ -1,0 +1,56 @@
+-- The run (Kane and Heinrich for a step; that steps are counted, and when a byte arrives, is own).
+use Rattle.std.specs.Prelude.{ℕ, zero, suc, ◌+◌, List, [], ◌∷◌, ◌++◌, Option, Some, None, ◌==◌, if◌then◌else◌}
+use Rattle.std.specs.List.{filter_map}
+use Rattle.input_log.specs.Event.{TimedByte}
+use Rattle.input_log.specs.Log.{window_of}
+use Rattle.r3k_image.specs.Boot.{Boot}
+use Rattle.r3k_machine.specs.declared.turn.Done.{Done}
+use Rattle.r3k_machine.specs.declared.turn.Sent.{Sent}
+use Rattle.r3k_machine.specs.State.{State}
+use Rattle.r3k_machine.specs.Reset.{reset}
+use Rattle.r3k_machine.specs.Step.{next, told}
+
+-- the bytes that arrive in the step of a time, in the order of the log
+abbrev pub arriving : List TimedByte → ℕ → List TimedByte
+arriving log time = window_of time (time + 1) log
+
+-- the state after so many steps of a machine with so many RAM pages, from a state at a time
+unfoldable pub run : ℕ → List TimedByte → ℕ → State → ℕ → State
+run pages log time s zero = s
+run pages log time s (suc n) = next pages (arriving log (time + n)) (run pages log time s n)
+
+-- what each of these steps told
+unfoldable pub trace : ℕ → List TimedByte → ℕ → State → ℕ → List Done
+trace pages log time s zero = []
+trace pages log time s (suc n) = trace pages log time s n ++ told pages (arriving log (time + n)) (run pages log time s n) ∷ []
+
+-- the run from reset: the state at a position
+abbrev pub state_at : ℕ → Boot → List TimedByte → ℕ → State
+state_at pages image log position = run pages log 0 (reset pages image) position
+
+-- its trace: what the steps before a position told
+abbrev pub trace_at : ℕ → Boot → List TimedByte → ℕ → List Done
+trace_at pages image log position = trace pages log 0 (reset pages image) position
+
+-- the byte that a step sent on a line
+abbrev pub byte_on : ℕ → Option Sent → Option ℕ
+byte_on line None = None
+byte_on line (Some sent) = if sent.line == line then Some sent.byte else None
+
+-- the console of a line: the bytes that the steps sent on it
+abbrev pub console_of : ℕ → List Done → List ℕ
+console_of line steps = filter_map (λ done. byte_on line done.sent) steps
+
+-- the place of the last step that stored into a word, with a change or without
+abbrev pub stores_into : ℕ → Option ℕ → Option ℕ
+stores_into address None = None
+stores_into address (Some stored) = if stored == address then Some 0 else None
+
+-- a place in the second of two lists of steps, behind so many of the first, or else the one in the first
+abbrev pub later : ℕ → Option ℕ → Option ℕ → Option ℕ
+later count None earlier = earlier
+later count (Some place) earlier = Some (count + place)
+
+abbrev pub last_writer : ℕ → List Done → Option ℕ
+last_writer address [] = None
+last_writer address (done ∷ steps) = later 1 (last_writer address steps) (stores_into address done.stored)

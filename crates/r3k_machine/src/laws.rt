@@ -1,0 +1,27 @@
+//! Laws of the run: nothing runs here.
+
+ghost use Rattle.std.specs.Prelude.{◌≡◌, ℕ, ◌+◌, ◌++◌, List, length, slice_index};
+ghost use Rattle.input_log.specs.Event.{TimedByte};
+ghost use Rattle.r3k_image.specs.Boot.{Boot};
+ghost use Rattle.r3k_machine.specs.declared.turn.Done.{Done};
+ghost use Rattle.r3k_machine.specs.State.{State};
+ghost use Rattle.r3k_machine.specs.Run.{run, trace, state_at, console_of, last_writer, later};
+
+/// A run and its trace split at any point, and so do the console and the last writer.
+pub fn run_laws()
+    ensures run { (pages : ℕ) (log : List TimedByte) (time : ℕ) (s : State) (m n : ℕ) →
+        run pages log time s (m + n) ≡ run pages log (time + m) (run pages log time s m) n }
+    ensures trace { (pages : ℕ) (log : List TimedByte) (time : ℕ) (s : State) (m n : ℕ) →
+        trace pages log time s (m + n) ≡ trace pages log time s m ++ trace pages log (time + m) (run pages log time s m) n }
+    ensures count { (pages : ℕ) (log : List TimedByte) (time : ℕ) (s : State) (n : ℕ) → length (trace pages log time s n) ≡ n }
+    ensures console { (line : ℕ) (first rest : List Done) →
+        console_of line (first ++ rest) ≡ console_of line first ++ console_of line rest }
+    ensures writer { (address : ℕ) (first rest : List Done) →
+        last_writer address (first ++ rest) ≡ later (length first) (last_writer address rest) (last_writer address first) }
+{}
+
+/// In the run from reset r0 stays 0.
+pub fn reset_laws()
+    ensures { (pages : ℕ) (image : Boot) (log : List TimedByte) (n : ℕ) →
+        slice_index (state_at pages image log n).core.registers 0 ≡ 0 }
+{}

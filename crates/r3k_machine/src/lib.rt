@@ -1,0 +1,17 @@
+//! The processor and its memory: state, the meaning of an address, exceptions, one step, and the run.
+#![tactic(auto)]
+
+mod address;
+mod exception;
+mod instructions;
+mod laws;
+mod memory;
+mod operands;
+mod state;
+mod turn;
+
+pub use exception::Exception;
+pub use laws::{reset_laws, run_laws};
+pub use memory::Mem;
+pub use state::{Control, Core, Load};
+pub use turn::{Done, Sent, step};

@@ -1,0 +1,8 @@
+mod LineLemmas
+mod RuleLemmas
+mod StepLemmas
+mod WordLemmas
+pub mod Answers
+pub mod Feeds
+pub mod Scripts
+pub mod Takes

@@ -1,0 +1,11 @@
+use Rattle.std.proofs.Common.{◌≡◌, ◌≤◌, length, vec_len}
+use Rattle.std.specs.Io.KnownBytes.{Consumes}
+use Rattle.workbench.proofs.program.read_front.Given as goal
+
+-- the bytes so far are what was read
+abbrev pub invariant-loop-done : goal.invariant-loop-done
+invariant-loop-done g l =
+    (vec_len l.bytes ≤ l.size)
+    × Consumes (g.R.Source.left l.initial.reader) (g.R.Source.left l.reader) l.bytes.items
+    × (g.R.Source.failed_reads l.reader ≡ g.R.Source.failed_reads l.initial.reader)
+    × (length l.piece ≡ 4096)

@@ -1,0 +1,13 @@
+pub use Rattle.r3k_image.specs.Boot
+pub use Rattle.input_log.specs.Event
+pub use Rattle.r3k_machine.specs.Run
+pub use Rattle.wb_text.specs.Command
+pub use Rattle.wb_text.specs.Reply
+pub mod Fault
+pub mod Options
+pub mod Plan
+pub mod Session
+pub mod Script
+pub mod Pending
+pub mod Sizes
+pub mod Serve
