@@ -1,0 +1,13 @@
+//! Tests that cross crates: the worked examples, by name, and hostile input.
+#![tactic(auto)]
+
+#[cfg(test)]
+mod exceptions;
+#[cfg(test)]
+mod images;
+#[cfg(test)]
+mod programs;
+#[cfg(test)]
+mod scripts;
+#[cfg(test)]
+mod served;

@@ -1,0 +1,123 @@
+//! The program's worked runs.
+use crate::served::run_program;
+use std::test::Fail;
+
+const EMPTY_IMAGE: [u8; 32] = [
+    0x52, 0x33, 0x4b, 0x49, 0x4d, 0x47, 0x31, 0x0a, 0x10, 0, 0, 0, 1, 0, 0, 0, 0, 0, 0, 0, 0, 0, 1,
+    1, 1, 0, 0x20, 0x06, 0, 0, 0, 0,
+];
+
+/// Word 5 at 0x100, and at the start of ROM lui r1, 0xa000; lw r2, 256(r1); addu r3, r2, r0; addu r4, r2, r0.
+pub const LOAD_SLOT: [u8; 68] = [
+    0x52, 0x33, 0x4b, 0x49, 0x4d, 0x47, 0x31, 0x0a, 0x10, 0, 0, 0, 1, 0, 0, 0, 0, 0, 0, 0, 0, 0, 1,
+    1, 1, 0, 0x20, 0x06, 2, 0, 0, 0, 0, 1, 0, 0, 1, 0, 0, 0, 5, 0, 0, 0, 0, 0, 0xc0, 0x1f, 4, 0, 0,
+    0, 0, 0xa0, 0x01, 0x3c, 0, 0x01, 0x22, 0x8c, 0x21, 0x18, 0x40, 0, 0x21, 0x20, 0x40, 0,
+];
+
+#[test]
+fn empty_image(rt: HostRuntime) -> Result<(), Fail> {
+    let run = run_program(
+        rt.alloc(),
+        &["r3kwb", "--kind", "image", "--size", "32"],
+        &EMPTY_IMAGE,
+        4096,
+    )?;
+    assert_eq!(rt; run.output.len(), 0);
+    assert_eq!(rt; run.status, 0);
+    Ok(())
+}
+
+#[test]
+fn reset_registers(rt: HostRuntime) -> Result<(), Fail> {
+    let run = run_program(rt.alloc(), &["r3kwb"], b"goto 0\nregs\n", 4096)?;
+    let want =
+        "pos 0\npc 0xbfc00000 next 0xbfc00004 hi 0x00000000 lo 0x00000000 delay 0 load none\n\
+        r0 0x00000000 0x00000000 0x00000000 0x00000000\nr4 0x00000000 0x00000000 0x00000000 0x00000000\n\
+        r8 0x00000000 0x00000000 0x00000000 0x00000000\nr12 0x00000000 0x00000000 0x00000000 0x00000000\n\
+        r16 0x00000000 0x00000000 0x00000000 0x00000000\nr20 0x00000000 0x00000000 0x00000000 0x00000000\n\
+        r24 0x00000000 0x00000000 0x00000000 0x00000000\nr28 0x00000000 0x00000000 0x00000000 0x00000000\n";
+    assert_eq!(rt; run.output.as_slice(), want.as_bytes());
+    assert_eq!(rt; run.status, 0);
+    Ok(())
+}
+
+/// The load's value is in its slot at position 2, lands in step 2, and is seen by step 3 alone.
+#[test]
+fn load_slot(rt: HostRuntime) -> Result<(), Fail> {
+    let mut input = Vec::from_slice(rt.alloc(), &LOAD_SLOT)?;
+    input.extend_from_slice(b"goto 2\nregs\ngoto 3\nregs\ngoto 4\nregs\n")?;
+    let rows =
+        "r4 0x00000000 0x00000000 0x00000000 0x00000000\nr8 0x00000000 0x00000000 0x00000000 0x00000000\n\
+        r12 0x00000000 0x00000000 0x00000000 0x00000000\nr16 0x00000000 0x00000000 0x00000000 0x00000000\n\
+        r20 0x00000000 0x00000000 0x00000000 0x00000000\nr24 0x00000000 0x00000000 0x00000000 0x00000000\n\
+        r28 0x00000000 0x00000000 0x00000000 0x00000000\n";
+    let mut want = String::new(rt.alloc());
+    want.push_str(
+        "pos 2\npc 0xbfc00008 next 0xbfc0000c hi 0x00000000 lo 0x00000000 delay 0 load r2 0x00000005\n",
+    )?;
+    want.push_str("r0 0x00000000 0xa0000000 0x00000000 0x00000000\n")?;
+    want.push_str(rows)?;
+    want.push_str(
+        "pos 3\npc 0xbfc0000c next 0xbfc00010 hi 0x00000000 lo 0x00000000 delay 0 load none\n",
+    )?;
+    want.push_str("r0 0x00000000 0xa0000000 0x00000005 0x00000000\n")?;
+    want.push_str(rows)?;
+    want.push_str(
+        "pos 4\npc 0xbfc00010 next 0xbfc00014 hi 0x00000000 lo 0x00000000 delay 0 load none\n",
+    )?;
+    want.push_str("r0 0x00000000 0xa0000000 0x00000005 0x00000000\nr4 0x00000005")?;
+    want.push_str(&rows[13..])?;
+    for piece in [1, 7, 4096] {
+        let run = run_program(
+            rt.alloc(),
+            &["r3kwb", "--kind", "image", "--size", "68"],
+            &input,
+            piece,
+        )?;
+        assert_eq!(rt;
+            run.output.as_slice(),
+            want.as_bytes(),
+            "in pieces of {piece}"
+        );
+        assert_eq!(rt; run.status, 0);
+    }
+    Ok(())
+}
+
+#[test]
+fn formats_and_the_program(rt: HostRuntime) -> Result<(), Fail> {
+    let alloc = rt.alloc();
+    let mut longer = Vec::from_slice(alloc, &EMPTY_IMAGE)?;
+    longer.push(0)?;
+    let cases: [(&str, &[u8], &str, u8); 5] = [
+        (
+            "31",
+            &EMPTY_IMAGE[..31],
+            "r3kwb: error 9 BadImage Short\n",
+            1,
+        ),
+        (
+            "33",
+            longer.as_slice(),
+            "r3kwb: error 9 BadImage Extra\n",
+            1,
+        ),
+        ("40", &EMPTY_IMAGE, "r3kwb: error 11 ReadFault\n", 3),
+        ("67108865", &EMPTY_IMAGE, "", 2),
+        ("32", &EMPTY_IMAGE, "", 0),
+    ];
+    for (size, input, fault, status) in cases {
+        let run = run_program(
+            alloc,
+            &["r3kwb", "--kind", "image", "--size", size],
+            input,
+            4096,
+        )?;
+        assert_eq!(rt; run.fault.as_slice(), fault.as_bytes(), "at size {size}");
+        assert_eq!(rt; run.status, status, "at size {size}");
+        assert_eq!(rt; run.output.len(), 0);
+    }
+    let help = run_program(alloc, &["r3kwb", "--help"], &[], 4096)?;
+    assert_eq!(rt; help.status, 0);
+    Ok(())
+}

@@ -1,0 +1,68 @@
+//! Scripts, good and hostile.
+use crate::served::run_program;
+use std::test::Fail;
+
+#[test]
+fn replies(rt: HostRuntime) -> Result<(), Fail> {
+    let long = [b' '; 257];
+    let text = std::str::from_utf8(&long)?;
+    let cases = [
+        ("pos", "pos 0\n"),
+        ("", ""),
+        ("\n\n# a comment\n \t\n", ""),
+        ("goto 4294967295\npos\n", "pos 4294967295\npos 4294967295\n"),
+        (
+            "goto 5\ngoto 4294967296\npos\n",
+            "pos 5\nerror 7 TooFar\npos 5\n",
+        ),
+        ("goto 18446744073709551615\n", "error 7 TooFar\n"),
+        ("goto 18446744073709551616\n", "error 3 Range\n"),
+        ("goto 0x10\r\npos\r", "pos 16\npos 16\n"),
+        (
+            "foo\ngoto\ngoto 1 2\ngoto 0X1\nreg 1\n",
+            "error 2 Syntax\nerror 2 Syntax\nerror 2 Syntax\nerror 2 Syntax\nerror 2 Syntax\n",
+        ),
+        ("pos\nquit\npos\n", "pos 0\n"),
+        ("goto 3\nquit", "pos 3\n"),
+        (text, "error 2 Syntax\n"),
+        (&text[..256], ""),
+    ];
+    for (script, want) in cases {
+        for piece in [1, 4096] {
+            let run = run_program(rt.alloc(), &["r3kwb"], script.as_bytes(), piece)?;
+            assert_eq!(rt;
+                run.output.as_slice(),
+                want.as_bytes(),
+                "at {script:?} in pieces of {piece}"
+            );
+            assert_eq!(rt; run.status, 0);
+        }
+    }
+    Ok(())
+}
+
+/// A script that is cut after each of its bytes.
+#[test]
+fn cut_scripts(rt: HostRuntime) -> Result<(), Fail> {
+    let script = b"goto 2\npos 1";
+    let wants = [
+        "",
+        "error 2 Syntax\n",
+        "error 2 Syntax\n",
+        "error 2 Syntax\n",
+        "error 2 Syntax\n",
+        "error 2 Syntax\n",
+        "pos 2\n",
+        "pos 2\n",
+        "pos 2\nerror 2 Syntax\n",
+        "pos 2\nerror 2 Syntax\n",
+        "pos 2\npos 2\n",
+        "pos 2\npos 2\n",
+        "pos 2\nerror 2 Syntax\n",
+    ];
+    for (len, want) in wants.iter().enumerate() {
+        let run = run_program(rt.alloc(), &["r3kwb"], &script[..len], 3)?;
+        assert_eq!(rt; run.output.as_slice(), want.as_bytes(), "of {len} bytes");
+    }
+    Ok(())
+}
