@@ -3,6 +3,7 @@ mod RuleLemmas
 mod StepLemmas
 mod WordLemmas
 pub mod Answers
-pub mod Feeds
+pub mod Faults
+mod Feeds
 pub mod Scripts
 pub mod Takes

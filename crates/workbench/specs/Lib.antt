@@ -4,6 +4,7 @@ pub use Rattle.r3k_machine.specs.Run
 pub use Rattle.wb_text.specs.Command
 pub use Rattle.wb_text.specs.Reply
 pub mod Fault
+pub mod Faults
 pub mod Options
 pub mod Plan
 pub mod Session

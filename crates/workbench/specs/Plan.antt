@@ -2,12 +2,14 @@
 use Rattle.std.specs.Prelude.{ℕ, ◌-◌, List, length, min}
 
 -- the bytes that it still gives, those that it was given, and the room for these; a call gives or
--- takes at most `piece` bytes
+-- takes at most `piece` bytes; the reads that were made, and the writes that took nothing
 pub record Planned : Type 0 where
   pub left : List ℕ
   pub written : List ℕ
   pub room : ℕ
   pub piece : ℕ
+  pub reads : ℕ
+  pub empty_writes : ℕ
 
 -- how many bytes a read into so much space gives
 abbrev pub given_count : Planned → ℕ → ℕ

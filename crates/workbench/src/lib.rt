@@ -3,7 +3,7 @@
 #![tactic(auto)]
 
 mod arguments;
-mod failures;
+mod calls;
 mod fault;
 mod flat;
 mod line;

@@ -1,9 +1,11 @@
 //! A source and a sink over memory, for tests.
-ghost use Rattle.std.specs.Prelude.{◌≡◌, ℕ, ◌<◌, ◌≤◌, [], ◌++◌, length, take, drop, Some, Ok};
+ghost use Rattle.std.specs.Prelude.{◌≡◌, ℕ, ◌+◌, ◌<◌, ◌≤◌, [], ◌++◌, length, take, drop, Some, Ok};
 ghost use Rattle.std.specs.Prelude.{IfOk, OnOk, OnErr};
 ghost use Rattle.std.specs.Io.KnownBytes.{Appends, Consumes, IsAtEnd, Keeps};
+ghost use Rattle.workbench.specs.Faults.{empty_count};
 ghost use Rattle.workbench.specs.Plan.{given_count, taken_count};
 
+use crate::calls::Calls;
 use crate::sink::Sink;
 use crate::source::{Failed, Source};
 use std::alloc::{AllocError, Global};
@@ -20,6 +22,8 @@ pub struct Plan {
     room: usize,
     // A call gives or takes at most so many bytes.
     piece: usize,
+    reads: Calls,
+    empty_writes: Calls,
 }
 
 impl Model for Plan {
@@ -33,6 +37,8 @@ impl Model for Plan {
       written = p.written.items;
       room = p.room;
       piece = p.piece;
+      reads = p.reads.count;
+      empty_writes = p.empty_writes.count;
     } };
 
     ghost invariant = { λ p. (p.given ≤ vec_len p.input) × (vec_len p.written ≤ p.room)
@@ -45,7 +51,14 @@ impl Plan {
     pub fn new(alloc: Global, input: &[u8], piece: usize, room: usize) -> Result<Plan, AllocError>
         requires { 0 < piece }
         ensures { IfOk result (λ plan.
-            plan ≡ record { left = input.now; written = []; room = room; piece = piece }) }
+            plan ≡ record {
+              left = input.now;
+              written = [];
+              room = room;
+              piece = piece;
+              reads = 0;
+              empty_writes = 0;
+            }) }
     {
         Ok(Plan {
             input: Vec::from_slice(alloc, input)?,
@@ -53,6 +66,8 @@ impl Plan {
             written: Vec::with_capacity(alloc, room)?,
             room,
             piece,
+            reads: Calls::none(),
+            empty_writes: Calls::none(),
         })
     }
 
@@ -76,6 +91,8 @@ impl Source for Plan {
 
     ghost left = { λ plan. Some plan.left };
 
+    ghost reads = { λ plan. plan.reads };
+
     ghost failed_reads = { λ _. 0 };
 
     fn read(&mut self, buffer: &mut [u8]) -> Result<usize, Failed>
@@ -83,9 +100,10 @@ impl Source for Plan {
         ensures copied { IfOk result (λ count.
             buffer.new ≡ take count self.old.left ++ drop count buffer.old) }
         ensures plan { IfOk result (λ count.
-            self.new ≡ record self.old { left = drop count self.old.left }) }
+            self.new ≡ record self.old { left = drop count self.old.left; reads = self.old.reads + 1 }) }
 
         // As each source:
+        ensures called { self.new.reads ≡ self.old.reads + 1 }
         ensures within { IfOk result (λ count. count ≤ length buffer.old) }
         ensures gives { IfOk result (λ count.
             Consumes (Some self.old.left) (Some self.new.left) (take count buffer.new)) }
@@ -97,6 +115,7 @@ impl Source for Plan {
         let count = buffer.len().min(self.piece).min(left.len());
         buffer[..count].copy_from_slice(&left[..count]);
         self.given += count;
+        self.reads = self.reads.one_more();
         Ok(count)
     }
 }
@@ -106,15 +125,22 @@ impl Sink for Plan {
 
     ghost failed_writes = { λ _. 0 };
 
+    ghost empty_writes = { λ plan. plan.empty_writes };
+
     fn write(&mut self, bytes: &[u8]) -> Result<usize, Failed>
         ensures count { result ≡ Ok (taken_count self.old (length bytes.now)) }
         ensures plan { IfOk result (λ count.
-            self.new ≡ record self.old { written = self.old.written ++ take count bytes.now }) }
+            self.new ≡ record self.old {
+              written = self.old.written ++ take count bytes.now;
+              empty_writes = self.old.empty_writes + empty_count count (length bytes.now);
+            }) }
 
         // As each sink:
         ensures within { IfOk result (λ count. count ≤ length bytes.now) }
         ensures takes { IfOk result (λ count.
             Appends (Some self.old.written) (Some self.new.written) (take count bytes.now)) }
+        ensures empty { IfOk result (λ count. self.new.empty_writes
+            ≡ self.old.empty_writes + empty_count count (length bytes.now)) }
     {
         let count = bytes
             .len()
@@ -123,6 +149,9 @@ impl Sink for Plan {
         self.written
             .extend_from_slice(&bytes[..count])
             .map_err(|_| Failed)?;
+        if count == 0 && !bytes.is_empty() {
+            self.empty_writes = self.empty_writes.one_more();
+        }
         Ok(count)
     }
 }

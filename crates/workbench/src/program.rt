@@ -1,7 +1,9 @@
 //! The program on its input: an image, and then a script.
-ghost use Rattle.std.specs.Prelude.{◌≡◌, ℕ, ◌+◌, ◌≤◌, List, length, OnOk, IfOk};
-ghost use Rattle.std.specs.Io.KnownBytes.{Consumes};
-ghost use Rattle.workbench.specs.Serve.{Served, Booted};
+ghost use Rattle.std.specs.Prelude.{◌≡◌, ◌⊎◌, ℕ, ◌+◌, ◌≤◌, List, length, OnOk, IfOk, IfErr};
+ghost use Rattle.std.specs.Io.KnownBytes.{Consumes, Keeps};
+ghost use Rattle.r3k_image.specs.Reading.{Gives};
+ghost use Rattle.workbench.specs.Faults.{ReadsStop, WritesStop};
+ghost use Rattle.workbench.specs.Serve.{Served, image_of, IsServeFault, RefusedImage, EndedWithin, IsFrontFault};
 ghost use Rattle.workbench.specs.Sizes.{AreSizes};
 
 use crate::arguments::{Kind, Options};
@@ -10,7 +12,7 @@ use crate::script::{MAX_READS, PIECE_BYTES, run_with};
 use crate::sink::Sink;
 use crate::source::Source;
 use input_log::Log;
-use r3k_image::{Image, raw_rom, read_image};
+use r3k_image::{Image, ImageFault, raw_rom, read_image};
 use std::alloc::Global;
 
 /// Reads as many bytes as the options say, makes the image of their kind, and runs the script that follows on a machine
@@ -29,6 +31,13 @@ pub fn serve<const PAGES: u32, const SPAN: u32, R: Source, W: Sink>(
         (R.left reader.old) (R.left reader.new) (W.written writer.old) (W.written writer.new)) }
     ensures reads { OnOk result (R.failed_reads reader.new ≡ R.failed_reads reader.old) }
     ensures writes { OnOk result (W.failed_writes writer.new ≡ W.failed_writes writer.old) }
+    ensures made { R.reads reader.new ≤ R.reads reader.old + 1048576 }
+    ensures fault { IfErr result (IsServeFault
+        (Keeps (W.written writer.old) (W.written writer.new))
+        (RefusedImage PAGES options.kind options.size (R.left reader.old) (R.left reader.new))
+        (EndedWithin options.size (R.left reader.old) (R.left reader.new))
+        (ReadsStop 1048576 (R.failed_reads reader.old) (R.failed_reads reader.new) (R.reads reader.old) (R.reads reader.new))
+        (WritesStop (W.failed_writes writer.old) (W.failed_writes writer.new) (W.empty_writes writer.old) (W.empty_writes writer.new))) }
 {
     let front = read_front(alloc, options.size as usize, reader)?;
     let image = image_of(alloc, options.kind, &front.bytes)?;
@@ -54,6 +63,11 @@ fn read_front<R: Source>(alloc: Global, size: usize, reader: &mut R) -> Result<F
     ensures bytes { IfOk result (λ front. Consumes (R.left reader.old) (R.left reader.new) front.bytes.items) }
     ensures size { IfOk result (λ front. length front.bytes.items ≡ size) }
     ensures reads { OnOk result (R.failed_reads reader.new ≡ R.failed_reads reader.old) }
+    ensures made { IfOk result (λ front. R.reads reader.new + front.reads_left ≡ R.reads reader.old + 1048576) }
+    ensures at_most { R.reads reader.new ≤ R.reads reader.old + 1048576 }
+    ensures fault { IfErr result (IsFrontFault
+        (EndedWithin size (R.left reader.old) (R.left reader.new))
+        (ReadsStop 1048576 (R.failed_reads reader.old) (R.failed_reads reader.new) (R.reads reader.old) (R.reads reader.new))) }
 {
     let mut bytes = Vec::new(alloc);
     let mut piece = [0u8; PIECE_BYTES];
@@ -78,12 +92,11 @@ fn read_front<R: Source>(alloc: Global, size: usize, reader: &mut R) -> Result<F
 }
 
 // The image that bytes of a kind make.
-fn image_of(alloc: Global, kind: Kind, bytes: &[u8]) -> Result<Image, RunFault>
-    ensures { IfOk result (Booted kind bytes.now) }
+fn image_of(alloc: Global, kind: Kind, bytes: &[u8]) -> Result<Image, ImageFault>
+    ensures { Gives (λ image. image) result (image_of kind bytes.now) }
 {
-    let image = match kind {
-        Kind::Rom => raw_rom(alloc, bytes)?,
-        Kind::Image => read_image(alloc, bytes)?,
-    };
-    Ok(image)
+    match kind {
+        Kind::Rom => raw_rom(alloc, bytes),
+        Kind::Image => read_image(alloc, bytes),
+    }
 }

@@ -1,8 +1,10 @@
 //! A script: its lines are read, answered one after the other, and each reply is written whole.
-ghost use Rattle.std.specs.Prelude.{◌≡◌, ℕ, ◌∷◌, [], List, OnOk, IfOk};
+ghost use Rattle.std.specs.Prelude.{◌≡◌, ℕ, ◌+◌, ◌≤◌, ◌∷◌, [], List, OnOk, IfOk, IfErr};
 ghost use Rattle.std.specs.Io.KnownBytes.{Appends};
+ghost use Rattle.workbench.specs.Faults.{IsRunFault, IsScriptFault, ReadsStop, Untouched, WritesStop};
 ghost use Rattle.workbench.specs.Script.{Answered, EndsAs, Ran, Took, is_quit};
 ghost use Rattle.workbench.specs.Sizes.{AreSizes};
+ghost use Rattle.workbench.specs.declared.fault.RunFault.TheVariants.{WriteFault};
 
 use crate::fault::RunFault;
 use crate::output::write_whole;
@@ -38,6 +40,11 @@ pub fn run<const PAGES: u32, const SPAN: u32, R: Source, W: Sink>(
         (R.left reader.old) (R.left reader.new) (W.written writer.old) (W.written writer.new)) }
     ensures reads { OnOk result (R.failed_reads reader.new ≡ R.failed_reads reader.old) }
     ensures writes { OnOk result (W.failed_writes writer.new ≡ W.failed_writes writer.old) }
+    ensures made { R.reads reader.new ≤ R.reads reader.old + 1048576 }
+    ensures fault { IfErr result (IsRunFault PAGES image
+        (Untouched (R.reads reader.old) (R.reads reader.new) (R.left reader.old) (R.left reader.new) (W.written writer.old) (W.written writer.new))
+        (ReadsStop 1048576 (R.failed_reads reader.old) (R.failed_reads reader.new) (R.reads reader.old) (R.reads reader.new))
+        (WritesStop (W.failed_writes writer.old) (W.failed_writes writer.new) (W.empty_writes writer.old) (W.empty_writes writer.new))) }
 {
     run_with::<PAGES, SPAN, R, W>(alloc, image, log, reader, writer, MAX_READS)
 }
@@ -56,6 +63,11 @@ pub(crate) fn run_with<const PAGES: u32, const SPAN: u32, R: Source, W: Sink>(
         (R.left reader.old) (R.left reader.new) (W.written writer.old) (W.written writer.new)) }
     ensures reads { OnOk result (R.failed_reads reader.new ≡ R.failed_reads reader.old) }
     ensures writes { OnOk result (W.failed_writes writer.new ≡ W.failed_writes writer.old) }
+    ensures made { R.reads reader.new ≤ R.reads reader.old + reads }
+    ensures fault { IfErr result (IsRunFault PAGES image
+        (Untouched (R.reads reader.old) (R.reads reader.new) (R.left reader.old) (R.left reader.new) (W.written writer.old) (W.written writer.new))
+        (ReadsStop reads (R.failed_reads reader.old) (R.failed_reads reader.new) (R.reads reader.old) (R.reads reader.new))
+        (WritesStop (W.failed_writes writer.old) (W.failed_writes writer.new) (W.empty_writes writer.old) (W.empty_writes writer.new))) }
 {
     let mut session = Session::<PAGES, SPAN>::new(alloc, image, log)?;
     run_script(&mut session, reader, writer, reads)
@@ -71,10 +83,14 @@ fn run_script<const PAGES: u32, const SPAN: u32, R: Source, W: Sink>(
     ensures ran { OnOk result (Ran PAGES session.old (R.left reader.old) (R.left reader.new) (W.written writer.old) (W.written writer.new)) }
     ensures reads { OnOk result (R.failed_reads reader.new ≡ R.failed_reads reader.old) }
     ensures writes { OnOk result (W.failed_writes writer.new ≡ W.failed_writes writer.old) }
+    ensures made { R.reads reader.new ≤ R.reads reader.old + reads }
+    ensures fault { IfErr result (IsScriptFault
+        (ReadsStop reads (R.failed_reads reader.old) (R.failed_reads reader.new) (R.reads reader.old) (R.reads reader.new))
+        (WritesStop (W.failed_writes writer.old) (W.failed_writes writer.new) (W.empty_writes writer.old) (W.empty_writes writer.new))) }
 {
     let mut pending = Pending::new();
     let mut piece = [0u8; PIECE_BYTES];
-    for _ in 0..reads {
+    for _made in 0..reads {
         let Ok(count) = reader.read(&mut piece) else {
             return Err(RunFault::ReadFault);
         };
@@ -85,6 +101,7 @@ fn run_script<const PAGES: u32, const SPAN: u32, R: Source, W: Sink>(
             return Ok(());
         }
     }
+    // The most reads were made.
     Err(RunFault::ReadFault)
 }
 
@@ -97,6 +114,9 @@ fn end_script<const PAGES: u32, const SPAN: u32, W: Sink>(
     ensures text { OnOk result ((text : List ℕ) × Appends (W.written writer.old) (W.written writer.new) text
         × EndsAs PAGES session.old pending.now text) }
     ensures writes { OnOk result (W.failed_writes writer.new ≡ W.failed_writes writer.old) }
+    ensures taken { OnOk result (W.empty_writes writer.new ≡ W.empty_writes writer.old) }
+    ensures fault { IfErr result (λ fault. (fault ≡ WriteFault) × WritesStop
+        (W.failed_writes writer.old) (W.failed_writes writer.new) (W.empty_writes writer.old) (W.empty_writes writer.new)) }
 {
     let line = pending.bytes();
     if line.is_empty() {
@@ -115,6 +135,9 @@ fn take_piece<const PAGES: u32, const SPAN: u32, W: Sink>(
 ) -> Result<bool, RunFault>
     ensures goes { IfOk result (λ quits. Took PAGES session.old session.new pending.old pending.new piece.now (W.written writer.old) (W.written writer.new) quits) }
     ensures writes { OnOk result (W.failed_writes writer.new ≡ W.failed_writes writer.old) }
+    ensures taken { OnOk result (W.empty_writes writer.new ≡ W.empty_writes writer.old) }
+    ensures fault { IfErr result (λ fault. (fault ≡ WriteFault) × WritesStop
+        (W.failed_writes writer.old) (W.failed_writes writer.new) (W.empty_writes writer.old) (W.empty_writes writer.new)) }
 {
     for byte in piece {
         if take_byte(session, pending, *byte, writer)? {
@@ -133,6 +156,9 @@ fn take_byte<const PAGES: u32, const SPAN: u32, W: Sink>(
 ) -> Result<bool, RunFault>
     ensures goes { IfOk result (λ quits. Took PAGES session.old session.new pending.old pending.new (byte ∷ []) (W.written writer.old) (W.written writer.new) quits) }
     ensures writes { OnOk result (W.failed_writes writer.new ≡ W.failed_writes writer.old) }
+    ensures taken { OnOk result (W.empty_writes writer.new ≡ W.empty_writes writer.old) }
+    ensures fault { IfErr result (λ fault. (fault ≡ WriteFault) × WritesStop
+        (W.failed_writes writer.old) (W.failed_writes writer.new) (W.empty_writes writer.old) (W.empty_writes writer.new)) }
 {
     if byte != b'\n' {
         pending.push(byte);
@@ -152,6 +178,9 @@ fn answer_line<const PAGES: u32, const SPAN: u32, W: Sink>(
     ensures answered { IfOk result (λ quits. (text : List ℕ) × Appends (W.written writer.old) (W.written writer.new) text
         × Answered PAGES session.old line.now session.new text quits) }
     ensures writes { OnOk result (W.failed_writes writer.new ≡ W.failed_writes writer.old) }
+    ensures taken { OnOk result (W.empty_writes writer.new ≡ W.empty_writes writer.old) }
+    ensures fault { IfErr result (λ fault. (fault ≡ WriteFault) × WritesStop
+        (W.failed_writes writer.old) (W.failed_writes writer.new) (W.empty_writes writer.old) (W.empty_writes writer.new)) }
 {
     let reply = match parse_line(line) {
         Err(fault) => Reply::Fault(fault),

@@ -1,8 +1,9 @@
 use crate::{
-    Failed, FromRead, Kind, Plan, RunFault, Sink, Source, ToWrite, fault_line, options, status,
+    Failed, FromRead, Kind, Options, Plan, RunFault, Sink, Source, ToWrite, fault_line, options,
+    serve, status,
 };
 use r3k_image::ImageKind;
-use std::alloc::Global;
+use std::alloc::{AllocError, Global};
 use std::io;
 use std::io::{ErrorKind, Read, Write};
 use std::test::Fail;
@@ -122,5 +123,46 @@ fn wraps_std(rt: HostRuntime) -> Result<(), Fail> {
     assert_eq!(rt; written.as_slice(), b"abc".as_slice());
     assert_eq!(rt; FromRead::new(Broken).read(&mut buffer), Err(Failed));
     assert_eq!(rt; ToWrite::new(Broken).write(b"abc"), Err(Failed));
+    Ok(())
+}
+
+// How the program ends on this script, where the writer has room for so many bytes, and what was written.
+fn ended(alloc: Global, script: &[u8], room: usize) -> Result<(u8, Vec<u8>), AllocError> {
+    let asked = Options {
+        kind: Kind::Rom,
+        size: 0,
+    };
+    let mut reader = Plan::new(alloc, script, 3, 0)?;
+    let mut writer = Plan::new(alloc, &[], 4, room)?;
+    let outcome = serve::<16, 64, Plan, Plan>(alloc, asked, &mut reader, &mut writer);
+    Ok((status(&outcome), Vec::from_slice(alloc, writer.written())?))
+}
+
+#[test]
+fn writer_that_is_full(rt: HostRuntime) -> Result<(), Fail> {
+    let (status, written) = ended(rt.alloc(), b"pos\ngoto 7\npos", 100)?;
+    assert_eq!(rt; status, 0);
+    assert_eq!(rt; written.as_slice(), b"pos 0\npos 7\npos 7\n".as_slice());
+    let (status, written) = ended(rt.alloc(), b"pos\ngoto 7\npos", 9)?;
+    assert_eq!(rt; status, 3);
+    assert_eq!(rt; written.as_slice(), b"pos 0\npos".as_slice());
+    Ok(())
+}
+
+#[test]
+fn broken_reader_and_writer(rt: HostRuntime) -> Result<(), Fail> {
+    let alloc = rt.alloc();
+    let asked = Options {
+        kind: Kind::Rom,
+        size: 0,
+    };
+    let mut plan = Plan::new(alloc, b"pos\n", 4, 100)?;
+    let mut reader = FromRead::new(Broken);
+    let outcome = serve::<16, 64, FromRead<Broken>, Plan>(alloc, asked, &mut reader, &mut plan);
+    assert!(rt; matches!(&outcome, Err(RunFault::ReadFault)));
+    assert_eq!(rt; plan.written().len(), 0);
+    let mut writer = ToWrite::new(Broken);
+    let outcome = serve::<16, 64, Plan, ToWrite<Broken>>(alloc, asked, &mut plan, &mut writer);
+    assert!(rt; matches!(&outcome, Err(RunFault::WriteFault)));
     Ok(())
 }

@@ -9,6 +9,7 @@ invariant-loop-rest g l =
     × (l.bytes ≡ done ++ l.rest)
     × Appends (g.W.Sink.written l.initial.writer) (g.W.Sink.written l.writer) done
     × (g.W.Sink.failed_writes l.writer ≡ g.W.Sink.failed_writes l.initial.writer)
+    × (g.W.Sink.empty_writes l.writer ≡ g.W.Sink.empty_writes l.initial.writer)
 
 abbrev pub decreases-loop-rest : goal.decreases-loop-rest
 decreases-loop-rest g l = length l.rest

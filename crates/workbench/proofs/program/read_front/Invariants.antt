@@ -1,4 +1,4 @@
-use Rattle.std.proofs.Common.{◌≡◌, ◌≤◌, length, vec_len}
+use Rattle.std.proofs.Common.{◌≡◌, ◌≤◌, ◌+◌, length, vec_len}
 use Rattle.std.specs.Io.KnownBytes.{Consumes}
 use Rattle.workbench.proofs.program.read_front.Given as goal
 
@@ -8,4 +8,5 @@ invariant-loop-done g l =
     (vec_len l.bytes ≤ l.size)
     × Consumes (g.R.Source.left l.initial.reader) (g.R.Source.left l.reader) l.bytes.items
     × (g.R.Source.failed_reads l.reader ≡ g.R.Source.failed_reads l.initial.reader)
+    × (g.R.Source.reads l.reader ≡ g.R.Source.reads l.initial.reader + l.done)
     × (length l.piece ≡ 4096)

@@ -10,3 +10,4 @@ invariant-loop-byte g l =
     × Appends (g.W.Sink.written l.initial.writer) (g.W.Sink.written l.writer) text
     × GoesOn g.row.PAGES l.initial.session (l.initial.pending ++ take l.byte-index l.piece) l.session l.pending text
     × (g.W.Sink.failed_writes l.writer ≡ g.W.Sink.failed_writes l.initial.writer)
+    × (g.W.Sink.empty_writes l.writer ≡ g.W.Sink.empty_writes l.initial.writer)

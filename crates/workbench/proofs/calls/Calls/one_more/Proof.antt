@@ -1,4 +1,4 @@
--- `raised` makes the empty struct, with the count that its clause names.
+-- `one_more` makes the empty struct, with the count that its clause names.
 use mathlib.Core.Path.{refl}
 use mathlib.Core.List.{[], ◌∷◌}
 use Prim.Native.Nat.{◌+◌}
@@ -28,11 +28,11 @@ use denote.Triple.Entry.{on_entry, alive, Args}
 use denote.Triple.Spec.{Meets, triple_of}
 use denote.Triple.Table.{entered}
 use denote.Triple.Walked.{says, stay_none_ref, Stays, walk_of, Walks, ends_at, walked, Goes-none_ref, walk_Meets}
-use Rattle.workbench.specs.contracts.failures.Failures.raised.Key.{name as key}
-use Rattle.workbench.specs.contracts.failures.Failures.raised as f
-use Rattle.workbench.proofs.failures.Failures.raised.Statement as stated
-use Rattle.workbench.proofs.failures.Failures.raised.Code as code
-use Rattle.workbench.specs.contracts.failures.Failures as made
+use Rattle.workbench.specs.contracts.calls.Calls.one_more.Key.{name as key}
+use Rattle.workbench.specs.contracts.calls.Calls.one_more as f
+use Rattle.workbench.proofs.calls.Calls.one_more.Statement as stated
+use Rattle.workbench.proofs.calls.Calls.one_more.Code as code
+use Rattle.workbench.specs.contracts.calls.Calls as made
 
 abbrev stayed : Stays (f.ended).signature.params (f.ended).kept
 stayed = (stay_none_ref (0 ∷ []) tt (plain (λ _. made.the_row)) yes, tt)
@@ -72,9 +72,9 @@ meets {𝓤 = 𝓤} 𝓛 mem run 𝓣 =
     walk_Meets 𝓛 f.ended stayed (Goes-none_ref 𝓛 1 (0 ∷ []) tt (plain (λ _. made.the_row)) yes, tt) (f.clauses 𝓛 mem run) (WpFn 𝓤 𝓛.H 𝓣.C 𝓣.Λ code.function)
     (WpFn-mono 𝓤 𝓛.H 𝓛.laws 𝓣 code.function) (walks 𝓛 mem run 𝓣.C 𝓣.Λ)
 
-pub raised_spec : {M : Type 1} → stated.statement M
+pub one_more_spec : {M : Type 1} → stated.statement M
 unfolding tables_of
-raised_spec 𝓤 𝓛 𝓜 𝓡 wired =
+one_more_spec 𝓤 𝓛 𝓜 𝓡 wired =
     entered 𝓤 𝓛.H (triple_of 𝓛 f.signature (f.spec 𝓛 𝓜.mem 𝓡.returns))
     (tables 𝓤 𝓛.H 𝓜 𝓡 𝓡.env).C (tables 𝓤 𝓛.H 𝓜 𝓡 𝓡.env).Λ key code.function (code.unfolded 𝓤 𝓛.H 𝓜 𝓡 wired)
     (meets 𝓛 𝓜.mem 𝓡.returns (tables_of 𝓤 𝓛.H 𝓜 (tables 𝓤 𝓛.H 𝓜 𝓡 𝓡.env)))
