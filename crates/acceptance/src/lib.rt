@@ -2,6 +2,10 @@
 #![tactic(auto)]
 
 #[cfg(test)]
+mod effects;
+#[cfg(test)]
+mod encodings;
+#[cfg(test)]
 mod exceptions;
 #[cfg(test)]
 mod images;

@@ -84,6 +84,23 @@ fn load_slot(rt: HostRuntime) -> Result<(), Fail> {
     Ok(())
 }
 
+/// The third instruction adds 1 to r2, which the load is for: it reads r2 before the value lands, and its own write wins.
+#[test]
+fn load_slot_loses_to_its_own_write(rt: HostRuntime) -> Result<(), Fail> {
+    let mut input = Vec::from_slice(rt.alloc(), &LOAD_SLOT)?;
+    // addiu r2, r2, 1
+    input[60..64].copy_from_slice(&[1, 0, 0x42, 0x24]);
+    input.extend_from_slice(b"goto 3\nregs\n")?;
+    let words = ["r3kwb", "--kind", "image", "--size", "68"];
+    let run = run_program(rt.alloc(), &words, &input, 4096)?;
+    let want =
+        b"pos 3\npc 0xbfc0000c next 0xbfc00010 hi 0x00000000 lo 0x00000000 delay 0 load none\n\
+        r0 0x00000000 0xa0000000 0x00000001 0x00000000\n"
+            .as_slice();
+    assert!(rt; run.output.starts_with(want));
+    Ok(())
+}
+
 #[test]
 fn formats_and_the_program(rt: HostRuntime) -> Result<(), Fail> {
     let alloc = rt.alloc();

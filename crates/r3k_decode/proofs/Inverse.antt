@@ -1,17 +1,17 @@
 -- Decoding and encoding are inverse: one test over the table, and one lemma that turns it into the rule at each row.
-use Rattle.std.proofs.Common.{◌≡◌, ℕ, zero, suc, ◌+◌, ◌<◌, ◌^◌, Bool, true, false, ◌&&◌, ◌==◌, refl, sym, ap, subst, ◌∙◌, List, [], ◌∷◌, Option, Some, None, arith}
+use Rattle.std.proofs.Common.{◌≡◌, ℕ, zero, suc, ◌+◌, ◌<◌, ◌^◌, Bool, true, false, ◌&&◌, ◌==◌, refl, sym, ap, subst, ◌∙◌, List, [], ◌∷◌, length, Option, Some, None, arith}
 use Rattle.std.specs.Prelude.{bit_and, nat_lt, slice_get, IsSomeAnd, IfSome, option_and_then}
 use Rattle.std.specs.Option.{option_map, option_map_or}
 use Rattle.std.specs.List.{list_all}
 use Rattle.std.proofs.lemmas.Bool.{eqb-true}
 use borrow.Author.Tests.{ltb-true}
 use Rattle.r3k_table.specs.declared.row.Shape.{Shape}
-use Rattle.r3k_table.specs.declared.row.Shape.TheVariants.{A, H, O, P}
+use Rattle.r3k_table.specs.declared.row.Shape.TheVariants.{A, B, C, D, E, F, G, H, I, K, L, M, N, O, P, Q, Z}
 use Rattle.r3k_table.specs.Table.{Instruction, instructions, Matches, row_of}
 use Rattle.r3k_table.proofs.Apart.{row_from, found}
 use Rattle.r3k_decode.specs.Operation.{Operation, read_as, placed, IsZeroElsewhere, FitsFields, IsOperation}
 use Rattle.r3k_decode.specs.Decoding.{operation_of, word_of}
-use Rattle.r3k_decode.proofs.Shapes.{mask_of, whole, read_back, placed_again}
+use Rattle.r3k_decode.proofs.Shapes.{mask_of, whole, read_back, placed_again, below}
 
 -- a row's mask is that of its shape, and its value lies under it
 abbrev is_made : Instruction → Bool
@@ -67,9 +67,22 @@ decoded i h = said i (slice_get instructions i.row) refl h.row h.fits
 -- a word keeps the number of the row that it is read as
 row_read : (shape : Shape) (row word : ℕ) → (read_as row shape word).row ≡ row
 row_read A row word = refl
+row_read B row word = refl
+row_read C row word = refl
+row_read D row word = refl
+row_read E row word = refl
+row_read F row word = refl
+row_read G row word = refl
 row_read H row word = refl
+row_read I row word = refl
+row_read K row word = refl
+row_read L row word = refl
+row_read M row word = refl
+row_read N row word = refl
 row_read O row word = refl
 row_read P row word = refl
+row_read Q row word = refl
+row_read Z row word = refl
 
 -- a word with a row is the word of what it says
 spelled : (word n : ℕ) (o : Option Instruction) → word < 2 ^ 32 → slice_get instructions n ≡ o → IsSomeAnd o (λ r. bit_and word r.mask ≡ r.value) → IfSome (option_map (λ r. read_as n r.shape word) o) (λ i. word_of i ≡ word)
@@ -85,3 +98,19 @@ of_row word (Some n) w h = spelled word n (slice_get instructions n) w refl h
 
 pub encoded : (word : ℕ) → word < 2 ^ 32 → IfSome (operation_of word) (λ i. word_of i ≡ word)
 encoded word w = of_row word (row_of word) w (found instructions word)
+
+-- the word of an instruction is one
+word_fits : (i : Operation) (o : Option Instruction) → slice_get instructions i.row ≡ o → IsSomeAnd o (λ r. IsZeroElsewhere r.shape i) → FitsFields i → option_map_or (λ r. r.value + placed r.shape i) o 0 < 2 ^ 32
+word_fits i None e z f = absurd z
+word_fits i (Some r) e z f =
+    let m = made i.row r e in
+    below r.shape r.value i m.word (subst (λ (n : ℕ). bit_and r.value n ≡ r.value) m.mask m.value) f
+
+pub fits : (i : Operation) → IsOperation i → word_of i < 2 ^ 32
+fits i h = word_fits i (slice_get instructions i.row) refl h.row h.fits
+
+-- a number that has a row is below the number of rows
+pub in_table : (rows : List Instruction) (i : ℕ) (q : Instruction → Type 0) → IsSomeAnd (slice_get rows i) q → i < length rows
+in_table [] i q h = absurd h
+in_table (a ∷ rows) zero q h = omega arith
+in_table (a ∷ rows) (suc i) q h = let rest = in_table rows i q h in omega (arith, rest)

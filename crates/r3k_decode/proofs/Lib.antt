@@ -1,3 +1,4 @@
 pub mod Six
 pub mod Shapes
 pub mod Inverse
+pub mod Jumps

@@ -2,3 +2,4 @@ pub use Rattle.r3k_table.specs.Table
 pub mod Operation
 pub mod Decoding
 pub mod Seen
+pub mod Jump

@@ -49,6 +49,8 @@ impl Insn {
         let rd = field::<15, 11>(word) as u8;
         let sa = field::<10, 6>(word) as u8;
         let imm = field::<15, 0>(word) as u16;
+        let index = field::<25, 0>(word);
+        let code = field::<25, 6>(word);
         let none = Insn {
             row,
             rs: 0,
@@ -61,14 +63,23 @@ impl Insn {
         };
         match shape {
             Shape::A => Insn { rt, rd, sa, ..none },
-            Shape::H => Insn { rs, rt, rd, ..none },
-            Shape::O => Insn { rt, imm, ..none },
-            Shape::P => Insn {
+            Shape::B | Shape::H => Insn { rs, rt, rd, ..none },
+            Shape::C => Insn { rs, ..none },
+            Shape::D => Insn { rs, rd, ..none },
+            Shape::E => Insn { code, ..none },
+            Shape::F => Insn { rd, ..none },
+            Shape::G => Insn { rs, rt, ..none },
+            Shape::I => Insn { rs, imm, ..none },
+            Shape::K => Insn { index, ..none },
+            Shape::L | Shape::M | Shape::N | Shape::P => Insn {
                 rs,
                 rt,
                 imm,
                 ..none
             },
+            Shape::O => Insn { rt, imm, ..none },
+            Shape::Q => Insn { rt, rd, ..none },
+            Shape::Z => none,
         }
     }
 
@@ -84,9 +95,18 @@ impl Insn {
         let rd = u32::from(insn.rd) << 11;
         match shape {
             Shape::A => rt + rd + (u32::from(insn.sa) << 6),
-            Shape::H => rs + rt + rd,
+            Shape::B | Shape::H => rs + rt + rd,
+            Shape::C => rs,
+            Shape::D => rs + rd,
+            Shape::E => (insn.code << 6),
+            Shape::F => rd,
+            Shape::G => rs + rt,
+            Shape::I => rs + u32::from(insn.imm),
+            Shape::K => insn.index,
+            Shape::L | Shape::M | Shape::N | Shape::P => rs + rt + u32::from(insn.imm),
             Shape::O => rt + u32::from(insn.imm),
-            Shape::P => rs + rt + u32::from(insn.imm),
+            Shape::Q => rt + rd,
+            Shape::Z => 0,
         }
     }
 

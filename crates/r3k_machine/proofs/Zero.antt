@@ -7,16 +7,17 @@ use Rattle.input_log.specs.Event.{TimedByte}
 use Rattle.r3k_image.specs.Boot.{Boot}
 use Rattle.r3k_decode.specs.Operation.{Operation}
 use Rattle.r3k_decode.specs.Decoding.{operation_of}
-use Rattle.r3k_machine.specs.declared.operands.Effect.{Effect}
-use Rattle.r3k_machine.specs.declared.operands.Effect.TheVariants.{Write, Load}
+use Rattle.r3k_exec.specs.Effects.{effect_of}
+use Rattle.r3k_exec.specs.declared.access.LoadKind.TheVariants as load
+use Rattle.r3k_exec.specs.declared.operands.Effect.{Effect}
+use Rattle.r3k_exec.specs.declared.operands.Effect.TheVariants.{Write, WriteHi, WriteLo, WriteHiLo, Jump, JumpAndLink, Trap, Load, Store, MoveFromControl, MoveToControl, ReadEntry, WriteIndexedEntry, WriteRandomEntry, ProbeEntry, ReturnFromException}
 use Rattle.r3k_machine.specs.declared.exception.Exception.{Exception}
 use Rattle.r3k_machine.specs.declared.exception.Exception.TheVariants.{BusErrorFetch, BusErrorLoad}
 use Rattle.r3k_machine.specs.declared.state.Core.{Core}
 use Rattle.r3k_machine.specs.declared.turn.Word.{Word}
 use Rattle.r3k_machine.specs.Pending.{Pending}
 use Rattle.r3k_machine.specs.State.{State, register, with_register, landed}
-use Rattle.r3k_machine.specs.Effects.{effect_of}
-use Rattle.r3k_machine.specs.Step.{Completes, word_at, loads, performs, executes, concluded, instructs, turn, next}
+use Rattle.r3k_machine.specs.Step.{Completes, word_at, loads, performs, operands_of, executes, concluded, instructs, turn, next}
 use Rattle.r3k_machine.specs.Reset.{reset}
 use Rattle.r3k_machine.specs.Run.{run, arriving, state_at}
 
@@ -48,13 +49,33 @@ zero_performed : (pages : ℕ) (s : State) (effect : Effect) → HasZero s.core.
 unfolding KeepsZero
 zero_performed pages s (Write number value) h =
     zero_written (landed s.core.registers s.core.load) number value (zero_landed s.core.registers s.core.load h)
-zero_performed pages s (Load number address) h = zero_loaded s.core number (word_at pages s.words address BusErrorLoad) h
+zero_performed pages s (WriteHi value) h = zero_landed s.core.registers s.core.load h
+zero_performed pages s (WriteLo value) h = zero_landed s.core.registers s.core.load h
+zero_performed pages s (WriteHiLo hi lo) h = zero_landed s.core.registers s.core.load h
+zero_performed pages s (Load load.Byte number address) h = tt
+zero_performed pages s (Load load.ByteUnsigned number address) h = tt
+zero_performed pages s (Load load.Half number address) h = tt
+zero_performed pages s (Load load.HalfUnsigned number address) h = tt
+zero_performed pages s (Load (load.Left kept) number address) h = tt
+zero_performed pages s (Load (load.Right kept) number address) h = tt
+zero_performed pages s (Load load.Word number address) h = zero_loaded s.core number (word_at pages s.words address BusErrorLoad) h
+zero_performed pages s (Jump target) h = tt
+zero_performed pages s (JumpAndLink target register value) h = tt
+zero_performed pages s (Trap trap) h = tt
+zero_performed pages s (Store kind address value) h = tt
+zero_performed pages s (MoveFromControl register control) h = tt
+zero_performed pages s (MoveToControl control value) h = tt
+zero_performed pages s ReadEntry h = tt
+zero_performed pages s WriteIndexedEntry h = tt
+zero_performed pages s WriteRandomEntry h = tt
+zero_performed pages s ProbeEntry h = tt
+zero_performed pages s ReturnFromException h = tt
 
 zero_executed : (pages : ℕ) (s : State) (o : Option Operation) → HasZero s.core.registers → KeepsZero (executes pages s o)
 unfolding KeepsZero
 zero_executed pages s None h = tt
 zero_executed pages s (Some i) h =
-    zero_performed pages s (effect_of i (record { rs = register s.core i.rs; rt = register s.core i.rt })) h
+    zero_performed pages s (effect_of i (operands_of s.core i)) h
 
 zero_concluded : (s : State) (page : ℕ) (completes : Completes) → HasZero s.core.registers → KeepsZero completes → HasZero (concluded s page completes).state.core.registers
 unfolding KeepsZero

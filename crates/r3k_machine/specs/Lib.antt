@@ -1,6 +1,6 @@
-pub use Rattle.r3k_table.specs.Table
 pub use Rattle.r3k_decode.specs.Decoding
 pub use Rattle.r3k_decode.specs.Operation
+pub use Rattle.r3k_exec.specs.Effects
 pub use Rattle.r3k_word.specs.Word
 pub use Rattle.r3k_word.specs.Layout
 pub use Rattle.r3k_image.specs.Boot
@@ -11,6 +11,5 @@ pub mod State
 pub mod Address
 pub mod Exceptions
 pub mod Reset
-pub mod Effects
 pub mod Step
 pub mod Run

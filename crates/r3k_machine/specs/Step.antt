@@ -6,8 +6,11 @@ use Rattle.r3k_word.specs.Layout.{place_of_word, page_of_place}
 use Rattle.r3k_decode.specs.Operation.{Operation}
 use Rattle.r3k_decode.specs.Decoding.{operation_of}
 use Rattle.input_log.specs.Event.{TimedByte}
-use Rattle.r3k_machine.specs.declared.operands.Effect.{Effect}
-use Rattle.r3k_machine.specs.declared.operands.Effect.TheVariants.{Write, Load}
+use Rattle.r3k_exec.specs.Effects.{effect_of}
+use Rattle.r3k_exec.specs.declared.access.LoadKind.TheVariants as load
+use Rattle.r3k_exec.specs.declared.operands.Effect.{Effect}
+use Rattle.r3k_exec.specs.declared.operands.Effect.TheVariants.{Write, WriteHi, WriteLo, WriteHiLo, Load}
+use Rattle.r3k_exec.specs.declared.operands.Operands.{Operands}
 use Rattle.r3k_machine.specs.declared.exception.Exception.{Exception}
 use Rattle.r3k_machine.specs.declared.exception.Exception.TheVariants.{AddressErrorLoad, BusErrorFetch, BusErrorLoad, ReservedInstruction}
 use Rattle.r3k_machine.specs.declared.state.Core.{Core}
@@ -16,7 +19,6 @@ use Rattle.r3k_machine.specs.declared.turn.Word.{Word}
 use Rattle.r3k_machine.specs.Pending.{Pending}
 use Rattle.r3k_machine.specs.State.{State, register, with_register, landed}
 use Rattle.r3k_machine.specs.Address.{physical}
-use Rattle.r3k_machine.specs.Effects.{effect_of}
 use Rattle.r3k_machine.specs.Exceptions.{entered}
 
 -- the word at a physical address, and its page
@@ -63,17 +65,35 @@ abbrev pub loads : Core → ℕ → Result Word Exception → Completes
 loads core number (Err exception) = Err exception
 loads core number (Ok w) = Ok (completed core (landed core.registers core.load) (slot number w.word), Some w.page)
 
--- an instruction's own write is made after the pending value landed, so it wins
+-- the processor behind an instruction that loads nothing, but for what it writes
+abbrev pub passed : Core → Core
+passed core = completed core (landed core.registers core.load) None
+
+-- An instruction's own write is made after the pending value landed, so it wins. An instruction with another effect is
+-- reserved for now.
 abbrev pub performs : ℕ → State → Effect → Completes
 performs pages s (Write number value) =
-    Ok (completed s.core (with_register (landed s.core.registers s.core.load) number value) None, None)
-performs pages s (Load number address) = loads s.core number (word_at pages s.words address BusErrorLoad)
+    Ok (record (passed s.core) { registers = with_register (landed s.core.registers s.core.load) number value }, None)
+performs pages s (WriteHi value) = Ok (record (passed s.core) { hi = value }, None)
+performs pages s (WriteLo value) = Ok (record (passed s.core) { lo = value }, None)
+performs pages s (WriteHiLo hi lo) = Ok (record (passed s.core) { hi = hi; lo = lo }, None)
+performs pages s (Load load.Word number address) = loads s.core number (word_at pages s.words address BusErrorLoad)
+performs pages s effect = Err ReservedInstruction
 
--- an instruction reads its operands before the pending value lands
+-- what an instruction reads: registers before the pending value lands, and rt also after it
+abbrev pub operands_of : Core → Operation → Operands
+operands_of core i = record {
+  rs = register core i.rs;
+  rt = register core i.rt;
+  landed = slice_index (landed core.registers core.load) i.rt;
+  hi = core.hi;
+  lo = core.lo;
+  pc = core.pc;
+}
+
 abbrev pub executes : ℕ → State → Option Operation → Completes
 executes pages s None = Err ReservedInstruction
-executes pages s (Some i) =
-    performs pages s (effect_of i (record { rs = register s.core i.rs; rt = register s.core i.rt }))
+executes pages s (Some i) = performs pages s (effect_of i (operands_of s.core i))
 
 -- what a step leaves and tells
 pub record Outcome : Type 0 where

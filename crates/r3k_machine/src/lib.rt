@@ -3,10 +3,8 @@
 
 mod address;
 mod exception;
-mod instructions;
 mod laws;
 mod memory;
-mod operands;
 mod state;
 mod turn;
 

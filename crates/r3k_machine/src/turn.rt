@@ -1,19 +1,18 @@
 //! One step, in its written order.
 
-ghost use Rattle.std.specs.Prelude.{◌≡◌, ◌<◌, None, false};
+ghost use Rattle.std.specs.Prelude.{◌≡◌, ◌<◌, None, false, slice_index};
 ghost use Rattle.r3k_word.specs.Word.{sum_of};
 ghost use Rattle.r3k_decode.specs.Decoding.{operation_of};
-ghost use Rattle.r3k_machine.specs.State.{register, with_register, landed};
-ghost use Rattle.r3k_machine.specs.Step.{CompletesAs, word_at, slot, touching, completed, executes, next, told};
+ghost use Rattle.r3k_machine.specs.State.{with_register, landed};
+ghost use Rattle.r3k_machine.specs.Step.{CompletesAs, word_at, slot, touching, completed, operands_of, executes, next, told};
 
 use crate::address::physical_address;
 use crate::exception::Exception;
-use crate::instructions::effect;
 use crate::memory::Mem;
-use crate::operands::{Effect, Operands};
 use crate::state::{Core, Load};
 use input_log::Event;
 use r3k_decode::{Insn, decode};
+use r3k_exec::{Effect, LoadKind, Operands, effect};
 use r3k_word::arithmetic::add;
 use r3k_word::layout::{page_of, place_of};
 
@@ -72,11 +71,27 @@ impl Core {
     /// The values that an instruction reads.
     #[inline]
     fn operands(&self, insn: &Insn) -> Operands
-        ensures { result ≡ record { rs = register self.now insn.now.rs; rt = register self.now insn.now.rt } }
+        ensures { result ≡ operands_of self.now insn.now }
     {
         Operands {
             rs: self.registers[insn.rs() as usize],
             rt: self.registers[insn.rt() as usize],
+            landed: self.landed(insn.rt()),
+            hi: self.hi,
+            lo: self.lo,
+            pc: self.pc,
+        }
+    }
+
+    /// A register once the pending load has landed.
+    #[inline]
+    fn landed(&self, number: u8) -> u32
+        requires { number < 32 }
+        ensures { result ≡ slice_index (landed self.now.registers self.now.load) number }
+    {
+        match self.load {
+            Some(load) if load.register() == number => load.value(),
+            _ => self.registers[number as usize],
         }
     }
 
@@ -138,11 +153,32 @@ fn execute<M: Mem>(core: &mut Core, memory: &M, word: u32) -> Result<Option<u32>
             core.set_register(register, value);
             Ok(None)
         }
-        Effect::Load { register, address } => {
+        Effect::WriteHi { value } => {
+            core.complete(None);
+            core.hi = value;
+            Ok(None)
+        }
+        Effect::WriteLo { value } => {
+            core.complete(None);
+            core.lo = value;
+            Ok(None)
+        }
+        Effect::WriteHiLo { hi, lo } => {
+            core.complete(None);
+            core.hi = hi;
+            core.lo = lo;
+            Ok(None)
+        }
+        Effect::Load {
+            kind: LoadKind::Word,
+            register,
+            address,
+        } => {
             let loaded = read(memory, address, Exception::BusErrorLoad)?;
             core.complete(load_slot(register, loaded.word));
             Ok(Some(loaded.page))
         }
+        _ => Err(Exception::ReservedInstruction),
     }
 }
 

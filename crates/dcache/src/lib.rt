@@ -1,0 +1,12 @@
+//! The isolated cache of the R3000: two arrays of slots that loads and stores reach in place of
+//! memory.
+#![tactic(auto)]
+
+pub mod caches;
+pub mod slot;
+
+pub use caches::Caches;
+pub use slot::Slot;
+
+#[cfg(test)]
+mod tests;

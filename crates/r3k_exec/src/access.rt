@@ -1,0 +1,200 @@
+//! The widths of loads and stores, and the bytes of the aligned word that each picks or covers. Bytes stand in
+//! little-endian order.
+
+ghost use Rattle.std.specs.Prelude.{◌≡◌, ◌<◌, ◌%◌};
+ghost use Rattle.r3k_exec.specs.declared.access.StoreKind.TheVariants as store;
+ghost use Rattle.r3k_exec.specs.Access.{covering, loaded, is_aligned_load, is_aligned_store, merged_left, merged_right, stored};
+
+use r3k_word::field::sign;
+
+/// What a load makes of the aligned word that its address stands in. The merging ones keep bytes of a register.
+#[derive(Clone, Copy, Debug, PartialEq, Eq)]
+pub enum LoadKind {
+    /// lb
+    Byte,
+    /// lbu
+    ByteUnsigned,
+    /// lh
+    Half,
+    /// lhu
+    HalfUnsigned,
+    /// lw
+    Word,
+    /// lwl
+    Left { kept: u32 },
+    /// lwr
+    Right { kept: u32 },
+}
+
+/// Which bytes of a register a store puts into which of the aligned word that its address stands in.
+#[derive(Clone, Copy, Debug, PartialEq, Eq)]
+pub enum StoreKind {
+    /// sb
+    Byte,
+    /// sh
+    Half,
+    /// sw
+    Word,
+    /// swl
+    Left,
+    /// swr
+    Right,
+}
+
+/// A word of which some bytes are stored: bit k of `lanes` says that byte k is covered. The others are 0.
+#[derive(Clone, Copy, Debug, PartialEq, Eq)]
+pub struct Covered {
+    pub word: u32,
+    pub lanes: u8,
+}
+
+impl LoadKind {
+    /// Whether a load of this kind may have this address.
+    #[inline]
+    pub fn is_aligned(self, address: u32) -> bool
+        ensures { result ≡ is_aligned_load self address }
+    {
+        match self {
+            LoadKind::Half | LoadKind::HalfUnsigned => address % 2 == 0,
+            LoadKind::Word => address % 4 == 0,
+            _ => true,
+        }
+    }
+
+    /// What a load of this kind at this address gives of the aligned word there.
+    #[inline]
+    pub fn loaded(self, address: u32, word: u32) -> u32
+        ensures { result ≡ loaded self (address % 4) word }
+    {
+        let byte = address % 4;
+        let down = word >> (8 * byte);
+        match self {
+            LoadKind::Byte => sign::<8>(down & 0xFF),
+            LoadKind::ByteUnsigned => down & 0xFF,
+            LoadKind::Half => sign::<16>(down & 0xFFFF),
+            LoadKind::HalfUnsigned => down & 0xFFFF,
+            LoadKind::Word => word,
+            LoadKind::Left { kept } => left(byte, word, kept),
+            LoadKind::Right { kept } => right(byte, word, kept),
+        }
+    }
+}
+
+// The low bytes of the word on top, and the others kept.
+#[inline]
+fn left(byte: u32, word: u32, kept: u32) -> u32
+    requires { byte < 4 }
+    ensures { result ≡ merged_left byte word kept }
+{
+    match byte {
+        0 => (word << 24) + (kept & 0x00FF_FFFF),
+        1 => (word << 16) + (kept & 0xFFFF),
+        2 => (word << 8) + (kept & 0xFF),
+        _ => word,
+    }
+}
+
+// The high bytes of the word below, and the others kept.
+#[inline]
+fn right(byte: u32, word: u32, kept: u32) -> u32
+    requires { byte < 4 }
+    ensures { result ≡ merged_right byte word kept }
+{
+    match byte {
+        0 => word,
+        1 => (word >> 8) + (kept >> 24 << 24),
+        2 => (word >> 16) + (kept >> 16 << 16),
+        _ => (word >> 24) + (kept >> 8 << 8),
+    }
+}
+
+impl StoreKind {
+    /// Whether a store of this kind may have this address.
+    #[inline]
+    pub fn is_aligned(self, address: u32) -> bool
+        ensures { result ≡ is_aligned_store self address }
+    {
+        match self {
+            StoreKind::Half => address % 2 == 0,
+            StoreKind::Word => address % 4 == 0,
+            _ => true,
+        }
+    }
+
+    /// What a store of this kind of a register's value puts into the aligned word of this address. A byte that would stand
+    /// behind the word is dropped.
+    #[inline]
+    pub fn stored(self, address: u32, value: u32) -> Covered
+        ensures { result ≡ stored self (address % 4) value }
+    {
+        let byte = address % 4;
+        match self {
+            StoreKind::Byte => byte_at(byte, value),
+            StoreKind::Half => half_at(byte, value),
+            StoreKind::Word => covering(value, 15),
+            StoreKind::Left => high_bytes(byte, value),
+            StoreKind::Right => low_bytes(byte, value),
+        }
+    }
+}
+
+#[inline]
+fn covering(word: u32, lanes: u8) -> Covered
+    ensures { result ≡ covering word lanes }
+{
+    Covered { word, lanes }
+}
+
+#[inline]
+fn byte_at(byte: u32, value: u32) -> Covered
+    requires { byte < 4 }
+    ensures { result ≡ stored store.Byte byte value }
+{
+    match byte {
+        0 => covering(value % 0x100, 1),
+        1 => covering((value % 0x100) << 8, 2),
+        2 => covering((value % 0x100) << 16, 4),
+        _ => covering((value % 0x100) << 24, 8),
+    }
+}
+
+#[inline]
+fn half_at(byte: u32, value: u32) -> Covered
+    requires { byte < 4 }
+    ensures { result ≡ stored store.Half byte value }
+{
+    match byte {
+        0 => covering(value % 0x1_0000, 3),
+        1 => covering((value % 0x1_0000) << 8, 6),
+        2 => covering((value % 0x1_0000) << 16, 12),
+        _ => covering((value % 0x1_0000) << 24, 8),
+    }
+}
+
+// The register's high bytes, up to this place in the word.
+#[inline]
+fn high_bytes(byte: u32, value: u32) -> Covered
+    requires { byte < 4 }
+    ensures { result ≡ stored store.Left byte value }
+{
+    match byte {
+        0 => covering(value >> 24, 1),
+        1 => covering(value >> 16, 3),
+        2 => covering(value >> 8, 7),
+        _ => covering(value, 15),
+    }
+}
+
+// The register's low bytes, from this place in the word on.
+#[inline]
+fn low_bytes(byte: u32, value: u32) -> Covered
+    requires { byte < 4 }
+    ensures { result ≡ stored store.Right byte value }
+{
+    match byte {
+        0 => covering(value, 15),
+        1 => covering(value << 8, 14),
+        2 => covering(value << 16, 12),
+        _ => covering(value << 24, 8),
+    }
+}

@@ -1,0 +1,186 @@
+//! Branches and jumps. The instruction behind each of them stands in its delay slot.
+
+ghost use Rattle.std.specs.Prelude.{◌≡◌};
+ghost use Rattle.r3k_exec.specs.Effects.{jr_effect, jalr_effect, bltz_effect, bgez_effect, bltzal_effect, bgezal_effect, j_effect, jal_effect, beq_effect, bne_effect, blez_effect, bgtz_effect, branch_target, has_sign_bit, jump_target_of, return_address_of, NamesRegisters};
+
+use crate::operands::{Effect, Operands};
+use r3k_decode::Insn;
+use r3k_word::arithmetic::add;
+use r3k_word::field::{sign, with_field};
+
+// Whether the signed reading of a word is below 0.
+#[inline]
+fn is_negative(word: u32) -> bool
+    ensures { result ≡ has_sign_bit word }
+{
+    word >= 1 << 31
+}
+
+// The address behind the delay slot.
+#[inline]
+fn return_address(pc: u32) -> u32
+    ensures { result ≡ return_address_of pc }
+{
+    add(pc, 8)
+}
+
+// Where a branch goes, if it is taken.
+#[inline]
+fn branch_target(taken: bool, insn: &Insn, operands: Operands) -> Option<u32>
+    ensures { result ≡ branch_target taken insn.now operands }
+{
+    let offset = sign::<16>(u32::from(insn.imm())) << 2;
+    taken.then_some(add(add(operands.pc, 4), offset))
+}
+
+// Where a jump goes.
+#[inline]
+fn jump_target(insn: &Insn, pc: u32) -> u32
+    ensures { result ≡ jump_target_of pc insn.now.index }
+{
+    with_field::<27, 0>(add(pc, 4), insn.index() << 2)
+}
+
+/// Jump register.
+#[inline]
+pub(crate) fn jr(_insn: &Insn, operands: Operands) -> Effect
+    ensures effect { result ≡ jr_effect _insn.now operands }
+    ensures within { NamesRegisters result }
+{
+    Effect::Jump {
+        target: Some(operands.rs),
+    }
+}
+
+/// Jump and link register: to rs as it was read.
+#[inline]
+pub(crate) fn jalr(insn: &Insn, operands: Operands) -> Effect
+    ensures effect { result ≡ jalr_effect insn.now operands }
+    ensures within { NamesRegisters result }
+{
+    Effect::JumpAndLink {
+        target: Some(operands.rs),
+        register: insn.rd(),
+        value: return_address(operands.pc),
+    }
+}
+
+/// Branch on less than zero.
+#[inline]
+pub(crate) fn bltz(insn: &Insn, operands: Operands) -> Effect
+    ensures effect { result ≡ bltz_effect insn.now operands }
+    ensures within { NamesRegisters result }
+{
+    Effect::Jump {
+        target: branch_target(is_negative(operands.rs), insn, operands),
+    }
+}
+
+/// Branch on greater than or equal to zero.
+#[inline]
+pub(crate) fn bgez(insn: &Insn, operands: Operands) -> Effect
+    ensures effect { result ≡ bgez_effect insn.now operands }
+    ensures within { NamesRegisters result }
+{
+    Effect::Jump {
+        target: branch_target(!is_negative(operands.rs), insn, operands),
+    }
+}
+
+/// Branch on less than zero and link, taken or not.
+#[inline]
+pub(crate) fn bltzal(insn: &Insn, operands: Operands) -> Effect
+    ensures effect { result ≡ bltzal_effect insn.now operands }
+    ensures within { NamesRegisters result }
+{
+    Effect::JumpAndLink {
+        target: branch_target(is_negative(operands.rs), insn, operands),
+        register: 31,
+        value: return_address(operands.pc),
+    }
+}
+
+/// Branch on greater than or equal to zero and link, taken or not.
+#[inline]
+pub(crate) fn bgezal(insn: &Insn, operands: Operands) -> Effect
+    ensures effect { result ≡ bgezal_effect insn.now operands }
+    ensures within { NamesRegisters result }
+{
+    Effect::JumpAndLink {
+        target: branch_target(!is_negative(operands.rs), insn, operands),
+        register: 31,
+        value: return_address(operands.pc),
+    }
+}
+
+/// Jump.
+#[inline]
+pub(crate) fn j(insn: &Insn, operands: Operands) -> Effect
+    ensures effect { result ≡ j_effect insn.now operands }
+    ensures within { NamesRegisters result }
+{
+    Effect::Jump {
+        target: Some(jump_target(insn, operands.pc)),
+    }
+}
+
+/// Jump and link.
+#[inline]
+pub(crate) fn jal(insn: &Insn, operands: Operands) -> Effect
+    ensures effect { result ≡ jal_effect insn.now operands }
+    ensures within { NamesRegisters result }
+{
+    Effect::JumpAndLink {
+        target: Some(jump_target(insn, operands.pc)),
+        register: 31,
+        value: return_address(operands.pc),
+    }
+}
+
+/// Branch on equal.
+#[inline]
+pub(crate) fn beq(insn: &Insn, operands: Operands) -> Effect
+    ensures effect { result ≡ beq_effect insn.now operands }
+    ensures within { NamesRegisters result }
+{
+    Effect::Jump {
+        target: branch_target(operands.rs == operands.rt, insn, operands),
+    }
+}
+
+/// Branch on not equal.
+#[inline]
+pub(crate) fn bne(insn: &Insn, operands: Operands) -> Effect
+    ensures effect { result ≡ bne_effect insn.now operands }
+    ensures within { NamesRegisters result }
+{
+    Effect::Jump {
+        target: branch_target(operands.rs != operands.rt, insn, operands),
+    }
+}
+
+/// Branch on less than or equal to zero.
+#[inline]
+pub(crate) fn blez(insn: &Insn, operands: Operands) -> Effect
+    ensures effect { result ≡ blez_effect insn.now operands }
+    ensures within { NamesRegisters result }
+{
+    Effect::Jump {
+        target: branch_target(operands.rs == 0 || is_negative(operands.rs), insn, operands),
+    }
+}
+
+/// Branch on greater than zero.
+#[inline]
+pub(crate) fn bgtz(insn: &Insn, operands: Operands) -> Effect
+    ensures effect { result ≡ bgtz_effect insn.now operands }
+    ensures within { NamesRegisters result }
+{
+    Effect::Jump {
+        target: branch_target(
+            !(operands.rs == 0 || is_negative(operands.rs)),
+            insn,
+            operands,
+        ),
+    }
+}
