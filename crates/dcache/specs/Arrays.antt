@@ -2,7 +2,6 @@
 -- own): each array is the list of its slots.
 use Rattle.std.specs.Prelude.{ℕ, ◌/◌, ◌%◌, Bool, true, false, nat_eq, ◌&&◌}
 use Rattle.std.specs.Prelude.{List, replicate, slice_index_or, slice_set}
-use Rattle.dcache.specs.declared.slot.TheConstants.{SLOTS, TAG_BYTES}
 use Rattle.dcache.specs.declared.slot.Slot.{Slot}
 
 -- the two arrays
@@ -15,14 +14,14 @@ abbrev pub empty_slot : Slot
 empty_slot = record { word = 0; tag = 0; valid = false }
 
 abbrev pub reset_arrays : Arrays
-reset_arrays = record { first = replicate SLOTS empty_slot; second = replicate SLOTS empty_slot }
+reset_arrays = record { first = replicate 16_384 empty_slot; second = replicate 16_384 empty_slot }
 
 -- the slot's number and the tag of a physical address (own)
 abbrev pub place_of : ℕ → ℕ
-place_of address = address / 4 % SLOTS
+place_of address = address / 4 % 16_384
 
 abbrev pub tag_of : ℕ → ℕ
-tag_of address = address / TAG_BYTES
+tag_of address = address / 65_536
 
 -- the array that an access reaches: SwC chooses the second
 abbrev pub array_of : Arrays → Bool → List Slot

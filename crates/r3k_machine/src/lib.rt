@@ -12,4 +12,4 @@ pub use exception::Exception;
 pub use laws::{reset_laws, run_laws};
 pub use memory::Mem;
 pub use state::{Control, Core, Load};
-pub use turn::{Done, Sent, step};
+pub use turn::{Done, step};

@@ -10,18 +10,12 @@ use crate::address::physical_address;
 use crate::exception::Exception;
 use crate::memory::Mem;
 use crate::state::{Core, Load};
+use dz_serial::Sent;
 use input_log::Event;
 use r3k_decode::{Insn, decode};
 use r3k_exec::{Effect, LoadKind, Operands, effect};
 use r3k_word::arithmetic::add;
 use r3k_word::layout::{page_of, place_of};
-
-/// A byte that the serial part sent on a line.
-#[derive(Clone, Copy, Debug, PartialEq, Eq)]
-pub struct Sent {
-    pub line: u8,
-    pub byte: u8,
-}
 
 /// What a step tells: the byte that it sent, the physical address of the word of RAM that it stored into, and the pages
 /// that it fetched from and loaded from or stored into, of RAM first and then of ROM.

@@ -1,0 +1,8 @@
+-- A received character (KN02 functional specification, after the DZ11).
+use Rattle.std.specs.Prelude.{ℕ, Bool}
+
+-- its line, its byte, and whether bytes of the line were lost just before it
+pub record Character : Type 0 where
+  pub line : ℕ
+  pub byte : ℕ
+  pub overrun : Bool

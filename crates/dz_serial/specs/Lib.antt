@@ -1,0 +1,10 @@
+pub use Rattle.r3k_word.specs.Word
+pub mod Character
+pub mod Serial
+pub mod Silo
+pub mod Scan
+pub mod Bits
+pub mod Reads
+pub mod Writes
+pub mod Equal
+pub mod EqualLaws

@@ -1,0 +1,31 @@
+-- The silo (KN02 functional specification; that a lost byte's mark stays until a byte of its line
+-- is stored is own).
+use Rattle.std.specs.Prelude.{ℕ, Bool, true, false, not, ◌==◌, ◌&&◌, nat_lt, [], ◌∷◌, ◌++◌, length, drop, slice_set, if◌then◌else◌}
+use Rattle.dz_serial.specs.Serial.{Serial, each_line, entry_of}
+
+-- RDONE: the silo is not empty
+abbrev pub rdone : Serial → Bool
+rdone s = not (length s.silo == 0)
+
+-- A byte is stored where the silo has room, with the mark of lost bytes of its line, which is then
+-- gone. Where 64 characters wait it is lost, and its line marked.
+abbrev pub stored : Serial → ℕ → ℕ → Serial
+stored s line byte =
+    if nat_lt (length s.silo) 64
+    then record s {
+      silo = s.silo ++ record { line = line; byte = byte; overrun = entry_of s.lost line } ∷ [];
+      lost = slice_set s.lost line false;
+    }
+    else record s { lost = slice_set s.lost line true }
+
+-- A byte arrives only if MSE is 1 and its line's receiver is on.
+unfoldable pub arrived : Serial → ℕ → ℕ → Serial
+arrived s line byte = if s.mse && entry_of s.receivers line then stored s line byte else s
+
+-- the oldest character is removed
+abbrev pub without_oldest : Serial → Serial
+without_oldest s = record s { silo = drop 1 s.silo }
+
+-- the scanner is off: nothing is ready to send, and the silo is empty, with no mark of lost bytes
+abbrev pub scanner_off : Serial → Serial
+scanner_off s = record s { trdy = false; silo = []; lost = each_line false }

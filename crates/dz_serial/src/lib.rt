@@ -1,0 +1,18 @@
+//! The four-line serial part (DZ) of the KN02 system module: a silo for received characters, a
+//! scanner for the lines that can send, and the registers CSR, RBUF, LPR, TCR, MSR and TDR. Time is
+//! counted in ticks.
+#![tactic(auto)]
+
+mod dz;
+mod equal;
+mod read;
+mod registers;
+mod scan;
+mod silo;
+mod write;
+
+pub use dz::Dz;
+pub use write::Sent;
+
+#[cfg(test)]
+mod tests;

@@ -1,0 +1,76 @@
+//! The silo: received characters wait in it until RBUF is read.
+
+ghost use Rattle.std.specs.Prelude.{◌≡◌, ◌≤◌};
+ghost use Rattle.dz_serial.specs.Silo.{stored, arrived, scanner_off};
+
+use crate::dz::{Dz, LINES};
+use std::marker::Model;
+
+/// How many characters the silo holds.
+pub(crate) const SILO: usize = 64;
+
+/// A received character: its line, at most 3, its byte, and whether bytes of the line were lost
+/// just before it.
+#[derive(Clone, Copy, Debug, Default, PartialEq, Eq)]
+pub(crate) struct Received {
+    pub(crate) line: u8,
+    pub(crate) byte: u8,
+    pub(crate) overrun: bool,
+}
+
+impl Model for Received {
+    ghost use Rattle.std.specs.Prelude.{◌≤◌};
+    ghost use Rattle.dz_serial.specs.Character.{Character};
+
+    ghost Value = { Character };
+
+    ghost view = { λ a. record { line = a.line; byte = a.byte; overrun = a.overrun } };
+
+    ghost invariant = { λ a. a.line ≤ 3 };
+
+    ghost inverse = { λ c. record { line = c.line; byte = c.byte; overrun = c.overrun } };
+}
+
+impl Dz {
+    /// A byte arrives at a line, which is at most 3. It is ignored unless MSE is 1 and the line's
+    /// receiver is on, and lost where the silo is full: the next one that is stored from the line
+    /// then has OERR.
+    #[tactic(auto, unfolding(crate::specs::Silo::arrived))]
+    pub fn receive(&mut self, line: u8, byte: u8)
+        requires { line ≤ 3 }
+        ensures { self.new ≡ arrived self.old line byte }
+    {
+        if self.mse && self.receivers[line as usize] {
+            self.store(line, byte);
+        }
+    }
+
+    /// Stores a byte, or marks its line where the silo is full.
+    fn store(&mut self, line: u8, byte: u8)
+        requires { line ≤ 3 }
+        ensures { self.new ≡ stored self.old line byte }
+    {
+        let place = line as usize;
+        if self.silo.len() < SILO {
+            let overrun = self.lost[place];
+            self.silo.push(Received {
+                line,
+                byte,
+                overrun,
+            });
+            self.lost[place] = false;
+        } else {
+            self.lost[place] = true;
+        }
+    }
+
+    /// The scanner is off: nothing is ready to send, and the silo is empty, with no mark of lost
+    /// bytes.
+    pub(crate) fn turn_off(&mut self)
+        ensures { self.new ≡ scanner_off self.old }
+    {
+        self.trdy = false;
+        self.silo.clear();
+        self.lost = [false; LINES];
+    }
+}

@@ -1,0 +1,103 @@
+//! Writes of the registers.
+
+ghost use Rattle.std.specs.Prelude.{◌≡◌, ◌≤◌, IfSome};
+ghost use Rattle.dz_serial.specs.Writes.{csr_written, lpr_written, tcr_written, tdr_written};
+ghost use Rattle.dz_serial.specs.Writes.{sent_by_tdr, after_write, sent_by};
+
+use crate::dz::Dz;
+use crate::registers::*;
+use r3k_word::field::field;
+
+/// A byte that was sent, and its line.
+#[derive(Clone, Copy, Debug, PartialEq, Eq)]
+pub struct Sent {
+    pub line: u8,
+    pub byte: u8,
+}
+
+impl Dz {
+    /// Writes the word at an offset, a multiple of 4 up to 28: bit k of `lanes`, at most 15, says
+    /// that byte k of the word is covered. Gives the byte that a write of TDR sends.
+    #[tactic(auto, unfolding(crate::specs::Writes::after_write, crate::specs::Writes::sent_by))]
+    pub fn write(&mut self, offset: u32, word: u32, lanes: u8) -> Option<Sent>
+        ensures state { self.new ≡ after_write self.old offset word lanes }
+        ensures sent { result ≡ sent_by self.old offset word lanes }
+        ensures line { IfSome result (λ sent. sent.line ≤ 3) }
+    {
+        match offset {
+            CSR => self.write_csr(word, lanes),
+            LPR => self.write_lpr(word, lanes),
+            TCR => self.write_tcr(word, lanes),
+            TDR => return self.write_tdr(word, lanes),
+            _ => {}
+        }
+        None
+    }
+
+    /// CLR returns the part to reset. Else TIE, RIE, MSE and MAINT are set where their byte is
+    /// covered, and what is left with MSE 0 is turned off.
+    fn write_csr(&mut self, word: u32, lanes: u8)
+        ensures { self.new ≡ csr_written self.old word lanes }
+    {
+        let covers_low = covers::<0>(lanes);
+        if covers_low && bit::<CLR>(word) {
+            *self = Dz::new(self.byte_time as u32);
+            return;
+        }
+        if covers_low {
+            self.rie = bit::<RIE>(word);
+            self.mse = bit::<MSE>(word);
+            self.maint = bit::<MAINT>(word);
+        }
+        if covers::<1>(lanes) {
+            self.tie = bit::<TIE>(word);
+        }
+        if !self.mse {
+            self.turn_off();
+        }
+    }
+
+    /// LPR turns a line's receiver on or off.
+    fn write_lpr(&mut self, word: u32, lanes: u8)
+        ensures { self.new ≡ lpr_written self.old word lanes }
+    {
+        if covers::<0>(lanes) {
+            let line = field::<1, 0>(word) as usize;
+            self.receivers[line] = covers::<1>(lanes) && bit::<RX_ENABLE>(word);
+        }
+    }
+
+    /// TCR says which lines are enabled. TRDY is cleared where line TLINE is not.
+    fn write_tcr(&mut self, word: u32, lanes: u8)
+        ensures { self.new ≡ tcr_written self.old word lanes }
+    {
+        if covers::<0>(lanes) {
+            self.enabled = [
+                bit::<0>(word),
+                bit::<1>(word),
+                bit::<2>(word),
+                bit::<3>(word),
+            ];
+            self.trdy = self.trdy && self.enabled[self.tline as usize];
+        }
+    }
+
+    /// TDR sends a byte on line TLINE, if TRDY is 1.
+    fn write_tdr(&mut self, word: u32, lanes: u8) -> Option<Sent>
+        ensures state { self.new ≡ tdr_written self.old lanes }
+        ensures sent { result ≡ sent_by_tdr self.old word lanes }
+        ensures line { IfSome result (λ sent. sent.line ≤ 3) }
+    {
+        if !covers::<0>(lanes) || !self.trdy {
+            return None;
+        }
+        let line = self.tline;
+        self.busy[line as usize] = self.byte_time;
+        self.last_served = line;
+        self.trdy = false;
+        Some(Sent {
+            line,
+            byte: field::<7, 0>(word) as u8,
+        })
+    }
+}

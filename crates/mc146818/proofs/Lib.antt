@@ -1,0 +1,4 @@
+pub mod Count
+pub mod Flags
+pub mod Quiet
+pub mod Second

@@ -1,0 +1,8 @@
+pub mod Registers
+pub mod Bits
+pub mod Time
+pub mod Divider
+pub mod Clock
+pub mod Tick
+pub mod Same
+pub mod Second

@@ -1,0 +1,15 @@
+//! The clock: a part that behaves like the MC146818, a real-time clock with an alarm, a periodic
+//! interrupt and RAM. Its time is that of the machine's steps: each is a tick, a unit is a number
+//! of ticks that the image sets, and a second is 8192 units.
+#![tactic(auto)]
+
+mod clock;
+mod divider;
+pub mod laws;
+pub mod registers;
+mod time;
+
+pub use clock::Clock;
+
+#[cfg(test)]
+mod tests;

@@ -1,0 +1,5 @@
+pub mod Counts
+pub mod Least
+pub mod Bits
+pub mod Candidates
+pub mod Written

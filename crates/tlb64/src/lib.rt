@@ -1,0 +1,12 @@
+//! The 64 translation entries of the R3000 and the lookup of a virtual address in them.
+#![tactic(auto)]
+
+pub mod entry;
+mod sets;
+pub mod tlb;
+
+pub use entry::{Entry, Found};
+pub use tlb::Tlb;
+
+#[cfg(test)]
+mod tests;

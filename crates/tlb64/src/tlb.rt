@@ -1,0 +1,131 @@
+//! The 64 entries: reading, writing and looking up.
+
+ghost use Rattle.std.specs.Prelude.{◌≡◌, ◌↔◌, ◌<◌, ◌≤◌, IsTrue, MatchOption, IfSome};
+ghost use Rattle.std.specs.Prelude.{slice_index_or, slice_set};
+ghost use Rattle.tlb64.specs.Entries.{empty_entry, reset_entries};
+ghost use Rattle.tlb64.specs.Lookup.{lookup_of, probe_of};
+ghost use Rattle.tlb64.specs.Same.{same_entries};
+
+use crate::entry::{Entry, Found};
+use crate::sets::{lowest_match, set_of};
+use r3k_word::field::field;
+use std::marker::Model;
+
+/// The translation entries, seen as the list of them.
+#[derive(Debug, Drop)]
+pub struct Tlb {
+    entries: [Entry; 64],
+    // Of each set, the bits of its entries' places.
+    sets: [u64; 64],
+}
+
+impl Model for Tlb {
+    ghost use Rattle.std.specs.Prelude.{List};
+    ghost use Rattle.tlb64.specs.Sets.{AreSetsOf};
+    ghost use Rattle.tlb64.specs.declared.entry.Entry.{Entry};
+
+    ghost Value = { List Entry };
+
+    ghost view = { λ t. t.entries };
+
+    ghost invariant = { λ t. AreSetsOf t.entries t.sets };
+}
+
+impl Tlb {
+    /// The entries at reset: all are 0.
+    pub fn new() -> Tlb
+        ensures { result ≡ reset_entries }
+    {
+        let mut sets = [0; 64];
+        sets[0] = u64::MAX;
+        Tlb {
+            entries: [Entry { hi: 0, lo: 0 }; 64],
+            sets,
+        }
+    }
+
+    /// The lowest entry that is for the page of a virtual address, and global or of the process
+    /// `pid`, and whether more than one is. No entry is of a process above 63.
+    #[inline]
+    pub fn lookup(&self, address: u32, pid: u32) -> Option<Found>
+        ensures found { result ≡ lookup_of self.now address pid }
+        ensures within { IfSome result (λ found. found.index < 64) }
+    {
+        let candidates = self.sets[set_of(address)];
+        let lowest = lowest_match(&self.entries, candidates, address, pid)?;
+        Some(Found {
+            index: lowest.place as u32,
+            entry: self.entries[lowest.place],
+            several: lowest_match(&self.entries, lowest.rest, address, pid).is_some(),
+        })
+    }
+
+    /// The lookup for the page and the process of a value of EntryHi.
+    #[inline]
+    pub fn probe(&self, hi: u32) -> Option<Found>
+        ensures found { result ≡ probe_of self.now hi }
+        ensures within { IfSome result (λ found. found.index < 64) }
+    {
+        self.lookup(hi, field::<11, 6>(hi))
+    }
+
+    /// The entry at a place from 0 to 63.
+    #[inline]
+    pub fn read(&self, index: u32) -> Entry
+        requires { index < 64 }
+        ensures { result ≡ slice_index_or self.now index empty_entry }
+    {
+        self.entries[index as usize]
+    }
+
+    /// Replaces the entry at a place from 0 to 63.
+    #[inline]
+    pub fn write(&mut self, index: u32, entry: Entry)
+        requires { index < 64 }
+        ensures { self.new ≡ slice_set self.old index entry }
+    {
+        let place = index as usize;
+        let bit = 1u64 << place;
+        self.sets[set_of(self.entries[place].hi)] &= !bit;
+        self.sets[set_of(entry.hi)] |= bit;
+        self.entries[place] = entry;
+    }
+
+    /// Makes the entries those of another.
+    pub fn assign(&mut self, other: &Tlb)
+        ensures { self.new ≡ other.now }
+    {
+        self.entries = other.entries;
+        self.sets = other.sets;
+    }
+
+    fn has_entries_of(&self, other: &Tlb) -> bool
+        ensures { result ≡ same_entries self.now other.now }
+    {
+        self.entries == other.entries
+    }
+}
+
+impl PartialEq for Tlb {
+    ghost use Rattle.std.specs.Prelude.{◌≡◌, ◌↔◌, IsTrue};
+    ghost use Rattle.tlb64.specs.Same.{same_entries, same_entries_per};
+
+    ghost eq = { same_entries };
+
+    ghost laws = { same_entries_per };
+
+    /// Whether all entries are equal.
+    #[tactic(auto, using(crate::specs::Same::same_entries_iff))]
+    fn eq(&self, other: &Tlb) -> bool
+        ensures test { result ≡ same_entries self.now other.now }
+        ensures exact { IsTrue result ↔ (self.now ≡ other.now) }
+    {
+        self.has_entries_of(other)
+    }
+}
+
+impl Eq for Tlb {
+    ghost use Rattle.tlb64.specs.Same.{same_entries_equivalence};
+
+    ghost laws = { same_entries_equivalence };
+}
