@@ -15,6 +15,7 @@ use Rattle.r3k_exec.specs.declared.operands.Trap.TheVariants.{SystemCall, Breakp
 abbrev pub fits_signed : ℤ → Bool
 fits_signed n = int_le (signed (2 ^ 31)) n && int_le n (signed (2 ^ 31 - 1))
 
+-- a sum or a difference is written, or traps
 abbrev pub write_or_overflow : ℕ → ℤ → ℕ → Effect
 write_or_overflow register exact value = if fits_signed exact then Write register value else Trap Overflow
 
@@ -23,6 +24,7 @@ abbrev pub write_if_some : ℕ → Option ℕ → Effect
 write_if_some register None = Trap Overflow
 write_if_some register (Some value) = Write register value
 
+-- both halves of a product, or remainder and quotient, go to HI and LO
 abbrev pub write_hi_lo : HiLo → Effect
 write_hi_lo r = WriteHiLo r.hi r.lo
 

@@ -3,7 +3,7 @@
 ghost use Rattle.std.specs.Prelude.{◌≡◌};
 ghost use Rattle.r3k_exec.specs.Effects.{mult_effect, multu_effect, div_effect, divu_effect, add_effect, addu_effect, sub_effect, subu_effect, addi_effect, addiu_effect, write_hi_lo, write_if_some, NamesRegisters};
 
-use crate::logic::extended;
+use crate::immediate::extended;
 use crate::operands::{Effect, Operands, Trap};
 use r3k_decode::Insn;
 use r3k_word::arithmetic::{

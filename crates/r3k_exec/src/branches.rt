@@ -3,10 +3,11 @@
 ghost use Rattle.std.specs.Prelude.{◌≡◌};
 ghost use Rattle.r3k_exec.specs.Effects.{jr_effect, jalr_effect, bltz_effect, bgez_effect, bltzal_effect, bgezal_effect, j_effect, jal_effect, beq_effect, bne_effect, blez_effect, bgtz_effect, branch_target, has_sign_bit, jump_target_of, return_address_of, NamesRegisters};
 
+use crate::immediate::extended;
 use crate::operands::{Effect, Operands};
 use r3k_decode::Insn;
 use r3k_word::arithmetic::add;
-use r3k_word::field::{sign, with_field};
+use r3k_word::field::with_field;
 
 // Whether the signed reading of a word is below 0.
 #[inline]
@@ -29,7 +30,7 @@ fn return_address(pc: u32) -> u32
 fn branch_target(taken: bool, insn: &Insn, operands: Operands) -> Option<u32>
     ensures { result ≡ branch_target taken insn.now operands }
 {
-    let offset = sign::<16>(u32::from(insn.imm())) << 2;
+    let offset = extended(insn) << 2;
     taken.then_some(add(add(operands.pc, 4), offset))
 }
 

@@ -6,6 +6,7 @@ mod arithmetic;
 mod branches;
 mod control;
 mod dispatch;
+mod immediate;
 mod logic;
 mod moves;
 mod operands;

@@ -1,20 +1,11 @@
 //! Bitwise operations, comparisons, and the load of an upper immediate.
 
 ghost use Rattle.std.specs.Prelude.{◌≡◌};
-ghost use Rattle.r3k_word.specs.Word.{sign_extended};
 ghost use Rattle.r3k_exec.specs.Effects.{and_effect, or_effect, xor_effect, nor_effect, slt_effect, sltu_effect, slti_effect, sltiu_effect, andi_effect, ori_effect, xori_effect, lui_effect, NamesRegisters};
 
+use crate::immediate::extended;
 use crate::operands::{Effect, Operands};
 use r3k_decode::Insn;
-use r3k_word::field::sign;
-
-/// The immediate, sign-extended.
-#[inline]
-pub(crate) fn extended(insn: &Insn) -> u32
-    ensures { result ≡ sign_extended 16 insn.now.imm }
-{
-    sign::<16>(u32::from(insn.imm()))
-}
 
 /// And.
 #[inline]

@@ -4,17 +4,17 @@ ghost use Rattle.std.specs.Prelude.{◌≡◌};
 ghost use Rattle.r3k_exec.specs.Effects.{lb_effect, lh_effect, lwl_effect, lw_effect, lbu_effect, lhu_effect, lwr_effect, sb_effect, sh_effect, swl_effect, sw_effect, swr_effect, address_of, NamesRegisters};
 
 use crate::access::{LoadKind, StoreKind};
+use crate::immediate::extended;
 use crate::operands::{Effect, Operands};
 use r3k_decode::Insn;
 use r3k_word::arithmetic::add;
-use r3k_word::field::sign;
 
 // The address of a load or a store.
 #[inline]
 fn address(insn: &Insn, operands: Operands) -> u32
     ensures { result ≡ address_of insn.now operands }
 {
-    add(operands.rs, sign::<16>(u32::from(insn.imm())))
+    add(operands.rs, extended(insn))
 }
 
 /// Load byte.

@@ -1,0 +1,282 @@
+//! The registers: reading, writing, and what translation and exceptions do to them.
+
+ghost use Rattle.std.specs.Prelude.{◌≡◌, ◌≤◌, IfSome};
+ghost use Rattle.cop0.specs.Registers.{reset_registers, register_of, written, merged};
+ghost use Rattle.cop0.specs.Exception.{entered, vector_of};
+ghost use Rattle.cop0.specs.Status.{page_loaded};
+ghost use Rattle.cop0.specs.Changes.{sampled, is_wanted, fallen, returned, with_ts, with_cm, probed, loaded};
+
+use crate::exception::Exc;
+use crate::status::{RESET_STATUS, caused, popped, pushed, vector};
+use r3k_word::field::{field, with_field};
+use std::marker::Model;
+
+/// The control registers. Random is from 8 to 63.
+#[derive(Clone, Copy, Debug)]
+pub struct Cop0 {
+    pub(crate) index: u32,
+    pub(crate) random: u32,
+    pub(crate) entry_lo: u32,
+    pub(crate) context: u32,
+    pub(crate) bad_vaddr: u32,
+    pub(crate) entry_hi: u32,
+    pub(crate) status: u32,
+    pub(crate) cause: u32,
+    pub(crate) epc: u32,
+}
+
+impl Model for Cop0 {
+    ghost use Rattle.std.specs.Prelude.{◌≤◌, ◌<◌};
+    ghost use Rattle.cop0.specs.Registers.{Registers};
+
+    ghost Value = { Registers };
+
+    ghost view = { λ c. record {
+      index = c.index;
+      random = c.random;
+      entry_lo = c.entry_lo;
+      context = c.context;
+      bad_vaddr = c.bad_vaddr;
+      entry_hi = c.entry_hi;
+      status = c.status;
+      cause = c.cause;
+      epc = c.epc;
+    } };
+
+    ghost invariant = { λ c. (8 ≤ c.random) × (c.random ≤ 63) };
+
+    ghost inverse = { λ r. record {
+      index = r.index;
+      random = r.random;
+      entry_lo = r.entry_lo;
+      context = r.context;
+      bad_vaddr = r.bad_vaddr;
+      entry_hi = r.entry_hi;
+      status = r.status;
+      cause = r.cause;
+      epc = r.epc;
+    } };
+}
+
+// The numbers of the registers.
+const INDEX: u8 = 0;
+
+const RANDOM: u8 = 1;
+
+const ENTRY_LO: u8 = 2;
+
+const CONTEXT: u8 = 4;
+
+const BAD_VADDR: u8 = 8;
+
+const ENTRY_HI: u8 = 10;
+
+const STATUS: u8 = 12;
+
+const CAUSE: u8 = 13;
+
+const EPC: u8 = 14;
+
+const PRID: u8 = 15;
+
+/// The word with the bits of a mask taken from another.
+#[inline]
+fn merge(old: u32, new: u32, mask: u32) -> u32
+    ensures { result ≡ merged mask old new }
+{
+    (old & !mask) | (new & mask)
+}
+
+impl Cop0 {
+    /// The registers at reset: Status has BEV alone, Random is 63, and all else is 0.
+    pub fn new() -> Cop0
+        ensures { result ≡ reset_registers }
+    {
+        Cop0 {
+            index: 0,
+            random: 63,
+            entry_lo: 0,
+            context: 0,
+            bad_vaddr: 0,
+            entry_hi: 0,
+            status: RESET_STATUS,
+            cause: 0,
+            epc: 0,
+        }
+    }
+
+    /// Reads a register. One that is not there reads 0.
+    #[inline]
+    pub fn read(&self, register: u8) -> u32
+        ensures { result ≡ register_of self.now register }
+    {
+        match register {
+            INDEX => self.index,
+            RANDOM => self.random << 8,
+            ENTRY_LO => self.entry_lo,
+            CONTEXT => self.context,
+            BAD_VADDR => self.bad_vaddr,
+            ENTRY_HI => self.entry_hi,
+            STATUS => self.status,
+            CAUSE => self.cause,
+            EPC => self.epc,
+            PRID => 0x0000_0220,
+            _ => 0,
+        }
+    }
+
+    /// Writes the bits of a register's write mask. The others stay, and so does a register without one.
+    pub fn write(&mut self, register: u8, word: u32)
+        ensures { self.new ≡ written self.old register word }
+    {
+        match register {
+            INDEX => self.index = merge(self.index, word, 0x0000_3F00),
+            ENTRY_LO => self.entry_lo = merge(self.entry_lo, word, 0xFFFF_FF00),
+            CONTEXT => self.context = merge(self.context, word, 0xFFE0_0000),
+            ENTRY_HI => self.entry_hi = merge(self.entry_hi, word, 0xFFFF_FFC0),
+            STATUS => self.status = merge(self.status, word, 0x1044_FF3F),
+            CAUSE => self.cause = merge(self.cause, word, 0x0000_0300),
+            _ => {}
+        }
+    }
+
+    /// Takes an exception, and gives the address of its handler.
+    pub fn enter(&mut self, exception: Exc) -> u32
+        ensures state { self.new ≡ entered self.old exception }
+        ensures vector { result ≡ vector_of self.old.status exception.refill }
+    {
+        let vector = vector(self.status, exception.refill);
+        self.status = pushed(self.status);
+        self.cause = caused(self.cause, exception);
+        self.epc = if exception.delay {
+            exception.pc.wrapping_sub(4)
+        } else {
+            exception.pc
+        };
+        if let Some(address) = exception.bad {
+            self.bad_vaddr = address;
+            if exception.mapped {
+                self.load_page(address);
+            }
+        }
+        vector
+    }
+
+    // Context and EntryHi are loaded with the page of an address.
+    fn load_page(&mut self, address: u32)
+        ensures { self.new ≡ page_loaded self.old address }
+    {
+        self.context = with_field::<20, 2>(self.context, field::<30, 12>(address));
+        self.entry_hi = with_field::<31, 12>(self.entry_hi, field::<31, 12>(address));
+    }
+
+    /// Returns from an exception: the previous mode and enable become the present ones, and the old ones the previous.
+    pub fn rfe(&mut self)
+        ensures { self.new ≡ returned self.old }
+    {
+        self.status = popped(self.status);
+    }
+
+    /// Samples the interrupt lines of the board and of the clock into Cause.
+    #[inline]
+    pub fn sample(&mut self, board: bool, clock: bool)
+        ensures { self.new ≡ sampled self.old board clock }
+    {
+        self.cause = with_field::<11, 10>(self.cause, 2 * u32::from(clock) + u32::from(board));
+    }
+
+    /// Whether an interrupt is to be taken: one is pending whose mask bit is set, and interrupts are enabled.
+    #[inline]
+    pub fn wanted(&self) -> bool
+        ensures { result ≡ is_wanted self.now }
+    {
+        field::<0, 0>(self.status) == 1
+            && field::<15, 8>(self.cause) & field::<15, 8>(self.status) != 0
+    }
+
+    /// Random falls by one, from 8 to 63.
+    #[inline]
+    pub fn fall(&mut self)
+        ensures { self.new ≡ fallen self.old }
+    {
+        self.random = if self.random == 8 {
+            63
+        } else {
+            self.random - 1
+        };
+    }
+
+    /// Sets TS: several entries matched an address.
+    pub fn set_ts(&mut self)
+        ensures { self.new ≡ with_ts self.old }
+    {
+        self.status = with_field::<21, 21>(self.status, 1);
+    }
+
+    /// Sets CM to whether a load of the isolated cache missed.
+    pub fn set_cm(&mut self, miss: bool)
+        ensures { self.new ≡ with_cm self.old miss }
+    {
+        self.status = with_field::<19, 19>(self.status, u32::from(miss));
+    }
+
+    /// Index after a probe: the entry that was found, at most 63, or P alone.
+    pub fn probed(&mut self, found: Option<u32>)
+        requires { IfSome found (λ index. index ≤ 63) }
+        ensures { self.new ≡ probed self.old found }
+    {
+        self.index = match found {
+            Some(index) => index << 8,
+            None => 1 << 31,
+        };
+    }
+
+    /// Loads EntryHi and EntryLo with the fields of an entry.
+    pub fn loaded(&mut self, hi: u32, lo: u32)
+        ensures { self.new ≡ loaded self.old hi lo }
+    {
+        self.entry_hi = hi & 0xFFFF_FFC0;
+        self.entry_lo = lo & 0xFFFF_FF00;
+    }
+
+    /// Makes the registers equal to others.
+    pub fn assign(&mut self, other: &Cop0)
+        ensures { self.new ≡ other.now }
+    {
+        *self = *other;
+    }
+}
+
+impl PartialEq for Cop0 {
+    ghost use Rattle.std.proofs.Common.{rules};
+    ghost use Rattle.std.specs.Prelude.{◌≡◌, ◌↔◌, IsTrue};
+    ghost use Rattle.std.specs.Cmp.Rules.{comparing};
+    ghost use Rattle.cop0.specs.Same.{is_same};
+
+    ghost eq = { is_same };
+
+    ghost laws = { Prim.search (comparing, rules) };
+
+    /// Whether all registers are equal.
+    fn eq(&self, other: &Cop0) -> bool
+        ensures value { result ≡ is_same self.now other.now }
+        ensures equal { IsTrue result ↔ (self.now ≡ other.now) }
+    {
+        self.index == other.index
+            && self.random == other.random
+            && self.entry_lo == other.entry_lo
+            && self.context == other.context
+            && self.bad_vaddr == other.bad_vaddr
+            && self.entry_hi == other.entry_hi
+            && self.status == other.status
+            && self.cause == other.cause
+            && self.epc == other.epc
+    }
+}
+
+impl Eq for Cop0 {
+    ghost use Rattle.std.proofs.Common.{rules};
+    ghost use Rattle.std.specs.Cmp.Rules.{comparing};
+
+    ghost laws = { Prim.search (comparing, rules) };
+}

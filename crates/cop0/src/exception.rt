@@ -1,0 +1,78 @@
+//! What an exception tells coprocessor 0.
+
+ghost use Rattle.std.specs.Prelude.{◌≡◌, ◌≤◌};
+ghost use Rattle.cop0.specs.Codes.{code_of};
+
+/// Why an exception is taken, in the order of its code in Cause.
+#[derive(Clone, Copy, Debug, PartialEq, Eq)]
+pub enum ExcCode {
+    /// Int: an interrupt.
+    Interrupt,
+    /// Mod: a store to a page that is not dirty.
+    Modification,
+    /// TLBL: no translation for a load or a fetch.
+    TlbLoad,
+    /// TLBS: no translation for a store.
+    TlbStore,
+    /// AdEL: a bad address of a load or a fetch.
+    AddressLoad,
+    /// AdES: a bad address of a store.
+    AddressStore,
+    /// IBE: a bus error of a fetch.
+    BusFetch,
+    /// DBE: a bus error of a load.
+    BusLoad,
+    /// Sys: a system call.
+    SystemCall,
+    /// Bp: a breakpoint.
+    Breakpoint,
+    /// RI: a reserved instruction.
+    ReservedInstruction,
+    /// CpU: a coprocessor that is not usable.
+    CoprocessorUnusable,
+    /// Ov: arithmetic overflow.
+    Overflow,
+}
+
+impl ExcCode {
+    /// The code in Cause, 0 to 12.
+    #[inline]
+    pub fn number(self) -> u32
+        ensures code { result ≡ code_of self }
+        ensures within { result ≤ 12 }
+    {
+        match self {
+            ExcCode::Interrupt => 0,
+            ExcCode::Modification => 1,
+            ExcCode::TlbLoad => 2,
+            ExcCode::TlbStore => 3,
+            ExcCode::AddressLoad => 4,
+            ExcCode::AddressStore => 5,
+            ExcCode::BusFetch => 6,
+            ExcCode::BusLoad => 7,
+            ExcCode::SystemCall => 8,
+            ExcCode::Breakpoint => 9,
+            ExcCode::ReservedInstruction => 10,
+            ExcCode::CoprocessorUnusable => 11,
+            ExcCode::Overflow => 12,
+        }
+    }
+}
+
+/// An exception of the instruction at `pc`.
+#[derive(Clone, Copy, Debug, PartialEq, Eq)]
+pub struct Exc {
+    pub code: ExcCode,
+    /// The number of the coprocessor that is not usable, else 0.
+    pub ce: u32,
+    pub pc: u32,
+    /// The instruction stands in a delay slot.
+    pub delay: bool,
+    /// The address that BadVAddr is loaded with.
+    pub bad: Option<u32>,
+    /// That address was to be translated: Context and EntryHi are loaded with its page too.
+    pub mapped: bool,
+    /// There was no entry for an address of kuseg: the handler for user misses is called.
+    pub refill: bool,
+    ghost in_range: { ce ≤ 3 },
+}

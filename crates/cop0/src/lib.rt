@@ -1,0 +1,12 @@
+//! The control registers of the R3000, coprocessor 0.
+#![tactic(auto)]
+
+mod cop0;
+mod exception;
+mod status;
+
+pub use cop0::Cop0;
+pub use exception::{Exc, ExcCode};
+
+#[cfg(test)]
+mod tests;
