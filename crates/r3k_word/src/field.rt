@@ -34,9 +34,6 @@ pub fn sign<const N: u32>(value: u32) -> u32
     ensures { result ≡ sign_extended N value }
 {
     let top = 1 << (N - 1);
-    if value < top {
-        value
-    } else {
-        value.wrapping_sub(top).wrapping_sub(top)
-    }
+    let high = u32::from(value >= top) << (N - 1);
+    value.wrapping_sub(high).wrapping_sub(high)
 }
