@@ -265,7 +265,7 @@ impl Clock {
             if self.divider.advance() {
                 self.end_unit();
             }
-        } else {
+        } else if !self.divider.is_zero() {
             self.divider.clear();
         }
     }
