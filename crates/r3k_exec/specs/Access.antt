@@ -28,15 +28,15 @@ merged_left byte word kept = word * 2 ^ (24 - 8 * byte) % 2 ^ 32 + kept % 2 ^ (2
 abbrev pub merged_right : ℕ → ℕ → ℕ → ℕ
 merged_right byte word kept = word / 2 ^ (8 * byte) + kept / 2 ^ (32 - 8 * byte) * 2 ^ (32 - 8 * byte)
 
--- what a load gives of the aligned word
-abbrev pub loaded : LoadKind → ℕ → ℕ → ℕ
-loaded load.Byte byte word = sign_extended 8 (word / 2 ^ (8 * byte) % 2 ^ 8)
-loaded load.ByteUnsigned byte word = word / 2 ^ (8 * byte) % 2 ^ 8
-loaded load.Half byte word = sign_extended 16 (word / 2 ^ (8 * byte) % 2 ^ 16)
-loaded load.HalfUnsigned byte word = word / 2 ^ (8 * byte) % 2 ^ 16
-loaded load.Word byte word = word
-loaded (load.Left kept) byte word = merged_left byte word kept
-loaded (load.Right kept) byte word = merged_right byte word kept
+-- what a load gives of the aligned word, and of the register's value that it may keep
+abbrev pub loaded : LoadKind → (byte word kept : ℕ) → ℕ
+loaded load.Byte byte word kept = sign_extended 8 (word / 2 ^ (8 * byte) % 2 ^ 8)
+loaded load.ByteUnsigned byte word kept = word / 2 ^ (8 * byte) % 2 ^ 8
+loaded load.Half byte word kept = sign_extended 16 (word / 2 ^ (8 * byte) % 2 ^ 16)
+loaded load.HalfUnsigned byte word kept = word / 2 ^ (8 * byte) % 2 ^ 16
+loaded load.Word byte word kept = word
+loaded load.Left byte word kept = merged_left byte word kept
+loaded load.Right byte word kept = merged_right byte word kept
 
 -- what a store puts into the aligned word, and which bytes of it are covered. swl stores the register's high bytes up to
 -- this byte, swr its low bytes from this byte on.

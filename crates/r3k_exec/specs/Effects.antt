@@ -277,7 +277,7 @@ lh_effect i o = Load load.Half i.rt (address_of i o)
 
 -- load word left
 abbrev pub lwl_effect : Operation → Operands → Effect
-lwl_effect i o = Load (load.Left o.landed) i.rt (address_of i o)
+lwl_effect i o = Load load.Left i.rt (address_of i o)
 
 -- load word
 abbrev pub lw_effect : Operation → Operands → Effect
@@ -293,7 +293,7 @@ lhu_effect i o = Load load.HalfUnsigned i.rt (address_of i o)
 
 -- load word right
 abbrev pub lwr_effect : Operation → Operands → Effect
-lwr_effect i o = Load (load.Right o.landed) i.rt (address_of i o)
+lwr_effect i o = Load load.Right i.rt (address_of i o)
 
 -- store byte
 abbrev pub sb_effect : Operation → Operands → Effect

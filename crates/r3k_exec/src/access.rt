@@ -7,7 +7,7 @@ ghost use Rattle.r3k_exec.specs.Access.{covering, loaded, is_aligned_load, is_al
 
 use r3k_word::field::sign;
 
-/// What a load makes of the aligned word that its address stands in. The merging ones keep bytes of a register.
+/// What a load makes of the aligned word that its address stands in. The last two merge it with the register.
 #[derive(Clone, Copy, Debug, PartialEq, Eq)]
 pub enum LoadKind {
     /// lb
@@ -21,9 +21,9 @@ pub enum LoadKind {
     /// lw
     Word,
     /// lwl
-    Left { kept: u32 },
+    Left,
     /// lwr
-    Right { kept: u32 },
+    Right,
 }
 
 /// Which bytes of a register a store puts into which of the aligned word that its address stands in.
@@ -61,10 +61,11 @@ impl LoadKind {
         }
     }
 
-    /// What a load of this kind at this address gives of the aligned word there.
+    /// What a load of this kind at this address gives of the aligned word there. Those that merge keep bytes of `kept`, the
+    /// register's value.
     #[inline]
-    pub fn loaded(self, address: u32, word: u32) -> u32
-        ensures { result ≡ loaded self (address % 4) word }
+    pub fn loaded(self, address: u32, word: u32, kept: u32) -> u32
+        ensures { result ≡ loaded self (address % 4) word kept }
     {
         let byte = address % 4;
         let down = word >> (8 * byte);
@@ -74,8 +75,8 @@ impl LoadKind {
             LoadKind::Half => sign::<16>(down & 0xFFFF),
             LoadKind::HalfUnsigned => down & 0xFFFF,
             LoadKind::Word => word,
-            LoadKind::Left { kept } => left(byte, word, kept),
-            LoadKind::Right { kept } => right(byte, word, kept),
+            LoadKind::Left => left(byte, word, kept),
+            LoadKind::Right => right(byte, word, kept),
         }
     }
 }

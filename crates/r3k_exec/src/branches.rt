@@ -2,6 +2,7 @@
 
 ghost use Rattle.std.specs.Prelude.{◌≡◌};
 ghost use Rattle.r3k_exec.specs.Effects.{jr_effect, jalr_effect, bltz_effect, bgez_effect, bltzal_effect, bgezal_effect, j_effect, jal_effect, beq_effect, bne_effect, blez_effect, bgtz_effect, branch_target, has_sign_bit, jump_target_of, return_address_of, NamesRegisters};
+ghost use Rattle.r3k_exec.specs.declared.operands.Effect.TheVariants.{Jump, JumpAndLink};
 
 use crate::immediate::extended;
 use crate::operands::{Effect, Operands};
@@ -32,6 +33,28 @@ fn branch_target(taken: bool, insn: &Insn, operands: Operands) -> Option<u32>
 {
     let offset = extended(insn) << 2;
     taken.then_some(add(add(operands.pc, 4), offset))
+}
+
+// A branch, taken or not.
+#[inline]
+fn branch(taken: bool, insn: &Insn, operands: Operands) -> Effect
+    ensures { result ≡ Jump (branch_target taken insn.now operands) }
+{
+    Effect::Jump {
+        target: branch_target(taken, insn, operands),
+    }
+}
+
+// A branch that links, taken or not.
+#[inline]
+fn branch_and_link(taken: bool, insn: &Insn, operands: Operands) -> Effect
+    ensures { result ≡ JumpAndLink (branch_target taken insn.now operands) 31 (return_address_of operands.pc) }
+{
+    Effect::JumpAndLink {
+        target: branch_target(taken, insn, operands),
+        register: 31,
+        value: return_address(operands.pc),
+    }
 }
 
 // Where a jump goes.
@@ -72,9 +95,7 @@ pub(crate) fn bltz(insn: &Insn, operands: Operands) -> Effect
     ensures effect { result ≡ bltz_effect insn.now operands }
     ensures within { NamesRegisters result }
 {
-    Effect::Jump {
-        target: branch_target(is_negative(operands.rs), insn, operands),
-    }
+    branch(is_negative(operands.rs), insn, operands)
 }
 
 /// Branch on greater than or equal to zero.
@@ -83,9 +104,7 @@ pub(crate) fn bgez(insn: &Insn, operands: Operands) -> Effect
     ensures effect { result ≡ bgez_effect insn.now operands }
     ensures within { NamesRegisters result }
 {
-    Effect::Jump {
-        target: branch_target(!is_negative(operands.rs), insn, operands),
-    }
+    branch(!is_negative(operands.rs), insn, operands)
 }
 
 /// Branch on less than zero and link, taken or not.
@@ -94,11 +113,7 @@ pub(crate) fn bltzal(insn: &Insn, operands: Operands) -> Effect
     ensures effect { result ≡ bltzal_effect insn.now operands }
     ensures within { NamesRegisters result }
 {
-    Effect::JumpAndLink {
-        target: branch_target(is_negative(operands.rs), insn, operands),
-        register: 31,
-        value: return_address(operands.pc),
-    }
+    branch_and_link(is_negative(operands.rs), insn, operands)
 }
 
 /// Branch on greater than or equal to zero and link, taken or not.
@@ -107,11 +122,7 @@ pub(crate) fn bgezal(insn: &Insn, operands: Operands) -> Effect
     ensures effect { result ≡ bgezal_effect insn.now operands }
     ensures within { NamesRegisters result }
 {
-    Effect::JumpAndLink {
-        target: branch_target(!is_negative(operands.rs), insn, operands),
-        register: 31,
-        value: return_address(operands.pc),
-    }
+    branch_and_link(!is_negative(operands.rs), insn, operands)
 }
 
 /// Jump.
@@ -144,9 +155,7 @@ pub(crate) fn beq(insn: &Insn, operands: Operands) -> Effect
     ensures effect { result ≡ beq_effect insn.now operands }
     ensures within { NamesRegisters result }
 {
-    Effect::Jump {
-        target: branch_target(operands.rs == operands.rt, insn, operands),
-    }
+    branch(operands.rs == operands.rt, insn, operands)
 }
 
 /// Branch on not equal.
@@ -155,9 +164,7 @@ pub(crate) fn bne(insn: &Insn, operands: Operands) -> Effect
     ensures effect { result ≡ bne_effect insn.now operands }
     ensures within { NamesRegisters result }
 {
-    Effect::Jump {
-        target: branch_target(operands.rs != operands.rt, insn, operands),
-    }
+    branch(operands.rs != operands.rt, insn, operands)
 }
 
 /// Branch on less than or equal to zero.
@@ -166,9 +173,7 @@ pub(crate) fn blez(insn: &Insn, operands: Operands) -> Effect
     ensures effect { result ≡ blez_effect insn.now operands }
     ensures within { NamesRegisters result }
 {
-    Effect::Jump {
-        target: branch_target(operands.rs == 0 || is_negative(operands.rs), insn, operands),
-    }
+    branch(operands.rs == 0 || is_negative(operands.rs), insn, operands)
 }
 
 /// Branch on greater than zero.
@@ -177,11 +182,9 @@ pub(crate) fn bgtz(insn: &Insn, operands: Operands) -> Effect
     ensures effect { result ≡ bgtz_effect insn.now operands }
     ensures within { NamesRegisters result }
 {
-    Effect::Jump {
-        target: branch_target(
-            !(operands.rs == 0 || is_negative(operands.rs)),
-            insn,
-            operands,
-        ),
-    }
+    branch(
+        !(operands.rs == 0 || is_negative(operands.rs)),
+        insn,
+        operands,
+    )
 }

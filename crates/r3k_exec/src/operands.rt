@@ -3,12 +3,11 @@
 use crate::access::{LoadKind, StoreKind};
 
 /// The values that an instruction reads: those of its registers, which a pending load has not reached, HI, LO and its own
-/// address. `landed` is rt with a pending load of it, for the loads that merge.
+/// address.
 #[derive(Clone, Copy, Debug, PartialEq, Eq)]
 pub struct Operands {
     pub rs: u32,
     pub rt: u32,
-    pub landed: u32,
     pub hi: u32,
     pub lo: u32,
     pub pc: u32,

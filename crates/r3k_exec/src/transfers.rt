@@ -50,9 +50,7 @@ pub(crate) fn lwl(insn: &Insn, operands: Operands) -> Effect
     ensures within { NamesRegisters result }
 {
     Effect::Load {
-        kind: LoadKind::Left {
-            kept: operands.landed,
-        },
+        kind: LoadKind::Left,
         register: insn.rt(),
         address: address(insn, operands),
     }
@@ -104,9 +102,7 @@ pub(crate) fn lwr(insn: &Insn, operands: Operands) -> Effect
     ensures within { NamesRegisters result }
 {
     Effect::Load {
-        kind: LoadKind::Right {
-            kept: operands.landed,
-        },
+        kind: LoadKind::Right,
         register: insn.rt(),
         address: address(insn, operands),
     }
