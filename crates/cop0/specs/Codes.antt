@@ -1,5 +1,7 @@
--- The codes of exceptions in Cause (Kane and Heinrich, chapter 6).
+-- The codes of exceptions and the numbers of coprocessors in Cause (Kane and Heinrich, chapter 6).
 use Rattle.std.specs.Prelude.{ℕ}
+use Rattle.cop0.specs.declared.exception.Coprocessor.{Coprocessor}
+use Rattle.cop0.specs.declared.exception.Coprocessor.TheVariants.{Cp0, Cp1, Cp2, Cp3}
 use Rattle.cop0.specs.declared.exception.ExcCode.{ExcCode}
 use Rattle.cop0.specs.declared.exception.ExcCode.TheVariants.{Interrupt, Modification, TlbLoad, TlbStore, AddressLoad, AddressStore, BusFetch, BusLoad, SystemCall, Breakpoint, ReservedInstruction, CoprocessorUnusable, Overflow}
 
@@ -17,3 +19,9 @@ code_of Breakpoint = 9
 code_of ReservedInstruction = 10
 code_of CoprocessorUnusable = 11
 code_of Overflow = 12
+
+abbrev pub ce_of : Coprocessor → ℕ
+ce_of Cp0 = 0
+ce_of Cp1 = 1
+ce_of Cp2 = 2
+ce_of Cp3 = 3

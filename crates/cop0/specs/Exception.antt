@@ -1,5 +1,5 @@
 -- An exception taken (Kane and Heinrich, chapter 6).
-use Rattle.std.specs.Prelude.{ℕ, Bool, true, false, Option, Some, None, ◌==◌, if◌then◌else◌}
+use Rattle.std.specs.Prelude.{ℕ, Bool, Option, Some, None, ◌==◌, if◌then◌else◌}
 use Rattle.r3k_word.specs.Word.{field_of}
 use Rattle.cop0.specs.declared.exception.Exc.{Exc}
 use Rattle.cop0.specs.Registers.{Registers}

@@ -7,6 +7,9 @@ ghost use Rattle.cop0.specs.Status.{page_loaded};
 ghost use Rattle.cop0.specs.Changes.{sampled, is_wanted, fallen, returned, with_ts, with_cm, probed, loaded};
 
 use crate::exception::Exc;
+use crate::number::{
+    BAD_VADDR, CAUSE, CONTEXT, ENTRY_HI, ENTRY_LO, EPC, INDEX, PRID, RANDOM, STATUS,
+};
 use crate::status::{RESET_STATUS, caused, popped, pushed, vector};
 use r3k_word::field::{field, with_field};
 use std::marker::Model;
@@ -57,27 +60,6 @@ impl Model for Cop0 {
       epc = r.epc;
     } };
 }
-
-// The numbers of the registers.
-const INDEX: u8 = 0;
-
-const RANDOM: u8 = 1;
-
-const ENTRY_LO: u8 = 2;
-
-const CONTEXT: u8 = 4;
-
-const BAD_VADDR: u8 = 8;
-
-const ENTRY_HI: u8 = 10;
-
-const STATUS: u8 = 12;
-
-const CAUSE: u8 = 13;
-
-const EPC: u8 = 14;
-
-const PRID: u8 = 15;
 
 /// The word with the bits of a mask taken from another.
 #[inline]

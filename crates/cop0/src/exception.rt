@@ -1,7 +1,7 @@
 //! What an exception tells coprocessor 0.
 
 ghost use Rattle.std.specs.Prelude.{◌≡◌, ◌≤◌};
-ghost use Rattle.cop0.specs.Codes.{code_of};
+ghost use Rattle.cop0.specs.Codes.{code_of, ce_of};
 
 /// Why an exception is taken, in the order of its code in Cause.
 #[derive(Clone, Copy, Debug, PartialEq, Eq)]
@@ -59,12 +59,37 @@ impl ExcCode {
     }
 }
 
+/// A coprocessor.
+#[derive(Clone, Copy, Debug, PartialEq, Eq)]
+pub enum Coprocessor {
+    Cp0,
+    Cp1,
+    Cp2,
+    Cp3,
+}
+
+impl Coprocessor {
+    /// The number in the field CE of Cause, 0 to 3.
+    #[inline]
+    pub fn number(self) -> u32
+        ensures ce { result ≡ ce_of self }
+        ensures within { result ≤ 3 }
+    {
+        match self {
+            Coprocessor::Cp0 => 0,
+            Coprocessor::Cp1 => 1,
+            Coprocessor::Cp2 => 2,
+            Coprocessor::Cp3 => 3,
+        }
+    }
+}
+
 /// An exception of the instruction at `pc`.
 #[derive(Clone, Copy, Debug, PartialEq, Eq)]
 pub struct Exc {
     pub code: ExcCode,
-    /// The number of the coprocessor that is not usable, else 0.
-    pub ce: u32,
+    /// The coprocessor that is not usable. Of another exception it is coprocessor 0.
+    pub ce: Coprocessor,
     pub pc: u32,
     /// The instruction stands in a delay slot.
     pub delay: bool,
@@ -74,5 +99,4 @@ pub struct Exc {
     pub mapped: bool,
     /// There was no entry for an address of kuseg: the handler for user misses is called.
     pub refill: bool,
-    ghost in_range: { ce ≤ 3 },
 }

@@ -3,10 +3,11 @@
 
 mod cop0;
 mod exception;
+pub mod number;
 mod status;
 
 pub use cop0::Cop0;
-pub use exception::{Exc, ExcCode};
+pub use exception::{Coprocessor, Exc, ExcCode};
 
 #[cfg(test)]
 mod tests;

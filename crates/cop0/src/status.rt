@@ -34,7 +34,7 @@ pub(crate) fn caused(cause: u32, exception: Exc) -> u32
     ensures { result ≡ caused cause exception }
 {
     (u32::from(exception.delay) << 31)
-        + (exception.ce << 28)
+        + (exception.ce.number() << 28)
         + (field::<15, 8>(cause) << 8)
         + (exception.code.number() << 2)
 }

@@ -8,7 +8,7 @@ const ALL: [u8; 16] = [0, 1, 2, 3, 4, 5, 6, 7, 8, 9, 10, 11, 12, 13, 14, 15];
 fn exception(code: ExcCode) -> Exc {
     Exc {
         code,
-        ce: 0,
+        ce: Coprocessor::Cp0,
         pc: 0xBFC0_0010,
         delay: false,
         bad: None,
@@ -147,7 +147,7 @@ fn modes_and_interrupts(rt: HostRuntime) {
     assert!(rt; !registers.wanted());
     // CpU of coprocessor 2 keeps the pending interrupt.
     let mut unusable = exception(ExcCode::CoprocessorUnusable);
-    unusable.ce = 2;
+    unusable.ce = Coprocessor::Cp2;
     registers.enter(unusable);
     assert_eq!(rt; registers.read(13), 0x2000_042C);
 }
