@@ -1,50 +1,53 @@
--- Exceptions, after Kane and Heinrich, chapter 6. The codes and vectors are theirs; that a pending load lands is own.
-use Rattle.std.specs.Prelude.{ℕ, ◌+◌, ◌*◌, ◌^◌, ◌==◌, Bool, false, None, if◌then◌else◌}
-use Rattle.r3k_word.specs.Word.{field_of, with_field_of, sum_of, difference_of}
+-- Exceptions, after Kane and Heinrich, chapter 6. That a pending load lands is own.
+use Rattle.std.specs.Prelude.{ℕ, ◌==◌, ◌&&◌, ◌||◌, Bool, false, Option, Some, None, nat_le, if◌then◌else◌}
+use Rattle.r3k_word.specs.Word.{field_of, sum_of}
+use Rattle.cop0.specs.declared.exception.Coprocessor.{Coprocessor}
+use Rattle.cop0.specs.declared.exception.Coprocessor.TheVariants.{Cp0, Cp1, Cp2, Cp3}
+use Rattle.cop0.specs.declared.exception.Exc.{Exc}
+use Rattle.cop0.specs.declared.exception.ExcCode.{ExcCode}
+use Rattle.cop0.specs.declared.exception.ExcCode.TheVariants as code
+use Rattle.cop0.specs.Exception as control
+use Rattle.r3k_exec.specs.declared.operands.Trap.{Trap}
+use Rattle.r3k_exec.specs.declared.operands.Trap.TheVariants as trap
 use Rattle.r3k_machine.specs.declared.exception.Exception.{Exception}
-use Rattle.r3k_machine.specs.declared.exception.Exception.TheVariants.{AddressErrorLoad, BusErrorFetch, BusErrorLoad, ReservedInstruction}
-use Rattle.r3k_machine.specs.declared.exception.TheConstants.{VECTOR, BOOT_VECTOR}
-use Rattle.r3k_machine.specs.declared.state.Control.{Control}
+use Rattle.r3k_machine.specs.declared.exception.Exception.TheVariants.{Interrupt, AddressErrorLoad, AddressErrorStore, BusErrorFetch, BusErrorLoad, SystemCall, Breakpoint, ReservedInstruction, CoprocessorUnusable, Overflow}
 use Rattle.r3k_machine.specs.declared.state.Core.{Core}
-use Rattle.r3k_machine.specs.State.{landed}
+use Rattle.r3k_machine.specs.State.{landed, in_user_mode}
 
--- the field ExcCode of Cause
-abbrev pub code_of : Exception → ℕ
-code_of (AddressErrorLoad address) = 4
-code_of BusErrorFetch = 6
-code_of BusErrorLoad = 7
-code_of ReservedInstruction = 10
+-- the code of each
+abbrev pub code_of : Exception → ExcCode
+code_of Interrupt = code.Interrupt
+code_of (AddressErrorLoad address) = code.AddressLoad
+code_of (AddressErrorStore address) = code.AddressStore
+code_of BusErrorFetch = code.BusFetch
+code_of BusErrorLoad = code.BusLoad
+code_of SystemCall = code.SystemCall
+code_of Breakpoint = code.Breakpoint
+code_of ReservedInstruction = code.ReservedInstruction
+code_of (CoprocessorUnusable coprocessor) = code.CoprocessorUnusable
+code_of Overflow = code.Overflow
+
+-- the coprocessor that is not usable; for any other exception coprocessor 0
+abbrev pub coprocessor_of : Exception → Coprocessor
+coprocessor_of (CoprocessorUnusable coprocessor) = coprocessor
+coprocessor_of exception = Cp0
 
 -- BadVAddr is loaded by an address error alone
-abbrev pub bad_vaddr_after : ℕ → Exception → ℕ
-bad_vaddr_after old (AddressErrorLoad address) = address
-bad_vaddr_after old BusErrorFetch = old
-bad_vaddr_after old BusErrorLoad = old
-bad_vaddr_after old ReservedInstruction = old
+abbrev pub bad_of : Exception → Option ℕ
+bad_of (AddressErrorLoad address) = Some address
+bad_of (AddressErrorStore address) = Some address
+bad_of exception = None
 
--- the mode and interrupt bits move up: bits 3 to 0 of Status go to 5 to 2, and 1 and 0 become 0
-abbrev pub status_after : ℕ → ℕ
-status_after status = with_field_of 5 0 status (4 * field_of 3 0 status)
-
--- Cause: whether the instruction stood in a delay slot, no coprocessor, the pending interrupts as they were, and the code
-abbrev pub cause_after : ℕ → Bool → Exception → ℕ
-cause_after cause delay exception =
-    (if delay then 2 ^ 31 else 0) + field_of 15 8 cause * 2 ^ 8 + code_of exception * 4
-
--- where the handler stands: BEV, bit 22 of Status, chooses the vector in ROM
-abbrev pub vector_of : ℕ → ℕ
-vector_of status = if field_of 22 22 status == 1 then BOOT_VECTOR else VECTOR
-
--- the address to return to: that of the instruction, or of the branch before it if it stood in a delay slot
-abbrev pub epc_of : Core → ℕ
-epc_of core = if core.delay then difference_of core.pc 4 else core.pc
-
-abbrev pub control_after : Core → Exception → Control
-control_after core exception = record {
-  status = status_after core.control.status;
-  cause = cause_after core.control.cause core.delay exception;
-  epc = epc_of core;
-  bad_vaddr = bad_vaddr_after core.control.bad_vaddr exception;
+-- what an exception of the instruction at PC tells the control registers
+abbrev pub exc_of : Core → Exception → Exc
+exc_of core exception = record {
+  code = code_of exception;
+  ce = coprocessor_of exception;
+  pc = core.pc;
+  delay = core.delay;
+  bad = bad_of exception;
+  mapped = false;
+  refill = false;
 }
 
 -- The processor after an exception of the instruction at its PC: the instruction writes nothing, the pending load lands,
@@ -54,9 +57,38 @@ entered core exception = record {
   registers = landed core.registers core.load;
   hi = core.hi;
   lo = core.lo;
-  pc = vector_of core.control.status;
-  next_pc = sum_of (vector_of core.control.status) 4;
+  pc = control.vector_of core.cop0.status false;
+  next_pc = sum_of (control.vector_of core.cop0.status false) 4;
   delay = false;
   load = None;
-  control = control_after core exception;
+  cop0 = control.entered core.cop0 (exc_of core exception);
 }
+
+-- the exceptions that an instruction makes by itself
+abbrev pub exception_of : Trap → Exception
+exception_of trap.SystemCall = SystemCall
+exception_of trap.Breakpoint = Breakpoint
+exception_of trap.Overflow = Overflow
+
+-- Coprocessor 0 is not usable in user mode as long as CU0, bit 28 of Status, is 0. Opcode 16 is its own.
+abbrev pub is_unusable : Core → ℕ → Bool
+is_unusable core word =
+    (field_of 31 26 word == 16) && (in_user_mode core && (field_of 28 28 core.cop0.status == 0))
+
+-- the opcodes of coprocessors 1 to 3, their loads and their stores
+abbrev pub is_of_coprocessor : ℕ → Bool
+is_of_coprocessor opcode =
+    (nat_le 17 opcode && nat_le opcode 19) || ((nat_le 49 opcode && nat_le opcode 51) || (nat_le 57 opcode && nat_le opcode 59))
+
+-- a coprocessor by its number
+abbrev pub coprocessor_numbered : ℕ → Coprocessor
+coprocessor_numbered number =
+    if number == 0 then Cp0 else (if number == 1 then Cp1 else (if number == 2 then Cp2 else Cp3))
+
+-- A word without a row: coprocessors 1 to 3 are never usable, and their number is that of the opcode's two low bits. Any other
+-- is a reserved instruction.
+abbrev pub without_row : ℕ → Exception
+without_row word =
+    if is_of_coprocessor (field_of 31 26 word)
+    then CoprocessorUnusable (coprocessor_numbered (field_of 27 26 word))
+    else ReservedInstruction

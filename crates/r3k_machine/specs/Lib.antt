@@ -1,6 +1,10 @@
 pub use Rattle.r3k_decode.specs.Decoding
 pub use Rattle.r3k_decode.specs.Operation
+pub use Rattle.r3k_exec.specs.Access
 pub use Rattle.r3k_exec.specs.Effects
+pub use Rattle.cop0.specs.Registers
+pub use Rattle.cop0.specs.Exception
+pub use Rattle.cop0.specs.Changes
 pub use Rattle.r3k_word.specs.Word
 pub use Rattle.r3k_word.specs.Layout
 pub use Rattle.r3k_image.specs.Boot
@@ -10,6 +14,7 @@ pub mod Pending
 pub mod State
 pub mod Address
 pub mod Exceptions
+pub mod LoadStore
 pub mod Reset
 pub mod Step
 pub mod Run

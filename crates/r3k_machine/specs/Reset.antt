@@ -1,11 +1,11 @@
--- Reset (own): PC and next PC stand at the start of ROM in kseg1, and Status has BEV. RAM and ROM hold the words that the
--- image sets. All else is 0 or empty.
-use Rattle.std.specs.Prelude.{ℕ, ◌+◌, List, replicate, false, None, map, unwrap_or}
+-- Reset (own): PC and next PC stand at the start of ROM in kseg1, and the control registers are those at reset. RAM and ROM
+-- hold the words that the image sets. All else is 0 or empty.
+use Rattle.std.specs.Prelude.{ℕ, List, replicate, false, None, map, unwrap_or}
 use Rattle.std.specs.List.{range_with_len}
 use Rattle.std.specs.FinMap.{get}
 use Rattle.r3k_word.specs.Layout.{word_count_of, address_of_place}
 use Rattle.r3k_image.specs.Boot.{Boot}
-use Rattle.r3k_machine.specs.declared.state.TheConstants.{RESET_PC, RESET_STATUS}
+use Rattle.cop0.specs.Registers.{reset_registers}
 use Rattle.r3k_machine.specs.declared.state.Core.{Core}
 use Rattle.r3k_machine.specs.State.{State}
 
@@ -14,11 +14,11 @@ reset_core = record {
   registers = replicate 32 0;
   hi = 0;
   lo = 0;
-  pc = RESET_PC;
-  next_pc = RESET_PC + 4;
+  pc = 0xBFC0_0000;
+  next_pc = 0xBFC0_0004;
   delay = false;
   load = None;
-  control = record { status = RESET_STATUS; cause = 0; epc = 0; bad_vaddr = 0 };
+  cop0 = reset_registers;
 }
 
 -- the word at a place at reset

@@ -1,5 +1,6 @@
 -- The state of the machine: the processor, and the words of RAM and ROM in one list (Kane and Heinrich, chapter 2).
-use Rattle.std.specs.Prelude.{ℕ, List, Option, Some, None, slice_index, slice_set, ◌==◌, if◌then◌else◌}
+use Rattle.std.specs.Prelude.{ℕ, List, Bool, Option, Some, None, slice_index, slice_set, ◌==◌, if◌then◌else◌}
+use Rattle.r3k_word.specs.Word.{field_of}
 use Rattle.r3k_machine.specs.declared.state.Core.{Core}
 use Rattle.r3k_machine.specs.Pending.{Pending}
 
@@ -19,3 +20,7 @@ with_register registers number value = if number == 0 then registers else slice_
 abbrev pub landed : List ℕ → Option Pending → List ℕ
 landed registers None = registers
 landed registers (Some load) = with_register registers load.register load.value
+
+-- KUc, bit 1 of Status
+abbrev pub in_user_mode : Core → Bool
+in_user_mode core = field_of 1 1 core.cop0.status == 1

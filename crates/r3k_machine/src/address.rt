@@ -9,13 +9,13 @@ pub const KSEG0: u32 = 0x8000_0000;
 /// The first address of kseg2, which is mapped.
 pub const KSEG2: u32 = 0xC000_0000;
 
-/// The physical address of a word, or `None` for an address error: the address is no multiple of 4, or lies in kuseg
-/// or kseg2, which nothing translates yet.
+/// The physical address, or `None` for an address error: the address is misaligned, or lies in kseg0 or kseg1, which are
+/// not for user mode, or in kuseg or kseg2, which nothing translates yet.
 #[inline]
-pub fn physical_address(address: u32) -> Option<u32>
-    ensures { result ≡ physical address }
+pub fn physical_address(user: bool, aligned: bool, address: u32) -> Option<u32>
+    ensures { result ≡ physical user aligned address }
 {
-    if address % 4 == 0 && address >= KSEG0 && address < KSEG2 {
+    if aligned && !user && address >= KSEG0 && address < KSEG2 {
         Some(address & 0x1FFF_FFFF)
     } else {
         None

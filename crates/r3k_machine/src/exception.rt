@@ -1,71 +1,104 @@
-//! Exceptions: their codes, their vectors, and what taking one does.
+//! Exceptions: what each tells the control registers, and what taking one does to the processor.
 
 ghost use Rattle.std.specs.Prelude.{◌≡◌};
 ghost use Rattle.r3k_machine.specs.State.{landed};
-ghost use Rattle.r3k_machine.specs.Exceptions.{code_of, status_after, cause_after, vector_of, entered};
+ghost use Rattle.r3k_machine.specs.Exceptions.{bad_of, code_of, coprocessor_of, entered, exc_of, exception_of, without_row};
 
-use crate::state::{Control, Core};
-use r3k_word::field::{field, with_field};
+use crate::state::Core;
+use cop0::{Coprocessor, Exc, ExcCode};
+use r3k_exec::Trap;
+use r3k_word::arithmetic::add;
+use r3k_word::field::field;
 
 /// What keeps an instruction from completing.
 #[derive(Clone, Copy, Debug, PartialEq, Eq)]
 pub enum Exception {
-    /// A fetch or load from an address that is misaligned or forbidden, which is given: AdEL.
+    /// Int: a line that is enabled asks for it.
+    Interrupt,
+    /// AdEL: a fetch or load from an address that is misaligned or forbidden, which is given.
     AddressErrorLoad(u32),
-    /// A fetch from neither RAM nor ROM: IBE.
+    /// AdES: a store to such an address.
+    AddressErrorStore(u32),
+    /// IBE: a fetch from neither RAM nor ROM.
     BusErrorFetch,
-    /// A load from an unassigned address: DBE.
+    /// DBE: a load from an unassigned address.
     BusErrorLoad,
-    /// A word that is no instruction: RI.
+    /// Sys: a system call.
+    SystemCall,
+    /// Bp: a breakpoint.
+    Breakpoint,
+    /// RI: a word that is no instruction.
     ReservedInstruction,
+    /// CpU: an instruction of a coprocessor that is not usable.
+    CoprocessorUnusable(Coprocessor),
+    /// Ov: arithmetic overflow.
+    Overflow,
 }
 
-/// The general vector.
-pub const VECTOR: u32 = 0x8000_0080;
-
-/// The general vector while BEV is 1.
-pub const BOOT_VECTOR: u32 = 0xBFC0_0180;
-
 impl Exception {
-    /// The field ExcCode of Cause.
-    #[inline]
-    pub fn code(self) -> u32
+    // The code in Cause.
+    fn code(self) -> ExcCode
         ensures { result ≡ code_of self }
     {
         match self {
-            Exception::AddressErrorLoad(_) => 4,
-            Exception::BusErrorFetch => 6,
-            Exception::BusErrorLoad => 7,
-            Exception::ReservedInstruction => 10,
+            Exception::Interrupt => ExcCode::Interrupt,
+            Exception::AddressErrorLoad(_) => ExcCode::AddressLoad,
+            Exception::AddressErrorStore(_) => ExcCode::AddressStore,
+            Exception::BusErrorFetch => ExcCode::BusFetch,
+            Exception::BusErrorLoad => ExcCode::BusLoad,
+            Exception::SystemCall => ExcCode::SystemCall,
+            Exception::Breakpoint => ExcCode::Breakpoint,
+            Exception::ReservedInstruction => ExcCode::ReservedInstruction,
+            Exception::CoprocessorUnusable(_) => ExcCode::CoprocessorUnusable,
+            Exception::Overflow => ExcCode::Overflow,
         }
     }
-}
 
-impl Control {
-    /// Status with its mode and interrupt bits moved up.
-    fn pushed_status(&self) -> u32
-        ensures { result ≡ status_after self.now.status }
+    // The coprocessor that is not usable. Any other exception tells coprocessor 0.
+    fn coprocessor(self) -> Coprocessor
+        ensures { result ≡ coprocessor_of self }
     {
-        with_field::<5, 0>(self.status, 4 * field::<3, 0>(self.status))
-    }
-
-    /// Cause of an exception: BD, the pending interrupts as they were, and the code.
-    fn cause_of(&self, delay: bool, exception: Exception) -> u32
-        ensures { result ≡ cause_after self.now.cause delay exception }
-    {
-        let branch = if delay { 1 << 31 } else { 0 };
-        branch + (field::<15, 8>(self.cause) << 8) + exception.code() * 4
-    }
-
-    /// The address of the handler.
-    fn vector(&self) -> u32
-        ensures { result ≡ vector_of self.now.status }
-    {
-        if field::<22, 22>(self.status) == 1 {
-            BOOT_VECTOR
-        } else {
-            VECTOR
+        match self {
+            Exception::CoprocessorUnusable(coprocessor) => coprocessor,
+            _ => Coprocessor::Cp0,
         }
+    }
+
+    // The address that BadVAddr is loaded with.
+    fn bad_address(self) -> Option<u32>
+        ensures { result ≡ bad_of self }
+    {
+        match self {
+            Exception::AddressErrorLoad(address) | Exception::AddressErrorStore(address) => {
+                Some(address)
+            }
+            _ => None,
+        }
+    }
+
+    /// The exception that an instruction makes by itself.
+    pub(crate) fn of(trap: Trap) -> Exception
+        ensures { result ≡ exception_of trap }
+    {
+        match trap {
+            Trap::SystemCall => Exception::SystemCall,
+            Trap::Breakpoint => Exception::Breakpoint,
+            Trap::Overflow => Exception::Overflow,
+        }
+    }
+
+    /// The exception of a word without a row: CpU for the opcodes of coprocessors 1 to 3, else RI.
+    pub(crate) fn without_row(word: u32) -> Exception
+        ensures { result ≡ without_row word }
+    {
+        if !matches!(field::<31, 26>(word), 17..=19 | 49..=51 | 57..=59) {
+            return Exception::ReservedInstruction;
+        }
+        Exception::CoprocessorUnusable(match field::<27, 26>(word) {
+            1 => Coprocessor::Cp1,
+            2 => Coprocessor::Cp2,
+            _ => Coprocessor::Cp3,
+        })
     }
 }
 
@@ -81,27 +114,30 @@ impl Core {
         }
     }
 
-    /// Takes an exception of the instruction at the PC.
+    // What an exception of the instruction at the PC tells the control registers.
+    fn exc(&self, exception: Exception) -> Exc
+        ensures { result ≡ exc_of self.now exception }
+    {
+        Exc {
+            code: exception.code(),
+            ce: exception.coprocessor(),
+            pc: self.pc,
+            delay: self.delay,
+            bad: exception.bad_address(),
+            mapped: false,
+            refill: false,
+        }
+    }
+
+    /// Takes an exception of the instruction at the PC: it writes nothing, and the handler comes next.
     pub(crate) fn enter(&mut self, exception: Exception)
         ensures { self.new ≡ entered self.old exception }
     {
-        let vector = self.control.vector();
-        self.control = Control {
-            status: self.control.pushed_status(),
-            cause: self.control.cause_of(self.delay, exception),
-            epc: if self.delay {
-                self.pc.wrapping_sub(4)
-            } else {
-                self.pc
-            },
-            bad_vaddr: match exception {
-                Exception::AddressErrorLoad(address) => address,
-                _ => self.control.bad_vaddr,
-            },
-        };
+        let exc = self.exc(exception);
+        let vector = self.cop0.enter(exc);
         self.land();
         self.pc = vector;
-        self.next_pc = vector + 4;
+        self.next_pc = add(vector, 4);
         self.delay = false;
     }
 }

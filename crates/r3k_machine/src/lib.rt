@@ -3,13 +3,14 @@
 
 mod address;
 mod exception;
+mod execute;
 mod laws;
+mod load_store;
 mod memory;
 mod state;
 mod turn;
 
-pub use exception::Exception;
 pub use laws::{reset_laws, run_laws};
 pub use memory::Mem;
-pub use state::{Control, Core, Load};
+pub use state::{Core, Load};
 pub use turn::{Done, step};

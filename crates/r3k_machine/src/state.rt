@@ -3,6 +3,7 @@
 ghost use Rattle.std.specs.Prelude.{◌≡◌, IfOk};
 ghost use Rattle.r3k_machine.specs.Reset.{reset_core};
 
+use cop0::Cop0;
 use r3k_image::Image;
 use std::alloc::{AllocError, Global};
 use std::marker::Model;
@@ -59,15 +60,6 @@ impl Load {
     }
 }
 
-/// The control registers that exceptions change.
-#[derive(Clone, Copy, Debug, PartialEq, Eq)]
-pub struct Control {
-    pub status: u32,
-    pub cause: u32,
-    pub epc: u32,
-    pub bad_vaddr: u32,
-}
-
 /// The processor: registers (r0 stays 0), HI, LO, PC, next PC, delay mark, load slot and control registers.
 #[derive(Clone, Copy, Debug, PartialEq, Eq)]
 pub struct Core {
@@ -78,14 +70,11 @@ pub struct Core {
     pub next_pc: u32,
     pub delay: bool,
     pub load: Option<Load>,
-    pub control: Control,
+    pub cop0: Cop0,
 }
 
 /// The PC at reset, in kseg1.
 pub const RESET_PC: u32 = 0xBFC0_0000;
-
-/// Status at reset: BEV alone.
-pub const RESET_STATUS: u32 = 1 << 22;
 
 impl Core {
     /// The processor at reset. The image's words are those of a memory beside it.
@@ -100,12 +89,7 @@ impl Core {
             next_pc: RESET_PC + 4,
             delay: false,
             load: None,
-            control: Control {
-                status: RESET_STATUS,
-                cause: 0,
-                epc: 0,
-                bad_vaddr: 0,
-            },
+            cop0: Cop0::new(),
         })
     }
 }

@@ -1,21 +1,16 @@
 //! One step, in its written order.
 
-ghost use Rattle.std.specs.Prelude.{◌≡◌, ◌<◌, None, false, slice_index};
-ghost use Rattle.r3k_word.specs.Word.{sum_of};
-ghost use Rattle.r3k_decode.specs.Decoding.{operation_of};
-ghost use Rattle.r3k_machine.specs.State.{with_register, landed};
-ghost use Rattle.r3k_machine.specs.Step.{CompletesAs, word_at, slot, touching, completed, operands_of, executes, next, told};
+ghost use Rattle.std.specs.Prelude.{◌≡◌, None};
+ghost use Rattle.r3k_machine.specs.Step.{arrived, fallen, fetching, instructed, interrupted, interrupted_or_instructed, loading, next, sampled, storing, ticked, told};
 
-use crate::address::physical_address;
 use crate::exception::Exception;
+use crate::execute::execute;
+use crate::load_store::fetch;
 use crate::memory::Mem;
-use crate::state::{Core, Load};
+use crate::state::Core;
 use dz_serial::Sent;
 use input_log::Event;
-use r3k_decode::{Insn, decode};
-use r3k_exec::{Effect, LoadKind, Operands, effect};
-use r3k_word::arithmetic::add;
-use r3k_word::layout::{page_of, place_of};
+use r3k_word::layout::PAGE_WORDS;
 
 /// What a step tells: the byte that it sent, the physical address of the word of RAM that it stored into, and the pages
 /// that it fetched from and loaded from or stored into, of RAM first and then of ROM.
@@ -27,157 +22,125 @@ pub struct Done {
 }
 
 impl Done {
-    /// A step that sent and stored nothing.
+    // A step that at most fetched.
     #[inline]
-    fn touching(fetched: Option<u32>, loaded: Option<u32>) -> Done
-        ensures { result ≡ touching fetched loaded }
+    pub(crate) fn fetching(page: Option<u32>) -> Done
+        ensures { result ≡ fetching page }
     {
         Done {
             sent: None,
             stored: None,
-            touched: [fetched, loaded],
+            touched: [page, None],
         }
     }
-}
 
-/// A word of memory and the page that it stands in.
-#[derive(Clone, Copy)]
-struct Word {
-    word: u32,
-    page: u32,
-}
+    // A step that fetched and loaded.
+    #[inline]
+    pub(crate) fn loading(page: u32, loaded: u32) -> Done
+        ensures { result ≡ loading page loaded }
+    {
+        Done {
+            sent: None,
+            stored: None,
+            touched: [Some(page), Some(loaded)],
+        }
+    }
 
-/// The word at an address, or the exception that keeps it from being read: AdEL, or `bus_error` where there is neither
-/// RAM nor ROM.
-#[inline]
-fn read<M: Mem>(memory: &M, address: u32, bus_error: Exception) -> Result<Word, Exception>
-    ensures { result ≡ word_at (M.ram memory.now) (M.words memory.now) address bus_error }
-{
-    let physical = physical_address(address).ok_or(Exception::AddressErrorLoad(address))?;
-    let place = place_of(memory.ram_pages(), physical).ok_or(bus_error)?;
-    Ok(Word {
-        word: memory.word(place),
-        page: page_of(place) as u32,
-    })
+    // A step that fetched and stored, into a word of RAM if there was one.
+    #[inline]
+    pub(crate) fn storing(page: u32, stored: Option<u32>) -> Done
+        ensures { result ≡ storing page stored }
+    {
+        Done {
+            sent: None,
+            stored,
+            touched: [Some(page), stored.map(|address| address / (4 * PAGE_WORDS))],
+        }
+    }
 }
 
 impl Core {
-    /// The values that an instruction reads.
+    // The log's bytes reach the serial part. There is none yet, and so they are ignored, as by a receiver that is off.
     #[inline]
-    fn operands(&self, insn: &Insn) -> Operands
-        ensures { result ≡ operands_of self.now insn.now }
+    fn arrive(&mut self, _events: &[Event])
+        ensures { self.new ≡ arrived _events.now self.old }
+    {}
+
+    // Clock and serial part advance. There are none yet.
+    #[inline]
+    fn tick(&mut self)
+        ensures { self.new ≡ ticked self.old }
+    {}
+
+    // Cause takes the interrupt lines. There is nothing yet that raises one.
+    #[inline]
+    fn sample(&mut self)
+        ensures { self.new ≡ sampled self.old }
     {
-        Operands {
-            rs: self.registers[insn.rs() as usize],
-            rt: self.registers[insn.rt() as usize],
-            landed: self.landed(insn.rt()),
-            hi: self.hi,
-            lo: self.lo,
-            pc: self.pc,
+        self.cop0.sample(false, false);
+    }
+
+    // Takes the interrupt in place of the instruction at the PC.
+    #[inline]
+    fn interrupt(&mut self) -> Done
+        ensures state { self.new ≡ interrupted self.old }
+        ensures told { result ≡ fetching None }
+    {
+        self.enter(Exception::Interrupt);
+        Done::fetching(None)
+    }
+
+    // Random falls.
+    #[inline]
+    fn fall(&mut self)
+        ensures { self.new ≡ fallen self.old }
+    {
+        self.cop0.fall();
+    }
+}
+
+// Runs the instruction at the PC, or takes its exception.
+#[inline]
+fn instruct<M: Mem>(core: &mut Core, memory: &mut M) -> Done
+    ensures state { record { core = core.new; words = M.words memory.new }
+        ≡ (instructed (M.ram memory.old) (record { core = core.old; words = M.words memory.old })).state }
+    ensures told { result ≡ (instructed (M.ram memory.old) (record { core = core.old; words = M.words memory.old })).done }
+    ensures same { M.ram memory.new ≡ M.ram memory.old }
+{
+    let fetched = match fetch(core, memory) {
+        Ok(fetched) => fetched,
+        Err(exception) => {
+            core.enter(exception);
+            return Done::fetching(None);
         }
-    }
-
-    /// A register once the pending load has landed.
-    #[inline]
-    fn landed(&self, number: u8) -> u32
-        requires { number < 32 }
-        ensures { result ≡ slice_index (landed self.now.registers self.now.load) number }
-    {
-        match self.load {
-            Some(load) if load.register() == number => load.value(),
-            _ => self.registers[number as usize],
-        }
-    }
-
-    /// Goes on to the next instruction.
-    #[inline]
-    fn advance(&mut self)
-        ensures { self.new ≡ record self.old { pc = self.old.next_pc; next_pc = sum_of self.old.next_pc 4; delay = false } }
-    {
-        self.pc = self.next_pc;
-        self.next_pc = add(self.next_pc, 4);
-        self.delay = false;
-    }
-
-    /// Completes an instruction: the pending load lands, and that of the instruction waits.
-    #[inline]
-    fn complete(&mut self, load: Option<Load>)
-        ensures { self.new ≡ completed self.old (landed self.old.registers self.old.load) load }
-    {
-        self.land();
-        self.load = load;
-        self.advance();
-    }
-
-    /// Writes a register. r0 stays 0.
-    #[inline]
-    fn set_register(&mut self, number: u8, value: u32)
-        requires { number < 32 }
-        ensures { self.new ≡ record self.old { registers = with_register self.old.registers number value } }
-    {
-        if number != 0 {
-            self.registers[number as usize] = value;
+    };
+    match execute(core, memory, fetched) {
+        Ok(done) => done,
+        Err(exception) => {
+            core.enter(exception);
+            Done::fetching(Some(fetched.page))
         }
     }
 }
 
-/// The load slot for a register and a value. A load into r0 leaves it empty.
+// Takes an interrupt where one is wanted, else runs the instruction at the PC.
 #[inline]
-fn load_slot(register: u8, value: u32) -> Option<Load>
-    requires { register < 32 }
-    ensures { result ≡ slot register value }
+fn interrupt_or_instruct<M: Mem>(core: &mut Core, memory: &mut M) -> Done
+    ensures state { record { core = core.new; words = M.words memory.new }
+        ≡ (interrupted_or_instructed (M.ram memory.old) (record { core = core.old; words = M.words memory.old })).state }
+    ensures told { result
+        ≡ (interrupted_or_instructed (M.ram memory.old) (record { core = core.old; words = M.words memory.old })).done }
+    ensures same { M.ram memory.new ≡ M.ram memory.old }
 {
-    if register == 0 {
-        None
+    if core.cop0.wanted() {
+        core.interrupt()
     } else {
-        Some(Load::new(register, value))
+        instruct(core, memory)
     }
 }
 
-/// Runs an instruction, and gives the page that it loaded from. An exception leaves the processor as it was.
-#[inline]
-fn execute<M: Mem>(core: &mut Core, memory: &M, word: u32) -> Result<Option<u32>, Exception>
-    ensures { CompletesAs result core.old core.new
-        (executes (M.ram memory.now) (record { core = core.old; words = M.words memory.now }) (operation_of word)) }
-{
-    let insn = decode(word).ok_or(Exception::ReservedInstruction)?;
-    match effect(&insn, core.operands(&insn)) {
-        Effect::Write { register, value } => {
-            core.complete(None);
-            core.set_register(register, value);
-            Ok(None)
-        }
-        Effect::WriteHi { value } => {
-            core.complete(None);
-            core.hi = value;
-            Ok(None)
-        }
-        Effect::WriteLo { value } => {
-            core.complete(None);
-            core.lo = value;
-            Ok(None)
-        }
-        Effect::WriteHiLo { hi, lo } => {
-            core.complete(None);
-            core.hi = hi;
-            core.lo = lo;
-            Ok(None)
-        }
-        Effect::Load {
-            kind: LoadKind::Word,
-            register,
-            address,
-        } => {
-            let loaded = read(memory, address, Exception::BusErrorLoad)?;
-            core.complete(load_slot(register, loaded.word));
-            Ok(Some(loaded.page))
-        }
-        _ => Err(Exception::ReservedInstruction),
-    }
-}
-
-/// One step: the instruction at the PC is run, or its exception is taken. There is no serial part yet that `events`
-/// could reach.
+/// One step: the bytes of its time arrive, clock and serial part advance, the interrupt lines are sampled, an interrupt is
+/// taken or the instruction at the PC is run, and Random falls.
 #[tactic(auto, unfolding(crate::specs::Step::turn))]
 #[inline]
 pub fn step<M: Mem>(core: &mut Core, memory: &mut M, events: &[Event]) -> Done
@@ -186,18 +149,10 @@ pub fn step<M: Mem>(core: &mut Core, memory: &mut M, events: &[Event]) -> Done
     ensures told { result ≡ told (M.ram memory.old) events.now (record { core = core.old; words = M.words memory.old }) }
     ensures same { M.ram memory.new ≡ M.ram memory.old }
 {
-    let fetched = match read(memory, core.pc, Exception::BusErrorFetch) {
-        Ok(fetched) => fetched,
-        Err(exception) => {
-            core.enter(exception);
-            return Done::touching(None, None);
-        }
-    };
-    match execute(core, memory, fetched.word) {
-        Ok(loaded) => Done::touching(Some(fetched.page), loaded),
-        Err(exception) => {
-            core.enter(exception);
-            Done::touching(Some(fetched.page), None)
-        }
-    }
+    core.arrive(events);
+    core.tick();
+    core.sample();
+    let done = interrupt_or_instruct(core, memory);
+    core.fall();
+    done
 }
