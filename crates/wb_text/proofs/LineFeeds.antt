@@ -2,9 +2,9 @@
 use Rattle.std.proofs.Common.{◌≢◌, ℕ, ◌+◌, ◌*◌, List, [], ◌∷◌, ◌++◌, refl, subst, sym, ap, ◌∙◌, append_assoc, codes}
 use Rattle.std.specs.Fmt.{decimal}
 use Rattle.wb_text.specs.Text.{line}
-use Rattle.wb_text.specs.Reply.{EndsWithLineFeed, text_of, state_text, row_text, rows_text, refusal_text}
+use Rattle.wb_text.specs.Reply.{EndsWithLineFeed, text_of, state_text, row_text, rows_text, refusal_text, value_text, control_text}
 use Rattle.wb_text.specs.declared.reply.Reply.{Reply}
-use Rattle.wb_text.specs.declared.reply.Reply.TheVariants.{Position, Registers, Nothing, Fault}
+use Rattle.wb_text.specs.declared.reply.Reply.TheVariants.{Position, Registers, Register, Control, Nothing, Fault}
 use Rattle.wb_text.proofs.Rows.{rows_text-more}
 
 -- what stands before a line changes nothing at its end
@@ -19,5 +19,7 @@ rows_end registers row =
 pub ends_with_line_feed : (reply : Reply) → reply ≢ Nothing → EndsWithLineFeed (text_of reply)
 ends_with_line_feed (Position position) some = (codes "pos " ++ decimal position, refl)
 ends_with_line_feed (Registers r) some = behind (line (state_text r)) (rows_text r.registers 8) (rows_end r.registers 7)
+ends_with_line_feed (Register number value) some = (value_text number value, refl)
+ends_with_line_feed (Control c) some = (control_text c, refl)
 ends_with_line_feed Nothing some = absurd (some refl)
 ends_with_line_feed (Fault fault) some = (refusal_text fault, refl)

@@ -1,12 +1,12 @@
 -- The commands of a script and how a line says them (own).
-use Rattle.std.specs.Prelude.{ℕ, ◌∷◌, [], List, ◌^◌, ◌==◌, Option, Some, None, Result, Ok, Err, if◌then◌else◌, nat_lt, length, codes, slice_index}
+use Rattle.std.specs.Prelude.{ℕ, ◌∷◌, [], List, ◌^◌, ◌==◌, Option, Some, None, Result, Ok, Err, if◌then◌else◌, nat_lt, nat_le, length, codes, slice_index}
 use Rattle.std.specs.List.{list_all}
 use Rattle.std.specs.Str.{bytes_eq}
 use Rattle.std.specs.Str.Lines.{strip_carriage_return}
 use Rattle.wb_text.specs.Number.{number_of}
 use Rattle.wb_text.specs.Words.{words_of, begins_comment}
 use Rattle.wb_text.specs.declared.command.Command.{Command}
-use Rattle.wb_text.specs.declared.command.Command.TheVariants.{Pos, Goto, Regs, Quit}
+use Rattle.wb_text.specs.declared.command.Command.TheVariants.{Pos, Goto, Step, Back, Regs, Reg, Cp0, Quit}
 use Rattle.wb_text.specs.declared.fault.Fault.{Fault}
 use Rattle.wb_text.specs.declared.fault.Fault.TheVariants.{Syntax, Range}
 
@@ -31,6 +31,12 @@ in_range (Some numbers) =
 abbrev pub numbers_of : ℕ → List (List ℕ) → Result (List ℕ) Fault
 numbers_of count words = if length words == count then in_range (all_numbers words) else Err Syntax
 
+-- the numbers of a command that are at most so much: one above it is Range
+abbrev pub at_most : ℕ → Result (List ℕ) Fault → Result (List ℕ) Fault
+at_most greatest (Ok numbers) =
+    if list_all (λ number. nat_le number greatest) numbers then Ok numbers else Err Range
+at_most greatest (Err fault) = Err fault
+
 -- the command that its numbers make
 abbrev pub made_by : (List ℕ → Command) → Result (List ℕ) Fault → Result Command Fault
 made_by make (Ok numbers) = Ok (make numbers)
@@ -42,9 +48,16 @@ command_named name words =
     if bytes_eq name (codes "pos") then made_by (λ _. Pos) (numbers_of 0 words)
     else (if bytes_eq name (codes "goto") then
     made_by (λ numbers. Goto (slice_index numbers 0)) (numbers_of 1 words)
+    else (if bytes_eq name (codes "step") then
+    made_by (λ numbers. Step (slice_index numbers 0)) (numbers_of 1 words)
+    else (if bytes_eq name (codes "back") then
+    made_by (λ numbers. Back (slice_index numbers 0)) (numbers_of 1 words)
     else (if bytes_eq name (codes "regs") then made_by (λ _. Regs) (numbers_of 0 words)
+    else (if bytes_eq name (codes "reg") then
+    made_by (λ numbers. Reg (slice_index numbers 0)) (at_most 31 (numbers_of 1 words))
+    else (if bytes_eq name (codes "cp0") then made_by (λ _. Cp0) (numbers_of 0 words)
     else (if bytes_eq name (codes "quit") then made_by (λ _. Quit) (numbers_of 0 words)
-    else Err Syntax)))
+    else Err Syntax)))))))
 
 -- what a line with a command says
 abbrev pub some_command : Result Command Fault → Result (Option Command) Fault

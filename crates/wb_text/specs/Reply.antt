@@ -2,12 +2,13 @@
 use Rattle.std.specs.Prelude.{◌≡◌, ℕ, zero, suc, ◌+◌, ◌*◌, List, [], ◌++◌, Bool, true, false, Option, Some, None, codes, slice_index}
 use Rattle.std.specs.Fmt.{decimal}
 use Rattle.wb_text.specs.Text.{word_text, register_text, line}
+use Rattle.wb_text.specs.declared.reply.ControlRegisters.{ControlRegisters}
 use Rattle.wb_text.specs.declared.fault.Fault.{Fault}
 use Rattle.wb_text.specs.declared.fault.Fault.TheVariants.{Memory, Syntax, Range, NoEvent, Unaligned, NotMemory, TooFar, NotFound}
 use Rattle.wb_text.specs.declared.reply.Load.{Load}
 use Rattle.wb_text.specs.declared.reply.Registers.{Registers as AllRegisters}
 use Rattle.wb_text.specs.declared.reply.Reply.{Reply}
-use Rattle.wb_text.specs.declared.reply.Reply.TheVariants.{Position, Registers, Nothing, Fault as Refused}
+use Rattle.wb_text.specs.declared.reply.Reply.TheVariants.{Position, Registers, Register, Control, Nothing, Fault as Refused}
 
 -- a refusal by its number and name
 abbrev pub refusal_text : Fault → List ℕ
@@ -25,10 +26,14 @@ abbrev pub flag_text : Bool → List ℕ
 flag_text true = codes "1"
 flag_text false = codes "0"
 
+-- a register and its value
+abbrev pub value_text : ℕ → ℕ → List ℕ
+value_text register value = register_text register ++ codes " " ++ word_text value
+
 -- the load slot
 abbrev pub load_text : Option Load → List ℕ
 load_text None = codes "none"
-load_text (Some load) = register_text load.register ++ codes " " ++ word_text load.value
+load_text (Some load) = value_text load.register load.value
 
 -- what the first line says: all that isn't one of the 32 registers
 unfoldable pub state_text : AllRegisters → List ℕ
@@ -51,10 +56,21 @@ unfoldable pub rows_text : List ℕ → ℕ → List ℕ
 rows_text registers zero = []
 rows_text registers (suc row) = rows_text registers row ++ line (row_text registers (4 * row))
 
+-- the control registers
+unfoldable pub control_text : ControlRegisters → List ℕ
+control_text c =
+    codes "index " ++ word_text c.index ++ codes " random " ++ word_text c.random
+    ++ codes " entrylo " ++ word_text c.entry_lo ++ codes " context " ++ word_text c.context
+    ++ codes " badvaddr " ++ word_text c.bad_vaddr ++ codes " entryhi " ++ word_text c.entry_hi
+    ++ codes " status " ++ word_text c.status ++ codes " cause " ++ word_text c.cause
+    ++ codes " epc " ++ word_text c.epc ++ codes " prid " ++ word_text c.prid
+
 -- the text of a reply
 abbrev pub text_of : Reply → List ℕ
 text_of (Position position) = line (codes "pos " ++ decimal position)
 text_of (Registers r) = line (state_text r) ++ rows_text r.registers 8
+text_of (Register number value) = line (value_text number value)
+text_of (Control c) = line (control_text c)
 text_of Nothing = []
 text_of (Refused fault) = line (refusal_text fault)
 

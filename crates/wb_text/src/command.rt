@@ -2,10 +2,11 @@
 
 ghost use Rattle.std.specs.Prelude.{◌≡◌, ◌<◌, MatchResult, Ok, Err, ℕ, List, [], ◌∷◌, length};
 ghost use Rattle.wb_text.specs.Words.{words_of};
-ghost use Rattle.wb_text.specs.Command.{command_of, command_of_words, command_named, numbers_of};
+ghost use Rattle.wb_text.specs.Command.{command_of, command_of_words, command_named, numbers_of, at_most};
 
 use crate::fault::Fault;
 use crate::number::number;
+use crate::register::RegisterNumber;
 use crate::words::first_word;
 
 /// A command of a script.
@@ -15,8 +16,16 @@ pub enum Command {
     Pos,
     /// Moves to a position.
     Goto(u64),
+    /// Moves forward by so many steps.
+    Step(u64),
+    /// Moves back by so many steps.
+    Back(u64),
     /// Shows the registers.
     Regs,
+    /// Shows a register.
+    Reg(RegisterNumber),
+    /// Shows the control registers.
+    Cp0,
     /// Ends the script.
     Quit,
 }
@@ -60,9 +69,18 @@ fn command_by_name(name: &[u8], rest: &[u8]) -> Result<Command, Fault>
         Ok(Command::Pos)
     } else if name == b"goto".as_slice() {
         Ok(Command::Goto(one_number(rest)?))
+    } else if name == b"step".as_slice() {
+        Ok(Command::Step(one_number(rest)?))
+    } else if name == b"back".as_slice() {
+        Ok(Command::Back(one_number(rest)?))
     } else if name == b"regs".as_slice() {
         no_number(rest)?;
         Ok(Command::Regs)
+    } else if name == b"reg".as_slice() {
+        Ok(Command::Reg(register_number(rest)?))
+    } else if name == b"cp0".as_slice() {
+        no_number(rest)?;
+        Ok(Command::Cp0)
     } else if name == b"quit".as_slice() {
         no_number(rest)?;
         Ok(Command::Quit)
@@ -92,6 +110,15 @@ fn one_number(rest: &[u8]) -> Result<u64, Fault>
     };
     no_number(after)?;
     number(word)
+}
+
+// The number of a command that takes that of a register.
+fn register_number(rest: &[u8]) -> Result<RegisterNumber, Fault>
+    ensures { let numbers = at_most 31 (numbers_of 1 (words_of rest.now)) in
+        MatchResult result (λ number. numbers ≡ Ok (number ∷ [])) (λ fault. numbers ≡ Err fault) }
+{
+    let number = one_number(rest)?;
+    RegisterNumber::new(number).ok_or(Fault::Range)
 }
 
 /// A line of more than 257 bytes is Syntax, whatever it holds: so its first 258 bytes say as much

@@ -2,9 +2,9 @@
 
 ghost use Rattle.std.specs.Prelude.{◌≡◌, ◌≢◌, ◌+◌, ◌≤◌, ◌++◌, length};
 ghost use Rattle.arrayvec.specs.ArrayVec.{array_vec_len};
-ghost use Rattle.wb_text.specs.Text.{line};
-ghost use Rattle.wb_text.specs.Reply.{text_of, EndsWithLineFeed, refusal_text, flag_text, load_text};
-ghost use Rattle.wb_text.specs.Reply.{state_text, row_text, rows_text};
+ghost use Rattle.wb_text.specs.Text.{line, word_text};
+ghost use Rattle.wb_text.specs.Reply.{text_of, EndsWithLineFeed, refusal_text, flag_text, value_text, load_text};
+ghost use Rattle.wb_text.specs.Reply.{state_text, row_text, rows_text, control_text};
 
 use crate::fault::Fault;
 use crate::text::{Text, push_decimal, push_text, push_word};
@@ -31,13 +31,32 @@ pub struct Registers {
     pub registers: [u32; 32],
 }
 
+/// What `cp0` shows of the processor.
+#[derive(Clone, Copy, Debug, PartialEq, Eq)]
+pub struct ControlRegisters {
+    pub index: u32,
+    pub random: u32,
+    pub entry_lo: u32,
+    pub context: u32,
+    pub bad_vaddr: u32,
+    pub entry_hi: u32,
+    pub status: u32,
+    pub cause: u32,
+    pub epc: u32,
+    pub prid: u32,
+}
+
 /// The reply to a command.
 #[derive(Clone, Copy, Debug, PartialEq, Eq)]
 pub enum Reply {
-    /// The position, of `pos` and `goto`.
+    /// The position, of `pos`, `goto`, `step` and `back`.
     Position(u64),
     /// The registers, of `regs`.
     Registers(Registers),
+    /// A register, of `reg`.
+    Register { number: u8, value: u32 },
+    /// The control registers, of `cp0`.
+    Control(ControlRegisters),
     /// No text, of `quit`.
     Nothing,
     /// A refusal.
@@ -59,6 +78,11 @@ pub fn reply_text(reply: &Reply) -> ArrayVec<u8, 4096>
             push_state(&mut text, registers);
             push_rows(&mut text, &registers.registers);
         }
+        Reply::Register { number, value } => {
+            push_register(&mut text, *number, *value);
+            push_text(&mut text, b"\n");
+        }
+        Reply::Control(control) => push_control(&mut text, control),
         Reply::Nothing => {}
         Reply::Fault(fault) => {
             push_text(&mut text, refusal(*fault));
@@ -91,14 +115,10 @@ fn push_state(text: &mut Text, registers: &Registers)
     ensures items { text.new.items ≡ text.old.items ++ line (state_text registers.now) }
     ensures room { array_vec_len text.new ≤ array_vec_len text.old + 200 }
 {
-    push_text(text, b"pc ");
-    push_word(text, registers.pc);
-    push_text(text, b" next ");
-    push_word(text, registers.next_pc);
-    push_text(text, b" hi ");
-    push_word(text, registers.hi);
-    push_text(text, b" lo ");
-    push_word(text, registers.lo);
+    push_field(text, b"pc ", registers.pc);
+    push_field(text, b" next ", registers.next_pc);
+    push_field(text, b" hi ", registers.hi);
+    push_field(text, b" lo ", registers.lo);
     push_text(text, b" delay ");
     push_text(text, flag(registers.delay));
     push_text(text, b" load ");
@@ -121,13 +141,48 @@ fn push_load(text: &mut Text, load: Option<Load>)
 {
     match load {
         None => push_text(text, b"none"),
-        Some(load) => {
-            push_text(text, b"r");
-            push_decimal(text, u64::from(load.register));
-            push_text(text, b" ");
-            push_word(text, load.value);
-        }
+        Some(load) => push_register(text, load.register, load.value),
     }
+}
+
+// Appends a register and its value.
+fn push_register(text: &mut Text, number: u8, value: u32)
+    requires { array_vec_len text.old ≤ 4000 }
+    ensures items { text.new.items ≡ text.old.items ++ value_text number value }
+    ensures room { array_vec_len text.new ≤ array_vec_len text.old + 32 }
+{
+    push_text(text, b"r");
+    push_decimal(text, u64::from(number));
+    push_text(text, b" ");
+    push_word(text, value);
+}
+
+// Appends a name and a word.
+fn push_field(text: &mut Text, name: &[u8], word: u32)
+    requires { array_vec_len text.old + (length name.now + 10) ≤ 4096 }
+    ensures items { text.new.items ≡ text.old.items ++ (name.now ++ word_text word) }
+    ensures len { array_vec_len text.new ≡ array_vec_len text.old + (length name.now + 10) }
+{
+    push_text(text, name);
+    push_word(text, word);
+}
+
+// Appends the line of the control registers.
+fn push_control(text: &mut Text, control: &ControlRegisters)
+    requires { array_vec_len text.old ≤ 3000 }
+    ensures { text.new.items ≡ text.old.items ++ line (control_text control.now) }
+{
+    push_field(text, b"index ", control.index);
+    push_field(text, b" random ", control.random);
+    push_field(text, b" entrylo ", control.entry_lo);
+    push_field(text, b" context ", control.context);
+    push_field(text, b" badvaddr ", control.bad_vaddr);
+    push_field(text, b" entryhi ", control.entry_hi);
+    push_field(text, b" status ", control.status);
+    push_field(text, b" cause ", control.cause);
+    push_field(text, b" epc ", control.epc);
+    push_field(text, b" prid ", control.prid);
+    push_text(text, b"\n");
 }
 
 // Appends the eight lines of the 32 registers.

@@ -1,6 +1,7 @@
 //! Lines and replies, by example.
 use super::*;
 use std::process::Abort;
+use std::test::Fail;
 
 fn says(rt: &impl Abort, line: &[u8], wanted: Result<Option<Command>, Fault>) {
     assert_eq!(rt; parse_line(line), wanted, "{line:?}");
@@ -23,6 +24,38 @@ fn commands(rt: HostRuntime) {
         b"goto 0xffffffffffffffff",
         Ok(Some(Command::Goto(u64::MAX))),
     );
+}
+
+#[test]
+fn moves(rt: HostRuntime) {
+    says(&rt, b"step 1", Ok(Some(Command::Step(1))));
+    says(&rt, b"back 0x20\r", Ok(Some(Command::Back(32))));
+    says(
+        &rt,
+        b"step 18446744073709551615",
+        Ok(Some(Command::Step(u64::MAX))),
+    );
+    says(&rt, b"step", Err(Fault::Syntax));
+    says(&rt, b"step -1", Err(Fault::Syntax));
+    says(&rt, b"back 1 2", Err(Fault::Syntax));
+    says(&rt, b"back 18446744073709551616", Err(Fault::Range));
+}
+
+#[test]
+fn queries_of_the_processor(rt: HostRuntime) -> Result<(), Fail> {
+    let second = RegisterNumber::new(2).ok_or("2")?;
+    let last = RegisterNumber::new(31).ok_or("31")?;
+    says(&rt, b"reg 2", Ok(Some(Command::Reg(second))));
+    says(&rt, b"reg 0x1f", Ok(Some(Command::Reg(last))));
+    says(&rt, b"cp0", Ok(Some(Command::Cp0)));
+    says(&rt, b"reg 32", Err(Fault::Range));
+    says(&rt, b"reg 18446744073709551616", Err(Fault::Range));
+    says(&rt, b"reg 32 1", Err(Fault::Syntax));
+    says(&rt, b"reg r2", Err(Fault::Syntax));
+    says(&rt, b"cp0 1", Err(Fault::Syntax));
+    assert_eq!(rt; RegisterNumber::new(32), None);
+    assert_eq!(rt; last.get(), 31);
+    Ok(())
 }
 
 #[test]
@@ -121,6 +154,44 @@ fn branch_in_delay_slot(rt: HostRuntime) {
     let first_line =
         b"pc 0xbfc00010 next 0xbfc00014 hi 0x00000000 lo 0x00000000 delay 1 load none\n";
     assert!(rt; text.as_slice().starts_with(first_line));
+}
+
+#[test]
+fn one_register(rt: HostRuntime) {
+    let reply = Reply::Register {
+        number: 2,
+        value: 5,
+    };
+    shows(&rt, &reply, b"r2 0x00000005\n");
+    let reply = Reply::Register {
+        number: 31,
+        value: 0xffffffff,
+    };
+    shows(&rt, &reply, b"r31 0xffffffff\n");
+}
+
+// After a system call in a delay slot.
+#[test]
+fn control_registers(rt: HostRuntime) {
+    let control = ControlRegisters {
+        index: 0,
+        random: 0x3a00,
+        entry_lo: 0,
+        context: 0,
+        bad_vaddr: 0,
+        entry_hi: 0,
+        status: 0x00400004,
+        cause: 0x80000020,
+        epc: 0xbfc0000c,
+        prid: 0x220,
+    };
+    shows(
+        &rt,
+        &Reply::Control(control),
+        b"index 0x00000000 random 0x00003a00 entrylo 0x00000000 context 0x00000000 \
+badvaddr 0x00000000 entryhi 0x00000000 status 0x00400004 cause 0x80000020 epc 0xbfc0000c \
+prid 0x00000220\n",
+    );
 }
 
 #[test]

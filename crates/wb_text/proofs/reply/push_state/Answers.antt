@@ -7,19 +7,15 @@ pub returns-clause-items : goal.returns-clause-items
 unfolding state_text
 returns-clause-items c =
     rw (
-      c.push_text-8.ensures.items,
-      c.push_load.ensures.items,
-      c.push_text-7.ensures.items,
-      c.push_text-6.ensures.items,
-      c.flag.ensures,
-      c.push_text-5.ensures.items,
-      c.push_word-4.ensures.items,
       c.push_text-4.ensures.items,
-      c.push_word-3.ensures.items,
+      c.push_load.ensures.items,
       c.push_text-3.ensures.items,
-      c.push_word-2.ensures.items,
       c.push_text-2.ensures.items,
-      c.push_word.ensures.items,
+      c.flag.ensures,
       c.push_text.ensures.items,
+      c.push_field-4.ensures.items,
+      c.push_field-3.ensures.items,
+      c.push_field-2.ensures.items,
+      c.push_field.ensures.items,
     )
     (simp append_assoc)
