@@ -4,7 +4,7 @@ use Rattle.std.proofs.lemmas.List.{append-nil}
 use Rattle.wb_text.specs.Command.{command_of}
 use Rattle.wb_text.specs.Reply.{text_of}
 use Rattle.wb_text.specs.declared.command.Command.{Command}
-use Rattle.wb_text.specs.declared.command.Command.TheVariants.{Pos, Goto, Regs, Quit}
+use Rattle.wb_text.specs.declared.command.Command.TheVariants.{Pos, Goto, Step, Back, Regs, Reg, Cp0, Quit}
 use Rattle.wb_text.specs.declared.fault.Fault.{Fault}
 use Rattle.wb_text.specs.declared.reply.Reply.{Reply}
 use Rattle.wb_text.specs.declared.reply.Reply.TheVariants.{Fault as Refused}
@@ -23,7 +23,11 @@ by_command : (pages : ℕ) (s new : Triple) (command : Command) (reply : Reply) 
 by_command pages s new Quit reply q a = absurd (q refl)
 by_command pages s new Pos reply q a = (new, reply, [], a, sym (append-nil (text_of reply)), (refl, refl))
 by_command pages s new (Goto n) reply q a = (new, reply, [], a, sym (append-nil (text_of reply)), (refl, refl))
+by_command pages s new (Step n) reply q a = (new, reply, [], a, sym (append-nil (text_of reply)), (refl, refl))
+by_command pages s new (Back n) reply q a = (new, reply, [], a, sym (append-nil (text_of reply)), (refl, refl))
 by_command pages s new Regs reply q a = (new, reply, [], a, sym (append-nil (text_of reply)), (refl, refl))
+by_command pages s new (Reg n) reply q a = (new, reply, [], a, sym (append-nil (text_of reply)), (refl, refl))
+by_command pages s new Cp0 reply q a = (new, reply, [], a, sym (append-nil (text_of reply)), (refl, refl))
 
 pub leads_by_command : (pages : ℕ) (s new : Triple) (line : List ℕ) (command : Command) (reply : Reply) → command_of line ≡ Ok (Some command) → command ≢ Quit → Answers pages s command new reply → LeadsTo pages s line new (text_of reply)
 leads_by_command pages s new line command reply e q a = record {
@@ -35,4 +39,8 @@ pub not_quit : (command : Command) → is_quit command ≡ false → command ≢
 not_quit Quit e q = let bad : true ≡ false = e in cc
 not_quit Pos e q = cc
 not_quit (Goto n) e q = cc
+not_quit (Step n) e q = cc
+not_quit (Back n) e q = cc
 not_quit Regs e q = cc
+not_quit (Reg n) e q = cc
+not_quit Cp0 e q = cc

@@ -5,7 +5,7 @@ use Rattle.std.proofs.lemmas.List.{append-nil}
 use Rattle.wb_text.specs.Command.{command_of}
 use Rattle.wb_text.specs.Reply.{text_of}
 use Rattle.wb_text.specs.declared.command.Command.{Command}
-use Rattle.wb_text.specs.declared.command.Command.TheVariants.{Pos, Goto, Regs, Quit}
+use Rattle.wb_text.specs.declared.command.Command.TheVariants.{Pos, Goto, Step, Back, Regs, Reg, Cp0, Quit}
 use Rattle.wb_text.specs.declared.fault.Fault.{Fault}
 use Rattle.wb_text.specs.declared.fault.Fault.TheVariants.{Syntax}
 use Rattle.wb_text.specs.declared.reply.Reply.TheVariants.{Fault as Refused}
@@ -67,7 +67,11 @@ from_line pages s new (Ok None) x y rest h q r =
 from_line pages s new (Ok (Some Quit)) x y rest h q r = absurd (q refl)
 from_line pages s new (Ok (Some Pos)) x y rest h q r = replies_go_on pages s new Pos x y rest h r
 from_line pages s new (Ok (Some (Goto n))) x y rest h q r = replies_go_on pages s new (Goto n) x y rest h r
+from_line pages s new (Ok (Some (Step n))) x y rest h q r = replies_go_on pages s new (Step n) x y rest h r
+from_line pages s new (Ok (Some (Back n))) x y rest h q r = replies_go_on pages s new (Back n) x y rest h r
 from_line pages s new (Ok (Some Regs)) x y rest h q r = replies_go_on pages s new Regs x y rest h r
+from_line pages s new (Ok (Some (Reg n))) x y rest h q r = replies_go_on pages s new (Reg n) x y rest h r
+from_line pages s new (Ok (Some Cp0)) x y rest h q r = replies_go_on pages s new Cp0 x y rest h r
 
 -- a line ends, and is answered
 pub goes_on_after_line : (pages : ℕ) (s new : Triple) (kept x : List ℕ) → HasNoFeed kept → LeadsTo pages s kept new x → GoesOn pages s (kept ++ 10 ∷ []) new [] x

@@ -95,6 +95,10 @@ unfolding lines_of
 nothing_left pages s [] e = refl
 nothing_left pages s (b ∷ bs) e = absurd (omega arith)
 
+-- bytes that were read, and a piece behind them
+pub read_more : (a b d : Option (List ℕ)) (script piece : List ℕ) → Consumes a b script → Consumes b d piece → (all : List ℕ) × Consumes a d all
+read_more a b d script piece f g = (script ++ piece, Consumes-trans a b d script piece f g)
+
 -- a read of no bytes consumes none
 pub nothing_consumed : (a b d : Option (List ℕ)) (script : List ℕ) (count : ℕ) (buffer : List ℕ) → count ≡ 0 → Consumes a b script → Consumes b d (take count buffer) → Consumes a d script
 nothing_consumed a b d script count buffer e f g =

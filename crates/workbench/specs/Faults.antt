@@ -29,8 +29,9 @@ IsScriptFault reads writes ReadFault = reads
 IsScriptFault reads writes WriteFault = writes
 IsScriptFault reads writes _ = ⊥
 
--- the same of a run: a refusal of the image, or for memory, comes before anything is read or written
+-- the same of a run: a refusal of the image, or for memory, comes before anything is read or written, and a fault of the
+-- script only where the image fits
 abbrev pub IsRunFault : ℕ → Boot → Type 0 → Type 0 → Type 0 → RunFault → Type 0
 IsRunFault pages image untouched reads writes Memory = untouched
 IsRunFault pages image untouched reads writes (BadImage kind) = (kind ≡ Pages) × ¬ FitsRam pages image × untouched
-IsRunFault pages image untouched reads writes fault = IsScriptFault reads writes fault
+IsRunFault pages image untouched reads writes fault = FitsRam pages image × IsScriptFault reads writes fault

@@ -4,7 +4,7 @@ use Rattle.std.specs.Io.KnownBytes.{Appends, Consumes, IsAtEnd}
 use Rattle.wb_text.specs.Command.{command_of}
 use Rattle.wb_text.specs.Reply.{text_of}
 use Rattle.wb_text.specs.declared.command.Command.{Command}
-use Rattle.wb_text.specs.declared.command.Command.TheVariants.{Pos, Goto, Regs, Quit}
+use Rattle.wb_text.specs.declared.command.Command.TheVariants.{Pos, Goto, Step, Back, Regs, Reg, Cp0, Quit}
 use Rattle.wb_text.specs.declared.fault.Fault.{Fault}
 use Rattle.wb_text.specs.declared.reply.Reply.{Reply}
 use Rattle.wb_text.specs.declared.reply.Reply.TheVariants.{Fault as Refused}
@@ -72,7 +72,11 @@ pub record LeadsTo (pages : ℕ) (s : Triple) (line : List ℕ) (new : Triple) (
 abbrev pub is_quit : Command → Bool
 is_quit Pos = false
 is_quit (Goto position) = false
+is_quit (Step count) = false
+is_quit (Back count) = false
 is_quit Regs = false
+is_quit (Reg number) = false
+is_quit Cp0 = false
 is_quit Quit = true
 
 -- a line was answered: it is `quit`, and nothing was written, or it leads to another session

@@ -1,5 +1,5 @@
 -- The program's run on its input (own): the bytes of an image, and then a script.
-use Rattle.std.specs.Prelude.{◌≡◌, ◌⊎◌, ℕ, ◌<◌, List, [], Option, length, Result, Ok, Err}
+use Rattle.std.specs.Prelude.{◌≡◌, ◌⊎◌, ℕ, ◌<◌, List, [], ◌++◌, Option, length, Result, Ok, Err}
 use Rattle.std.specs.Io.KnownBytes.{Consumes, IsAtEnd}
 use Rattle.r3k_image.specs.Boot.{Boot, FitsRam}
 use Rattle.r3k_image.specs.Reading.{image_at, raw_rom_at}
@@ -16,12 +16,16 @@ abbrev pub image_of : Kind → List ℕ → Result Boot ImageKind
 image_of Rom bytes = raw_rom_at bytes
 image_of Image bytes = image_at bytes
 
--- The input began with so many bytes, which make an image, and what followed was run as a script from position 0 with the
--- empty log.
+-- bytes of a kind make this image, and it fits a machine with so many pages of RAM
+abbrev pub IsGoodImage : ℕ → Kind → List ℕ → Boot → Type 0
+IsGoodImage pages kind bytes image = (image_of kind bytes ≡ Ok image) × FitsRam pages image
+
+-- The input began with so many bytes, which make an image that fits a machine with so many pages of RAM, and what followed
+-- was run as a script from position 0 with the empty log.
 abbrev pub Served : ℕ → Kind → ℕ → Option (List ℕ) → Option (List ℕ) → Option (List ℕ) → Option (List ℕ) → Type 0
 Served pages kind size left left' written written' =
     (bytes : List ℕ) × (script_left : Option (List ℕ)) × (image : Boot)
-    × Consumes left script_left bytes × (length bytes ≡ size) × (image_of kind bytes ≡ Ok image)
+    × Consumes left script_left bytes × (length bytes ≡ size) × IsGoodImage pages kind bytes image
     × Ran pages (record { image = image; log = []; position = 0 }) script_left left' written written'
 
 -- bytes of a kind make no image, or none that fits a machine with so many pages of RAM, and this is why
@@ -35,22 +39,28 @@ abbrev pub RefusedImage : ℕ → Kind → ℕ → Option (List ℕ) → Option 
 RefusedImage pages kind size left left' why =
     (bytes : List ℕ) × Consumes left left' bytes × (length bytes ≡ size) × IsBadImage pages kind bytes why
 
--- the input ended before so many bytes
-abbrev pub EndedWithin : ℕ → Option (List ℕ) → Option (List ℕ) → Type 0
-EndedWithin size left left' =
-    (bytes : List ℕ) × Consumes left left' bytes × (length bytes < size) × IsAtEnd left'
+-- what was read is fewer bytes: the input ended there, or the reads stop
+abbrev pub StoppedWithin : ℕ → Option (List ℕ) → Option (List ℕ) → Type 0 → Type 0
+StoppedWithin size left left' reads =
+    (bytes : List ℕ) × Consumes left left' bytes × (length bytes < size) × (IsAtEnd left' ⊎ reads)
 
--- the same of reading these bytes
-abbrev pub IsFrontFault : Type 0 → Type 0 → RunFault → Type 0
-IsFrontFault ended reads Memory = Unit {0}
-IsFrontFault ended reads ReadFault = ended ⊎ reads
-IsFrontFault ended reads _ = ⊥
+-- what was read is so many bytes, which make an image that fits, and a part of a script
+abbrev pub ReadPast : ℕ → Kind → ℕ → Option (List ℕ) → Option (List ℕ) → Type 0
+ReadPast pages kind size left left' =
+    (bytes : List ℕ) × (script : List ℕ) × (image : Boot)
+    × Consumes left left' (bytes ++ script) × (length bytes ≡ size) × IsGoodImage pages kind bytes image
 
--- What may have happened where the program's run ends with a fault: nothing was written where it is one of memory or of the
--- image, or where the input ended within the image; else reads or writes failed.
-abbrev pub IsServeFault : Type 0 → (ImageKind → Type 0) → Type 0 → Type 0 → Type 0 → RunFault → Type 0
-IsServeFault unwritten refused ended reads writes Memory = unwritten
-IsServeFault unwritten refused ended reads writes (BadImage why) = refused why × unwritten
-IsServeFault unwritten refused ended reads writes ReadFault = (ended × unwritten) ⊎ reads
-IsServeFault unwritten refused ended reads writes WriteFault = writes
-IsServeFault unwritten refused ended reads writes _ = ⊥
+-- what may have happened where the reading of the image's bytes ends with a fault
+abbrev pub IsFrontFault : Type 0 → RunFault → Type 0
+IsFrontFault within Memory = Unit {0}
+IsFrontFault within ReadFault = within
+IsFrontFault within _ = ⊥
+
+-- The same of the program's run. Nothing was written where the fault is one of memory or of the image, or where it came
+-- within the image's bytes; else these make an image that fits, and reads or writes stop behind them.
+abbrev pub IsServeFault : Type 0 → (ImageKind → Type 0) → Type 0 → Type 0 → Type 0 → Type 0 → RunFault → Type 0
+IsServeFault unwritten refused within past reads writes Memory = unwritten
+IsServeFault unwritten refused within past reads writes (BadImage why) = refused why × unwritten
+IsServeFault unwritten refused within past reads writes ReadFault = (within × unwritten) ⊎ (past × reads)
+IsServeFault unwritten refused within past reads writes WriteFault = past × writes
+IsServeFault unwritten refused within past reads writes _ = ⊥

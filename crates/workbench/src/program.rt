@@ -3,7 +3,8 @@ ghost use Rattle.std.specs.Prelude.{◌≡◌, ◌⊎◌, ℕ, ◌+◌, ◌≤�
 ghost use Rattle.std.specs.Io.KnownBytes.{Consumes, Keeps};
 ghost use Rattle.r3k_image.specs.Reading.{Gives};
 ghost use Rattle.workbench.specs.Faults.{ReadsStop, WritesStop};
-ghost use Rattle.workbench.specs.Serve.{Served, image_of, IsServeFault, RefusedImage, EndedWithin, IsFrontFault};
+ghost use Rattle.workbench.specs.Serve.{Served, image_of, IsFrontFault, IsServeFault};
+ghost use Rattle.workbench.specs.Serve.{ReadPast, RefusedImage, StoppedWithin};
 ghost use Rattle.workbench.specs.Sizes.{AreSizes};
 
 use crate::arguments::{Kind, Options};
@@ -18,8 +19,8 @@ use std::alloc::Global;
 /// Reads as many bytes as the options say, makes the image of their kind, and runs the script that follows on a machine
 /// with that image and the empty log. All reads together are at most 2^20.
 ///
-/// Input that ends within the image is a read fault. A fault of the image, and one within its bytes, comes before anything
-/// is written.
+/// Input that ends within the image is a read fault. Nothing is written until the image is read and found good, and to fit
+/// the machine.
 pub fn serve<const PAGES: u32, const SPAN: u32, R: Source, W: Sink>(
     alloc: Global,
     options: Options,
@@ -32,12 +33,16 @@ pub fn serve<const PAGES: u32, const SPAN: u32, R: Source, W: Sink>(
     ensures reads { OnOk result (R.failed_reads reader.new ≡ R.failed_reads reader.old) }
     ensures writes { OnOk result (W.failed_writes writer.new ≡ W.failed_writes writer.old) }
     ensures made { R.reads reader.new ≤ R.reads reader.old + 1048576 }
-    ensures fault { IfErr result (IsServeFault
+    ensures fault { let reads = ReadsStop 1048576
+        (R.failed_reads reader.old) (R.failed_reads reader.new) (R.reads reader.old) (R.reads reader.new) in
+        IfErr result (IsServeFault
         (Keeps (W.written writer.old) (W.written writer.new))
         (RefusedImage PAGES options.kind options.size (R.left reader.old) (R.left reader.new))
-        (EndedWithin options.size (R.left reader.old) (R.left reader.new))
-        (ReadsStop 1048576 (R.failed_reads reader.old) (R.failed_reads reader.new) (R.reads reader.old) (R.reads reader.new))
-        (WritesStop (W.failed_writes writer.old) (W.failed_writes writer.new) (W.empty_writes writer.old) (W.empty_writes writer.new))) }
+        (StoppedWithin options.size (R.left reader.old) (R.left reader.new) reads)
+        (ReadPast PAGES options.kind options.size (R.left reader.old) (R.left reader.new))
+        reads
+        (WritesStop (W.failed_writes writer.old) (W.failed_writes writer.new)
+        (W.empty_writes writer.old) (W.empty_writes writer.new))) }
 {
     let front = read_front(alloc, options.size as usize, reader)?;
     let image = image_of(alloc, options.kind, &front.bytes)?;
@@ -65,20 +70,18 @@ fn read_front<R: Source>(alloc: Global, size: usize, reader: &mut R) -> Result<F
     ensures reads { OnOk result (R.failed_reads reader.new ≡ R.failed_reads reader.old) }
     ensures made { IfOk result (λ front. R.reads reader.new + front.reads_left ≡ R.reads reader.old + 1048576) }
     ensures at_most { R.reads reader.new ≤ R.reads reader.old + 1048576 }
-    ensures fault { IfErr result (IsFrontFault
-        (EndedWithin size (R.left reader.old) (R.left reader.new))
-        (ReadsStop 1048576 (R.failed_reads reader.old) (R.failed_reads reader.new) (R.reads reader.old) (R.reads reader.new))) }
+    ensures fault { IfErr result (IsFrontFault (StoppedWithin size (R.left reader.old) (R.left reader.new)
+        (ReadsStop 1048576 (R.failed_reads reader.old) (R.failed_reads reader.new) (R.reads reader.old) (R.reads reader.new)))) }
 {
     let mut bytes = Vec::new(alloc);
     let mut piece = [0u8; PIECE_BYTES];
-    for done in 0..MAX_READS {
-        let missing = size - bytes.len();
-        if missing == 0 {
-            return Ok(Front {
-                bytes,
-                reads_left: MAX_READS - done,
-            });
+    let mut reads_left = MAX_READS;
+    while bytes.len() < size {
+        if reads_left == 0 {
+            return Err(RunFault::ReadFault);
         }
+        reads_left -= 1;
+        let missing = size - bytes.len();
         let wanted = missing.min(PIECE_BYTES);
         let Ok(count) = reader.read(&mut piece[..wanted]) else {
             return Err(RunFault::ReadFault);
@@ -88,7 +91,7 @@ fn read_front<R: Source>(alloc: Global, size: usize, reader: &mut R) -> Result<F
         }
         bytes.extend_from_slice(&piece[..count])?;
     }
-    Err(RunFault::ReadFault)
+    Ok(Front { bytes, reads_left })
 }
 
 // The image that bytes of a kind make.

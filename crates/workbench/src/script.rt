@@ -1,6 +1,7 @@
 //! A script: its lines are read, answered one after the other, and each reply is written whole.
 ghost use Rattle.std.specs.Prelude.{◌≡◌, ℕ, ◌+◌, ◌≤◌, ◌∷◌, [], List, OnOk, IfOk, IfErr};
-ghost use Rattle.std.specs.Io.KnownBytes.{Appends};
+ghost use Rattle.std.specs.Io.KnownBytes.{Appends, Consumes};
+ghost use Rattle.r3k_image.specs.Boot.{FitsRam};
 ghost use Rattle.workbench.specs.Faults.{IsRunFault, IsScriptFault, ReadsStop, Untouched, WritesStop};
 ghost use Rattle.workbench.specs.Script.{Answered, EndsAs, Ran, Took, is_quit};
 ghost use Rattle.workbench.specs.Sizes.{AreSizes};
@@ -36,11 +37,13 @@ pub fn run<const PAGES: u32, const SPAN: u32, R: Source, W: Sink>(
     writer: &mut W,
 ) -> Result<(), RunFault>
     requires sizes { AreSizes PAGES SPAN }
+    ensures fits { OnOk result (FitsRam PAGES image) }
     ensures ran { OnOk result (Ran PAGES (record { image = image; log = log; position = 0 })
         (R.left reader.old) (R.left reader.new) (W.written writer.old) (W.written writer.new)) }
     ensures reads { OnOk result (R.failed_reads reader.new ≡ R.failed_reads reader.old) }
     ensures writes { OnOk result (W.failed_writes writer.new ≡ W.failed_writes writer.old) }
     ensures made { R.reads reader.new ≤ R.reads reader.old + 1048576 }
+    ensures consumed { (script : List ℕ) × Consumes (R.left reader.old) (R.left reader.new) script }
     ensures fault { IfErr result (IsRunFault PAGES image
         (Untouched (R.reads reader.old) (R.reads reader.new) (R.left reader.old) (R.left reader.new) (W.written writer.old) (W.written writer.new))
         (ReadsStop 1048576 (R.failed_reads reader.old) (R.failed_reads reader.new) (R.reads reader.old) (R.reads reader.new))
@@ -59,11 +62,13 @@ pub(crate) fn run_with<const PAGES: u32, const SPAN: u32, R: Source, W: Sink>(
     reads: u32,
 ) -> Result<(), RunFault>
     requires sizes { AreSizes PAGES SPAN }
+    ensures fits { OnOk result (FitsRam PAGES image) }
     ensures ran { OnOk result (Ran PAGES (record { image = image; log = log; position = 0 })
         (R.left reader.old) (R.left reader.new) (W.written writer.old) (W.written writer.new)) }
     ensures reads { OnOk result (R.failed_reads reader.new ≡ R.failed_reads reader.old) }
     ensures writes { OnOk result (W.failed_writes writer.new ≡ W.failed_writes writer.old) }
     ensures made { R.reads reader.new ≤ R.reads reader.old + reads }
+    ensures consumed { (script : List ℕ) × Consumes (R.left reader.old) (R.left reader.new) script }
     ensures fault { IfErr result (IsRunFault PAGES image
         (Untouched (R.reads reader.old) (R.reads reader.new) (R.left reader.old) (R.left reader.new) (W.written writer.old) (W.written writer.new))
         (ReadsStop reads (R.failed_reads reader.old) (R.failed_reads reader.new) (R.reads reader.old) (R.reads reader.new))
@@ -74,6 +79,7 @@ pub(crate) fn run_with<const PAGES: u32, const SPAN: u32, R: Source, W: Sink>(
 }
 
 // Reads a script and answers its lines.
+#[tactic(auto, using(crate::proofs::Takes::read_more))]
 fn run_script<const PAGES: u32, const SPAN: u32, R: Source, W: Sink>(
     session: &mut Session<PAGES, SPAN>,
     reader: &mut R,
@@ -84,6 +90,7 @@ fn run_script<const PAGES: u32, const SPAN: u32, R: Source, W: Sink>(
     ensures reads { OnOk result (R.failed_reads reader.new ≡ R.failed_reads reader.old) }
     ensures writes { OnOk result (W.failed_writes writer.new ≡ W.failed_writes writer.old) }
     ensures made { R.reads reader.new ≤ R.reads reader.old + reads }
+    ensures consumed { (script : List ℕ) × Consumes (R.left reader.old) (R.left reader.new) script }
     ensures fault { IfErr result (IsScriptFault
         (ReadsStop reads (R.failed_reads reader.old) (R.failed_reads reader.new) (R.reads reader.old) (R.reads reader.new))
         (WritesStop (W.failed_writes writer.old) (W.failed_writes writer.new) (W.empty_writes writer.old) (W.empty_writes writer.new))) }
@@ -186,7 +193,7 @@ fn answer_line<const PAGES: u32, const SPAN: u32, W: Sink>(
         Err(fault) => Reply::Fault(fault),
         Ok(None) => return Ok(false),
         Ok(Some(command)) => {
-            if is_quit(command) {
+            if is_quit(&command) {
                 return Ok(true);
             }
             session.apply(command)
@@ -197,8 +204,8 @@ fn answer_line<const PAGES: u32, const SPAN: u32, W: Sink>(
     Ok(false)
 }
 
-fn is_quit(command: Command) -> bool
-    ensures { result ≡ is_quit command }
+fn is_quit(command: &Command) -> bool
+    ensures { result ≡ is_quit command.now }
 {
     matches!(command, Command::Quit)
 }
