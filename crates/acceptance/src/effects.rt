@@ -9,7 +9,6 @@ fn done(word: u32, rs: u32, rt: u32) -> Option<Effect> {
     let operands = Operands {
         rs,
         rt,
-        landed: rt,
         hi: 0x11,
         lo: 0x22,
         pc: PC,
@@ -130,27 +129,19 @@ fn branches_and_links(rt: HostRuntime) {
 #[test]
 fn merging_loads(rt: HostRuntime) {
     let word = 0x4433_2211;
-    let left = LoadKind::Left { kept: 0xAABB_CCDD };
-    let right = LoadKind::Right { kept: 0xAABB_CCDD };
+    let left = LoadKind::Left;
+    let right = LoadKind::Right;
     for (address, high, low) in [
         (0x100u32, 0x11BB_CCDDu32, 0x4433_2211u32),
         (0x101, 0x2211_CCDD, 0xAA44_3322),
         (0x102, 0x3322_11DD, 0xAABB_4433),
         (0x103, 0x4433_2211, 0xAABB_CC44),
     ] {
-        assert_eq!(rt; left.loaded(address, word), high);
-        assert_eq!(rt; right.loaded(address, word), low);
+        assert_eq!(rt; left.loaded(address, word, 0xAABB_CCDD), high);
+        assert_eq!(rt; right.loaded(address, word, 0xAABB_CCDD), low);
     }
-    // lwl r6, 1(r5) merges with rt as the pending load leaves it
-    let operands = Operands {
-        rs: 0x100,
-        rt: 1,
-        landed: 0xAABB_CCDD,
-        hi: 0,
-        lo: 0,
-        pc: PC,
-    };
-    let loads = decode(0x88A6_0001).map(|insn| effect(&insn, operands));
+    // lwl r6, 1(r5)
+    let loads = done(0x88A6_0001, 0x100, 1);
     let address = 0x101;
     assert_eq!(rt;
         loads,
@@ -165,15 +156,27 @@ fn merging_loads(rt: HostRuntime) {
 #[test]
 fn widths(rt: HostRuntime) {
     let word = 0x8081_F2F3;
-    assert_eq!(rt; LoadKind::Byte.loaded(0x101, word), 0xFFFF_FFF2);
-    assert_eq!(rt; LoadKind::ByteUnsigned.loaded(0x103, word), 0x80);
-    assert_eq!(rt; LoadKind::Half.loaded(0x102, word), 0xFFFF_8081);
-    assert_eq!(rt; LoadKind::HalfUnsigned.loaded(0x100, word), 0xF2F3);
-    assert_eq!(rt; LoadKind::Word.loaded(0x100, word), word);
+    assert_eq!(rt;
+        LoadKind::Byte.loaded(0x101, word, 0x5A5A_5A5A),
+        0xFFFF_FFF2
+    );
+    assert_eq!(rt;
+        LoadKind::ByteUnsigned.loaded(0x103, word, 0x5A5A_5A5A),
+        0x80
+    );
+    assert_eq!(rt;
+        LoadKind::Half.loaded(0x102, word, 0x5A5A_5A5A),
+        0xFFFF_8081
+    );
+    assert_eq!(rt;
+        LoadKind::HalfUnsigned.loaded(0x100, word, 0x5A5A_5A5A),
+        0xF2F3
+    );
+    assert_eq!(rt; LoadKind::Word.loaded(0x100, word, 0x5A5A_5A5A), word);
     assert!(rt; !LoadKind::Half.is_aligned(0x101));
     assert!(rt; LoadKind::Half.is_aligned(0x102));
     assert!(rt; !LoadKind::Word.is_aligned(0x102));
-    assert!(rt; LoadKind::Right { kept: 0 }.is_aligned(0x103));
+    assert!(rt; LoadKind::Right.is_aligned(0x103));
     assert!(rt; !StoreKind::Word.is_aligned(0x102));
     assert!(rt; StoreKind::Left.is_aligned(0x103));
 }

@@ -1,4 +1,6 @@
-//! A large boot image.
+//! Boot images that are large, or that do not fit the machine.
+use crate::programs::EMPTY_IMAGE;
+use crate::served::{run_on, run_program};
 use r3k_image::read_image;
 use std::test::Fail;
 
@@ -26,5 +28,44 @@ fn large_image(rt: HostRuntime) -> Result<(), Fail> {
     assert_eq!(rt; image.word(0x0200_0000), None);
     assert!(rt; image.fits(8192));
     assert!(rt; !image.fits(8191));
+    Ok(())
+}
+
+/// The word at 0x10000 is the first past 16 pages of RAM.
+#[test]
+fn image_that_does_not_fit(rt: HostRuntime) -> Result<(), Fail> {
+    let alloc = rt.alloc();
+    let mut input = Vec::from_slice(alloc, &EMPTY_IMAGE[..28])?;
+    input.extend_from_slice(&[1, 0, 0, 0, 0, 0, 1, 0, 1, 0, 0, 0, 5, 0, 0, 0])?;
+    input.extend_from_slice(b"pos\n")?;
+    let words = ["r3kwb", "--kind", "image", "--size", "44"];
+    let run = run_on::<16, 64>(alloc, &words, &input, 4096)?;
+    assert_eq!(rt; run.output.len(), 0);
+    assert_eq!(rt;
+        run.fault.as_slice(),
+        b"r3kwb: error 9 BadImage Pages\n".as_slice()
+    );
+    assert_eq!(rt; run.status, 1);
+    let run = run_on::<17, 64>(alloc, &words, &input, 4096)?;
+    assert_eq!(rt; run.output.as_slice(), b"pos 0\n".as_slice());
+    assert_eq!(rt; run.status, 0);
+    Ok(())
+}
+
+/// A ROM that takes all 2^20 reads is judged; one byte more takes one read more.
+#[test]
+fn image_of_all_reads(rt: HostRuntime) -> Result<(), Fail> {
+    let alloc = rt.alloc();
+    let input = vec![in alloc; 0u8; 1_048_577]?;
+    let cases = [
+        ("1048576", "r3kwb: error 9 BadImage RawSize\n", 1),
+        ("1048577", "r3kwb: error 11 ReadFault\n", 3),
+    ];
+    for (size, fault, status) in cases {
+        let run = run_program(alloc, &["r3kwb", "--size", size], &input, 1)?;
+        assert_eq!(rt; run.output.len(), 0);
+        assert_eq!(rt; run.fault.as_slice(), fault.as_bytes());
+        assert_eq!(rt; run.status, status);
+    }
     Ok(())
 }

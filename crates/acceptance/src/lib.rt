@@ -2,16 +2,24 @@
 #![tactic(auto)]
 
 #[cfg(test)]
+mod commands;
+#[cfg(test)]
 mod effects;
 #[cfg(test)]
 mod encodings;
 #[cfg(test)]
+mod examples;
+#[cfg(test)]
 mod exceptions;
 #[cfg(test)]
 mod images;
+#[cfg(test)]
+mod machine;
 #[cfg(test)]
 mod programs;
 #[cfg(test)]
 mod scripts;
 #[cfg(test)]
 mod served;
+#[cfg(test)]
+mod steps;

@@ -2,7 +2,7 @@
 use crate::served::run_program;
 use std::test::Fail;
 
-const EMPTY_IMAGE: [u8; 32] = [
+pub const EMPTY_IMAGE: [u8; 32] = [
     0x52, 0x33, 0x4b, 0x49, 0x4d, 0x47, 0x31, 0x0a, 0x10, 0, 0, 0, 1, 0, 0, 0, 0, 0, 0, 0, 0, 0, 1,
     1, 1, 0, 0x20, 0x06, 0, 0, 0, 0,
 ];

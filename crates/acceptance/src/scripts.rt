@@ -19,7 +19,7 @@ fn replies(rt: HostRuntime) -> Result<(), Fail> {
         ("goto 18446744073709551616\n", "error 3 Range\n"),
         ("goto 0x10\r\npos\r", "pos 16\npos 16\n"),
         (
-            "foo\ngoto\ngoto 1 2\ngoto 0X1\nreg 1\n",
+            "foo\ngoto\ngoto 1 2\ngoto 0X1\nreg\n",
             "error 2 Syntax\nerror 2 Syntax\nerror 2 Syntax\nerror 2 Syntax\nerror 2 Syntax\n",
         ),
         ("pos\nquit\npos\n", "pos 0\n"),

@@ -1,0 +1,165 @@
+//! Moves, and queries of the processor: the worked examples, and values by hand.
+use crate::programs::LOAD_SLOT;
+use crate::served::run_program;
+use std::alloc::Global;
+use std::str;
+use std::test::Fail;
+
+// What the program writes for an input of so many bytes of a kind and then a script.
+fn replies(alloc: Global, kind: &str, bytes: &[u8], script: &[u8]) -> Result<Vec<u8>, Fail> {
+    let mut input = Vec::from_slice(alloc, bytes)?;
+    input.extend_from_slice(script)?;
+    let size = bytes.len();
+    let size = format!(in alloc; "{size}")?;
+    let words = ["r3kwb", "--kind", kind, "--size", size.as_str()];
+    let run = run_program(alloc, &words, &input, 4096)?;
+    Ok(run.output)
+}
+
+// The bytes of a raw ROM of these words.
+fn rom_of(alloc: Global, words: &[u32]) -> Result<Vec<u8>, Fail> {
+    let mut bytes = Vec::new(alloc);
+    for word in words {
+        bytes.extend_from_slice(&word.to_le_bytes())?;
+    }
+    Ok(bytes)
+}
+
+/// The instruction behind the load reads r2 before the value lands, and the next one reads the value.
+#[test]
+fn load_slot(rt: HostRuntime) -> Result<(), Fail> {
+    let script = b"goto 3\nreg 2\nreg 3\nstep 1\nreg 4\n";
+    let output = replies(rt.alloc(), "image", &LOAD_SLOT, script)?;
+    let want = b"pos 3\nr2 0x00000005\nr3 0x00000000\npos 4\nr4 0x00000005\n".as_slice();
+    assert_eq!(rt; output.as_slice(), want);
+    Ok(())
+}
+
+/// The instruction behind the load adds 1 to r2, and its own write wins.
+#[test]
+fn load_slot_loses_to_its_own_write(rt: HostRuntime) -> Result<(), Fail> {
+    let mut image = LOAD_SLOT;
+    // addiu r2, r2, 1
+    image[60..64].copy_from_slice(&[1, 0, 0x42, 0x24]);
+    let output = replies(rt.alloc(), "image", &image, b"goto 3\nreg 2\n")?;
+    assert_eq!(rt; output.as_slice(), b"pos 3\nr2 0x00000001\n".as_slice());
+    Ok(())
+}
+
+/// Positions are 0 to 4294967295, in whole numbers, and a refused move stays where it is.
+#[test]
+fn limits_of_moves(rt: HostRuntime) -> Result<(), Fail> {
+    let cases = [
+        (
+            "goto 4294967295\nstep 1\ngoto 4294967296\npos\ngoto 0\nback 1\n",
+            "pos 4294967295\nerror 7 TooFar\nerror 7 TooFar\npos 4294967295\npos 0\nerror 7 TooFar\n",
+        ),
+        (
+            "goto 1\nstep 18446744073709551615\npos\n",
+            "pos 1\nerror 7 TooFar\npos 1\n",
+        ),
+        (
+            "back 18446744073709551615\npos\n",
+            "error 7 TooFar\npos 0\n",
+        ),
+        (
+            "step 4294967295\nback 4294967294\nback 0\nstep 0\nback 2\nback 1\n",
+            "pos 4294967295\npos 1\npos 1\npos 1\nerror 7 TooFar\npos 0\n",
+        ),
+        (
+            "step\nback 1 2\nstep -1\nback 18446744073709551616\npos\n",
+            "error 2 Syntax\nerror 2 Syntax\nerror 2 Syntax\nerror 3 Range\npos 0\n",
+        ),
+    ];
+    for (script, want) in cases {
+        let output = replies(rt.alloc(), "rom", &[], script.as_bytes())?;
+        assert_eq!(rt; output.as_slice(), want.as_bytes(), "at {script:?}");
+    }
+    Ok(())
+}
+
+#[test]
+fn registers_by_number(rt: HostRuntime) -> Result<(), Fail> {
+    // lui r31, 0x1234; addiu r0, r31, 1: a write to r0 is dropped
+    let rom = rom_of(rt.alloc(), &[0x3C1F_1234, 0x27E0_0001])?;
+    let script = b"goto 2\nreg 31\nreg 0x1f\nreg 0\nreg\nreg 32\nreg 32 1\nreg r1\npos\n";
+    let output = replies(rt.alloc(), "rom", &rom, script)?;
+    let want =
+        b"pos 2\nr31 0x12340000\nr31 0x12340000\nr0 0x00000000\nerror 2 Syntax\nerror 3 Range\n\
+        error 2 Syntax\nerror 2 Syntax\npos 2\n"
+            .as_slice();
+    assert_eq!(rt; output.as_slice(), want);
+    Ok(())
+}
+
+#[test]
+fn control_registers_at_reset(rt: HostRuntime) -> Result<(), Fail> {
+    let output = replies(rt.alloc(), "rom", &[], b"cp0\n")?;
+    let want = b"index 0x00000000 random 0x00003f00 entrylo 0x00000000 context 0x00000000 \
+        badvaddr 0x00000000 entryhi 0x00000000 status 0x00400000 cause 0x00000000 epc 0x00000000 \
+        prid 0x00000220\n"
+        .as_slice();
+    assert_eq!(rt; output.as_slice(), want);
+    Ok(())
+}
+
+/// The system call in the branch's delay slot: EPC is the branch, Cause has BD and Sys, and mode and interrupt bits move up.
+#[test]
+fn system_call_in_a_delay_slot(rt: HostRuntime) -> Result<(), Fail> {
+    // lui r1, 0x40; ori r1, r1, 1; mtc0 r1, c12; beq r0, r0; syscall
+    let words = [
+        0x3C01_0040,
+        0x3421_0001,
+        0x4081_6000,
+        0x1000_0003,
+        0x0000_000C,
+    ];
+    let rom = rom_of(rt.alloc(), &words)?;
+    let output = replies(rt.alloc(), "rom", &rom, b"goto 5\ncp0\n")?;
+    let want = b"pos 5\nindex 0x00000000 random 0x00003a00 entrylo 0x00000000 context 0x00000000 \
+        badvaddr 0x00000000 entryhi 0x00000000 status 0x00400004 cause 0x80000020 epc 0xbfc0000c \
+        prid 0x00000220\n"
+        .as_slice();
+    assert_eq!(rt; output.as_slice(), want);
+    Ok(())
+}
+
+/// A misaligned load: Cause has AdEL, and of the registers of translation only BadVAddr is loaded.
+#[test]
+fn misaligned_load(rt: HostRuntime) -> Result<(), Fail> {
+    // lui r1, 0xa000; lw r2, 2(r1)
+    let rom = rom_of(rt.alloc(), &[0x3C01_A000, 0x8C22_0002])?;
+    let output = replies(
+        rt.alloc(),
+        "rom",
+        &rom,
+        b"step 2\ncp0\nback 1\nstep 1\ncp0\n",
+    )?;
+    let shown = "index 0x00000000 random 0x00003d00 entrylo 0x00000000 context 0x00000000 \
+        badvaddr 0xa0000002 entryhi 0x00000000 status 0x00400000 cause 0x00000010 epc 0xbfc00004 \
+        prid 0x00000220\n";
+    let want = format!(in rt.alloc(); "pos 2\n{shown}pos 1\npos 2\n{shown}")?;
+    assert_eq!(rt; output.as_slice(), want.as_bytes());
+    Ok(())
+}
+
+/// Random falls from 63 by one a step, to 8 and then to 63 again.
+#[test]
+fn random_falls(rt: HostRuntime) -> Result<(), Fail> {
+    let output = replies(rt.alloc(), "rom", &[], b"goto 55\ncp0\ngoto 56\ncp0\n")?;
+    let text = str::from_utf8(output.as_slice())?;
+    assert!(rt; text.contains("pos 55\nindex 0x00000000 random 0x00000800 "));
+    assert!(rt; text.contains("pos 56\nindex 0x00000000 random 0x00003f00 "));
+    Ok(())
+}
+
+/// beq r0, r0, .+16 twice: the second branch stands in the first one's delay slot, and so does the instruction behind it.
+#[test]
+fn branch_in_a_delay_slot(rt: HostRuntime) -> Result<(), Fail> {
+    let rom = rom_of(rt.alloc(), &[0x1000_0003, 0x1000_0003])?;
+    let output = replies(rt.alloc(), "rom", &rom, b"goto 2\nregs\n")?;
+    let text = str::from_utf8(output.as_slice())?;
+    let want = "pc 0xbfc00010 next 0xbfc00014 hi 0x00000000 lo 0x00000000 delay 1 load none\n";
+    assert!(rt; text.contains(want));
+    Ok(())
+}
