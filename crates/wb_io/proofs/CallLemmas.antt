@@ -1,0 +1,84 @@
+-- Calls one after the other.
+use Rattle.std.proofs.Common.{◌≡◌, ℕ, List, [], ◌∷◌, ◌++◌, take, Option, Result, Ok, Err, MatchResult, append_assoc, refl, sym, ap, subst, ◌∙◌, arith, length-append}
+use Rattle.std.proofs.KnownBytes.{Appends-kept, Appends-nil, Appends-trans, Consumes-kept, Consumes-nil, Consumes-trans}
+use Rattle.std.proofs.lemmas.List.{append-nil}
+use Rattle.std.specs.Io.KnownBytes.{Appends, Consumes, Keeps}
+use Rattle.wb_io.specs.Calls.{Call, Each, MovesSome, Reads, TakesAll, TakesFront, Writes, bytes_of, bytes_moved, call}
+
+pub bytes_moved-append : (first second : List Call) → bytes_moved (first ++ second) ≡ bytes_moved first ++ bytes_moved second
+bytes_moved-append [] second = refl
+bytes_moved-append (call ∷ first) second =
+    ap (λ (z : List ℕ). bytes_of call ++ z) (bytes_moved-append first second) ∙ sym (append_assoc (bytes_of call) (bytes_moved first) (bytes_moved second))
+
+pub bytes_moved-one : (call : Call) → bytes_moved (call ∷ []) ≡ bytes_of call
+bytes_moved-one call = append-nil (bytes_of call)
+
+-- calls after calls
+pub Writes-nil : (writes : List Call) (written : Option (List ℕ)) → Writes writes writes written written []
+Writes-nil writes written = (sym (append-nil writes), Appends-nil written)
+
+pub Writes-trans : (a b c : List Call) (u v w : Option (List ℕ)) (first second : List Call) → Writes a b u v first → Writes b c v w second → Writes a c u w (first ++ second)
+Writes-trans a b c u v w first second f g = (
+  g.0 ∙ (ap (λ (z : List Call). z ++ second) f.0 ∙ append_assoc a first second),
+  subst (Appends u w) (sym (bytes_moved-append first second)) (Appends-trans u v w (bytes_moved first) (bytes_moved second) f.1 g.1),
+)
+
+pub Reads-nil : (reads : List Call) (left : Option (List ℕ)) → Reads reads reads left left []
+Reads-nil reads left = (sym (append-nil reads), Consumes-nil left)
+
+pub Reads-trans : (a b c : List Call) (u v w : Option (List ℕ)) (first second : List Call) → Reads a b u v first → Reads b c v w second → Reads a c u w (first ++ second)
+Reads-trans a b c u v w first second f g = (
+  g.0 ∙ (ap (λ (z : List Call). z ++ second) f.0 ∙ append_assoc a first second),
+  subst (Consumes u w) (sym (bytes_moved-append first second)) (Consumes-trans u v w (bytes_moved first) (bytes_moved second) f.1 g.1),
+)
+
+-- a fact of each call, and of one more
+pub Each-append_one : (P : Call → Type 0) (calls : List Call) (call : Call) → Each P calls → P call → Each P (calls ++ call ∷ [])
+Each-append_one P [] call each here = (here, tt)
+Each-append_one P (first ∷ calls) call each here = (each.0, Each-append_one P calls call each.1 here)
+
+-- one call
+pub Writes-one : {E : Type 0} (a b : List Call) (u v : Option (List ℕ)) (asked : ℕ) (answer : Result ℕ E) (bytes : List ℕ) → b ≡ a ++ call asked answer bytes ∷ [] → MatchResult answer (λ count. Appends u v (take count bytes)) (λ _. Keeps u v) → Writes a b u v (call asked answer bytes ∷ [])
+Writes-one a b u v asked (Ok count) bytes e h = (e, subst (Appends u v) (sym (append-nil (take count bytes))) h)
+Writes-one a b u v asked (Err error) bytes e h = (e, Appends-kept u u v [] (Appends-nil u) h)
+
+pub Reads-one : {E : Type 0} (a b : List Call) (u v : Option (List ℕ)) (asked : ℕ) (answer : Result ℕ E) (bytes : List ℕ) → b ≡ a ++ call asked answer bytes ∷ [] → MatchResult answer (λ count. Consumes u v (take count bytes)) (λ _. Keeps u v) → Reads a b u v (call asked answer bytes ∷ [])
+Reads-one a b u v asked (Ok count) bytes e h = (e, subst (Consumes u v) (sym (append-nil (take count bytes))) h)
+Reads-one a b u v asked (Err error) bytes e h = (e, Consumes-kept u u v [] (Consumes-nil u) h)
+
+pub Each-append : (P : Call → Type 0) (first second : List Call) → Each P first → Each P second → Each P (first ++ second)
+Each-append P [] second f g = g
+Each-append P (call ∷ first) second f g = (f.0, Each-append P first second f.1 g)
+
+-- calls that took all of some bytes, and then others that took all, or a front, of more
+pub TakesAll-append : (x y : List ℕ) (first second : List Call) → TakesAll x first → TakesAll y second → TakesAll (x ++ y) (first ++ second)
+TakesAll-append x y first second f g = record {
+  each = Each-append MovesSome first second f.each g.each;
+  all = bytes_moved-append first second ∙ (ap (λ (z : List ℕ). z ++ bytes_moved second) f.all ∙ ap (λ (z : List ℕ). x ++ z) g.all);
+}
+
+pub TakesFront-after : (x y : List ℕ) (first second : List Call) → TakesAll x first → TakesFront y second → TakesFront (x ++ y) (first ++ second)
+TakesFront-after x y first second f g = record {
+  good = first ++ g.good;
+  bad = g.bad;
+  rest = g.rest;
+  calls_are = ap (λ (z : List Call). first ++ z) g.calls_are ∙ sym (append_assoc first g.good (g.bad ∷ []));
+  each = Each-append MovesSome first g.good f.each g.each;
+  stopped = g.stopped;
+  front = ap (λ (z : List ℕ). x ++ z) g.front ∙ (sym (append_assoc x (bytes_moved second) g.rest)
+      ∙ ap (λ (z : List ℕ). z ++ g.rest) (ap (λ (z : List ℕ). z ++ bytes_moved second) (sym f.all) ∙ sym (bytes_moved-append first second)));
+  left = g.left;
+}
+
+-- a front of some bytes is one of more
+pub TakesFront-more : (x y : List ℕ) (calls : List Call) → TakesFront x calls → TakesFront (x ++ y) calls
+TakesFront-more x y calls f = record {
+  good = f.good;
+  bad = f.bad;
+  rest = f.rest ++ y;
+  calls_are = f.calls_are;
+  each = f.each;
+  stopped = f.stopped;
+  front = ap (λ (z : List ℕ). z ++ y) f.front ∙ append_assoc (bytes_moved calls) f.rest y;
+  left = let more = length-append f.rest y in omega (arith, f.left, more);
+}

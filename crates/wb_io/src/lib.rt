@@ -1,0 +1,13 @@
+//! Where the bytes of a run come from and where they go: readers and writers that tell what they have done.
+#![tactic(auto)]
+
+mod calls;
+mod plan;
+mod sink;
+mod source;
+mod whole;
+
+pub use plan::Plan;
+pub use sink::{Sink, ToWrite};
+pub use source::{Failed, FromRead, PIECE_BYTES, Source};
+pub use whole::write_whole;

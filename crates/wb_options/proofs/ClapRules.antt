@@ -1,0 +1,206 @@
+-- The line's two options as clap's rules, and one use of them.
+use Rattle.std.proofs.Common.{◌≡◌, ◌⊎◌, ◌∙◌, ap, refl, sym, inl, inr, Bool, true, false, List, [], ◌∷◌, Option, Some, None, codes, bytes_eq}
+use Rattle.std.proofs.lemmas.Slice.Eq.{bytes_eq-Decides}
+use Rattle.clap.specs.Words.{Kinds, Row, Rule, Text, first_of}
+use Rattle.clap.specs.Simple.{Shape, built}
+use Rattle.clap.specs.Walk.{has_row, without, with_values, Held, Walk, Waiting, arg_by_long, walked, used}
+use Rattle.clap.specs.Simple.{help_rule, new_shape}
+use Rattle.clap.specs.Faults.{settle_fault, turn_fault, use_fault, walk_fault}
+use Rattle.clap.specs.Kinds.{or_else}
+use Rattle.clap.specs.declared.error.kind.ErrorKind.TheVariants.{ArgumentConflict, InvalidValue}
+use Rattle.clap.specs.declared.builder.action.ArgAction.TheVariants.{Set}
+use Rattle.clap.specs.declared.builder.value_parser.ValueParser.TheVariants as vp
+use Rattle.clap.specs.declared.builder.value_parser.Reading.{Reading}
+use Rattle.clap.specs.declared.builder.value_parser.Reading.TheVariants.{AsWritten}
+use Rattle.clap.specs.declared.parser.matches.ValueSource.{ValueSource}
+use Rattle.clap.specs.declared.parser.matches.ValueSource.TheVariants.{CommandLine}
+use Rattle.clap.proofs.OnLiterals.{clap_on_literals}
+use Rattle.wb_options.specs.Options.{command_line, option_rule}
+
+-- the rules as clap fills them in
+abbrev pub kind_filled : Rule
+kind_filled = record (option_rule (codes "kind")) {
+  action = Some Set;
+  parser = Some vp.String;
+  range = Some (record { start_inclusive = 1; end_inclusive = 1 });
+}
+
+abbrev pub size_filled : Rule
+size_filled = record (option_rule (codes "size")) {
+  action = Some Set;
+  parser = Some vp.String;
+  range = Some (record { start_inclusive = 1; end_inclusive = 1 });
+}
+
+abbrev pub help_filled : Rule
+help_filled = record help_rule {
+  parser = Some vp.String;
+  range = Some (record { start_inclusive = 0; end_inclusive = 0 });
+}
+
+abbrev pub rules : List Rule
+rules = kind_filled ∷ size_filled ∷ help_filled ∷ []
+
+abbrev pub shape : Shape
+shape = record (new_shape (codes "r3kwb")) {
+  rules = rules;
+  disable_help_subcommand = true;
+  is_built = true;
+}
+
+shape_is : (built command_line).top ≡ shape
+unfolding clap_on_literals
+shape_is = refl
+
+-- the two options: the kind, and the size
+abbrev pub name_of : Bool → Text
+name_of true = codes "kind"
+name_of false = codes "size"
+
+abbrev pub filled : Bool → Rule
+filled true = kind_filled
+filled false = size_filled
+
+-- a long name is an option's, or help's, or none
+abbrev pub IsLong : Text → Type 0
+IsLong n = ((b : Bool) × (n ≡ name_of b) × (arg_by_long rules n ≡ Some (filled b)))
+    ⊎ ((arg_by_long rules n ≡ Some help_filled) ⊎ (arg_by_long rules n ≡ None))
+
+pub by_long : (n : Text) → IsLong n
+by_long n = go (bytes_eq (codes "kind") n) refl (bytes_eq (codes "size") n) refl (bytes_eq (codes "help") n) refl
+  where
+    go : (k : Bool) → bytes_eq (codes "kind") n ≡ k → (s : Bool) → bytes_eq (codes "size") n ≡ s → (h : Bool) → bytes_eq (codes "help") n ≡ h → IsLong n
+    go true ek s es h eh = inl (true, sym ((bytes_eq-Decides (codes "kind") n).0 ek), rw ek refl)
+    go false ek true es h eh = inl (false, sym ((bytes_eq-Decides (codes "size") n).0 es), rw (ek, es) refl)
+    go false ek false es true eh = inr (inl (rw (ek, es, eh) refl))
+    go false ek false es false eh = inr (inr (rw (ek, es, eh) refl))
+
+same_bytes : (t : Text) → bytes_eq t t ≡ true
+same_bytes t = (bytes_eq-Decides t t).1 refl
+
+-- where no row has the id, the new row's value is the first
+first-with_values : (id v : Text) (how : Reading) (s : ValueSource) (rows : List Row) → has_row id rows ≡ false
+    → first_of id (with_values id how s (v ∷ []) rows) ≡ Some v
+first-with_values id v how s [] none = rw (same_bytes id) refl
+first-with_values id v how s (r ∷ rs) none =
+    go (bytes_eq r.id id) refl (λ h. first-with_values id v how s rs h)
+  where
+    go : (b : Bool) → bytes_eq r.id id ≡ b
+        → (has_row id rs ≡ false → first_of id (with_values id how s (v ∷ []) rs) ≡ Some v)
+        → first_of id (with_values id how s (v ∷ []) (r ∷ rs)) ≡ Some v
+    go true e rec =
+        let bad : true ≡ false = rw e at none in
+        cc
+    go false e rec =
+        let rest : has_row id rs ≡ false = rw e at none in
+        rw (e, e) (rec rest)
+
+-- a row of one id leaves the first value of another
+first-with_values_other : (id other : Text) (how : Reading) (s : ValueSource) (values : List Text) (rows : List Row) → bytes_eq id other ≡ false
+    → first_of other (with_values id how s values rows) ≡ first_of other rows
+first-with_values_other id other how s values [] apart = rw apart refl
+first-with_values_other id other how s values (r ∷ rs) apart =
+    go (bytes_eq r.id id) refl (bytes_eq r.id other) refl (first-with_values_other id other how s values rs apart)
+  where
+    go : (b : Bool) → bytes_eq r.id id ≡ b → (d : Bool) → bytes_eq r.id other ≡ d
+        → first_of other (with_values id how s values rs) ≡ first_of other rs
+        → first_of other (with_values id how s values (r ∷ rs)) ≡ first_of other (r ∷ rs)
+    go true e true f rec =
+        let same : r.id ≡ id = (bytes_eq-Decides r.id id).0 e in
+        let bad : true ≡ false = sym f ∙ ap (λ t. bytes_eq t other) same ∙ apart in
+        cc
+    go true e false f rec = rw (e, f) refl
+    go false e true f rec = rw (e, f) refl
+    go false e false f rec = rw (e, f) rec
+
+pub no_first : (id : Text) (rows : List Row) → has_row id rows ≡ false → first_of id rows ≡ None
+no_first id [] none = refl
+no_first id (r ∷ rs) none = go (bytes_eq r.id id) refl (λ h. no_first id rs h)
+  where
+    go : (b : Bool) → bytes_eq r.id id ≡ b → (has_row id rs ≡ false → first_of id rs ≡ None) → first_of id (r ∷ rs) ≡ None
+    go true e rec =
+        let bad : true ≡ false = rw e at none in
+        cc
+    go false e rec =
+        let rest : has_row id rs ≡ false = rw e at none in
+        rw e (rec rest)
+
+pub or_else-nil : (a b : Kinds) → or_else a b ≡ [] → (a ≡ []) × (b ≡ [])
+or_else-nil [] b e = (refl, e)
+or_else-nil (k ∷ ks) b e =
+    let bad : ◌≡◌ {A = Kinds} (k ∷ ks) [] = e in
+    cc
+
+-- what is held between two words, where no flag of a bundle is passed over
+abbrev pub hold : List Row → Option (Text × List Text) → Held
+hold rows pending = record { rows = rows; pending = pending; skip = 0 }
+
+-- the walk between two words
+abbrev pub at : Held → Waiting → Bool → Walk
+at h waiting trailing =
+    record { held = h; waiting = waiting; position = 1; is_trailing = trailing; stopped = None }
+
+pub walk-parts : (w : Walk) (word : Text) (rest : List Text) → walk_fault shape [] w (word ∷ rest) ≡ []
+    → (turn_fault shape [] w word ≡ []) × (walk_fault shape [] (walked rules [] w word) rest ≡ [])
+unfolding walk_fault
+walk-parts w word rest f = or_else-nil (turn_fault shape [] w word) (walk_fault shape [] (walked rules [] w word) rest) f
+
+-- ---- one use of an option
+
+-- a use with one value comes first
+pub use-once : (b : Bool) (x : Text) (rows : List Row) → use_fault false (filled b) (x ∷ []) rows ≡ [] → has_row (name_of b) rows ≡ false
+use-once true x rows e = go (has_row (codes "kind") rows) refl
+  where
+    go : (d : Bool) → has_row (codes "kind") rows ≡ d → has_row (codes "kind") rows ≡ false
+    go true h =
+        let bad : ◌≡◌ {A = Kinds} (ArgumentConflict ∷ []) [] = rw h at e in
+        cc
+    go false h = h
+use-once false x rows e = go (has_row (codes "size") rows) refl
+  where
+    go : (d : Bool) → has_row (codes "size") rows ≡ d → has_row (codes "size") rows ≡ false
+    go true h =
+        let bad : ◌≡◌ {A = Kinds} (ArgumentConflict ∷ []) [] = rw h at e in
+        cc
+    go false h = h
+
+-- and no use is without one
+pub use-none : (b : Bool) (rows : List Row) → settle_fault rules false (hold rows (Some (name_of b, []))) ≡ [] → ⊥
+use-none true rows e =
+    let bad : ◌≡◌ {A = Kinds} (InvalidValue ∷ []) [] = e in
+    cc
+use-none false rows e =
+    let bad : ◌≡◌ {A = Kinds} (InvalidValue ∷ []) [] = e in
+    cc
+
+-- the row of an option that was not used is not there to be replaced
+without-none : (id : Text) (rows : List Row) → has_row id rows ≡ false → without id rows ≡ rows
+without-none id [] none = refl
+without-none id (r ∷ rs) none = go (bytes_eq r.id id) refl (λ h. without-none id rs h)
+  where
+    go : (b : Bool) → bytes_eq r.id id ≡ b → (has_row id rs ≡ false → without id rs ≡ rs) → without id (r ∷ rs) ≡ r ∷ rs
+    go true e rec =
+        let bad : true ≡ false = rw e at none in
+        cc
+    go false e rec =
+        let rest : has_row id rs ≡ false = rw e at none in
+        rw e (ap (λ xs. r ∷ xs) (rec rest))
+
+used-is : (b : Bool) (x : Text) (rows : List Row) → has_row (name_of b) rows ≡ false
+    → used (filled b) (x ∷ []) rows ≡ with_values (name_of b) AsWritten CommandLine (x ∷ []) rows
+used-is true x rows none = ap (with_values (codes "kind") AsWritten CommandLine (x ∷ [])) (without-none (codes "kind") rows none)
+used-is false x rows none = ap (with_values (codes "size") AsWritten CommandLine (x ∷ [])) (without-none (codes "size") rows none)
+
+-- the first value of either option after a use of one
+abbrev pub after_use : Bool → Bool → Text → Option Text → Option Text
+after_use true true x before = Some x
+after_use true false x before = before
+after_use false true x before = before
+after_use false false x before = Some x
+
+pub first-used : (b which : Bool) (x : Text) (rows : List Row) → has_row (name_of b) rows ≡ false
+    → first_of (name_of which) (used (filled b) (x ∷ []) rows) ≡ after_use b which x (first_of (name_of which) rows)
+first-used true true x rows none = rw (used-is true x rows none) (first-with_values (codes "kind") x AsWritten CommandLine rows none)
+first-used true false x rows none = rw (used-is true x rows none) (first-with_values_other (codes "kind") (codes "size") AsWritten CommandLine (x ∷ []) rows refl)
+first-used false true x rows none = rw (used-is false x rows none) (first-with_values_other (codes "size") (codes "kind") AsWritten CommandLine (x ∷ []) rows refl)
+first-used false false x rows none = rw (used-is false x rows none) (first-with_values (codes "size") x AsWritten CommandLine rows none)

@@ -1,0 +1,4 @@
+mod OptionLines
+mod ClapRules
+mod ClapSteps
+mod ClapWords

@@ -1,0 +1,26 @@
+//! What the program's line asks for.
+ghost use Rattle.std.specs.Prelude.{◌≤◌};
+
+/// What the input begins with.
+#[derive(Clone, Copy, Debug, PartialEq, Eq)]
+pub enum Kind {
+    /// A raw ROM.
+    Rom,
+    /// An image of this project's format.
+    Image,
+    /// Assembler source.
+    Source,
+}
+
+/// The greatest `--size`.
+pub const MAX_SIZE: u32 = 67_108_864;
+
+/// What the program's line asks for.
+#[derive(Clone, Copy, Debug, PartialEq, Eq)]
+pub struct Options {
+    /// What the input begins with.
+    pub kind: Kind,
+    /// How many bytes of the input that takes.
+    pub size: u32,
+    ghost in_range: { size ≤ 67108864 },
+}

@@ -1,0 +1,115 @@
+//! The program's line, read by clap.
+ghost use Rattle.std.specs.Prelude.{◌≡◌, ◌≤◌, ℕ, map, IfOk, IfErr, MatchOption};
+ghost use Rattle.std.specs.Option.{option_copied};
+ghost use Rattle.clap.specs.Words.{app_of, kind_of};
+ghost use Rattle.clap.specs.declared.error.kind.ErrorKind.TheVariants.{InvalidValue};
+ghost use Rattle.wb_options.specs.Options.{command_line, IsFaultOf, IsKind, IsSize};
+ghost use Rattle.wb_options.specs.Options.{IsLine, IsLineFault};
+
+use crate::arguments::{Kind, MAX_SIZE, Options};
+use crate::fault::RunFault;
+use clap::error::ErrorKind;
+use clap::{Arg, Command, Error};
+use std::alloc::{AllocError, Global};
+
+/// Reads the program's line: its words, of which the first is the program's name.
+///
+/// Kind and size are those of the words, and else a ROM and 0. Words are read as clap reads them:
+/// `--size 5` or `--size=5`, each option at most once. A wrong line is `Usage`, and a call for help
+/// is `Help`, each with clap's text for the user.
+pub fn options<'a>(alloc: Global, words: &'a [&'a str]) -> Result<Options, RunFault>
+    ensures line { IfOk result (λ options.
+        IsLine (map (λ word. word.now) words.entry.now) options.kind options.size) }
+    ensures fault { IfErr result (IsLineFault (map (λ word. word.now) words.entry.now)) }
+{
+    let mut command = command(alloc)?;
+    let matches = match command.try_get_matches_from_mut(words) {
+        Ok(matches) => matches,
+        Err(error) => return Err(fault_from(alloc, &error)),
+    };
+    let Some(kind) = kind_named(matches.get_str("kind")) else {
+        return Err(wrong_value(alloc, &mut command, "--kind is rom, image or source"));
+    };
+    let Some(size) = size_named(matches.get_str("size")) else {
+        return Err(wrong_value(alloc, &mut command, "--size is a number from 0 to 67108864"));
+    };
+    Ok(Options { kind, size })
+}
+
+// What help says behind the options.
+const AFTER_HELP: &str = "\
+Standard input is N bytes of the kind, and then a script: one command a line, up to `quit` or the end.
+Replies go to standard output. A fault prints one line to standard error.
+
+Statuses: 0 good, also for this help; 1 a bad image or source; 2 a wrong line; 3 a failed read or write, or
+input that ends within the image; 4 out of memory.
+
+docs/USING.md tells the commands, and what an image and a source are. bin/wb takes an image and a script
+by name.";
+
+fn command<'a>(alloc: Global) -> Result<Command<'a>, AllocError>
+    ensures { IfOk result (λ command. app_of command ≡ command_line) }
+{
+    let kind = Arg::new(alloc, "kind").long("kind").value_name("KIND").help(
+        "What the input begins with: rom, image or source [default: rom]",
+    );
+    let size = Arg::new(alloc, "size").long("size").value_name("N").help(
+        "How many bytes of it that takes, 0 to 67108864 [default: 0]",
+    );
+    Command::new(alloc, "r3kwb")
+        .about("Boots an image, runs a script and prints its replies")
+        .after_help(AFTER_HELP)
+        .arg(kind)?
+        .arg(size)
+}
+
+// The fault for a mistake in the words, or for a call for help.
+fn fault_from(alloc: Global, error: &Error) -> RunFault
+    ensures { IsFaultOf (kind_of error.now) result }
+{
+    match error.kind() {
+        ErrorKind::OutOfMemory => RunFault::Memory,
+        kind => match error.to_string(alloc) {
+            Err(_) => RunFault::Memory,
+            Ok(text) if kind == ErrorKind::DisplayHelp => RunFault::Help(text),
+            Ok(text) => RunFault::Usage(text),
+        },
+    }
+}
+
+// The fault for a value that an option does not take.
+fn wrong_value(alloc: Global, command: &mut Command<'_>, message: &str) -> RunFault
+    ensures { IsFaultOf InvalidValue result }
+{
+    match command.error(ErrorKind::InvalidValue, message) {
+        Err(_) => RunFault::Memory,
+        Ok(error) => fault_from(alloc, &error),
+    }
+}
+
+fn kind_named(value: Option<&str>) -> Option<Kind>
+    ensures { MatchOption result ((kind : Kind) → ¬ IsKind (option_copied value.entry) kind)
+        (IsKind (option_copied value.entry)) }
+{
+    match value {
+        None | Some("rom") => Some(Kind::Rom),
+        Some("image") => Some(Kind::Image),
+        Some("source") => Some(Kind::Source),
+        Some(_) => None,
+    }
+}
+
+fn size_named(value: Option<&str>) -> Option<u32>
+    ensures { MatchOption result
+        ((size : ℕ) → size ≤ 67108864 → ¬ IsSize (option_copied value.entry) size)
+        (λ size. IsSize (option_copied value.entry) size × (size ≤ 67108864)) }
+{
+    let Some(text) = value else {
+        return Some(0);
+    };
+    if text.starts_with('+') {
+        return None;
+    }
+    let size = text.parse::<u32>().ok()?;
+    (size <= MAX_SIZE).then_some(size)
+}
