@@ -1,12 +1,11 @@
 -- Decoding and encoding are inverse: one test over the table, and one lemma that turns it into the rule at each row.
-use Rattle.std.proofs.Common.{◌≡◌, ℕ, zero, suc, ◌+◌, ◌<◌, ◌^◌, Bool, true, false, ◌&&◌, ◌==◌, refl, sym, ap, subst, ◌∙◌, List, [], ◌∷◌, length, Option, Some, None, arith}
+use Rattle.std.proofs.Common.{◌≡◌, ℕ, zero, suc, ◌+◌, ◌<◌, ◌^◌, Bool, true, ◌&&◌, ◌==◌, refl, sym, ap, subst, ◌∙◌, List, [], ◌∷◌, length, Option, Some, None, arith}
 use Rattle.std.specs.Prelude.{bit_and, nat_lt, slice_get, IsSomeAnd, IfSome, option_and_then}
 use Rattle.std.specs.Option.{option_map, option_map_or}
+use Rattle.std.specs.Cmp.{first_so, second_so}
 use Rattle.std.specs.List.{list_all}
 use Rattle.std.proofs.lemmas.Bool.{eqb-true}
 use borrow.Author.Tests.{ltb-true}
-use Rattle.r3k_table.specs.declared.row.Shape.{Shape}
-use Rattle.r3k_table.specs.declared.row.Shape.TheVariants.{A, B, C, D, E, F, G, H, I, K, L, M, N, O, P, Q, Z}
 use Rattle.r3k_table.specs.Table.{Instruction, instructions, Matches, row_of}
 use Rattle.r3k_table.proofs.Apart.{row_from, found}
 use Rattle.r3k_decode.specs.Operation.{Operation, read_as, placed, IsZeroElsewhere, FitsFields, IsOperation}
@@ -22,29 +21,21 @@ record Made (r : Instruction) : Type 0 where
   value : bit_and r.value r.mask ≡ r.value
   word : r.value < 2 ^ 32
 
-left : (a b : Bool) → (a && b) ≡ true → a ≡ true
-left true b e = refl
-left false b e = e
-
-right : (a b : Bool) → (a && b) ≡ true → b ≡ true
-right true b e = e
-right false b e = absurd (let f : false ≡ true = e in cc)
-
 -- what the test says of each row of the table
 passes_at : (rows : List Instruction) → list_all is_made rows ≡ true → (i : ℕ) (r : Instruction) → slice_get rows i ≡ Some r → is_made r ≡ true
 passes_at [] all i r e = absurd (let f : None ≡ Some r = e in cc)
 passes_at (a ∷ rows) all zero r e =
-    let same : a ≡ r = (let f : Some a ≡ Some r = e in cc) in subst (λ (x : Instruction). is_made x ≡ true) same (left (is_made a) (list_all is_made rows) all)
-passes_at (a ∷ rows) all (suc i) r e = passes_at rows (right (is_made a) (list_all is_made rows) all) i r e
+    let same : a ≡ r = (let f : Some a ≡ Some r = e in cc) in subst (λ (x : Instruction). is_made x ≡ true) same (first_so (is_made a) (list_all is_made rows) all)
+passes_at (a ∷ rows) all (suc i) r e = passes_at rows (second_so (is_made a) (list_all is_made rows) all) i r e
 
 made : (i : ℕ) (r : Instruction) → slice_get instructions i ≡ Some r → Made r
 made i r e =
     let t = passes_at instructions refl i r e in
-    let rest = right (r.mask == mask_of r.shape) ((bit_and r.value r.mask == r.value) && nat_lt r.value (2 ^ 32)) t in
+    let rest = second_so (r.mask == mask_of r.shape) ((bit_and r.value r.mask == r.value) && nat_lt r.value (2 ^ 32)) t in
     record {
-      mask = eqb-true r.mask (mask_of r.shape) (left (r.mask == mask_of r.shape) ((bit_and r.value r.mask == r.value) && nat_lt r.value (2 ^ 32)) t);
-      value = eqb-true (bit_and r.value r.mask) r.value (left (bit_and r.value r.mask == r.value) (nat_lt r.value (2 ^ 32)) rest);
-      word = ltb-true r.value (2 ^ 32) (right (bit_and r.value r.mask == r.value) (nat_lt r.value (2 ^ 32)) rest);
+      mask = eqb-true r.mask (mask_of r.shape) (first_so (r.mask == mask_of r.shape) ((bit_and r.value r.mask == r.value) && nat_lt r.value (2 ^ 32)) t);
+      value = eqb-true (bit_and r.value r.mask) r.value (first_so (bit_and r.value r.mask == r.value) (nat_lt r.value (2 ^ 32)) rest);
+      word = ltb-true r.value (2 ^ 32) (second_so (bit_and r.value r.mask == r.value) (nat_lt r.value (2 ^ 32)) rest);
     }
 
 -- an instruction's word has its row, and says it
@@ -64,32 +55,12 @@ said i (Some r) e z f =
 pub decoded : (i : Operation) → IsOperation i → operation_of (word_of i) ≡ Some i
 decoded i h = said i (slice_get instructions i.row) refl h.row h.fits
 
--- a word keeps the number of the row that it is read as
-row_read : (shape : Shape) (row word : ℕ) → (read_as row shape word).row ≡ row
-row_read A row word = refl
-row_read B row word = refl
-row_read C row word = refl
-row_read D row word = refl
-row_read E row word = refl
-row_read F row word = refl
-row_read G row word = refl
-row_read H row word = refl
-row_read I row word = refl
-row_read K row word = refl
-row_read L row word = refl
-row_read M row word = refl
-row_read N row word = refl
-row_read O row word = refl
-row_read P row word = refl
-row_read Q row word = refl
-row_read Z row word = refl
-
 -- a word with a row is the word of what it says
 spelled : (word n : ℕ) (o : Option Instruction) → word < 2 ^ 32 → slice_get instructions n ≡ o → IsSomeAnd o (λ r. bit_and word r.mask ≡ r.value) → IfSome (option_map (λ r. read_as n r.shape word) o) (λ i. word_of i ≡ word)
 spelled word n None w e h = tt
 spelled word n (Some r) w e h =
     let i = read_as n r.shape word in
-    ap (λ (o : Option Instruction). option_map_or (λ q. q.value + placed q.shape i) o 0) (ap (slice_get instructions) (row_read r.shape n word) ∙ e)
+    ap (λ (o : Option Instruction). option_map_or (λ q. q.value + placed q.shape i) o 0) e
     ∙ placed_again r.shape n r.value word w (ap (bit_and word) (sym (made n r e).mask) ∙ h)
 
 of_row : (word : ℕ) (o : Option ℕ) → word < 2 ^ 32 → IfSome o (Matches word) → IfSome (option_and_then (λ n. option_map (λ r. read_as n r.shape word) (slice_get instructions n)) o) (λ i. word_of i ≡ word)

@@ -2,6 +2,7 @@
 use Rattle.std.proofs.Common.{◌≡◌, ℕ, zero, suc, ◌+◌, Bool, true, false, ◌&&◌, ◌==◌, cond, not, refl, sym, ap, subst, ◌∙◌, List, [], ◌∷◌, Option, Some, None, arith}
 use Rattle.std.specs.Prelude.{bit_and, slice_get, IsSomeAnd, IfSome, option_and_then}
 use Rattle.std.specs.Option.{option_map}
+use Rattle.std.specs.Cmp.{first_so, second_so}
 use Rattle.std.specs.List.{list_all, position_from}
 use Rattle.std.proofs.lemmas.Nat.{and_assoc}
 use Rattle.std.proofs.lemmas.Bool.{eq-eqb, eqb-true}
@@ -10,14 +11,6 @@ use Rattle.r3k_table.proofs.Apart.{row_from, found}
 use Rattle.r3k_decode.specs.Operation.{read_as}
 use Rattle.r3k_decode.specs.Decoding.{operation_of}
 use Rattle.r3k_decode.specs.Jump.{opcode_of, Group, special_rows, regimm_rows, cop0_rows, other_rows, has_key, picked, candidate_of, said_by, said_at}
-
-left : (a b : Bool) → (a && b) ≡ true → a ≡ true
-left true b e = refl
-left false b e = e
-
-right : (a b : Bool) → (a && b) ≡ true → b ≡ true
-right true b e = e
-right false b e = absurd (let f : false ≡ true = e in cc)
 
 -- a row's mask holds the major opcode, and of a row of the group the bits of its key
 abbrev masks_key : Group → Instruction → Bool
@@ -39,39 +32,39 @@ under word mask value bits m e =
 -- a row that a word of the group matches has the word's key
 keyed : (g : Group) (word : ℕ) (r : Instruction) → masks_key g r ≡ true → g.holds (opcode_of word) ≡ true → bit_and word r.mask ≡ r.value → has_key g (bit_and word g.key) r ≡ true
 keyed g word r t h e =
-    let op : opcode_of r.value ≡ opcode_of word = under word r.mask r.value 0xFC00_0000 (eqb-true (bit_and r.mask 0xFC00_0000) 0xFC00_0000 (left (bit_and r.mask 0xFC00_0000 == 0xFC00_0000) (cond (g.holds (opcode_of r.value)) (bit_and r.mask g.key == g.key) true) t)) e in
+    let op : opcode_of r.value ≡ opcode_of word = under word r.mask r.value 0xFC00_0000 (eqb-true (bit_and r.mask 0xFC00_0000) 0xFC00_0000 (first_so (bit_and r.mask 0xFC00_0000 == 0xFC00_0000) (cond (g.holds (opcode_of r.value)) (bit_and r.mask g.key == g.key) true) t)) e in
     let holds : g.holds (opcode_of r.value) ≡ true = ap g.holds op ∙ h in
     let mask : (bit_and r.mask g.key == g.key) ≡ true =
-    sym (ap (λ b. cond b (bit_and r.mask g.key == g.key) true) holds) ∙ right (bit_and r.mask 0xFC00_0000 == 0xFC00_0000) (cond (g.holds (opcode_of r.value)) (bit_and r.mask g.key == g.key) true) t in
+    sym (ap (λ b. cond b (bit_and r.mask g.key == g.key) true) holds) ∙ second_so (bit_and r.mask 0xFC00_0000 == 0xFC00_0000) (cond (g.holds (opcode_of r.value)) (bit_and r.mask g.key == g.key) true) t in
     let same : bit_and r.value g.key ≡ bit_and word g.key = under word r.mask r.value g.key (eqb-true (bit_and r.mask g.key) g.key mask) e in
     ap (λ b. b && (bit_and r.value g.key == bit_and word g.key)) holds ∙ eq-eqb (bit_and r.value g.key) (bit_and word g.key) same
 
 keyed_in : (g : Group) (word : ℕ) (rows : List Instruction) → list_all (masks_key g) rows ≡ true → g.holds (opcode_of word) ≡ true → (i : ℕ) → MatchesIn rows word i → IsSomeAnd (slice_get rows i) (λ r. has_key g (bit_and word g.key) r ≡ true)
 keyed_in g word [] t h i m = absurd m
-keyed_in g word (a ∷ rows) t h zero m = keyed g word a (left (masks_key g a) (list_all (masks_key g) rows) t) h m
-keyed_in g word (a ∷ rows) t h (suc i) m = keyed_in g word rows (right (masks_key g a) (list_all (masks_key g) rows) t) h i m
+keyed_in g word (a ∷ rows) t h zero m = keyed g word a (first_so (masks_key g a) (list_all (masks_key g) rows) t) h m
+keyed_in g word (a ∷ rows) t h (suc i) m = keyed_in g word rows (second_so (masks_key g a) (list_all (masks_key g) rows) t) h i m
 
 -- two rows with one key are no two
 none_else : (g : Group) (bits : ℕ) (a : Instruction) (rows : List Instruction) → list_all (differ g a) rows ≡ true → has_key g bits a ≡ true → (i : ℕ) → IsSomeAnd (slice_get rows i) (λ r. has_key g bits r ≡ true) → ⊥
 none_else g bits a [] t ha i h = h
 none_else g bits a (b ∷ rows) t ha zero h =
-    let holds : g.holds (opcode_of a.value) ≡ true = left (g.holds (opcode_of a.value)) (bit_and a.value g.key == bits) ha in
-    let same : bit_and a.value g.key ≡ bits = eqb-true (bit_and a.value g.key) bits (right (g.holds (opcode_of a.value)) (bit_and a.value g.key == bits) ha) in
+    let holds : g.holds (opcode_of a.value) ≡ true = first_so (g.holds (opcode_of a.value)) (bit_and a.value g.key == bits) ha in
+    let same : bit_and a.value g.key ≡ bits = eqb-true (bit_and a.value g.key) bits (second_so (g.holds (opcode_of a.value)) (bit_and a.value g.key == bits) ha) in
     let both : (g.holds (opcode_of a.value) && has_key g (bit_and a.value g.key) b) ≡ true =
     ap (λ c. c && has_key g (bit_and a.value g.key) b) holds ∙ (ap (λ (n : ℕ). has_key g n b) same ∙ h) in
-    let bad : not true ≡ true = ap not (sym both) ∙ left (differ g a b) (list_all (differ g a) rows) t in
+    let bad : not true ≡ true = ap not (sym both) ∙ first_so (differ g a b) (list_all (differ g a) rows) t in
     cc
-none_else g bits a (b ∷ rows) t ha (suc i) h = none_else g bits a rows (right (differ g a b) (list_all (differ g a) rows) t) ha i h
+none_else g bits a (b ∷ rows) t ha (suc i) h = none_else g bits a rows (second_so (differ g a b) (list_all (differ g a) rows) t) ha i h
 
 first_keyed : (g : Group) (bits : ℕ) (rows : List Instruction) → all_differ g rows ≡ true → (base i : ℕ) → IsSomeAnd (slice_get rows i) (λ r. has_key g bits r ≡ true) → position_from (has_key g bits) base rows ≡ Some (base + i)
 first_keyed g bits [] t base i h = absurd h
 first_keyed g bits (a ∷ rows) t base zero h =
     ap (λ b. cond b (Some base) (position_from (has_key g bits) (base + 1) rows)) h ∙ ap Some (omega arith)
 first_keyed g bits (a ∷ rows) t base (suc i) h =
-    by_test (first_keyed g bits rows (right (list_all (differ g a) rows) (all_differ g rows) t) (base + 1) i h) (has_key g bits a) refl
+    by_test (first_keyed g bits rows (second_so (list_all (differ g a) rows) (all_differ g rows) t) (base + 1) i h) (has_key g bits a) refl
   where
     by_test : position_from (has_key g bits) (base + 1) rows ≡ Some (base + 1 + i) → (b : Bool) → has_key g bits a ≡ b → position_from (has_key g bits) base (a ∷ rows) ≡ Some (base + suc i)
-    by_test rest true e = absurd (none_else g bits a rows (left (list_all (differ g a) rows) (all_differ g rows) t) e i h)
+    by_test rest true e = absurd (none_else g bits a rows (first_so (list_all (differ g a) rows) (all_differ g rows) t) e i h)
     by_test rest false e =
         ap (λ b. cond b (Some base) (position_from (has_key g bits) (base + 1) rows)) e ∙ (rest ∙ ap Some (omega arith))
 

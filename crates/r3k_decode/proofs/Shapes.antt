@@ -1,32 +1,37 @@
 -- For each shape: its mask keeps what no operand uses, and its fields are read where they were placed.
-use Rattle.std.proofs.Common.{◌≡◌, ℕ, ◌+◌, ◌^◌, ◌<◌, arith, refl, sym, ap, ◌∙◌}
+use Rattle.std.proofs.Common.{◌≡◌, ℕ, ◌+◌, ◌^◌, ◌<◌, Bool, true, false, cond, ◌||◌, arith, sym, ap, ◌∙◌}
 use Rattle.std.specs.Prelude.{bit_and}
 use Rattle.std.specs.Int.Bits.{and_zero_r}
 use Rattle.r3k_word.specs.Word.{field_of}
+use Rattle.r3k_table.specs.Fields.{fields_of}
 use Rattle.r3k_table.specs.declared.row.Shape.{Shape}
 use Rattle.r3k_table.specs.declared.row.Shape.TheVariants.{A, B, C, D, E, F, G, H, I, K, L, M, N, O, P, Q, Z}
 use Rattle.r3k_decode.specs.Operation.{Operation, read_as, placed, IsZeroElsewhere, FitsFields}
 use Rattle.r3k_decode.proofs.Six.{six, six_fields, six_and, whole_5, whole_6}
 
+-- the places in a word that the fields of the shape take up
+abbrev takes_rs : Shape → Bool
+takes_rs shape = (fields_of shape).rs || ((fields_of shape).index || (fields_of shape).code)
+
+abbrev takes_rt : Shape → Bool
+takes_rt shape = (fields_of shape).rt || ((fields_of shape).index || (fields_of shape).code)
+
+abbrev takes_rd : Shape → Bool
+takes_rd shape = (fields_of shape).rd || ((fields_of shape).imm || ((fields_of shape).index || (fields_of shape).code))
+
+abbrev takes_sa : Shape → Bool
+takes_sa shape = (fields_of shape).sa || ((fields_of shape).imm || ((fields_of shape).index || (fields_of shape).code))
+
+abbrev takes_function : Shape → Bool
+takes_function shape = (fields_of shape).imm || (fields_of shape).index
+
+-- what a place holds, where no field takes it
+abbrev free : Bool → ℕ → ℕ
+free taken n = cond taken 0 n
+
 -- the bits that no operand of the shape uses
 abbrev pub mask_of : Shape → ℕ
-mask_of A = six 63 31 0 0 0 63
-mask_of B = six 63 0 0 0 31 63
-mask_of C = six 63 0 31 31 31 63
-mask_of D = six 63 0 31 0 31 63
-mask_of E = six 63 0 0 0 0 63
-mask_of F = six 63 31 31 0 31 63
-mask_of G = six 63 0 0 31 31 63
-mask_of H = six 63 0 0 0 31 63
-mask_of I = six 63 0 31 0 0 0
-mask_of K = six 63 0 0 0 0 0
-mask_of L = six 63 0 0 0 0 0
-mask_of M = six 63 0 0 0 0 0
-mask_of N = six 63 0 0 0 0 0
-mask_of O = six 63 31 0 0 0 0
-mask_of P = six 63 0 0 0 0 0
-mask_of Q = six 63 31 0 0 31 63
-mask_of Z = six 63 31 31 31 31 63
+mask_of shape = six 63 (free (takes_rs shape) 31) (free (takes_rt shape) 31) (free (takes_rd shape) 31) (free (takes_sa shape) 31) (free (takes_function shape) 63)
 
 -- each of six fields in its width, but for the first
 record Widths (a b c d e : ℕ) : Type 0 where
@@ -37,50 +42,37 @@ record Widths (a b c d e : ℕ) : Type 0 where
   fn : e < 2 ^ 6
 
 -- a word of six fields under a shape's mask
-abbrev kept : Shape → ℕ → ℕ → ℕ → ℕ → ℕ → ℕ → ℕ
-kept A op rs rt rd sa fn = six op rs 0 0 0 fn
-kept B op rs rt rd sa fn = six op 0 0 0 sa fn
-kept C op rs rt rd sa fn = six op 0 rt rd sa fn
-kept D op rs rt rd sa fn = six op 0 rt 0 sa fn
-kept E op rs rt rd sa fn = six op 0 0 0 0 fn
-kept F op rs rt rd sa fn = six op rs rt 0 sa fn
-kept G op rs rt rd sa fn = six op 0 0 rd sa fn
-kept H op rs rt rd sa fn = six op 0 0 0 sa fn
-kept I op rs rt rd sa fn = six op 0 rt 0 0 0
-kept K op rs rt rd sa fn = six op 0 0 0 0 0
-kept L op rs rt rd sa fn = six op 0 0 0 0 0
-kept M op rs rt rd sa fn = six op 0 0 0 0 0
-kept N op rs rt rd sa fn = six op 0 0 0 0 0
-kept O op rs rt rd sa fn = six op rs 0 0 0 0
-kept P op rs rt rd sa fn = six op 0 0 0 0 0
-kept Q op rs rt rd sa fn = six op rs 0 0 sa fn
-kept Z op rs rt rd sa fn = six op rs rt rd sa fn
+abbrev pub under_mask : Shape → ℕ → ℕ → ℕ → ℕ → ℕ → ℕ → ℕ
+under_mask shape op rs rt rd sa fn = six op (free (takes_rs shape) rs) (free (takes_rt shape) rt) (free (takes_rd shape) rd) (free (takes_sa shape) sa) (free (takes_function shape) fn)
 
-masked : (shape : Shape) (op rs rt rd sa fn : ℕ) → op < 2 ^ 6 → Widths rs rt rd sa fn → bit_and (six op rs rt rd sa fn) (mask_of shape) ≡ kept shape op rs rt rd sa fn
-masked A op rs rt rd sa fn o w = six_and op rs rt rd sa fn 63 31 0 0 0 63 w.rs w.rt w.rd w.sa w.fn (omega arith) (omega arith) (omega arith) (omega arith) (omega arith) ∙ rw (whole_6 op o, whole_5 rs w.rs, and_zero_r rt, and_zero_r rd, and_zero_r sa, whole_6 fn w.fn) refl
-masked B op rs rt rd sa fn o w = six_and op rs rt rd sa fn 63 0 0 0 31 63 w.rs w.rt w.rd w.sa w.fn (omega arith) (omega arith) (omega arith) (omega arith) (omega arith) ∙ rw (whole_6 op o, and_zero_r rs, and_zero_r rt, and_zero_r rd, whole_5 sa w.sa, whole_6 fn w.fn) refl
-masked C op rs rt rd sa fn o w = six_and op rs rt rd sa fn 63 0 31 31 31 63 w.rs w.rt w.rd w.sa w.fn (omega arith) (omega arith) (omega arith) (omega arith) (omega arith) ∙ rw (whole_6 op o, and_zero_r rs, whole_5 rt w.rt, whole_5 rd w.rd, whole_5 sa w.sa, whole_6 fn w.fn) refl
-masked D op rs rt rd sa fn o w = six_and op rs rt rd sa fn 63 0 31 0 31 63 w.rs w.rt w.rd w.sa w.fn (omega arith) (omega arith) (omega arith) (omega arith) (omega arith) ∙ rw (whole_6 op o, and_zero_r rs, whole_5 rt w.rt, and_zero_r rd, whole_5 sa w.sa, whole_6 fn w.fn) refl
-masked E op rs rt rd sa fn o w = six_and op rs rt rd sa fn 63 0 0 0 0 63 w.rs w.rt w.rd w.sa w.fn (omega arith) (omega arith) (omega arith) (omega arith) (omega arith) ∙ rw (whole_6 op o, and_zero_r rs, and_zero_r rt, and_zero_r rd, and_zero_r sa, whole_6 fn w.fn) refl
-masked F op rs rt rd sa fn o w = six_and op rs rt rd sa fn 63 31 31 0 31 63 w.rs w.rt w.rd w.sa w.fn (omega arith) (omega arith) (omega arith) (omega arith) (omega arith) ∙ rw (whole_6 op o, whole_5 rs w.rs, whole_5 rt w.rt, and_zero_r rd, whole_5 sa w.sa, whole_6 fn w.fn) refl
-masked G op rs rt rd sa fn o w = six_and op rs rt rd sa fn 63 0 0 31 31 63 w.rs w.rt w.rd w.sa w.fn (omega arith) (omega arith) (omega arith) (omega arith) (omega arith) ∙ rw (whole_6 op o, and_zero_r rs, and_zero_r rt, whole_5 rd w.rd, whole_5 sa w.sa, whole_6 fn w.fn) refl
-masked H op rs rt rd sa fn o w = six_and op rs rt rd sa fn 63 0 0 0 31 63 w.rs w.rt w.rd w.sa w.fn (omega arith) (omega arith) (omega arith) (omega arith) (omega arith) ∙ rw (whole_6 op o, and_zero_r rs, and_zero_r rt, and_zero_r rd, whole_5 sa w.sa, whole_6 fn w.fn) refl
-masked I op rs rt rd sa fn o w = six_and op rs rt rd sa fn 63 0 31 0 0 0 w.rs w.rt w.rd w.sa w.fn (omega arith) (omega arith) (omega arith) (omega arith) (omega arith) ∙ rw (whole_6 op o, and_zero_r rs, whole_5 rt w.rt, and_zero_r rd, and_zero_r sa, and_zero_r fn) refl
-masked K op rs rt rd sa fn o w = six_and op rs rt rd sa fn 63 0 0 0 0 0 w.rs w.rt w.rd w.sa w.fn (omega arith) (omega arith) (omega arith) (omega arith) (omega arith) ∙ rw (whole_6 op o, and_zero_r rs, and_zero_r rt, and_zero_r rd, and_zero_r sa, and_zero_r fn) refl
-masked L op rs rt rd sa fn o w = six_and op rs rt rd sa fn 63 0 0 0 0 0 w.rs w.rt w.rd w.sa w.fn (omega arith) (omega arith) (omega arith) (omega arith) (omega arith) ∙ rw (whole_6 op o, and_zero_r rs, and_zero_r rt, and_zero_r rd, and_zero_r sa, and_zero_r fn) refl
-masked M op rs rt rd sa fn o w = six_and op rs rt rd sa fn 63 0 0 0 0 0 w.rs w.rt w.rd w.sa w.fn (omega arith) (omega arith) (omega arith) (omega arith) (omega arith) ∙ rw (whole_6 op o, and_zero_r rs, and_zero_r rt, and_zero_r rd, and_zero_r sa, and_zero_r fn) refl
-masked N op rs rt rd sa fn o w = six_and op rs rt rd sa fn 63 0 0 0 0 0 w.rs w.rt w.rd w.sa w.fn (omega arith) (omega arith) (omega arith) (omega arith) (omega arith) ∙ rw (whole_6 op o, and_zero_r rs, and_zero_r rt, and_zero_r rd, and_zero_r sa, and_zero_r fn) refl
-masked O op rs rt rd sa fn o w = six_and op rs rt rd sa fn 63 31 0 0 0 0 w.rs w.rt w.rd w.sa w.fn (omega arith) (omega arith) (omega arith) (omega arith) (omega arith) ∙ rw (whole_6 op o, whole_5 rs w.rs, and_zero_r rt, and_zero_r rd, and_zero_r sa, and_zero_r fn) refl
-masked P op rs rt rd sa fn o w = six_and op rs rt rd sa fn 63 0 0 0 0 0 w.rs w.rt w.rd w.sa w.fn (omega arith) (omega arith) (omega arith) (omega arith) (omega arith) ∙ rw (whole_6 op o, and_zero_r rs, and_zero_r rt, and_zero_r rd, and_zero_r sa, and_zero_r fn) refl
-masked Q op rs rt rd sa fn o w = six_and op rs rt rd sa fn 63 31 0 0 31 63 w.rs w.rt w.rd w.sa w.fn (omega arith) (omega arith) (omega arith) (omega arith) (omega arith) ∙ rw (whole_6 op o, whole_5 rs w.rs, and_zero_r rt, and_zero_r rd, whole_5 sa w.sa, whole_6 fn w.fn) refl
-masked Z op rs rt rd sa fn o w = six_and op rs rt rd sa fn 63 31 31 31 31 63 w.rs w.rt w.rd w.sa w.fn (omega arith) (omega arith) (omega arith) (omega arith) (omega arith) ∙ rw (whole_6 op o, whole_5 rs w.rs, whole_5 rt w.rt, whole_5 rd w.rd, whole_5 sa w.sa, whole_6 fn w.fn) refl
+free_below : (taken : Bool) (n m : ℕ) → n < m → free taken n < m
+free_below true n m h = omega arith
+free_below false n m h = h
+
+free_5 : (taken : Bool) (n : ℕ) → n < 2 ^ 5 → bit_and n (free taken 31) ≡ free taken n
+free_5 true n h = and_zero_r n
+free_5 false n h = whole_5 n h
+
+free_6 : (taken : Bool) (n : ℕ) → n < 2 ^ 6 → bit_and n (free taken 63) ≡ free taken n
+free_6 true n h = and_zero_r n
+free_6 false n h = whole_6 n h
+
+masked : (shape : Shape) (op rs rt rd sa fn : ℕ) → op < 2 ^ 6 → Widths rs rt rd sa fn → bit_and (six op rs rt rd sa fn) (mask_of shape) ≡ under_mask shape op rs rt rd sa fn
+masked shape op rs rt rd sa fn o w =
+    let a = takes_rs shape in
+    let b = takes_rt shape in
+    let c = takes_rd shape in
+    let d = takes_sa shape in
+    let e = takes_function shape in
+    six_and op rs rt rd sa fn 63 (free a 31) (free b 31) (free c 31) (free d 31) (free e 63) w.rs w.rt w.rd w.sa w.fn (free_below a 31 (2 ^ 5) (omega arith)) (free_below b 31 (2 ^ 5) (omega arith)) (free_below c 31 (2 ^ 5) (omega arith)) (free_below d 31 (2 ^ 5) (omega arith)) (free_below e 63 (2 ^ 6) (omega arith))
+    ∙ λ i. six (whole_6 op o i) (free_5 a rs w.rs i) (free_5 b rt w.rt i) (free_5 c rd w.rd i) (free_5 d sa w.sa i) (free_6 e fn w.fn i)
 
 -- the fields of any word have their widths
 widths : (w : ℕ) → Widths (field_of 25 21 w) (field_of 20 16 w) (field_of 15 11 w) (field_of 10 6 w) (field_of 5 0 w)
 widths w = record { rs = omega arith; rt = omega arith; rd = omega arith; sa = omega arith; fn = omega arith }
 
 -- any word under a shape's mask
-masked_word : (shape : Shape) (w : ℕ) → w < 2 ^ 32 → bit_and w (mask_of shape) ≡ kept shape (field_of 31 26 w) (field_of 25 21 w) (field_of 20 16 w) (field_of 15 11 w) (field_of 10 6 w) (field_of 5 0 w)
+masked_word : (shape : Shape) (w : ℕ) → w < 2 ^ 32 → bit_and w (mask_of shape) ≡ under_mask shape (field_of 31 26 w) (field_of 25 21 w) (field_of 20 16 w) (field_of 15 11 w) (field_of 10 6 w) (field_of 5 0 w)
 masked_word shape w h =
     ap (λ (n : ℕ). bit_and n (mask_of shape)) (six_fields w h)
     ∙ masked shape (field_of 31 26 w) (field_of 25 21 w) (field_of 20 16 w) (field_of 15 11 w) (field_of 10 6 w) (field_of 5 0 w) (omega arith) (widths w)
@@ -163,86 +155,86 @@ read_back A row v i h e f z r =
     let rt : field_of 20 16 (v + placed A i) ≡ i.rt = omega (arith, own, f.rt, f.rd, f.sa) in
     let rd : field_of 15 11 (v + placed A i) ≡ i.rd = omega (arith, own, f.rt, f.rd, f.sa) in
     let sa : field_of 10 6 (v + placed A i) ≡ i.sa = omega (arith, own, f.rt, f.rd, f.sa) in
-    λ k. record { row = r k; rs = sym z.0 k; rt = rt k; rd = rd k; sa = sa k; imm = sym z.1 k; index = sym z.2 k; code = sym z.3 k }
+    λ k. record { row = r k; rs = sym z.rs k; rt = rt k; rd = rd k; sa = sa k; imm = sym z.imm k; index = sym z.index k; code = sym z.code k }
 read_back B row v i h e f z r =
     let own : v ≡ six (field_of 31 26 v) 0 0 0 (field_of 10 6 v) (field_of 5 0 v) = sym e ∙ masked_word B v h in
     let rs : field_of 25 21 (v + placed B i) ≡ i.rs = omega (arith, own, f.rs, f.rt, f.rd) in
     let rt : field_of 20 16 (v + placed B i) ≡ i.rt = omega (arith, own, f.rs, f.rt, f.rd) in
     let rd : field_of 15 11 (v + placed B i) ≡ i.rd = omega (arith, own, f.rs, f.rt, f.rd) in
-    λ k. record { row = r k; rs = rs k; rt = rt k; rd = rd k; sa = sym z.0 k; imm = sym z.1 k; index = sym z.2 k; code = sym z.3 k }
+    λ k. record { row = r k; rs = rs k; rt = rt k; rd = rd k; sa = sym z.sa k; imm = sym z.imm k; index = sym z.index k; code = sym z.code k }
 read_back C row v i h e f z r =
     let own : v ≡ six (field_of 31 26 v) 0 (field_of 20 16 v) (field_of 15 11 v) (field_of 10 6 v) (field_of 5 0 v) = sym e ∙ masked_word C v h in
     let rs : field_of 25 21 (v + placed C i) ≡ i.rs = omega (arith, own, f.rs) in
-    λ k. record { row = r k; rs = rs k; rt = sym z.0 k; rd = sym z.1 k; sa = sym z.2 k; imm = sym z.3 k; index = sym z.4 k; code = sym z.5 k }
+    λ k. record { row = r k; rs = rs k; rt = sym z.rt k; rd = sym z.rd k; sa = sym z.sa k; imm = sym z.imm k; index = sym z.index k; code = sym z.code k }
 read_back D row v i h e f z r =
     let own : v ≡ six (field_of 31 26 v) 0 (field_of 20 16 v) 0 (field_of 10 6 v) (field_of 5 0 v) = sym e ∙ masked_word D v h in
     let rs : field_of 25 21 (v + placed D i) ≡ i.rs = omega (arith, own, f.rs, f.rd) in
     let rd : field_of 15 11 (v + placed D i) ≡ i.rd = omega (arith, own, f.rs, f.rd) in
-    λ k. record { row = r k; rs = rs k; rt = sym z.0 k; rd = rd k; sa = sym z.1 k; imm = sym z.2 k; index = sym z.3 k; code = sym z.4 k }
+    λ k. record { row = r k; rs = rs k; rt = sym z.rt k; rd = rd k; sa = sym z.sa k; imm = sym z.imm k; index = sym z.index k; code = sym z.code k }
 read_back E row v i h e f z r =
     let own : v ≡ six (field_of 31 26 v) 0 0 0 0 (field_of 5 0 v) = sym e ∙ masked_word E v h in
     let code : field_of 25 6 (v + placed E i) ≡ i.code = omega (arith, own, f.code) in
-    λ k. record { row = r k; rs = sym z.0 k; rt = sym z.1 k; rd = sym z.2 k; sa = sym z.3 k; imm = sym z.4 k; index = sym z.5 k; code = code k }
+    λ k. record { row = r k; rs = sym z.rs k; rt = sym z.rt k; rd = sym z.rd k; sa = sym z.sa k; imm = sym z.imm k; index = sym z.index k; code = code k }
 read_back F row v i h e f z r =
     let own : v ≡ six (field_of 31 26 v) (field_of 25 21 v) (field_of 20 16 v) 0 (field_of 10 6 v) (field_of 5 0 v) = sym e ∙ masked_word F v h in
     let rd : field_of 15 11 (v + placed F i) ≡ i.rd = omega (arith, own, f.rd) in
-    λ k. record { row = r k; rs = sym z.0 k; rt = sym z.1 k; rd = rd k; sa = sym z.2 k; imm = sym z.3 k; index = sym z.4 k; code = sym z.5 k }
+    λ k. record { row = r k; rs = sym z.rs k; rt = sym z.rt k; rd = rd k; sa = sym z.sa k; imm = sym z.imm k; index = sym z.index k; code = sym z.code k }
 read_back G row v i h e f z r =
     let own : v ≡ six (field_of 31 26 v) 0 0 (field_of 15 11 v) (field_of 10 6 v) (field_of 5 0 v) = sym e ∙ masked_word G v h in
     let rs : field_of 25 21 (v + placed G i) ≡ i.rs = omega (arith, own, f.rs, f.rt) in
     let rt : field_of 20 16 (v + placed G i) ≡ i.rt = omega (arith, own, f.rs, f.rt) in
-    λ k. record { row = r k; rs = rs k; rt = rt k; rd = sym z.0 k; sa = sym z.1 k; imm = sym z.2 k; index = sym z.3 k; code = sym z.4 k }
+    λ k. record { row = r k; rs = rs k; rt = rt k; rd = sym z.rd k; sa = sym z.sa k; imm = sym z.imm k; index = sym z.index k; code = sym z.code k }
 read_back H row v i h e f z r =
     let own : v ≡ six (field_of 31 26 v) 0 0 0 (field_of 10 6 v) (field_of 5 0 v) = sym e ∙ masked_word H v h in
     let rs : field_of 25 21 (v + placed H i) ≡ i.rs = omega (arith, own, f.rs, f.rt, f.rd) in
     let rt : field_of 20 16 (v + placed H i) ≡ i.rt = omega (arith, own, f.rs, f.rt, f.rd) in
     let rd : field_of 15 11 (v + placed H i) ≡ i.rd = omega (arith, own, f.rs, f.rt, f.rd) in
-    λ k. record { row = r k; rs = rs k; rt = rt k; rd = rd k; sa = sym z.0 k; imm = sym z.1 k; index = sym z.2 k; code = sym z.3 k }
+    λ k. record { row = r k; rs = rs k; rt = rt k; rd = rd k; sa = sym z.sa k; imm = sym z.imm k; index = sym z.index k; code = sym z.code k }
 read_back I row v i h e f z r =
     let own : v ≡ six (field_of 31 26 v) 0 (field_of 20 16 v) 0 0 0 = sym e ∙ masked_word I v h in
     let rs : field_of 25 21 (v + placed I i) ≡ i.rs = omega (arith, own, f.rs, f.imm) in
     let imm : field_of 15 0 (v + placed I i) ≡ i.imm = omega (arith, own, f.rs, f.imm) in
-    λ k. record { row = r k; rs = rs k; rt = sym z.0 k; rd = sym z.1 k; sa = sym z.2 k; imm = imm k; index = sym z.3 k; code = sym z.4 k }
+    λ k. record { row = r k; rs = rs k; rt = sym z.rt k; rd = sym z.rd k; sa = sym z.sa k; imm = imm k; index = sym z.index k; code = sym z.code k }
 read_back K row v i h e f z r =
     let own : v ≡ six (field_of 31 26 v) 0 0 0 0 0 = sym e ∙ masked_word K v h in
     let index : field_of 25 0 (v + placed K i) ≡ i.index = omega (arith, own, f.index) in
-    λ k. record { row = r k; rs = sym z.0 k; rt = sym z.1 k; rd = sym z.2 k; sa = sym z.3 k; imm = sym z.4 k; index = index k; code = sym z.5 k }
+    λ k. record { row = r k; rs = sym z.rs k; rt = sym z.rt k; rd = sym z.rd k; sa = sym z.sa k; imm = sym z.imm k; index = index k; code = sym z.code k }
 read_back L row v i h e f z r =
     let own : v ≡ six (field_of 31 26 v) 0 0 0 0 0 = sym e ∙ masked_word L v h in
     let rs : field_of 25 21 (v + placed L i) ≡ i.rs = omega (arith, own, f.rs, f.rt, f.imm) in
     let rt : field_of 20 16 (v + placed L i) ≡ i.rt = omega (arith, own, f.rs, f.rt, f.imm) in
     let imm : field_of 15 0 (v + placed L i) ≡ i.imm = omega (arith, own, f.rs, f.rt, f.imm) in
-    λ k. record { row = r k; rs = rs k; rt = rt k; rd = sym z.0 k; sa = sym z.1 k; imm = imm k; index = sym z.2 k; code = sym z.3 k }
+    λ k. record { row = r k; rs = rs k; rt = rt k; rd = sym z.rd k; sa = sym z.sa k; imm = imm k; index = sym z.index k; code = sym z.code k }
 read_back M row v i h e f z r =
     let own : v ≡ six (field_of 31 26 v) 0 0 0 0 0 = sym e ∙ masked_word M v h in
     let rs : field_of 25 21 (v + placed M i) ≡ i.rs = omega (arith, own, f.rs, f.rt, f.imm) in
     let rt : field_of 20 16 (v + placed M i) ≡ i.rt = omega (arith, own, f.rs, f.rt, f.imm) in
     let imm : field_of 15 0 (v + placed M i) ≡ i.imm = omega (arith, own, f.rs, f.rt, f.imm) in
-    λ k. record { row = r k; rs = rs k; rt = rt k; rd = sym z.0 k; sa = sym z.1 k; imm = imm k; index = sym z.2 k; code = sym z.3 k }
+    λ k. record { row = r k; rs = rs k; rt = rt k; rd = sym z.rd k; sa = sym z.sa k; imm = imm k; index = sym z.index k; code = sym z.code k }
 read_back N row v i h e f z r =
     let own : v ≡ six (field_of 31 26 v) 0 0 0 0 0 = sym e ∙ masked_word N v h in
     let rs : field_of 25 21 (v + placed N i) ≡ i.rs = omega (arith, own, f.rs, f.rt, f.imm) in
     let rt : field_of 20 16 (v + placed N i) ≡ i.rt = omega (arith, own, f.rs, f.rt, f.imm) in
     let imm : field_of 15 0 (v + placed N i) ≡ i.imm = omega (arith, own, f.rs, f.rt, f.imm) in
-    λ k. record { row = r k; rs = rs k; rt = rt k; rd = sym z.0 k; sa = sym z.1 k; imm = imm k; index = sym z.2 k; code = sym z.3 k }
+    λ k. record { row = r k; rs = rs k; rt = rt k; rd = sym z.rd k; sa = sym z.sa k; imm = imm k; index = sym z.index k; code = sym z.code k }
 read_back O row v i h e f z r =
     let own : v ≡ six (field_of 31 26 v) (field_of 25 21 v) 0 0 0 0 = sym e ∙ masked_word O v h in
     let rt : field_of 20 16 (v + placed O i) ≡ i.rt = omega (arith, own, f.rt, f.imm) in
     let imm : field_of 15 0 (v + placed O i) ≡ i.imm = omega (arith, own, f.rt, f.imm) in
-    λ k. record { row = r k; rs = sym z.0 k; rt = rt k; rd = sym z.1 k; sa = sym z.2 k; imm = imm k; index = sym z.3 k; code = sym z.4 k }
+    λ k. record { row = r k; rs = sym z.rs k; rt = rt k; rd = sym z.rd k; sa = sym z.sa k; imm = imm k; index = sym z.index k; code = sym z.code k }
 read_back P row v i h e f z r =
     let own : v ≡ six (field_of 31 26 v) 0 0 0 0 0 = sym e ∙ masked_word P v h in
     let rs : field_of 25 21 (v + placed P i) ≡ i.rs = omega (arith, own, f.rs, f.rt, f.imm) in
     let rt : field_of 20 16 (v + placed P i) ≡ i.rt = omega (arith, own, f.rs, f.rt, f.imm) in
     let imm : field_of 15 0 (v + placed P i) ≡ i.imm = omega (arith, own, f.rs, f.rt, f.imm) in
-    λ k. record { row = r k; rs = rs k; rt = rt k; rd = sym z.0 k; sa = sym z.1 k; imm = imm k; index = sym z.2 k; code = sym z.3 k }
+    λ k. record { row = r k; rs = rs k; rt = rt k; rd = sym z.rd k; sa = sym z.sa k; imm = imm k; index = sym z.index k; code = sym z.code k }
 read_back Q row v i h e f z r =
     let own : v ≡ six (field_of 31 26 v) (field_of 25 21 v) 0 0 (field_of 10 6 v) (field_of 5 0 v) = sym e ∙ masked_word Q v h in
     let rt : field_of 20 16 (v + placed Q i) ≡ i.rt = omega (arith, own, f.rt, f.rd) in
     let rd : field_of 15 11 (v + placed Q i) ≡ i.rd = omega (arith, own, f.rt, f.rd) in
-    λ k. record { row = r k; rs = sym z.0 k; rt = rt k; rd = rd k; sa = sym z.1 k; imm = sym z.2 k; index = sym z.3 k; code = sym z.4 k }
+    λ k. record { row = r k; rs = sym z.rs k; rt = rt k; rd = rd k; sa = sym z.sa k; imm = sym z.imm k; index = sym z.index k; code = sym z.code k }
 read_back Z row v i h e f z r =
-    λ k. record { row = r k; rs = sym z.0 k; rt = sym z.1 k; rd = sym z.2 k; sa = sym z.3 k; imm = sym z.4 k; index = sym z.5 k; code = sym z.6 k }
+    λ k. record { row = r k; rs = sym z.rs k; rt = sym z.rt k; rd = sym z.rd k; sa = sym z.sa k; imm = sym z.imm k; index = sym z.index k; code = sym z.code k }
 
 -- A word is the value of its row and its own fields where they stand.
 pub placed_again : (shape : Shape) (row v w : ℕ) → w < 2 ^ 32 → bit_and w (mask_of shape) ≡ v → v + placed shape (read_as row shape w) ≡ w

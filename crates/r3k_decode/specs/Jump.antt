@@ -3,11 +3,12 @@
 use Rattle.std.specs.Prelude.{ℕ, Bool, Option, ◌==◌, ◌&&◌, not, bit_and, option_and_then, slice_get, if◌then◌else◌, Some, None}
 use Rattle.std.specs.List.{position_from}
 use Rattle.r3k_table.specs.Table.{Instruction, instructions, matches}
+use Rattle.r3k_decode.specs.declared.codec.TheConstants.{OPCODE, SPECIAL, REGIMM, COP0}
 use Rattle.r3k_decode.specs.Operation.{Operation, read_as}
 
 -- the bits of the major opcode
 abbrev pub opcode_of : ℕ → ℕ
-opcode_of word = bit_and word 0xFC00_0000
+opcode_of word = bit_and word OPCODE
 
 -- a group of rows: its major opcodes, and the bits that tell its rows apart
 pub record Group : Type 0 where
@@ -15,16 +16,16 @@ pub record Group : Type 0 where
   pub key : ℕ
 
 abbrev pub special_rows : Group
-special_rows = record { holds = λ op. op == 0; key = 0xFC00_003F }
+special_rows = record { holds = λ op. op == 0; key = SPECIAL }
 
 abbrev pub regimm_rows : Group
-regimm_rows = record { holds = λ op. op == 0x0400_0000; key = 0xFC1F_0000 }
+regimm_rows = record { holds = λ op. op == 0x0400_0000; key = REGIMM }
 
 abbrev pub cop0_rows : Group
-cop0_rows = record { holds = λ op. op == 0x4000_0000; key = 0xFFE0_003F }
+cop0_rows = record { holds = λ op. op == 0x4000_0000; key = COP0 }
 
 abbrev pub other_rows : Group
-other_rows = record { holds = λ op. not (op == 0) && (not (op == 0x0400_0000) && not (op == 0x4000_0000)); key = 0xFC00_0000 }
+other_rows = record { holds = λ op. not (op == 0) && (not (op == 0x0400_0000) && not (op == 0x4000_0000)); key = OPCODE }
 
 -- the row is of the group, and has these bits
 abbrev pub has_key : Group → ℕ → Instruction → Bool

@@ -1,4 +1,5 @@
 pub use Rattle.r3k_table.specs.Table
+pub mod Kept
 pub mod Operation
 pub mod Decoding
 pub mod Seen

@@ -1,7 +1,8 @@
 //! An instruction of the table.
 
-ghost use Rattle.std.specs.Prelude.{◌≡◌, ◌<◌, length};
+ghost use Rattle.std.specs.Prelude.{◌≡◌, ◌<◌, ◌≤◌, length};
 ghost use Rattle.r3k_table.specs.Table.{instructions};
+ghost use Rattle.r3k_decode.specs.Kept.{kept};
 
 use r3k_table::row::Shape;
 use r3k_word::field::field;
@@ -34,6 +35,15 @@ impl Model for Insn {
     ghost inverse = { inside };
 }
 
+// A field that an instruction has. One that it lacks is 0.
+#[inline]
+fn kept(has: bool, field: u32) -> u32
+    ensures value { result ≡ kept has field }
+    ensures within { result ≤ field }
+{
+    if has { field } else { 0 }
+}
+
 impl Insn {
     ghost use Rattle.std.specs.Prelude.{◌^◌, slice_get, IsSomeAnd};
     ghost use Rattle.r3k_decode.specs.Operation.{read_as, placed};
@@ -44,42 +54,16 @@ impl Insn {
         requires { IsSomeAnd (slice_get instructions row) (λ r. r.shape ≡ shape) }
         ensures { result ≡ read_as row shape word }
     {
-        let rs = field::<25, 21>(word) as u8;
-        let rt = field::<20, 16>(word) as u8;
-        let rd = field::<15, 11>(word) as u8;
-        let sa = field::<10, 6>(word) as u8;
-        let imm = field::<15, 0>(word) as u16;
-        let index = field::<25, 0>(word);
-        let code = field::<25, 6>(word);
-        let none = Insn {
+        let has = shape.fields();
+        Insn {
             row,
-            rs: 0,
-            rt: 0,
-            rd: 0,
-            sa: 0,
-            imm: 0,
-            index: 0,
-            code: 0,
-        };
-        match shape {
-            Shape::A => Insn { rt, rd, sa, ..none },
-            Shape::B | Shape::H => Insn { rs, rt, rd, ..none },
-            Shape::C => Insn { rs, ..none },
-            Shape::D => Insn { rs, rd, ..none },
-            Shape::E => Insn { code, ..none },
-            Shape::F => Insn { rd, ..none },
-            Shape::G => Insn { rs, rt, ..none },
-            Shape::I => Insn { rs, imm, ..none },
-            Shape::K => Insn { index, ..none },
-            Shape::L | Shape::M | Shape::N | Shape::P => Insn {
-                rs,
-                rt,
-                imm,
-                ..none
-            },
-            Shape::O => Insn { rt, imm, ..none },
-            Shape::Q => Insn { rt, rd, ..none },
-            Shape::Z => none,
+            rs: kept(has.rs, field::<25, 21>(word)) as u8,
+            rt: kept(has.rt, field::<20, 16>(word)) as u8,
+            rd: kept(has.rd, field::<15, 11>(word)) as u8,
+            sa: kept(has.sa, field::<10, 6>(word)) as u8,
+            imm: kept(has.imm, field::<15, 0>(word)) as u16,
+            index: kept(has.index, field::<25, 0>(word)),
+            code: kept(has.code, field::<25, 6>(word)),
         }
     }
 
@@ -87,27 +71,17 @@ impl Insn {
     #[inline]
     pub(crate) fn placed(&self, shape: Shape) -> u32
         ensures value { result ≡ placed shape self.now }
-        ensures within { result < 2 ^ 26 }
+        ensures within { result < 2 ^ 28 }
     {
+        let has = shape.fields();
         let insn = *self;
-        let rs = u32::from(insn.rs) << 21;
-        let rt = u32::from(insn.rt) << 16;
-        let rd = u32::from(insn.rd) << 11;
-        match shape {
-            Shape::A => rt + rd + (u32::from(insn.sa) << 6),
-            Shape::B | Shape::H => rs + rt + rd,
-            Shape::C => rs,
-            Shape::D => rs + rd,
-            Shape::E => (insn.code << 6),
-            Shape::F => rd,
-            Shape::G => rs + rt,
-            Shape::I => rs + u32::from(insn.imm),
-            Shape::K => insn.index,
-            Shape::L | Shape::M | Shape::N | Shape::P => rs + rt + u32::from(insn.imm),
-            Shape::O => rt + u32::from(insn.imm),
-            Shape::Q => rt + rd,
-            Shape::Z => 0,
-        }
+        (kept(has.rs, u32::from(insn.rs)) << 21)
+            + (kept(has.rt, u32::from(insn.rt)) << 16)
+            + (kept(has.rd, u32::from(insn.rd)) << 11)
+            + (kept(has.sa, u32::from(insn.sa)) << 6)
+            + kept(has.imm, u32::from(insn.imm))
+            + kept(has.index, insn.index)
+            + (kept(has.code, insn.code) << 6)
     }
 
     /// The number of its row in the table.

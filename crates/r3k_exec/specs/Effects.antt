@@ -1,7 +1,7 @@
 -- What each instruction does with the values that it reads, after Kane and Heinrich, appendix A, in the order of the table.
 use Rattle.std.specs.Prelude.{ℕ, ℤ, ◌+◌, ◌-◌, ◌*◌, ◌/◌, ◌%◌, ◌^◌, ◌<◌, ◌+ℤ◌, ◌-ℤ◌, Bool, not, ◌||◌, ◌&&◌, nat_eq, nat_lt, nat_le, int_lt, int_le, bit_and, bit_or, bit_xor, if◌then◌else◌, List, [], ◌∷◌, slice_index_or, Option, Some, None}
 use Rattle.std.specs.Int.{w32, cast_unsigned, int_shr}
-use Rattle.r3k_word.specs.Word.{signed, sum_of, difference_of, product_of, signed_product_of, division_of, signed_division_of, sign_extended, with_field_of}
+use Rattle.r3k_word.specs.Word.{flag, signed, sum_of, difference_of, product_of, signed_product_of, division_of, signed_division_of, sign_extended, with_field_of}
 use Rattle.r3k_word.specs.declared.arithmetic.HiLo.{HiLo}
 use Rattle.r3k_decode.specs.Operation.{Operation}
 use Rattle.r3k_exec.specs.declared.access.LoadKind.TheVariants as load
@@ -27,10 +27,6 @@ write_if_some register (Some value) = Write register value
 -- both halves of a product, or remainder and quotient, go to HI and LO
 abbrev pub write_hi_lo : HiLo → Effect
 write_hi_lo r = WriteHiLo r.hi r.lo
-
--- 1 for what holds, else 0
-abbrev pub flag : Bool → ℕ
-flag b = if b then 1 else 0
 
 -- the sign bit of a word is set: its signed reading is below 0
 abbrev pub has_sign_bit : ℕ → Bool

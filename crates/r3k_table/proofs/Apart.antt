@@ -1,19 +1,11 @@
 -- Rows that are pairwise apart match no word twice.
-use Rattle.std.proofs.Common.{◌≡◌, ℕ, zero, suc, Bool, true, false, ◌&&◌, cond, not, refl, sym, ap, subst, ◌∙◌, ◌+◌, List, [], ◌∷◌, Option, Some, None, arith}
+use Rattle.std.proofs.Common.{◌≡◌, ℕ, zero, suc, Bool, true, false, cond, not, refl, sym, ap, subst, ◌∙◌, ◌+◌, List, [], ◌∷◌, Option, Some, None, arith}
 use Rattle.std.specs.Prelude.{IfSome, bit_and}
+use Rattle.std.specs.Cmp.{first_so, second_so}
 use Rattle.std.specs.List.{list_all, position_from}
 use Rattle.std.proofs.lemmas.Nat.{and_comm, and_assoc}
 use Rattle.std.proofs.lemmas.Bool.{eq-eqb, ne_eqb, eqb-true}
 use Rattle.r3k_table.specs.Table.{Instruction, MatchesIn, matches, are_apart, all_apart}
-
--- both parts of a test hold
-left : (a b : Bool) → (a && b) ≡ true → a ≡ true
-left true b e = refl
-left false b e = e
-
-right : (a b : Bool) → (a && b) ≡ true → b ≡ true
-right true b e = e
-right false b e = absurd (let f : false ≡ true = e in cc)
 
 -- a word that matches two rows has both values under both masks
 agree : (word : ℕ) (a b : Instruction) → bit_and word a.mask ≡ a.value → bit_and word b.mask ≡ b.value → bit_and a.value b.mask ≡ bit_and b.value a.mask
@@ -31,9 +23,9 @@ disagree word a b apart ha hb =
 none_else : (a : Instruction) (rows : List Instruction) → list_all (are_apart a) rows ≡ true → (word j : ℕ) → bit_and word a.mask ≡ a.value → MatchesIn rows word j → ⊥
 none_else a [] all word j ha hb = hb
 none_else a (b ∷ rows) all word zero ha hb =
-    disagree word a b (left (are_apart a b) (list_all (are_apart a) rows) all) ha hb
+    disagree word a b (first_so (are_apart a b) (list_all (are_apart a) rows) all) ha hb
 none_else a (b ∷ rows) all word (suc j) ha hb =
-    none_else a rows (right (are_apart a b) (list_all (are_apart a) rows) all) word j ha hb
+    none_else a rows (second_so (are_apart a b) (list_all (are_apart a) rows) all) word j ha hb
 
 -- a row that a word matches is the first one in a list of rows that are apart
 pub row_from : (rows : List Instruction) → all_apart rows ≡ true → (word base i : ℕ) → MatchesIn rows word i → position_from (matches word) base rows ≡ Some (base + i)
@@ -43,8 +35,8 @@ row_from (a ∷ rows) all word base zero h =
     ∙ ap Some (omega arith)
 row_from (a ∷ rows) all word base (suc i) h =
     ap (λ b. cond b (Some base) (position_from (matches word) (base + 1) rows))
-    (ne_eqb (bit_and word a.mask) a.value (λ e. none_else a rows (left (list_all (are_apart a) rows) (all_apart rows) all) word i e h))
-    ∙ (row_from rows (right (list_all (are_apart a) rows) (all_apart rows) all) word (base + 1) i h ∙ ap Some (omega arith))
+    (ne_eqb (bit_and word a.mask) a.value (λ e. none_else a rows (first_so (list_all (are_apart a) rows) (all_apart rows) all) word i e h))
+    ∙ (row_from rows (second_so (list_all (are_apart a) rows) (all_apart rows) all) word (base + 1) i h ∙ ap Some (omega arith))
 
 -- what is found in a list of rows matches
 abbrev Finds : List Instruction → ℕ → ℕ → Option ℕ → Type 0

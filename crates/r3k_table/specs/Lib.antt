@@ -1,2 +1,4 @@
 pub mod Table
+pub mod Fields
 pub mod View
+pub mod Operands

@@ -2,5 +2,6 @@
 #![tactic(auto)]
 
 pub mod laws;
+pub mod operand;
 pub mod row;
 pub mod rows;

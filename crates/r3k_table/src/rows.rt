@@ -112,8 +112,9 @@ macro_rules! rows_of {
     };
 }
 
-// The name of a row as text. `break` is a word of the language, so its row is written `break_`.
-macro_rules! text {
+/// The name of a row as text. `break` is a word of the language, so its row is written `break_`.
+#[macro_export]
+macro_rules! row_name {
     (break_) => {
         "break"
     };
@@ -124,7 +125,7 @@ macro_rules! text {
 
 macro_rules! table {
     (() $(($number:literal, $name:ident, $mask:literal, $value:literal, $shape:ident))*) => {
-        [$(Row { mask: $mask, value: $value, name: text!($name), shape: Shape::$shape }),*]
+        [$(Row { mask: $mask, value: $value, name: row_name!($name), shape: Shape::$shape }),*]
     };
 }
 

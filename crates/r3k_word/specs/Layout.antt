@@ -1,7 +1,7 @@
 -- The layout of memory, after the KN02 system module (own): RAM from physical address 0, 4096 bytes a page, and 64 pages
 -- of ROM from 0x1FC00000. All words stand in one list, page by page: those of RAM, and then those of ROM.
 use Rattle.std.specs.Prelude.{ℕ, ◌+◌, ◌-◌, ◌*◌, ◌/◌, ◌%◌, Option, Some, None, if◌then◌else◌, ◌==◌, nat_lt, nat_le, ◌&&◌}
-use Rattle.r3k_word.specs.declared.layout.TheConstants.{PAGE_WORDS, ROM_PAGES, ROM_START, ROM_BYTES}
+use Rattle.r3k_word.specs.declared.layout.TheConstants.{PAGE_WORDS, PAGE_BYTES, ROM_PAGES, ROM_START, ROM_BYTES}
 
 -- how many words there are with this many pages of RAM
 abbrev pub word_count_of : ℕ → ℕ
@@ -11,7 +11,7 @@ word_count_of pages = (pages + ROM_PAGES) * PAGE_WORDS
 abbrev pub place_of_word : ℕ → ℕ → Option ℕ
 place_of_word pages address =
     if address % 4 == 0
-    then (if nat_lt address (pages * (4 * PAGE_WORDS)) then Some (address / 4)
+    then (if nat_lt address (pages * PAGE_BYTES) then Some (address / 4)
     else (if nat_le ROM_START address && nat_lt address (ROM_START + ROM_BYTES) then Some (pages * PAGE_WORDS + (address - ROM_START) / 4)
     else None))
     else None

@@ -1,6 +1,6 @@
 -- Words, after Kane and Heinrich, chapter 2: whole numbers below 2^32, with bit fields, a signed reading and arithmetic
 -- modulo 2^32.
-use Rattle.std.specs.Prelude.{ℕ, ℤ, ◌+◌, ◌-◌, ◌*◌, ◌/◌, ◌%◌, ◌^◌, ◌*ℤ◌, int_div, int_rem, if◌then◌else◌, ◌==◌, nat_lt, ◌&&◌, List, [], ◌∷◌, slice_index}
+use Rattle.std.specs.Prelude.{ℕ, ℤ, ◌+◌, ◌-◌, ◌*◌, ◌/◌, ◌%◌, ◌^◌, ◌*ℤ◌, int_div, int_rem, bit_and, bit_or, Bool, not, if◌then◌else◌, ◌==◌, nat_lt, ◌&&◌, List, [], ◌∷◌, slice_index}
 use Rattle.std.specs.Int.{w32, w64, cast_signed, cast_unsigned}
 use Rattle.r3k_word.specs.declared.arithmetic.HiLo.{HiLo}
 
@@ -11,6 +11,18 @@ field_of high low word = word / 2 ^ low % 2 ^ (high + 1 - low)
 -- the word with these bits in place of those from high down to low
 abbrev pub with_field_of : ℕ → ℕ → ℕ → ℕ → ℕ
 with_field_of high low word value = word / 2 ^ (high + 1) * 2 ^ (high + 1) + value * 2 ^ low + word % 2 ^ low
+
+-- a word has a bit of a mask
+abbrev pub has : (word mask : ℕ) → Bool
+has word mask = not (bit_and word mask == 0)
+
+-- a word with the bits of a mask taken from another: the others stay
+abbrev pub merged : (mask old new : ℕ) → ℕ
+merged mask old new = bit_or (bit_and old (2 ^ 32 - 1 - mask)) (bit_and new mask)
+
+-- 1 for what holds, else 0
+abbrev pub flag : Bool → ℕ
+flag b = if b then 1 else 0
 
 -- a number of this many bits as a word: its highest bit is copied upward
 abbrev pub sign_extended : ℕ → ℕ → ℕ

@@ -3,8 +3,11 @@
 ghost use Rattle.std.specs.Prelude.{◌≡◌, ◌<◌, ◌≤◌};
 ghost use Rattle.r3k_word.specs.Layout.{word_count_of, place_of_word, address_of_place, page_of_place};
 
-/// Words in a page of 4096 bytes.
+/// Words in a page.
 pub const PAGE_WORDS: u32 = 1024;
+
+/// Bytes in a page.
+pub const PAGE_BYTES: u32 = 4096;
 
 /// The most pages of RAM that a machine may have.
 pub const MAX_RAM_PAGES: u32 = 8192;
@@ -35,7 +38,7 @@ pub fn place_of(ram_pages: u32, address: u32) -> Option<usize>
     if address % 4 != 0 {
         return None;
     }
-    if address / (4 * PAGE_WORDS) < ram_pages {
+    if address / PAGE_BYTES < ram_pages {
         return Some(address as usize / 4);
     }
     if address < ROM_START || address >= ROM_START + ROM_BYTES {

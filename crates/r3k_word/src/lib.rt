@@ -3,6 +3,7 @@
 #![tactic(auto)]
 
 pub mod arithmetic;
+pub mod bits;
 pub mod bytes;
 pub mod field;
 pub mod laws;
