@@ -17,11 +17,16 @@ code_of BusLoad = 7
 code_of SystemCall = 8
 code_of Breakpoint = 9
 code_of ReservedInstruction = 10
-code_of CoprocessorUnusable = 11
+code_of (CoprocessorUnusable coprocessor) = 11
 code_of Overflow = 12
 
-abbrev pub ce_of : Coprocessor → ℕ
-ce_of Cp0 = 0
-ce_of Cp1 = 1
-ce_of Cp2 = 2
-ce_of Cp3 = 3
+abbrev pub number_of : Coprocessor → ℕ
+number_of Cp0 = 0
+number_of Cp1 = 1
+number_of Cp2 = 2
+number_of Cp3 = 3
+
+-- CE: the coprocessor that is not usable, and 0 for any other code
+abbrev pub ce_of : ExcCode → ℕ
+ce_of (CoprocessorUnusable coprocessor) = number_of coprocessor
+ce_of code = 0

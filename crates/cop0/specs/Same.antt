@@ -1,12 +1,13 @@
--- Equality of control registers (own): of all their numbers.
-use Rattle.std.specs.Prelude.{ℕ, Bool, List, [], ◌∷◌, nat_eq}
-use Rattle.std.specs.Ordering.{on}
-use Rattle.std.specs.Cmp.Lexicographic.{pointwise}
+-- Equality of control registers (own): all of them are equal.
+use Rattle.std.specs.Prelude.{◌≡◌, Bool, ◌&&◌, nat_eq, Decides}
+use Rattle.std.proofs.Common.{rules}
 use Rattle.cop0.specs.Registers.{Registers}
 
-abbrev pub numbers : Registers → List ℕ
-numbers c =
-    c.index ∷ c.random ∷ c.entry_lo ∷ c.context ∷ c.bad_vaddr ∷ c.entry_hi ∷ c.status ∷ c.cause ∷ c.epc ∷ []
-
 abbrev pub is_same : Registers → Registers → Bool
-is_same = on numbers (pointwise nat_eq)
+is_same a b =
+    nat_eq a.index b.index && nat_eq a.random b.random && nat_eq a.entry_lo b.entry_lo && nat_eq a.context b.context
+    && nat_eq a.bad_vaddr b.bad_vaddr && nat_eq a.entry_hi b.entry_hi && nat_eq a.status b.status && nat_eq a.cause b.cause
+    && nat_eq a.epc b.epc
+
+pub is_same_decides : (a b : Registers) → Decides (is_same a b) (a ≡ b)
+is_same_decides a b = search rules

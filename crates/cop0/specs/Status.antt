@@ -1,18 +1,39 @@
--- What an exception does to Status, Cause, EPC, Context and EntryHi (Kane and Heinrich, chapter 6).
-use Rattle.std.specs.Prelude.{ℕ, ◌+◌, ◌*◌, ◌^◌, if◌then◌else◌}
-use Rattle.r3k_word.specs.Word.{field_of, with_field_of, difference_of}
+-- Status, and what an exception does to it, to Cause, EPC, Context and EntryHi (Kane and Heinrich, chapter 6).
+use Rattle.std.specs.Prelude.{ℕ, ◌+◌, ◌*◌, ◌^◌, Bool, not, ◌||◌, if◌then◌else◌, bit_and}
+use Rattle.r3k_word.specs.Word.{field_of, with_field_of, difference_of, has}
 use Rattle.cop0.specs.declared.exception.Exc.{Exc}
+use Rattle.cop0.specs.declared.exception.ExcCode.{ExcCode}
+use Rattle.cop0.specs.declared.status.TheConstants.{CU0, KUC, ISC, SWC, INTERRUPTS, BD}
 use Rattle.cop0.specs.Codes.{code_of, ce_of}
 use Rattle.cop0.specs.Registers.{Registers}
+
+-- the processor is in user mode
+abbrev pub in_user_mode : Registers → Bool
+in_user_mode c = has c.status KUC
+
+-- IsC: loads and stores go to the isolated cache, and SwC: to its second array
+abbrev pub is_isolated : Registers → Bool
+is_isolated c = has c.status ISC
+
+abbrev pub is_swapped : Registers → Bool
+is_swapped c = has c.status SWC
+
+-- coprocessor 0 is usable: in kernel mode, or with CU0
+abbrev pub is_usable : Registers → Bool
+is_usable c = not (in_user_mode c) || has c.status CU0
 
 -- Status: KUp and IEp go to KUo and IEo, KUc and IEc to KUp and IEp, and KUc and IEc become 0
 abbrev pub pushed : ℕ → ℕ
 pushed status = with_field_of 5 0 status (field_of 3 0 status * 2 ^ 2)
 
+-- and after rfe: bits 5 to 2 go to 3 to 0, and 5 and 4 stay
+abbrev pub popped : ℕ → ℕ
+popped status = with_field_of 3 0 status (field_of 5 2 status)
+
 -- Cause: BD, CE, the pending interrupts as they were, and ExcCode
-abbrev pub caused : ℕ → Exc → ℕ
-caused cause e =
-    (if e.delay then 2 ^ 31 else 0) + ce_of e.ce * 2 ^ 28 + field_of 15 8 cause * 2 ^ 8 + code_of e.code * 2 ^ 2
+abbrev pub caused : ℕ → Bool → ExcCode → ℕ
+caused cause delay code =
+    (if delay then BD else 0) + ce_of code * 2 ^ 28 + bit_and cause INTERRUPTS + code_of code * 2 ^ 2
 
 -- EPC: the instruction, or the branch before it
 abbrev pub epc_of : Exc → ℕ

@@ -1,16 +1,17 @@
 //! The registers: reading, writing, and what translation and exceptions do to them.
 
 ghost use Rattle.std.specs.Prelude.{◌≡◌, ◌≤◌, IfSome};
-ghost use Rattle.cop0.specs.Registers.{reset_registers, register_of, written, merged};
+ghost use Rattle.cop0.specs.Registers.{reset_registers, register_of, written};
 ghost use Rattle.cop0.specs.Exception.{entered, vector_of};
-ghost use Rattle.cop0.specs.Status.{page_loaded};
+ghost use Rattle.cop0.specs.Status.{in_user_mode, is_isolated, is_swapped, is_usable, page_loaded};
 ghost use Rattle.cop0.specs.Changes.{sampled, is_wanted, fallen, returned, with_ts, with_cm, probed, loaded};
 
 use crate::exception::Exc;
-use crate::number::{
-    BAD_VADDR, CAUSE, CONTEXT, ENTRY_HI, ENTRY_LO, EPC, INDEX, PRID, RANDOM, STATUS,
+use crate::number::*;
+use crate::status::{
+    BEV, CM, CU0, IEC, INTERRUPTS, ISC, KUC, SWC, TS, caused, popped, pushed, vector,
 };
-use crate::status::{RESET_STATUS, caused, popped, pushed, vector};
+use r3k_word::bits::merge;
 use r3k_word::field::{field, with_field};
 use std::marker::Model;
 
@@ -61,14 +62,6 @@ impl Model for Cop0 {
     } };
 }
 
-/// The word with the bits of a mask taken from another.
-#[inline]
-fn merge(old: u32, new: u32, mask: u32) -> u32
-    ensures { result ≡ merged mask old new }
-{
-    (old & !mask) | (new & mask)
-}
-
 impl Cop0 {
     /// The registers at reset: Status has BEV alone, Random is 63, and all else is 0.
     pub fn new() -> Cop0
@@ -81,7 +74,7 @@ impl Cop0 {
             context: 0,
             bad_vaddr: 0,
             entry_hi: 0,
-            status: RESET_STATUS,
+            status: BEV,
             cause: 0,
             epc: 0,
         }
@@ -102,7 +95,7 @@ impl Cop0 {
             STATUS => self.status,
             CAUSE => self.cause,
             EPC => self.epc,
-            PRID => 0x0000_0220,
+            PRID => REVISION,
             _ => 0,
         }
     }
@@ -112,14 +105,46 @@ impl Cop0 {
         ensures { self.new ≡ written self.old register word }
     {
         match register {
-            INDEX => self.index = merge(self.index, word, 0x0000_3F00),
-            ENTRY_LO => self.entry_lo = merge(self.entry_lo, word, 0xFFFF_FF00),
-            CONTEXT => self.context = merge(self.context, word, 0xFFE0_0000),
-            ENTRY_HI => self.entry_hi = merge(self.entry_hi, word, 0xFFFF_FFC0),
-            STATUS => self.status = merge(self.status, word, 0x1044_FF3F),
-            CAUSE => self.cause = merge(self.cause, word, 0x0000_0300),
+            INDEX => self.index = merge(INDEX_MASK, self.index, word),
+            ENTRY_LO => self.entry_lo = merge(ENTRY_LO_MASK, self.entry_lo, word),
+            CONTEXT => self.context = merge(CONTEXT_MASK, self.context, word),
+            ENTRY_HI => self.entry_hi = merge(ENTRY_HI_MASK, self.entry_hi, word),
+            STATUS => self.status = merge(STATUS_MASK, self.status, word),
+            CAUSE => self.cause = merge(CAUSE_MASK, self.cause, word),
             _ => {}
         }
+    }
+
+    /// Whether the processor is in user mode: KUc is 1.
+    #[inline]
+    pub fn in_user_mode(&self) -> bool
+        ensures { result ≡ in_user_mode self.now }
+    {
+        self.status & KUC != 0
+    }
+
+    /// Whether coprocessor 0 is usable: in kernel mode, or with CU0.
+    #[inline]
+    pub fn is_usable(&self) -> bool
+        ensures { result ≡ is_usable self.now }
+    {
+        !self.in_user_mode() || self.status & CU0 != 0
+    }
+
+    /// Whether loads and stores that are cacheable go to the isolated cache: IsC is 1.
+    #[inline]
+    pub fn is_isolated(&self) -> bool
+        ensures { result ≡ is_isolated self.now }
+    {
+        self.status & ISC != 0
+    }
+
+    /// Whether the isolated cache is the second array: SwC is 1.
+    #[inline]
+    pub fn is_swapped(&self) -> bool
+        ensures { result ≡ is_swapped self.now }
+    {
+        self.status & SWC != 0
     }
 
     /// Takes an exception, and gives the address of its handler.
@@ -129,7 +154,7 @@ impl Cop0 {
     {
         let vector = vector(self.status, exception.refill);
         self.status = pushed(self.status);
-        self.cause = caused(self.cause, exception);
+        self.cause = caused(self.cause, exception.delay, exception.code);
         self.epc = if exception.delay {
             exception.pc.wrapping_sub(4)
         } else {
@@ -172,8 +197,7 @@ impl Cop0 {
     pub fn wanted(&self) -> bool
         ensures { result ≡ is_wanted self.now }
     {
-        field::<0, 0>(self.status) == 1
-            && field::<15, 8>(self.cause) & field::<15, 8>(self.status) != 0
+        self.status & IEC != 0 && self.cause & self.status & INTERRUPTS != 0
     }
 
     /// Random falls by one, from 8 to 63.
@@ -192,14 +216,14 @@ impl Cop0 {
     pub fn set_ts(&mut self)
         ensures { self.new ≡ with_ts self.old }
     {
-        self.status = with_field::<21, 21>(self.status, 1);
+        self.status |= TS;
     }
 
     /// Sets CM to whether a load of the isolated cache missed.
     pub fn set_cm(&mut self, miss: bool)
         ensures { self.new ≡ with_cm self.old miss }
     {
-        self.status = with_field::<19, 19>(self.status, u32::from(miss));
+        self.status = merge(CM, self.status, if miss { CM } else { 0 });
     }
 
     /// Index after a probe: the entry that was found, at most 63, or P alone.
@@ -217,8 +241,8 @@ impl Cop0 {
     pub fn loaded(&mut self, hi: u32, lo: u32)
         ensures { self.new ≡ loaded self.old hi lo }
     {
-        self.entry_hi = hi & 0xFFFF_FFC0;
-        self.entry_lo = lo & 0xFFFF_FF00;
+        self.entry_hi = hi & ENTRY_HI_MASK;
+        self.entry_lo = lo & ENTRY_LO_MASK;
     }
 
     /// Makes the registers equal to others.
@@ -230,14 +254,13 @@ impl Cop0 {
 }
 
 impl PartialEq for Cop0 {
-    ghost use Rattle.std.proofs.Common.{rules};
     ghost use Rattle.std.specs.Prelude.{◌≡◌, ◌↔◌, IsTrue};
-    ghost use Rattle.std.specs.Cmp.Rules.{comparing};
-    ghost use Rattle.cop0.specs.Same.{is_same};
+    ghost use Rattle.std.specs.Cmp.{decided, partial_equiv_from_equiv};
+    ghost use Rattle.cop0.specs.Same.{is_same, is_same_decides};
 
     ghost eq = { is_same };
 
-    ghost laws = { Prim.search (comparing, rules) };
+    ghost laws = { partial_equiv_from_equiv (decided is_same is_same_decides) };
 
     /// Whether all registers are equal.
     fn eq(&self, other: &Cop0) -> bool
@@ -257,8 +280,8 @@ impl PartialEq for Cop0 {
 }
 
 impl Eq for Cop0 {
-    ghost use Rattle.std.proofs.Common.{rules};
-    ghost use Rattle.std.specs.Cmp.Rules.{comparing};
+    ghost use Rattle.std.specs.Cmp.{decided};
+    ghost use Rattle.cop0.specs.Same.{is_same, is_same_decides};
 
-    ghost laws = { Prim.search (comparing, rules) };
+    ghost laws = { decided is_same is_same_decides };
 }

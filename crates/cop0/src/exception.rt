@@ -1,7 +1,32 @@
 //! What an exception tells coprocessor 0.
 
 ghost use Rattle.std.specs.Prelude.{◌≡◌, ◌≤◌};
-ghost use Rattle.cop0.specs.Codes.{code_of, ce_of};
+ghost use Rattle.cop0.specs.Codes.{code_of, ce_of, number_of};
+
+/// A coprocessor.
+#[derive(Clone, Copy, Debug, PartialEq, Eq)]
+pub enum Coprocessor {
+    Cp0,
+    Cp1,
+    Cp2,
+    Cp3,
+}
+
+impl Coprocessor {
+    /// Its number, 0 to 3.
+    #[inline]
+    pub fn number(self) -> u32
+        ensures value { result ≡ number_of self }
+        ensures within { result ≤ 3 }
+    {
+        match self {
+            Coprocessor::Cp0 => 0,
+            Coprocessor::Cp1 => 1,
+            Coprocessor::Cp2 => 2,
+            Coprocessor::Cp3 => 3,
+        }
+    }
+}
 
 /// Why an exception is taken, in the order of its code in Cause.
 #[derive(Clone, Copy, Debug, PartialEq, Eq)]
@@ -28,8 +53,8 @@ pub enum ExcCode {
     Breakpoint,
     /// RI: a reserved instruction.
     ReservedInstruction,
-    /// CpU: a coprocessor that is not usable.
-    CoprocessorUnusable,
+    /// CpU: this coprocessor is not usable.
+    CoprocessorUnusable(Coprocessor),
     /// Ov: arithmetic overflow.
     Overflow,
 }
@@ -53,33 +78,20 @@ impl ExcCode {
             ExcCode::SystemCall => 8,
             ExcCode::Breakpoint => 9,
             ExcCode::ReservedInstruction => 10,
-            ExcCode::CoprocessorUnusable => 11,
+            ExcCode::CoprocessorUnusable(_) => 11,
             ExcCode::Overflow => 12,
         }
     }
-}
 
-/// A coprocessor.
-#[derive(Clone, Copy, Debug, PartialEq, Eq)]
-pub enum Coprocessor {
-    Cp0,
-    Cp1,
-    Cp2,
-    Cp3,
-}
-
-impl Coprocessor {
-    /// The number in the field CE of Cause, 0 to 3.
+    /// The field CE of Cause, 0 to 3: the number of the coprocessor that is not usable, and 0 for any other code.
     #[inline]
-    pub fn number(self) -> u32
+    pub fn coprocessor(self) -> u32
         ensures ce { result ≡ ce_of self }
         ensures within { result ≤ 3 }
     {
         match self {
-            Coprocessor::Cp0 => 0,
-            Coprocessor::Cp1 => 1,
-            Coprocessor::Cp2 => 2,
-            Coprocessor::Cp3 => 3,
+            ExcCode::CoprocessorUnusable(coprocessor) => coprocessor.number(),
+            _ => 0,
         }
     }
 }
@@ -88,8 +100,6 @@ impl Coprocessor {
 #[derive(Clone, Copy, Debug, PartialEq, Eq)]
 pub struct Exc {
     pub code: ExcCode,
-    /// The coprocessor that is not usable. Of another exception it is coprocessor 0.
-    pub ce: Coprocessor,
     pub pc: u32,
     /// The instruction stands in a delay slot.
     pub delay: bool,

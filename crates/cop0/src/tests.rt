@@ -8,7 +8,6 @@ const ALL: [u8; 16] = [0, 1, 2, 3, 4, 5, 6, 7, 8, 9, 10, 11, 12, 13, 14, 15];
 fn exception(code: ExcCode) -> Exc {
     Exc {
         code,
-        ce: Coprocessor::Cp0,
         pc: 0xBFC0_0010,
         delay: false,
         bad: None,
@@ -52,7 +51,7 @@ fn write_masks(rt: HostRuntime) {
         0,
         0xFFFF_FFC0,
         0,
-        0x1044_FF3F,
+        0x1047_FF3F,
         0x0000_0300,
         0,
         0x0000_0220,
@@ -146,9 +145,7 @@ fn modes_and_interrupts(rt: HostRuntime) {
     registers.write(12, 0x0000_0400);
     assert!(rt; !registers.wanted());
     // CpU of coprocessor 2 keeps the pending interrupt.
-    let mut unusable = exception(ExcCode::CoprocessorUnusable);
-    unusable.ce = Coprocessor::Cp2;
-    registers.enter(unusable);
+    registers.enter(exception(ExcCode::CoprocessorUnusable(Coprocessor::Cp2)));
     assert_eq!(rt; registers.read(13), 0x2000_042C);
 }
 

@@ -3,6 +3,7 @@
 use Rattle.std.specs.Prelude.{ℕ, ◌/◌, ◌%◌, Bool, true, false, nat_eq, ◌&&◌}
 use Rattle.std.specs.Prelude.{List, replicate, slice_index_or, slice_set}
 use Rattle.dcache.specs.declared.slot.Slot.{Slot}
+use Rattle.dcache.specs.declared.slot.TheConstants.{SLOTS, TAG_BYTES}
 
 -- the two arrays
 pub record Arrays : Type 0 where
@@ -14,14 +15,14 @@ abbrev pub empty_slot : Slot
 empty_slot = record { word = 0; tag = 0; valid = false }
 
 abbrev pub reset_arrays : Arrays
-reset_arrays = record { first = replicate 16_384 empty_slot; second = replicate 16_384 empty_slot }
+reset_arrays = record { first = replicate SLOTS empty_slot; second = replicate SLOTS empty_slot }
 
 -- the slot's number and the tag of a physical address (own)
 abbrev pub place_of : ℕ → ℕ
-place_of address = address / 4 % 16_384
+place_of address = address / 4 % SLOTS
 
 abbrev pub tag_of : ℕ → ℕ
-tag_of address = address / 65_536
+tag_of address = address / TAG_BYTES
 
 -- the array that an access reaches: SwC chooses the second
 abbrev pub array_of : Arrays → Bool → List Slot

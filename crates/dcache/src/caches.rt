@@ -1,7 +1,6 @@
 //! The two arrays of the isolated cache. Status bit SwC chooses the second.
 
-ghost use Rattle.std.specs.Prelude.{◌≡◌, ◌↔◌, IfOk, IsTrue};
-ghost use Rattle.dcache.specs.Same.{same_arrays};
+ghost use Rattle.std.specs.Prelude.{◌≡◌, IfOk};
 ghost use Rattle.dcache.specs.Arrays.{reset_arrays, slot_of, hits, with_slot, filled, emptied};
 
 use crate::slot::{SLOTS, Slot, place, tag};
@@ -117,34 +116,29 @@ impl Caches {
             self.first[place] = slot;
         }
     }
+}
 
-    fn has_slots_of(&self, other: &Caches) -> bool
-        ensures { result ≡ same_arrays self.now other.now }
+impl PartialEq for Caches {
+    ghost use Rattle.std.specs.Prelude.{◌≡◌, ◌↔◌, IsTrue};
+    ghost use Rattle.std.specs.Cmp.{decided, partial_equiv_from_equiv};
+    ghost use Rattle.dcache.specs.Same.{is_same, is_same_decides};
+
+    ghost eq = { is_same };
+
+    ghost laws = { partial_equiv_from_equiv (decided is_same is_same_decides) };
+
+    /// Whether all slots are equal.
+    fn eq(&self, other: &Caches) -> bool
+        ensures value { result ≡ is_same self.now other.now }
+        ensures equal { IsTrue result ↔ (self.now ≡ other.now) }
     {
         self.first == other.first && self.second == other.second
     }
 }
 
-impl PartialEq for Caches {
-    ghost use Rattle.std.specs.Prelude.{◌≡◌, ◌↔◌, IsTrue};
-    ghost use Rattle.dcache.specs.Same.{same_arrays, same_arrays_per};
-
-    ghost eq = { same_arrays };
-
-    ghost laws = { same_arrays_per };
-
-    /// Whether all slots are equal.
-    #[tactic(auto, using(crate::specs::Same::same_arrays_iff))]
-    fn eq(&self, other: &Caches) -> bool
-        ensures test { result ≡ same_arrays self.now other.now }
-        ensures exact { IsTrue result ↔ (self.now ≡ other.now) }
-    {
-        self.has_slots_of(other)
-    }
-}
-
 impl Eq for Caches {
-    ghost use Rattle.dcache.specs.Same.{same_arrays_equivalence};
+    ghost use Rattle.std.specs.Cmp.{decided};
+    ghost use Rattle.dcache.specs.Same.{is_same, is_same_decides};
 
-    ghost laws = { same_arrays_equivalence };
+    ghost laws = { decided is_same is_same_decides };
 }

@@ -6,5 +6,5 @@ pub mod Scan
 pub mod Bits
 pub mod Reads
 pub mod Writes
-pub mod Equal
-pub mod EqualLaws
+pub mod Same
+pub mod SameLaws

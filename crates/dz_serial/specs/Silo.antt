@@ -1,6 +1,7 @@
 -- The silo (KN02 functional specification; that a lost byte's mark stays until a byte of its line
 -- is stored is own).
 use Rattle.std.specs.Prelude.{ℕ, Bool, true, false, not, ◌==◌, ◌&&◌, nat_lt, [], ◌∷◌, ◌++◌, length, drop, slice_set, if◌then◌else◌}
+use Rattle.dz_serial.specs.declared.silo.TheConstants.{SILO}
 use Rattle.dz_serial.specs.Serial.{Serial, each_line, entry_of}
 
 -- RDONE: the silo is not empty
@@ -8,10 +9,10 @@ abbrev pub rdone : Serial → Bool
 rdone s = not (length s.silo == 0)
 
 -- A byte is stored where the silo has room, with the mark of lost bytes of its line, which is then
--- gone. Where 64 characters wait it is lost, and its line marked.
+-- gone. Where it is full it is lost, and its line marked.
 abbrev pub stored : Serial → ℕ → ℕ → Serial
 stored s line byte =
-    if nat_lt (length s.silo) 64
+    if nat_lt (length s.silo) SILO
     then record s {
       silo = s.silo ++ record { line = line; byte = byte; overrun = entry_of s.lost line } ∷ [];
       lost = slice_set s.lost line false;

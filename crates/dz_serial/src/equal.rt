@@ -1,14 +1,14 @@
 //! When two parts are equal.
 
 ghost use Rattle.std.specs.Prelude.{◌≡◌, ◌↔◌, IsTrue};
-ghost use Rattle.dz_serial.specs.Equal.{same_lines, same_scanner, same_control, same_serial};
+ghost use Rattle.dz_serial.specs.Same.{has_same_lines, has_same_scanner, has_same_control, is_same};
 
 use crate::dz::Dz;
 
 impl Dz {
     /// Whether the silos and what there is of each line are equal.
     fn has_same_lines(&self, other: &Dz) -> bool
-        ensures { result ≡ same_lines self.now other.now }
+        ensures { result ≡ has_same_lines self.now other.now }
     {
         self.silo == other.silo
             && self.lost == other.lost
@@ -19,7 +19,7 @@ impl Dz {
 
     /// Whether what the scanner holds and the byte time are equal.
     fn has_same_scanner(&self, other: &Dz) -> bool
-        ensures { result ≡ same_scanner self.now other.now }
+        ensures { result ≡ has_same_scanner self.now other.now }
     {
         self.tline == other.tline
             && self.trdy == other.trdy
@@ -29,7 +29,7 @@ impl Dz {
 
     /// Whether the bits that writes of CSR set are equal.
     fn has_same_control(&self, other: &Dz) -> bool
-        ensures { result ≡ same_control self.now other.now }
+        ensures { result ≡ has_same_control self.now other.now }
     {
         self.tie == other.tie
             && self.rie == other.rie
@@ -38,9 +38,9 @@ impl Dz {
     }
 
     /// Whether all that both parts hold is equal.
-    #[tactic(auto, unfolding(crate::specs::Equal::same_serial))]
+    #[tactic(auto, unfolding(crate::specs::Same::is_same))]
     fn holds_same(&self, other: &Dz) -> bool
-        ensures { result ≡ same_serial self.now other.now }
+        ensures { result ≡ is_same self.now other.now }
     {
         self.has_same_scanner(other) && self.has_same_control(other) && self.has_same_lines(other)
     }
@@ -48,16 +48,16 @@ impl Dz {
 
 impl PartialEq for Dz {
     ghost use Rattle.std.specs.Cmp.{decided, partial_equiv_from_equiv};
-    ghost use Rattle.dz_serial.specs.EqualLaws.{same_serial_decides};
+    ghost use Rattle.dz_serial.specs.SameLaws.{is_same_decides};
 
-    ghost eq = { same_serial };
+    ghost eq = { is_same };
 
-    ghost laws = { partial_equiv_from_equiv (decided same_serial same_serial_decides) };
+    ghost laws = { partial_equiv_from_equiv (decided is_same is_same_decides) };
 
     /// Whether all that both parts hold is equal.
     fn eq(&self, other: &Dz) -> bool
-        ensures value { result ≡ same_serial self.now other.now }
-        ensures exact { IsTrue result ↔ (self.now ≡ other.now) }
+        ensures value { result ≡ is_same self.now other.now }
+        ensures equal { IsTrue result ↔ (self.now ≡ other.now) }
     {
         self.holds_same(other)
     }
@@ -65,7 +65,7 @@ impl PartialEq for Dz {
 
 impl Eq for Dz {
     ghost use Rattle.std.specs.Cmp.{decided};
-    ghost use Rattle.dz_serial.specs.EqualLaws.{same_serial_decides};
+    ghost use Rattle.dz_serial.specs.SameLaws.{is_same_decides};
 
-    ghost laws = { decided same_serial same_serial_decides };
+    ghost laws = { decided is_same is_same_decides };
 }

@@ -29,13 +29,13 @@ impl Dz {
         ensures word { result ≡ csr_of self.now }
         ensures fits { result < 2 ^ 16 }
     {
-        flag::<TRDY>(self.trdy)
-            + flag::<TIE>(self.tie)
-            + self.tline as u32 * (1 << TLINE)
-            + flag::<RDONE>(self.rdone())
-            + flag::<RIE>(self.rie)
-            + flag::<MSE>(self.mse)
-            + flag::<MAINT>(self.maint)
+        flag(TRDY, self.trdy)
+            + flag(TIE, self.tie)
+            + self.tline as u32 * TLINE
+            + flag(RDONE, self.rdone())
+            + flag(RIE, self.rie)
+            + flag(MSE, self.mse)
+            + flag(MAINT, self.maint)
     }
 
     /// The word of RBUF: the oldest character, which is removed.
@@ -48,9 +48,9 @@ impl Dz {
             return 0;
         }
         let oldest = self.silo.remove(0);
-        flag::<DVAL>(true)
-            + flag::<OERR>(oldest.overrun)
-            + oldest.line as u32 * (1 << RX_LINE)
+        flag(DVAL, true)
+            + flag(OERR, oldest.overrun)
+            + oldest.line as u32 * RX_LINE
             + oldest.byte as u32
     }
 
@@ -59,9 +59,9 @@ impl Dz {
         ensures word { result ≡ tcr_of self.now }
         ensures fits { result < 2 ^ 16 }
     {
-        flag::<3>(self.enabled[3])
-            + flag::<2>(self.enabled[2])
-            + flag::<1>(self.enabled[1])
-            + flag::<0>(self.enabled[0])
+        flag(LINE_3, self.enabled[3])
+            + flag(LINE_2, self.enabled[2])
+            + flag(LINE_1, self.enabled[1])
+            + flag(LINE_0, self.enabled[0])
     }
 }

@@ -1,9 +1,7 @@
-//! The registers: their offsets, and the numbers of their bits.
+//! The registers: their offsets, and their bits as masks.
 
-ghost use Rattle.std.specs.Prelude.{◌≡◌, ◌≤◌, ◌^◌};
-ghost use Rattle.dz_serial.specs.Bits.{bit_of, flag_of, covers};
-
-use r3k_word::field::field;
+ghost use Rattle.std.specs.Prelude.{◌≡◌, ◌≤◌};
+ghost use Rattle.dz_serial.specs.Bits.{flag_of};
 
 /// Offset of the control and status register.
 pub(crate) const CSR: u32 = 0;
@@ -20,66 +18,61 @@ pub(crate) const TCR: u32 = 16;
 /// Offset of the transmitter data, which is written.
 pub(crate) const TDR: u32 = 24;
 
-/// CSR: line TLINE waits for a byte to send.
-pub(crate) const TRDY: u32 = 15;
+/// In CSR: line TLINE waits for a byte to send.
+pub(crate) const TRDY: u32 = 0x8000;
 
-/// CSR: TRDY raises the interrupt line.
-pub(crate) const TIE: u32 = 14;
+/// In CSR: TRDY raises the interrupt line.
+pub(crate) const TIE: u32 = 0x4000;
 
-/// CSR: the lower of the two bits of the line that TRDY speaks of.
-pub(crate) const TLINE: u32 = 8;
+/// In CSR: the lower of the two bits of the line that TRDY speaks of.
+pub(crate) const TLINE: u32 = 0x0100;
 
-/// CSR: the silo is not empty.
-pub(crate) const RDONE: u32 = 7;
+/// In CSR: the silo is not empty.
+pub(crate) const RDONE: u32 = 0x0080;
 
-/// CSR: RDONE raises the interrupt line.
-pub(crate) const RIE: u32 = 6;
+/// In CSR: RDONE raises the interrupt line.
+pub(crate) const RIE: u32 = 0x0040;
 
-/// CSR: master scan enable.
-pub(crate) const MSE: u32 = 5;
+/// In CSR: master scan enable.
+pub(crate) const MSE: u32 = 0x0020;
 
-/// CSR: returns the part to reset.
-pub(crate) const CLR: u32 = 4;
+/// In CSR: returns the part to reset.
+pub(crate) const CLR: u32 = 0x0010;
 
-/// CSR: maintenance mode, without effect.
-pub(crate) const MAINT: u32 = 3;
+/// In CSR: maintenance mode, without effect.
+pub(crate) const MAINT: u32 = 0x0008;
 
-/// RBUF: there is a character.
-pub(crate) const DVAL: u32 = 15;
+/// In RBUF: there is a character.
+pub(crate) const DVAL: u32 = 0x8000;
 
-/// RBUF: bytes of the line were lost just before this one.
-pub(crate) const OERR: u32 = 14;
+/// In RBUF: bytes of the line were lost just before this one.
+pub(crate) const OERR: u32 = 0x4000;
 
-/// RBUF: the lower of the two bits of the character's line.
-pub(crate) const RX_LINE: u32 = 8;
+/// In RBUF: the lower of the two bits of the character's line.
+pub(crate) const RX_LINE: u32 = 0x0100;
 
-/// LPR: turns the receiver on.
-pub(crate) const RX_ENABLE: u32 = 12;
+/// In LPR: turns the receiver on.
+pub(crate) const RX_ENABLE: u32 = 0x1000;
 
-/// Whether a bit of a word is 1.
+/// In TCR: each line may send.
+pub(crate) const LINE_0: u32 = 1;
+
+pub(crate) const LINE_1: u32 = 2;
+
+pub(crate) const LINE_2: u32 = 4;
+
+pub(crate) const LINE_3: u32 = 8;
+
+/// In the lanes of a write: the lowest byte of the word, and the one above it, are covered.
+pub(crate) const BYTE_0: u8 = 1;
+
+pub(crate) const BYTE_1: u8 = 2;
+
+/// The bits of a mask where `set`, or else 0.
 #[inline]
-pub(crate) fn bit<const N: u32>(word: u32) -> bool
-    requires { N ≤ 31 }
-    ensures { result ≡ bit_of N word }
+pub(crate) fn flag(mask: u32, set: bool) -> u32
+    ensures value { result ≡ flag_of mask set }
+    ensures fits { result ≤ mask }
 {
-    field::<N, N>(word) == 1
-}
-
-/// Whether byte `N` of the word is covered by a write with these lanes.
-#[inline]
-pub(crate) fn covers<const N: u32>(lanes: u8) -> bool
-    requires { N ≤ 3 }
-    ensures { result ≡ covers N lanes }
-{
-    bit::<N>(lanes as u32)
-}
-
-/// The word with bit `N` alone where `set`, or else 0.
-#[inline]
-pub(crate) fn flag<const N: u32>(set: bool) -> u32
-    requires { N ≤ 31 }
-    ensures value { result ≡ flag_of N set }
-    ensures fits { result ≤ 2 ^ N }
-{
-    if set { 1 << N } else { 0 }
+    if set { mask } else { 0 }
 }

@@ -39,18 +39,18 @@ impl Dz {
     fn write_csr(&mut self, word: u32, lanes: u8)
         ensures { self.new ≡ csr_written self.old word lanes }
     {
-        let covers_low = covers::<0>(lanes);
-        if covers_low && bit::<CLR>(word) {
+        let covers_low = lanes & BYTE_0 != 0;
+        if covers_low && word & CLR != 0 {
             *self = Dz::new(self.byte_time as u32);
             return;
         }
         if covers_low {
-            self.rie = bit::<RIE>(word);
-            self.mse = bit::<MSE>(word);
-            self.maint = bit::<MAINT>(word);
+            self.rie = word & RIE != 0;
+            self.mse = word & MSE != 0;
+            self.maint = word & MAINT != 0;
         }
-        if covers::<1>(lanes) {
-            self.tie = bit::<TIE>(word);
+        if lanes & BYTE_1 != 0 {
+            self.tie = word & TIE != 0;
         }
         if !self.mse {
             self.turn_off();
@@ -61,9 +61,9 @@ impl Dz {
     fn write_lpr(&mut self, word: u32, lanes: u8)
         ensures { self.new ≡ lpr_written self.old word lanes }
     {
-        if covers::<0>(lanes) {
+        if lanes & BYTE_0 != 0 {
             let line = field::<1, 0>(word) as usize;
-            self.receivers[line] = covers::<1>(lanes) && bit::<RX_ENABLE>(word);
+            self.receivers[line] = lanes & BYTE_1 != 0 && word & RX_ENABLE != 0;
         }
     }
 
@@ -71,12 +71,12 @@ impl Dz {
     fn write_tcr(&mut self, word: u32, lanes: u8)
         ensures { self.new ≡ tcr_written self.old word lanes }
     {
-        if covers::<0>(lanes) {
+        if lanes & BYTE_0 != 0 {
             self.enabled = [
-                bit::<0>(word),
-                bit::<1>(word),
-                bit::<2>(word),
-                bit::<3>(word),
+                word & LINE_0 != 0,
+                word & LINE_1 != 0,
+                word & LINE_2 != 0,
+                word & LINE_3 != 0,
             ];
             self.trdy = self.trdy && self.enabled[self.tline as usize];
         }
@@ -88,7 +88,7 @@ impl Dz {
         ensures sent { result ≡ sent_by_tdr self.old word lanes }
         ensures line { IfSome result (λ sent. sent.line ≤ 3) }
     {
-        if !covers::<0>(lanes) || !self.trdy {
+        if lanes & BYTE_0 == 0 || !self.trdy {
             return None;
         }
         let line = self.tline;

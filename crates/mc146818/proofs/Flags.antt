@@ -8,7 +8,7 @@ use Rattle.std.proofs.lemmas.Bool.{ne_eqb, eq-eqb}
 use Rattle.std.proofs.lemmas.Nat.{pow_pos, and_mod}
 use Rattle.std.specs.Int.Bits.{and_zero_l, and_zero_r}
 use Rattle.std.proofs.lemmas.Nat.Bits.{bit_at_and, bit_at-lt, and_pow, and_high}
-use Rattle.mc146818.specs.Bits.{has}
+use Rattle.r3k_word.specs.Word.{has}
 
 -- a bit is 0 or 1
 bit_cases : (n : ℕ) → n < 2 → (n ≡ 0) ⊎ (n ≡ 1)

@@ -5,7 +5,7 @@ use Rattle.std.proofs.Math.Arith.{mod-mul}
 use Rattle.std.proofs.Math.Nat.{mul_comm, zero-mod}
 use Rattle.std.proofs.lemmas.Bool.{ne_eqb}
 use Rattle.std.proofs.lemmas.Nat.{pow_pos}
-use Rattle.mc146818.specs.Registers.{PF}
+use Rattle.mc146818.specs.declared.registers.TheConstants.{PF}
 use Rattle.mc146818.specs.Divider.{next_count, period_of, ends_at}
 use Rattle.mc146818.specs.Clock.{ClockState, runs, rate, is_set}
 use Rattle.mc146818.specs.Tick.{moved, with_period, updated, with_update, ticked}

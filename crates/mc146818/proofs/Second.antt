@@ -4,9 +4,9 @@ use Rattle.std.specs.Prelude.{◌==◌, if◌then◌else◌}
 use Rattle.std.proofs.Math.Path.{ap₂}
 use Rattle.std.proofs.lemmas.Bool.{ne_eqb, eq-eqb}
 use Rattle.r3k_word.specs.Word.{field_of}
-use Rattle.mc146818.specs.Registers.{PF, SET}
+use Rattle.mc146818.specs.declared.registers.TheConstants.{PF, SET}
 use Rattle.mc146818.specs.declared.time.Time.{Time}
-use Rattle.mc146818.specs.Bits.{has}
+use Rattle.r3k_word.specs.Word.{has}
 use Rattle.mc146818.specs.Clock.{ClockState, runs, rate, is_set}
 use Rattle.mc146818.specs.Divider.{second_of, next_count, period_of, ends_at}
 use Rattle.mc146818.specs.Second.{after, BeginsSecond}

@@ -1,9 +1,5 @@
 -- Bits of a register (MC146818 data sheet, registers A to D). Each has a mask, as SET, 0x80.
-use Rattle.std.specs.Prelude.{ℕ, ◌-◌, Bool, not, ◌==◌, bit_and}
-
--- the byte has this bit
-abbrev pub has : (byte bit : ℕ) → Bool
-has byte bit = not (bit_and byte bit == 0)
+use Rattle.std.specs.Prelude.{ℕ, ◌-◌, bit_and}
 
 -- the byte with this bit 0
 abbrev pub without : (byte bit : ℕ) → ℕ

@@ -1,11 +1,11 @@
 -- The clock (MC146818 data sheet: address map, registers A to D, interrupts): what it holds, what
 -- its registers read, and what a read and a write do.
 use Rattle.std.specs.Prelude.{ℕ, Bool, not, if◌then◌else◌, ◌==◌, ◌&&◌, ◌||◌, bit_or, List, ◌∷◌, ◌-◌, slice_index, slice_set, replicate, nat_lt}
-use Rattle.r3k_word.specs.Word.{field_of}
-use Rattle.mc146818.specs.Registers.{SECONDS, SECONDS_ALARM, MINUTES, MINUTES_ALARM, HOURS, HOURS_ALARM, WEEKDAY, DAY, MONTH, YEAR, REGISTER_A, REGISTER_B, REGISTER_C, RAM, RAM_BYTES, UIP, DV_RUNS, SET, PIE, AIE, UIE, DSE, IRQF, PF, AF, UF, VRT}
+use Rattle.r3k_word.specs.Word.{field_of, has}
+use Rattle.mc146818.specs.declared.registers.TheConstants.{SECONDS, SECONDS_ALARM, MINUTES, MINUTES_ALARM, HOURS, HOURS_ALARM, WEEKDAY, DAY, MONTH, YEAR, REGISTER_A, REGISTER_B, REGISTER_C, RAM, RAM_BYTES, UIP, DV_RUNS, SET, PIE, AIE, UIE, DSE, IRQF, PF, AF, UF, VRT}
 use Rattle.mc146818.specs.declared.time.Time.{Time}
 use Rattle.mc146818.specs.declared.time.Alarm.{Alarm}
-use Rattle.mc146818.specs.Bits.{has, without}
+use Rattle.mc146818.specs.Bits.{without}
 use Rattle.mc146818.specs.Divider.{is_near_end}
 
 -- Registers 0, 2, 4 and 6 to 9 are the time, and 1, 3 and 5 the alarm. Of A all but UIP is held, and

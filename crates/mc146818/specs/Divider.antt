@@ -1,6 +1,7 @@
 -- The divider (own, after the MC146818 data sheet, register A: divider chain and rate selection). It
 -- counts the ticks of a second, 8192 units of them.
 use Rattle.std.specs.Prelude.{ℕ, ◌+◌, ◌-◌, ◌*◌, ◌%◌, ◌^◌, Bool, false, Option, Some, None, if◌then◌else◌, ◌==◌, nat_le}
+use Rattle.mc146818.specs.declared.divider.TheConstants.{UNITS, NEAR_END}
 
 -- how many ticks have passed in this second, and the ticks of a unit
 pub record Ticks : Type 0 where
@@ -9,7 +10,7 @@ pub record Ticks : Type 0 where
 
 -- the ticks of a second
 abbrev pub second_of : ℕ → ℕ
-second_of unit = 8192 * unit
+second_of unit = UNITS * unit
 
 -- the count after a tick: at the end of the second it is 0 again
 abbrev pub next_count : (unit count : ℕ) → ℕ
@@ -31,4 +32,4 @@ ends_at (Some period) count = count % period == 0
 
 -- an update is near: the last two units of the second, 244 microseconds (data sheet, UIP)
 abbrev pub is_near_end : (unit count : ℕ) → Bool
-is_near_end unit count = nat_le (8190 * unit) count
+is_near_end unit count = nat_le (NEAR_END * unit) count

@@ -1,4 +1,3 @@
-pub mod Registers
 pub mod Bits
 pub mod Time
 pub mod Divider

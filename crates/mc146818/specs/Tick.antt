@@ -2,7 +2,7 @@
 -- tick is a step of the machine is own). First the divider moves, then a period may end, and then
 -- the time may be updated.
 use Rattle.std.specs.Prelude.{if◌then◌else◌, ◌==◌, ◌&&◌, not, bit_or}
-use Rattle.mc146818.specs.Registers.{PF, AF, UF}
+use Rattle.mc146818.specs.declared.registers.TheConstants.{PF, AF, UF}
 use Rattle.mc146818.specs.Time.{format_of, advanced, alarm_matches}
 use Rattle.mc146818.specs.Divider.{next_count, period_of, ends_at}
 use Rattle.mc146818.specs.Clock.{ClockState, runs, rate, is_set}

@@ -1,12 +1,12 @@
 -- The time, its formats and its alarm (MC146818 data sheet: time, calendar and alarm locations;
 -- update cycle; alarm interrupt).
 use Rattle.std.specs.Prelude.{ℕ, ◌+◌, ◌*◌, ◌/◌, ◌%◌, Bool, true, false, not, if◌then◌else◌, ◌==◌, nat_lt, nat_le, ◌&&◌, ◌||◌}
-use Rattle.mc146818.specs.Registers.{DM, DONT_CARE, HOURS_24, PM}
+use Rattle.mc146818.specs.declared.registers.TheConstants.{DM, DONT_CARE, HOURS_24, PM}
 use Rattle.mc146818.specs.declared.time.Time.{Time}
 use Rattle.mc146818.specs.declared.time.Alarm.{Alarm}
 use Rattle.mc146818.specs.declared.time.Format.{Format}
 use Rattle.mc146818.specs.declared.time.Counted.{Counted}
-use Rattle.mc146818.specs.Bits.{has}
+use Rattle.r3k_word.specs.Word.{has}
 
 -- the format that register B sets: DM 1 is binary, bit 1 is 24 hours
 abbrev pub format_of : ℕ → Format

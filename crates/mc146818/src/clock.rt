@@ -53,14 +53,13 @@ impl Model for Clock {
 }
 
 impl PartialEq for Clock {
-    ghost use Rattle.std.proofs.Common.{rules};
     ghost use Rattle.std.specs.Prelude.{◌≡◌, ◌↔◌, IsTrue};
-    ghost use Rattle.std.specs.Cmp.Rules.{comparing};
-    ghost use Rattle.mc146818.specs.Same.{is_same};
+    ghost use Rattle.std.specs.Cmp.{decided, partial_equiv_from_equiv};
+    ghost use Rattle.mc146818.specs.Same.{is_same, is_same_decides};
 
     ghost eq = { is_same };
 
-    ghost laws = { Prim.search (comparing, rules) };
+    ghost laws = { partial_equiv_from_equiv (decided is_same is_same_decides) };
 
     /// Whether all of both clocks is equal.
     fn eq(&self, other: &Clock) -> bool
@@ -78,10 +77,10 @@ impl PartialEq for Clock {
 }
 
 impl Eq for Clock {
-    ghost use Rattle.std.proofs.Common.{rules};
-    ghost use Rattle.std.specs.Cmp.Rules.{comparing};
+    ghost use Rattle.std.specs.Cmp.{decided};
+    ghost use Rattle.mc146818.specs.Same.{is_same, is_same_decides};
 
-    ghost laws = { Prim.search (comparing, rules) };
+    ghost laws = { decided is_same is_same_decides };
 }
 
 impl Clock {

@@ -3,3 +3,4 @@ pub mod Least
 pub mod Bits
 pub mod Candidates
 pub mod Written
+pub mod Keeping

@@ -1,8 +1,9 @@
 -- A translation entry (Kane and Heinrich, chapter 4): EntryHi with VPN 31..12 and PID 11..6, and
 -- EntryLo with G 8.
 use Rattle.std.specs.Prelude.{ℕ, Bool, nat_eq, ◌&&◌, ◌||◌, List, replicate}
-use Rattle.r3k_word.specs.Word.{field_of}
+use Rattle.r3k_word.specs.Word.{field_of, has}
 use Rattle.tlb64.specs.declared.entry.Entry.{Entry}
+use Rattle.tlb64.specs.declared.entry.TheConstants.{GLOBAL}
 
 -- the virtual page number of an address, as of EntryHi
 abbrev pub page_of : ℕ → ℕ
@@ -12,16 +13,12 @@ page_of address = field_of 31 12 address
 abbrev pub process_of : ℕ → ℕ
 process_of hi = field_of 11 6 hi
 
--- whether EntryLo has G, by which an entry is of every process
-abbrev pub is_global : ℕ → Bool
-is_global lo = nat_eq (field_of 8 8 lo) 1
-
 -- An entry matches an address and a process if its page is the address's and it is global or of the
 -- process. No entry is of a process above 63.
 abbrev pub matches : ℕ → ℕ → Entry → Bool
 matches address pid entry =
     nat_eq (page_of entry.hi) (page_of address)
-    && (is_global entry.lo || nat_eq (process_of entry.hi) pid)
+    && (has entry.lo GLOBAL || nat_eq (process_of entry.hi) pid)
 
 -- an entry at reset (own)
 abbrev pub empty_entry : Entry

@@ -2,6 +2,9 @@
 
 use r3k_word::field::field;
 
+/// In EntryLo, G: the entry is of every process.
+pub const GLOBAL: u32 = 0x0000_0100;
+
 /// A translation entry: EntryHi, with VPN 31..12 and PID 11..6, and EntryLo, with PFN 31..12, N 11,
 /// D 10, V 9 and G 8.
 #[derive(Clone, Copy, Debug, PartialEq, Eq)]
@@ -29,6 +32,6 @@ impl Entry {
         ensures { result ≡ matches address pid self.now }
     {
         field::<31, 12>(self.hi) == field::<31, 12>(address)
-            && (field::<8, 8>(self.lo) == 1 || field::<11, 6>(self.hi) == pid)
+            && (self.lo & GLOBAL != 0 || field::<11, 6>(self.hi) == pid)
     }
 }

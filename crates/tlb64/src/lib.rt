@@ -2,6 +2,7 @@
 #![tactic(auto)]
 
 pub mod entry;
+mod kept;
 mod sets;
 pub mod tlb;
 

@@ -40,11 +40,19 @@ fn translation_lookup(rt: HostRuntime) {
     };
     assert_eq!(rt; tlb.lookup(0x3FFF, 0), Some(several));
     assert_eq!(rt; tlb.probe(0x3000), Some(several));
+    // What is kept tells the same, until an entry changes, and of its process alone.
+    for is_fetch in [false, true, false, true] {
+        assert_eq!(rt; tlb.translate(is_fetch, 0x3004, 0), Some(several));
+        assert_eq!(rt; tlb.translate(is_fetch, 0x3008, 1), Some(found));
+        assert_eq!(rt; tlb.translate(is_fetch, 0xB000, 0), None);
+    }
     // Process 1 has the global entry alone, and the next page has none.
     assert_eq!(rt; tlb.probe(0x3040), Some(found));
     assert_eq!(rt; tlb.lookup(0x4000, 0), None);
     assert_eq!(rt; tlb.read(5), global);
     assert_eq!(rt; tlb.read(9), other);
+    tlb.write(5, other);
+    assert_eq!(rt; tlb.translate(true, 0x3004, 1), None);
 }
 
 // At reset all entries are of page 0 and process 0, and none is global.

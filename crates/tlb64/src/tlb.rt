@@ -1,12 +1,11 @@
 //! The 64 entries: reading, writing and looking up.
 
-ghost use Rattle.std.specs.Prelude.{◌≡◌, ◌↔◌, ◌<◌, ◌≤◌, IsTrue, MatchOption, IfSome};
-ghost use Rattle.std.specs.Prelude.{slice_index_or, slice_set};
+ghost use Rattle.std.specs.Prelude.{◌≡◌, ◌<◌, IfSome, slice_index_or, slice_set};
 ghost use Rattle.tlb64.specs.Entries.{empty_entry, reset_entries};
 ghost use Rattle.tlb64.specs.Lookup.{lookup_of, probe_of};
-ghost use Rattle.tlb64.specs.Same.{same_entries};
 
 use crate::entry::{Entry, Found};
+use crate::kept::{KEPT, Kept, slot};
 use crate::sets::{lowest_match, set_of};
 use r3k_word::field::field;
 use std::marker::Model;
@@ -17,10 +16,13 @@ pub struct Tlb {
     entries: [Entry; 64],
     // Of each set, the bits of its entries' places.
     sets: [u64; 64],
+    // Lookups of before, until an entry changes.
+    kept: [Option<Kept>; KEPT],
 }
 
 impl Model for Tlb {
     ghost use Rattle.std.specs.Prelude.{List};
+    ghost use Rattle.tlb64.specs.Kept.{AreOf};
     ghost use Rattle.tlb64.specs.Sets.{AreSetsOf};
     ghost use Rattle.tlb64.specs.declared.entry.Entry.{Entry};
 
@@ -28,7 +30,7 @@ impl Model for Tlb {
 
     ghost view = { λ t. t.entries };
 
-    ghost invariant = { λ t. AreSetsOf t.entries t.sets };
+    ghost invariant = { λ t. (AreSetsOf t.entries t.sets) × (AreOf t.entries t.kept) };
 }
 
 impl Tlb {
@@ -41,12 +43,13 @@ impl Tlb {
         Tlb {
             entries: [Entry { hi: 0, lo: 0 }; 64],
             sets,
+            kept: [None; KEPT],
         }
     }
 
     /// The lowest entry that is for the page of a virtual address, and global or of the process
     /// `pid`, and whether more than one is. No entry is of a process above 63.
-    #[inline]
+    #[inline(never)]
     pub fn lookup(&self, address: u32, pid: u32) -> Option<Found>
         ensures found { result ≡ lookup_of self.now address pid }
         ensures within { IfSome result (λ found. found.index < 64) }
@@ -58,6 +61,34 @@ impl Tlb {
             entry: self.entries[lowest.place],
             several: lowest_match(&self.entries, lowest.rest, address, pid).is_some(),
         })
+    }
+
+    /// The same lookup, for a fetch or for data. That of a page which was looked up before, by this process and since an
+    /// entry was written, takes no search.
+    #[inline(always)]
+    pub fn translate(&mut self, is_fetch: bool, address: u32, pid: u32) -> Option<Found>
+        ensures found { result ≡ lookup_of self.old address pid }
+        ensures same { self.new ≡ self.old }
+    {
+        let kept = self.kept[slot(is_fetch, address)];
+        if let Some(kept) = kept
+            && kept.is_of(address, pid)
+        {
+            return Some(kept.found);
+        }
+        self.search(is_fetch, address, pid)
+    }
+
+    // Looks an address up, and keeps what is found.
+    #[inline(always)]
+    fn search(&mut self, is_fetch: bool, address: u32, pid: u32) -> Option<Found>
+        ensures found { result ≡ lookup_of self.old address pid }
+        ensures same { self.new ≡ self.old }
+    {
+        let found = self.lookup(address, pid)?;
+        let page = field::<31, 12>(address);
+        self.kept[slot(is_fetch, address)] = Some(Kept { page, pid, found });
+        Some(found)
     }
 
     /// The lookup for the page and the process of a value of EntryHi.
@@ -89,6 +120,7 @@ impl Tlb {
         self.sets[set_of(self.entries[place].hi)] &= !bit;
         self.sets[set_of(entry.hi)] |= bit;
         self.entries[place] = entry;
+        self.kept = [None; KEPT];
     }
 
     /// Makes the entries those of another.
@@ -97,35 +129,31 @@ impl Tlb {
     {
         self.entries = other.entries;
         self.sets = other.sets;
-    }
-
-    fn has_entries_of(&self, other: &Tlb) -> bool
-        ensures { result ≡ same_entries self.now other.now }
-    {
-        self.entries == other.entries
+        self.kept = other.kept;
     }
 }
 
 impl PartialEq for Tlb {
     ghost use Rattle.std.specs.Prelude.{◌≡◌, ◌↔◌, IsTrue};
-    ghost use Rattle.tlb64.specs.Same.{same_entries, same_entries_per};
+    ghost use Rattle.std.specs.Cmp.{decided, partial_equiv_from_equiv};
+    ghost use Rattle.tlb64.specs.Same.{is_same, is_same_decides};
 
-    ghost eq = { same_entries };
+    ghost eq = { is_same };
 
-    ghost laws = { same_entries_per };
+    ghost laws = { partial_equiv_from_equiv (decided is_same is_same_decides) };
 
     /// Whether all entries are equal.
-    #[tactic(auto, using(crate::specs::Same::same_entries_iff))]
     fn eq(&self, other: &Tlb) -> bool
-        ensures test { result ≡ same_entries self.now other.now }
-        ensures exact { IsTrue result ↔ (self.now ≡ other.now) }
+        ensures value { result ≡ is_same self.now other.now }
+        ensures equal { IsTrue result ↔ (self.now ≡ other.now) }
     {
-        self.has_entries_of(other)
+        self.entries == other.entries
     }
 }
 
 impl Eq for Tlb {
-    ghost use Rattle.tlb64.specs.Same.{same_entries_equivalence};
+    ghost use Rattle.std.specs.Cmp.{decided};
+    ghost use Rattle.tlb64.specs.Same.{is_same, is_same_decides};
 
-    ghost laws = { same_entries_equivalence };
+    ghost laws = { decided is_same is_same_decides };
 }

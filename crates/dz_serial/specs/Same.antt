@@ -6,26 +6,26 @@ use Rattle.dz_serial.specs.Character.{Character}
 use Rattle.dz_serial.specs.Serial.{Serial}
 
 -- line, byte and mark
-abbrev pub same_character : Character → Character → Bool
-same_character a b = nat_eq a.line b.line && nat_eq a.byte b.byte && beq a.overrun b.overrun
+abbrev pub is_same_character : Character → Character → Bool
+is_same_character a b = nat_eq a.line b.line && nat_eq a.byte b.byte && beq a.overrun b.overrun
 
 -- the silo, and what there is of each line
-abbrev pub same_lines : Serial → Serial → Bool
-same_lines a b =
-    pointwise same_character a.silo b.silo && pointwise beq a.lost b.lost
+abbrev pub has_same_lines : Serial → Serial → Bool
+has_same_lines a b =
+    pointwise is_same_character a.silo b.silo && pointwise beq a.lost b.lost
     && pointwise beq a.receivers b.receivers && pointwise beq a.enabled b.enabled
     && pointwise nat_eq a.busy b.busy
 
 -- what the scanner holds, and the byte time
-abbrev pub same_scanner : Serial → Serial → Bool
-same_scanner a b =
+abbrev pub has_same_scanner : Serial → Serial → Bool
+has_same_scanner a b =
     nat_eq a.tline b.tline && beq a.trdy b.trdy && nat_eq a.last_served b.last_served
     && nat_eq a.byte_time b.byte_time
 
 -- the bits that writes of CSR set
-abbrev pub same_control : Serial → Serial → Bool
-same_control a b = beq a.tie b.tie && beq a.rie b.rie && beq a.mse b.mse && beq a.maint b.maint
+abbrev pub has_same_control : Serial → Serial → Bool
+has_same_control a b = beq a.tie b.tie && beq a.rie b.rie && beq a.mse b.mse && beq a.maint b.maint
 
 -- all of it
-unfoldable pub same_serial : Serial → Serial → Bool
-same_serial a b = same_scanner a b && same_control a b && same_lines a b
+unfoldable pub is_same : Serial → Serial → Bool
+is_same a b = has_same_scanner a b && has_same_control a b && has_same_lines a b

@@ -1,22 +1,17 @@
 -- The tests of equality decide it (own).
 use Rattle.std.specs.Prelude.{◌≡◌}
-use Rattle.std.proofs.Common.{ap}
+use Rattle.std.proofs.Common.{ap, rules}
 use Rattle.std.specs.Bool.{Decides}
 use Rattle.std.specs.Cmp.{unsigned_Decides, booleans_Decides}
 use Rattle.std.specs.Cmp.Lexicographic.{pointwise_decides}
 use Rattle.std.proofs.lemmas.Bool.Decides.{Decides-and}
 use Rattle.dz_serial.specs.Character.{Character}
 use Rattle.dz_serial.specs.Serial.{Serial}
-use Rattle.dz_serial.specs.Equal.{same_character, same_scanner, same_control, same_lines}
-use Rattle.dz_serial.specs.Equal.{same_serial}
+use Rattle.dz_serial.specs.Same.{is_same_character, has_same_scanner, has_same_control, has_same_lines}
+use Rattle.dz_serial.specs.Same.{is_same}
 
-pub same_character_decides : (a b : Character) → Decides (same_character a b) (a ≡ b)
-same_character_decides a b =
-    let both = Decides-and _ _ (unsigned_Decides a.line b.line) (unsigned_Decides a.byte b.byte) in
-    let all = Decides-and _ _ both (booleans_Decides a.overrun b.overrun) in (
-      λ e i. let p = all.0 e in record { line = p.0.0 i; byte = p.0.1 i; overrun = p.1 i },
-      λ e. all.1 ((ap (λ (c : Character). c.line) e, ap (λ (c : Character). c.byte) e), ap (λ (c : Character). c.overrun) e),
-    )
+is_same_character_decides : (a b : Character) → Decides (is_same_character a b) (a ≡ b)
+is_same_character_decides a b = search rules
 
 record EqualScanner (a b : Serial) : Type 0 where
   pub tline : a.tline ≡ b.tline
@@ -24,7 +19,7 @@ record EqualScanner (a b : Serial) : Type 0 where
   pub last_served : a.last_served ≡ b.last_served
   pub byte_time : a.byte_time ≡ b.byte_time
 
-scanner_decides : (a b : Serial) → Decides (same_scanner a b) (EqualScanner a b)
+scanner_decides : (a b : Serial) → Decides (has_same_scanner a b) (EqualScanner a b)
 scanner_decides a b =
     let two = Decides-and _ _ (unsigned_Decides a.tline b.tline) (booleans_Decides a.trdy b.trdy) in
     let three = Decides-and _ _ two (unsigned_Decides a.last_served b.last_served) in
@@ -39,7 +34,7 @@ record EqualControl (a b : Serial) : Type 0 where
   pub mse : a.mse ≡ b.mse
   pub maint : a.maint ≡ b.maint
 
-control_decides : (a b : Serial) → Decides (same_control a b) (EqualControl a b)
+control_decides : (a b : Serial) → Decides (has_same_control a b) (EqualControl a b)
 control_decides a b =
     let two = Decides-and _ _ (booleans_Decides a.tie b.tie) (booleans_Decides a.rie b.rie) in
     let three = Decides-and _ _ two (booleans_Decides a.mse b.mse) in
@@ -55,9 +50,9 @@ record EqualLines (a b : Serial) : Type 0 where
   pub enabled : a.enabled ≡ b.enabled
   pub busy : a.busy ≡ b.busy
 
-lines_decide : (a b : Serial) → Decides (same_lines a b) (EqualLines a b)
+lines_decide : (a b : Serial) → Decides (has_same_lines a b) (EqualLines a b)
 lines_decide a b =
-    let one = pointwise_decides same_character_decides a.silo b.silo in
+    let one = pointwise_decides is_same_character_decides a.silo b.silo in
     let two = Decides-and _ _ one (pointwise_decides booleans_Decides a.lost b.lost) in
     let three = Decides-and _ _ two (pointwise_decides booleans_Decides a.receivers b.receivers) in
     let four = Decides-and _ _ three (pointwise_decides booleans_Decides a.enabled b.enabled) in
@@ -109,9 +104,9 @@ parts a b e = (
   },
 )
 
-pub same_serial_decides : (a b : Serial) → Decides (same_serial a b) (a ≡ b)
-unfolding same_serial
-same_serial_decides a b =
+pub is_same_decides : (a b : Serial) → Decides (is_same a b) (a ≡ b)
+unfolding is_same
+is_same_decides a b =
     let two = Decides-and _ _ (scanner_decides a b) (control_decides a b) in
     let all = Decides-and _ _ two (lines_decide a b) in
     (λ e. let p = all.0 e in whole a b p.0.0 p.0.1 p.1, λ e. all.1 (parts a b e))
