@@ -8,3 +8,7 @@ pub mod Loop
 pub mod Fields
 pub mod Format
 pub mod RomWords
+pub mod LongestRuns
+pub mod SetWords
+pub mod Pushing
+pub mod Inserting

@@ -18,10 +18,10 @@ word_in q s = if (q - s.address) % 4 == 0 then slice_get s.words ((q - s.address
 abbrev entries : List WordsAt → List (ℕ × ℕ)
 entries ss = flat_map (λ s. entries_from s.address s.words) ss
 
-find_here : (q a w : ℕ) (es : List (ℕ × ℕ)) → q ≡ a → find nat_cmp q ((a, w) ∷ es) ≡ Some w
+pub find_here : (q a w : ℕ) (es : List (ℕ × ℕ)) → q ≡ a → find nat_cmp q ((a, w) ∷ es) ≡ Some w
 find_here q a w es e = ap (λ b. cond b (Some w) (find nat_cmp q es)) (unsigned_tied q a ∙ eq-eqb q a e)
 
-find_other : (q a w : ℕ) (es : List (ℕ × ℕ)) → q ≢ a → find nat_cmp q ((a, w) ∷ es) ≡ find nat_cmp q es
+pub find_other : (q a w : ℕ) (es : List (ℕ × ℕ)) → q ≢ a → find nat_cmp q ((a, w) ∷ es) ≡ find nat_cmp q es
 find_other q a w es e = ap (λ b. cond b (Some w) (find nat_cmp q es)) (unsigned_tied q a ∙ ne_eqb q a e)
 
 -- what is not found in front is found behind

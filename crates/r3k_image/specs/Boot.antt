@@ -1,5 +1,5 @@
 -- A boot image (own): the words that it sets, by their physical addresses, and three constants. All other words are 0.
-use Rattle.std.specs.Prelude.{◌≡◌, ℕ, ◌+◌, ◌*◌, ◌%◌, ◌^◌, ◌<◌, ◌≤◌, List, length, slice_index, All, IfSome, IsSome, IsTrue, refl}
+use Rattle.std.specs.Prelude.{◌≡◌, ℕ, ◌+◌, ◌*◌, ◌%◌, ◌^◌, ◌<◌, ◌≤◌, List, [], ◌∷◌, length, slice_index, All, IfSome, IsSome, IsTrue, refl}
 use Rattle.std.specs.Ordering.{nat_cmp}
 use Rattle.std.specs.FinMap as map
 use Rattle.std.specs.Coded.{Coded, code_by, coded×, coded_ℕ, coded_list}
@@ -39,6 +39,10 @@ pub record IsClockStart (registers : List ℕ) : Type 0 where
   pub bytes : All (λ b. b < 256) registers
   pub register_a : slice_index registers 10 < 128
   pub register_b : slice_index registers 11 % 2 ≡ 0
+
+-- what the clock starts with where nothing else is said (own): midnight of Sunday, the 1st of January, in binary and 24 hours
+abbrev pub plain_clock_start : List ℕ
+plain_clock_start = 0 ∷ 0 ∷ 0 ∷ 0 ∷ 0 ∷ 0 ∷ 1 ∷ 1 ∷ 1 ∷ 0 ∷ 32 ∷ 6 ∷ []
 
 -- what every boot image keeps (own): each set word is a word of RAM or ROM, and the constants are in their ranges
 pub record IsBoot (boot : Boot) : Type 0 where

@@ -1,4 +1,6 @@
 pub mod Boot
+pub mod Entries
 pub mod Segments
 pub mod Spelling
 pub mod Reading
+pub mod Writing

@@ -10,6 +10,22 @@ pub struct Segment {
     pub words: Vec<u32>,
 }
 
+impl Segment {
+    ghost use Rattle.std.specs.Prelude.{◌≡◌, ◌↔◌, IsTrue, length};
+    ghost use Rattle.r3k_image.specs.Segments.{end_of};
+
+    /// Whether it ends at an address.
+    pub fn ends_at(&self, address: u32) -> bool
+        ensures { IsTrue result ↔ (end_of self.now.address (length self.now.words.items) ≡ address) }
+    {
+        if address < self.address {
+            return false;
+        }
+        let offset = address - self.address;
+        offset % 4 == 0 && offset as usize / 4 == self.words.len()
+    }
+}
+
 /// The last segment that begins at or below an address, found by halving.
 pub fn last_segment_at(segments: &[Segment], address: u32) -> Option<&Segment>
     requires { AreSegments 0 (views segments.now) }

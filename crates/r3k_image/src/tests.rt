@@ -162,3 +162,69 @@ fn longest_raw_rom(rt: HostRuntime) -> Result<(), Fail> {
     }
     Ok(())
 }
+
+#[test]
+fn written_again(rt: HostRuntime) -> Result<(), Fail> {
+    for bytes in [EMPTY.as_slice(), LOAD_SLOT.as_slice()] {
+        let image = read_image(rt.alloc(), bytes)?;
+        assert_eq!(rt; write_image(rt.alloc(), &image)?.as_slice(), bytes);
+    }
+    Ok(())
+}
+
+// Segments that touch are written as one, also where RAM ends and where ROM does.
+#[test]
+fn touching_segments_are_joined(rt: HostRuntime) -> Result<(), Fail> {
+    let apart = *b"R3KIMG1\n\x02\0\0\0\x03\0\0\0\
+\0\0\0\0\0\0\x01\x01\x01\0\x20\x06\
+\x04\0\0\0\
+\0\x01\0\0\x01\0\0\0\x05\0\0\0\
+\x04\x01\0\0\x02\0\0\0\x06\0\0\0\x07\0\0\0\
+\x10\x01\0\0\x01\0\0\0\x08\0\0\0\
+\xfc\xff\xff\x01\x01\0\0\0\x09\0\0\0";
+    let joined = *b"R3KIMG1\n\x02\0\0\0\x03\0\0\0\
+\0\0\0\0\0\0\x01\x01\x01\0\x20\x06\
+\x03\0\0\0\
+\0\x01\0\0\x03\0\0\0\x05\0\0\0\x06\0\0\0\x07\0\0\0\
+\x10\x01\0\0\x01\0\0\0\x08\0\0\0\
+\xfc\xff\xff\x01\x01\0\0\0\x09\0\0\0";
+    let image = read_image(rt.alloc(), &apart)?;
+    assert_eq!(rt;
+        write_image(rt.alloc(), &image)?.as_slice(),
+        joined.as_slice()
+    );
+    Ok(())
+}
+
+#[test]
+fn image_of_words(rt: HostRuntime) -> Result<(), Fail> {
+    let mut words = WordMap::new(rt.alloc());
+    for (address, word) in [
+        (0x1FC0_0004, 0x8C22_0100),
+        (0x1FC0_000C, 0x0040_2021),
+        (0x100, 5),
+        (0x1FC0_0008, 0x0040_1821),
+        (0x1FC0_0000, 0x3C01_A000),
+    ] {
+        let address = WordAddress::new(address).ok_or("no word")?;
+        assert!(rt; words.insert(address, 0)?);
+        assert!(rt; !words.insert(address, word)?);
+    }
+    assert_eq!(rt; WordAddress::new(0x101), None);
+    assert_eq!(rt; WordAddress::new(0x0200_0000), None);
+    let image = words.image(
+        rt.alloc(),
+        Constant::plain_byte_time(),
+        Constant::plain_unit(),
+        ClockStart::plain(),
+    )?;
+    assert_eq!(rt;
+        write_image(rt.alloc(), &image)?.as_slice(),
+        LOAD_SLOT.as_slice()
+    );
+    assert_eq!(rt; Constant::new(0), None);
+    assert_eq!(rt; Constant::new(65536), None);
+    let start = ClockStart::new(&CLOCK).ok_or("no start")?;
+    assert_eq!(rt; start.get(), CLOCK);
+    Ok(())
+}
