@@ -1,0 +1,4 @@
+pub mod Labels
+pub mod Reference
+pub mod Source
+pub mod Meaning

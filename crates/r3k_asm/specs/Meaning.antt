@@ -1,0 +1,54 @@
+-- What a source means (own): the image that its lines make in two passes, or the first fault. The second pass is made only
+-- where the first has no fault.
+use Rattle.std.specs.Prelude.{◌≡◌, ℕ, ◌+◌, List, [], ◌∷◌, Result, Ok, Err, unwrap_or}
+use Rattle.std.specs.Ordering.{nat_cmp}
+use Rattle.std.specs.FinMap as map
+use Rattle.std.specs.Str.Lines.{lines}
+use Rattle.r3k_image.specs.Boot.{Boot, plain_clock_start}
+use Rattle.asm_line.specs.declared.kind.AsmKind.{AsmKind}
+use Rattle.r3k_asm.specs.declared.fault.AsmFault.{AsmFault}
+use Rattle.r3k_asm.specs.declared.fault.AsmFault.TheVariants.{Memory, Bad}
+use Rattle.r3k_asm.specs.declared.reference.Reference.{Reference}
+use Rattle.r3k_asm.specs.Reference.{LabelMap, word_of_reference}
+use Rattle.r3k_asm.specs.Source.{State, started, read}
+
+-- what a line gives, and then what follows
+abbrev pub at_line : {A B : Type 0} → ℕ → Result A AsmKind → (A → Result B AsmFault) → Result B AsmFault
+at_line line (Ok x) f = f x
+at_line line (Err kind) f = Err (Bad line kind)
+
+infixl 10 ◌>>=◌
+abbrev pub ◌>>=◌ : {A B : Type 0} → Result A AsmFault → (A → Result B AsmFault) → Result B AsmFault
+(Ok x) >>= f = f x
+(Err fault) >>= f = Err fault
+
+-- the first pass over lines, the first of which has this number
+unfoldable pub passed : ℕ → State → List (List ℕ) → Result State AsmFault
+passed line s [] = Ok s
+passed line s (l ∷ ls) = at_line line (read line s l) (λ next. passed (line + 1) next ls)
+
+-- the second pass: each word gets the part that its target gives
+unfoldable pub linked : LabelMap → map.FinMap nat_cmp ℕ → List Reference → Result (map.FinMap nat_cmp ℕ) AsmFault
+linked labels words [] = Ok words
+linked labels words (r ∷ rs) = at_line r.line (word_of_reference labels r) (λ word. linked labels (map.insert words r.address word) rs)
+
+-- the image of a source: byte time 16, unit 1 and the clock of a raw ROM where it does not say them
+unfoldable pub image_of : List ℕ → Result Boot AsmFault
+image_of text = do
+  s ← passed 1 started (lines text)
+  words ← linked s.labels s.words s.references
+  Ok (record {
+    words = words;
+    byte_time = unwrap_or s.byte_time 16;
+    unit = unwrap_or s.unit 1;
+    clock_start = unwrap_or s.clock plain_clock_start;
+  })
+
+-- what a call answers that may run out of memory
+abbrev pub Fails : {Y : Type 0} → AsmFault → Result Y AsmFault → Type 0
+Fails Memory answer = Unit {0}
+Fails (Bad line kind) answer = answer ≡ Err (Bad line kind)
+
+abbrev pub Answers : {X Y : Type 0} → (X → Y) → Result X AsmFault → Result Y AsmFault → Type 0
+Answers view (Ok x) answer = answer ≡ Ok (view x)
+Answers view (Err fault) answer = Fails fault answer

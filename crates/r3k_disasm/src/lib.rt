@@ -1,0 +1,12 @@
+//! Instructions as text: the name of a word's row and its operands.
+#![tactic(auto)]
+
+mod instruction;
+mod number;
+mod operand;
+mod target;
+
+pub use instruction::text;
+
+#[cfg(test)]
+mod tests;
