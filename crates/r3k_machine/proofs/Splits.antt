@@ -4,7 +4,7 @@ use Rattle.std.proofs.Math.Path.{ap₂}
 use Rattle.std.proofs.lemmas.List.{append-nil}
 use Rattle.std.proofs.lemmas.List.Elements.{filter_map-append}
 use Rattle.input_log.specs.Event.{TimedByte}
-use Rattle.r3k_machine.specs.declared.turn.Done.{Done}
+use Rattle.r3k_machine.specs.declared.step.Done.{Done}
 use Rattle.r3k_machine.specs.State.{State}
 use Rattle.r3k_machine.specs.Step.{next, told}
 use Rattle.r3k_machine.specs.Run.{run, trace, arriving, console_of, byte_on, last_writer, later, stores_into}

@@ -1,5 +1,5 @@
 -- Exceptions, after Kane and Heinrich, chapter 6. That a pending load lands is own.
-use Rattle.std.specs.Prelude.{ℕ, ◌==◌, ◌&&◌, ◌||◌, Bool, false, Option, Some, None, nat_le, if◌then◌else◌}
+use Rattle.std.specs.Prelude.{ℕ, ◌==◌, ◌&&◌, ◌||◌, not, Bool, true, false, Option, Some, None, nat_le, if◌then◌else◌}
 use Rattle.r3k_word.specs.Word.{field_of, sum_of}
 use Rattle.cop0.specs.declared.exception.Coprocessor.{Coprocessor}
 use Rattle.cop0.specs.declared.exception.Coprocessor.TheVariants.{Cp0, Cp1, Cp2, Cp3}
@@ -7,47 +7,61 @@ use Rattle.cop0.specs.declared.exception.Exc.{Exc}
 use Rattle.cop0.specs.declared.exception.ExcCode.{ExcCode}
 use Rattle.cop0.specs.declared.exception.ExcCode.TheVariants as code
 use Rattle.cop0.specs.Exception as control
+use Rattle.cop0.specs.Status.{is_usable}
 use Rattle.r3k_exec.specs.declared.operands.Trap.{Trap}
 use Rattle.r3k_exec.specs.declared.operands.Trap.TheVariants as trap
 use Rattle.r3k_machine.specs.declared.exception.Exception.{Exception}
-use Rattle.r3k_machine.specs.declared.exception.Exception.TheVariants.{Interrupt, AddressErrorLoad, AddressErrorStore, BusErrorFetch, BusErrorLoad, SystemCall, Breakpoint, ReservedInstruction, CoprocessorUnusable, Overflow}
-use Rattle.r3k_machine.specs.declared.state.Core.{Core}
-use Rattle.r3k_machine.specs.State.{landed, in_user_mode}
+use Rattle.r3k_machine.specs.declared.exception.Exception.TheVariants.{Interrupt, AddressErrorLoad, AddressErrorStore, TlbLoad, TlbStore, Modification, BusErrorFetch, BusErrorLoad, SystemCall, Breakpoint, ReservedInstruction, CoprocessorUnusable, Overflow}
+use Rattle.r3k_machine.specs.Core.{Core}
+use Rattle.r3k_machine.specs.State.{landed}
 
 -- the code of each
 abbrev pub code_of : Exception → ExcCode
 code_of Interrupt = code.Interrupt
 code_of (AddressErrorLoad address) = code.AddressLoad
 code_of (AddressErrorStore address) = code.AddressStore
+code_of (TlbLoad address refill) = code.TlbLoad
+code_of (TlbStore address refill) = code.TlbStore
+code_of (Modification address) = code.Modification
 code_of BusErrorFetch = code.BusFetch
 code_of BusErrorLoad = code.BusLoad
 code_of SystemCall = code.SystemCall
 code_of Breakpoint = code.Breakpoint
 code_of ReservedInstruction = code.ReservedInstruction
-code_of (CoprocessorUnusable coprocessor) = code.CoprocessorUnusable
+code_of (CoprocessorUnusable coprocessor) = code.CoprocessorUnusable coprocessor
 code_of Overflow = code.Overflow
 
--- the coprocessor that is not usable; for any other exception coprocessor 0
-abbrev pub coprocessor_of : Exception → Coprocessor
-coprocessor_of (CoprocessorUnusable coprocessor) = coprocessor
-coprocessor_of exception = Cp0
-
--- BadVAddr is loaded by an address error alone
+-- the address that BadVAddr is loaded with
 abbrev pub bad_of : Exception → Option ℕ
 bad_of (AddressErrorLoad address) = Some address
 bad_of (AddressErrorStore address) = Some address
+bad_of (TlbLoad address refill) = Some address
+bad_of (TlbStore address refill) = Some address
+bad_of (Modification address) = Some address
 bad_of exception = None
+
+-- the exceptions of translation, which load Context and EntryHi too
+abbrev pub is_mapped : Exception → Bool
+is_mapped (TlbLoad address refill) = true
+is_mapped (TlbStore address refill) = true
+is_mapped (Modification address) = true
+is_mapped exception = false
+
+-- those that call the handler for user misses
+abbrev pub is_refill : Exception → Bool
+is_refill (TlbLoad address refill) = refill
+is_refill (TlbStore address refill) = refill
+is_refill exception = false
 
 -- what an exception of the instruction at PC tells the control registers
 abbrev pub exc_of : Core → Exception → Exc
 exc_of core exception = record {
   code = code_of exception;
-  ce = coprocessor_of exception;
   pc = core.pc;
   delay = core.delay;
   bad = bad_of exception;
-  mapped = false;
-  refill = false;
+  mapped = is_mapped exception;
+  refill = is_refill exception;
 }
 
 -- The processor after an exception of the instruction at its PC: the instruction writes nothing, the pending load lands,
@@ -57,11 +71,13 @@ entered core exception = record {
   registers = landed core.registers core.load;
   hi = core.hi;
   lo = core.lo;
-  pc = control.vector_of core.cop0.status false;
-  next_pc = sum_of (control.vector_of core.cop0.status false) 4;
+  pc = control.vector_of core.cop0.status (is_refill exception);
+  next_pc = sum_of (control.vector_of core.cop0.status (is_refill exception)) 4;
   delay = false;
   load = None;
   cop0 = control.entered core.cop0 (exc_of core exception);
+  entries = core.entries;
+  caches = core.caches;
 }
 
 -- the exceptions that an instruction makes by itself
@@ -70,10 +86,9 @@ exception_of trap.SystemCall = SystemCall
 exception_of trap.Breakpoint = Breakpoint
 exception_of trap.Overflow = Overflow
 
--- Coprocessor 0 is not usable in user mode as long as CU0, bit 28 of Status, is 0. Opcode 16 is its own.
+-- a word of opcode 16, coprocessor 0's, where that is not usable
 abbrev pub is_unusable : Core → ℕ → Bool
-is_unusable core word =
-    (field_of 31 26 word == 16) && (in_user_mode core && (field_of 28 28 core.cop0.status == 0))
+is_unusable core word = (field_of 31 26 word == 16) && not (is_usable core.cop0)
 
 -- the opcodes of coprocessors 1 to 3, their loads and their stores
 abbrev pub is_of_coprocessor : ℕ → Bool

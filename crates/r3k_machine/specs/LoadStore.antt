@@ -1,17 +1,22 @@
 -- Load and store, after Kane and Heinrich, chapter 2 and appendix A; RAM and ROM are those of the layout of memory. An
 -- unassigned address is a bus error for fetches and loads; a store there, or to ROM, has no effect (own).
-use Rattle.std.specs.Prelude.{ℕ, ◌+◌, ◌-◌, ◌*◌, ◌/◌, ◌%◌, ◌^◌, List, Option, Some, None, Result, Ok, Err, slice_index, slice_set, nat_lt, ◌==◌, if◌then◌else◌, bit_and, bit_or}
+use Rattle.std.specs.Prelude.{ℕ, ◌+◌, ◌*◌, ◌/◌, ◌%◌, List, Option, Some, None, Result, Ok, Err, slice_index, slice_set, nat_lt, ◌==◌, if◌then◌else◌}
+use Rattle.r3k_word.specs.Word.{merged}
 use Rattle.r3k_word.specs.Layout.{place_of_word, page_of_place}
+use Rattle.r3k_word.specs.declared.layout.TheConstants.{PAGE_BYTES}
 use Rattle.r3k_exec.specs.Access.{is_aligned_load, is_aligned_store}
 use Rattle.r3k_exec.specs.declared.access.Covered.{Covered}
 use Rattle.r3k_exec.specs.declared.access.LoadKind.{LoadKind}
 use Rattle.r3k_exec.specs.declared.access.StoreKind.{StoreKind}
 use Rattle.r3k_machine.specs.declared.exception.Exception.{Exception}
-use Rattle.r3k_machine.specs.declared.exception.Exception.TheVariants.{AddressErrorLoad, AddressErrorStore, BusErrorFetch, BusErrorLoad}
+use Rattle.r3k_machine.specs.declared.exception.Exception.TheVariants.{BusErrorFetch, BusErrorLoad}
+use Rattle.r3k_machine.specs.declared.load_store.Loaded.{Loaded}
 use Rattle.r3k_machine.specs.declared.load_store.Word.{Word}
-use Rattle.r3k_machine.specs.declared.state.Core.{Core}
-use Rattle.r3k_machine.specs.Address.{physical}
-use Rattle.r3k_machine.specs.State.{in_user_mode}
+use Rattle.r3k_machine.specs.Core.{Core}
+use Rattle.r3k_machine.specs.declared.address.Physical.{Physical}
+use Rattle.r3k_machine.specs.declared.address.Use.TheVariants.{Fetch, Load, Store}
+use Rattle.r3k_machine.specs.Address.{Meaning, meaning, met}
+use Rattle.r3k_machine.specs.Isolated.{is_isolated, slot_at, with_isolated_load, with_isolated_store}
 
 -- the word of RAM or ROM that a physical address lies in, and its page
 abbrev pub word_of_place : List ℕ → Option ℕ → Option Word
@@ -21,52 +26,86 @@ word_of_place words (Some place) = Some (record { word = slice_index words place
 abbrev pub word_at : ℕ → List ℕ → ℕ → Option Word
 word_at pages words address = word_of_place words (place_of_word pages (address / 4 * 4))
 
--- a word that is read, or the exception where the address is bad, or where there is no word
+-- a word that is read, or the exception of its address, or that where there is no word
 abbrev pub word_or : Exception → Option Word → Result Word Exception
 word_or bus_error None = Err bus_error
 word_or bus_error (Some w) = Ok w
 
-abbrev pub word_read : ℕ → List ℕ → (address_error bus_error : Exception) → Option ℕ → Result Word Exception
-word_read pages words address_error bus_error None = Err address_error
-word_read pages words address_error bus_error (Some address) = word_or bus_error (word_at pages words address)
+abbrev pub word_read : ℕ → List ℕ → Exception → Result Physical Exception → Result Word Exception
+word_read pages words bus_error (Err exception) = Err exception
+word_read pages words bus_error (Ok physical) = word_or bus_error (word_at pages words physical.address)
+
+-- the meaning of the address of a fetch, a load and a store
+abbrev pub meaning_of_fetch : Core → Meaning
+meaning_of_fetch core = meaning core Fetch (core.pc % 4 == 0) core.pc
+
+abbrev pub meaning_of_load : Core → LoadKind → ℕ → Meaning
+meaning_of_load core kind address = meaning core Load (is_aligned_load kind address) address
+
+abbrev pub meaning_of_store : Core → StoreKind → ℕ → Meaning
+meaning_of_store core kind address = meaning core Store (is_aligned_store kind address) address
 
 -- the fetch of the instruction at PC
 abbrev pub fetched : ℕ → List ℕ → Core → Result Word Exception
-fetched pages words core =
-    word_read pages words (AddressErrorLoad core.pc) BusErrorFetch (physical (in_user_mode core) (core.pc % 4 == 0) core.pc)
+fetched pages words core = word_read pages words BusErrorFetch (meaning_of_fetch core).answer
 
--- a load
-abbrev pub loaded_from : ℕ → List ℕ → Core → LoadKind → ℕ → Result Word Exception
+-- A load, by the processor after the meaning of its address. One that is isolated gives the word of its slot, and touches no page.
+abbrev pub loaded_or : Exception → Option Word → Result Loaded Exception
+loaded_or bus_error None = Err bus_error
+loaded_or bus_error (Some w) = Ok (record { word = w.word; page = Some w.page })
+
+abbrev pub loaded_at : ℕ → List ℕ → Core → Result Physical Exception → Result Loaded Exception
+loaded_at pages words core (Err exception) = Err exception
+loaded_at pages words core (Ok physical) =
+    if is_isolated core physical
+    then Ok (record { word = (slot_at core physical.address).word; page = None })
+    else loaded_or BusErrorLoad (word_at pages words physical.address)
+
+abbrev pub loaded_from : ℕ → List ℕ → Core → LoadKind → ℕ → Result Loaded Exception
 loaded_from pages words core kind address =
-    word_read pages words (AddressErrorLoad address) BusErrorLoad (physical (in_user_mode core) (is_aligned_load kind address) address)
+    let m = meaning_of_load core kind address in loaded_at pages words (met core m) m.answer
+
+-- and the processor after it
+abbrev pub after_load : Core → Result Physical Exception → Core
+after_load core (Err exception) = core
+after_load core (Ok physical) = if is_isolated core physical then with_isolated_load core physical.address else core
+
+abbrev pub core_after_load : Core → LoadKind → ℕ → Core
+core_after_load core kind address =
+    let m = meaning_of_load core kind address in after_load (met core m) m.answer
 
 -- the word of RAM that a physical address lies in, by its own address
 abbrev pub ram_word : ℕ → ℕ → Option ℕ
-ram_word pages address = if nat_lt address (pages * 4096) then Some (address / 4 * 4) else None
+ram_word pages address = if nat_lt address (pages * PAGE_BYTES) then Some (address / 4 * 4) else None
 
--- the word of RAM that a store goes into, if there is one
-abbrev pub ram_word_or : ℕ → Exception → Option ℕ → Result (Option ℕ) Exception
-ram_word_or pages address_error None = Err address_error
-ram_word_or pages address_error (Some address) = Ok (ram_word pages address)
+-- The word of RAM that a store goes into, if there is one. One that is isolated goes into its slot alone.
+abbrev pub stored_at : ℕ → Core → Result Physical Exception → Result (Option ℕ) Exception
+stored_at pages core (Err exception) = Err exception
+stored_at pages core (Ok physical) = Ok (if is_isolated core physical then None else ram_word pages physical.address)
 
 abbrev pub stored_to : ℕ → Core → StoreKind → ℕ → Result (Option ℕ) Exception
 stored_to pages core kind address =
-    ram_word_or pages (AddressErrorStore address) (physical (in_user_mode core) (is_aligned_store kind address) address)
+    let m = meaning_of_store core kind address in stored_at pages (met core m) m.answer
+
+-- and the processor after it
+abbrev pub after_store : Core → StoreKind → ℕ → Result Physical Exception → Core
+after_store core kind value (Err exception) = core
+after_store core kind value (Ok physical) =
+    if is_isolated core physical then with_isolated_store core kind physical.address value else core
+
+abbrev pub core_after_store : Core → StoreKind → (address value : ℕ) → Core
+core_after_store core kind address value =
+    let m = meaning_of_store core kind address in after_store (met core m) kind value m.answer
 
 -- the bits of the bytes that lanes cover
 abbrev pub lane_mask : ℕ → ℕ
 lane_mask lanes =
     lanes % 2 * 0xFF + lanes / 2 % 2 * 0xFF00 + lanes / 4 % 2 * 0xFF_0000 + lanes / 8 % 2 * 0xFF00_0000
 
--- a word after a store: the covered bytes are new, and the others stay
-abbrev pub merged : ℕ → Covered → ℕ
-merged word covered =
-    bit_or (bit_and word (2 ^ 32 - 1 - lane_mask covered.lanes)) (bit_and covered.word (lane_mask covered.lanes))
-
--- all words after a store
+-- all words after a store: the covered bytes are new, and all others stay
 abbrev pub words_with : List ℕ → Option ℕ → Covered → List ℕ
 words_with words None covered = words
-words_with words (Some address) covered = slice_set words (address / 4) (merged (slice_index words (address / 4)) covered)
+words_with words (Some address) covered = slice_set words (address / 4) (merged (lane_mask covered.lanes) (slice_index words (address / 4)) covered.word)
 
 abbrev pub words_after : List ℕ → Result (Option ℕ) Exception → Covered → List ℕ
 words_after words (Err exception) covered = words

@@ -1,12 +1,15 @@
 -- Reset (own): PC and next PC stand at the start of ROM in kseg1, and the control registers are those at reset. RAM and ROM
--- hold the words that the image sets. All else is 0 or empty.
-use Rattle.std.specs.Prelude.{ℕ, List, replicate, false, None, map, unwrap_or}
+-- hold the words that the image sets. All else, the translation entries and the slots of the isolated cache too, is 0 or empty.
+use Rattle.std.specs.Prelude.{ℕ, ◌+◌, List, replicate, false, None, map, unwrap_or}
 use Rattle.std.specs.List.{range_with_len}
 use Rattle.std.specs.FinMap.{get}
 use Rattle.r3k_word.specs.Layout.{word_count_of, address_of_place}
 use Rattle.r3k_image.specs.Boot.{Boot}
 use Rattle.cop0.specs.Registers.{reset_registers}
-use Rattle.r3k_machine.specs.declared.state.Core.{Core}
+use Rattle.tlb64.specs.Entries.{reset_entries}
+use Rattle.dcache.specs.Arrays.{reset_arrays}
+use Rattle.r3k_machine.specs.Core.{Core}
+use Rattle.r3k_machine.specs.declared.state.TheConstants.{RESET_PC}
 use Rattle.r3k_machine.specs.State.{State}
 
 abbrev pub reset_core : Core
@@ -14,11 +17,13 @@ reset_core = record {
   registers = replicate 32 0;
   hi = 0;
   lo = 0;
-  pc = 0xBFC0_0000;
-  next_pc = 0xBFC0_0004;
+  pc = RESET_PC;
+  next_pc = RESET_PC + 4;
   delay = false;
   load = None;
   cop0 = reset_registers;
+  entries = reset_entries;
+  caches = reset_arrays;
 }
 
 -- the word at a place at reset

@@ -4,7 +4,7 @@ use Rattle.std.specs.List.{filter_map}
 use Rattle.input_log.specs.Event.{TimedByte}
 use Rattle.input_log.specs.Log.{window_of}
 use Rattle.r3k_image.specs.Boot.{Boot}
-use Rattle.r3k_machine.specs.declared.turn.Done.{Done}
+use Rattle.r3k_machine.specs.declared.step.Done.{Done}
 use Rattle.dz_serial.specs.declared.write.Sent.{Sent}
 use Rattle.r3k_machine.specs.State.{State}
 use Rattle.r3k_machine.specs.Reset.{reset}

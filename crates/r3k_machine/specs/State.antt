@@ -1,8 +1,7 @@
 -- The state of the machine: the processor, and the words of RAM and ROM in one list (Kane and Heinrich, chapter 2).
-use Rattle.std.specs.Prelude.{ℕ, List, Bool, Option, Some, None, slice_index, slice_set, ◌==◌, if◌then◌else◌}
-use Rattle.r3k_word.specs.Word.{field_of}
-use Rattle.r3k_machine.specs.declared.state.Core.{Core}
-use Rattle.r3k_machine.specs.Pending.{Pending}
+use Rattle.std.specs.Prelude.{ℕ, List, Option, Some, None, slice_index, slice_set, ◌==◌, if◌then◌else◌}
+use Rattle.r3k_machine.specs.Core.{Core}
+use Rattle.r3k_machine.specs.LoadSlot.{DelayedLoad}
 
 pub record State : Type 0 where
   pub core : Core
@@ -17,10 +16,6 @@ abbrev pub with_register : List ℕ → ℕ → ℕ → List ℕ
 with_register registers number value = if number == 0 then registers else slice_set registers number value
 
 -- the registers after the pending load landed
-abbrev pub landed : List ℕ → Option Pending → List ℕ
+abbrev pub landed : List ℕ → Option DelayedLoad → List ℕ
 landed registers None = registers
 landed registers (Some load) = with_register registers load.register load.value
-
--- KUc, bit 1 of Status
-abbrev pub in_user_mode : Core → Bool
-in_user_mode core = field_of 1 1 core.cop0.status == 1

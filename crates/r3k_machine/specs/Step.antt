@@ -1,6 +1,7 @@
 -- One step, after Kane and Heinrich, chapters 1 to 3 and 6; the order of its parts is own.
 use Rattle.std.specs.Prelude.{◌≡◌, ℕ, ◌/◌, List, [], ◌∷◌, true, false, Option, Some, None, Result, Ok, Err, ◌==◌, ◌%◌, if◌then◌else◌}
 use Rattle.r3k_word.specs.Word.{sum_of}
+use Rattle.r3k_word.specs.declared.layout.TheConstants.{PAGE_BYTES}
 use Rattle.cop0.specs.Changes as control
 use Rattle.cop0.specs.Registers.{register_of, written}
 use Rattle.cop0.specs.declared.exception.Coprocessor.TheVariants.{Cp0}
@@ -11,16 +12,20 @@ use Rattle.r3k_exec.specs.Access.{loaded, stored}
 use Rattle.r3k_exec.specs.Effects.{effect_of}
 use Rattle.r3k_exec.specs.declared.access.LoadKind.{LoadKind}
 use Rattle.r3k_exec.specs.declared.operands.Effect.{Effect}
-use Rattle.r3k_exec.specs.declared.operands.Effect.TheVariants.{Write, WriteHi, WriteLo, WriteHiLo, Jump, JumpAndLink, Trap, Load, Store, MoveFromControl, MoveToControl, ReturnFromException}
+use Rattle.r3k_exec.specs.declared.operands.Effect.TheVariants.{Write, WriteHi, WriteLo, WriteHiLo, Jump, JumpAndLink, Trap, Load, Store, MoveFromControl, MoveToControl, ReadEntry, WriteIndexedEntry, WriteRandomEntry, ProbeEntry, ReturnFromException}
 use Rattle.r3k_exec.specs.declared.operands.Operands.{Operands}
 use Rattle.r3k_machine.specs.declared.exception.Exception.{Exception}
-use Rattle.r3k_machine.specs.declared.exception.Exception.TheVariants.{Interrupt, ReservedInstruction, CoprocessorUnusable}
+use Rattle.r3k_machine.specs.declared.exception.Exception.TheVariants.{Interrupt, CoprocessorUnusable}
+use Rattle.r3k_machine.specs.declared.load_store.Loaded.{Loaded}
 use Rattle.r3k_machine.specs.declared.load_store.Word.{Word}
-use Rattle.r3k_machine.specs.declared.state.Core.{Core}
-use Rattle.r3k_machine.specs.declared.turn.Done.{Done}
-use Rattle.r3k_machine.specs.Pending.{Pending}
+use Rattle.r3k_machine.specs.Core.{Core}
+use Rattle.r3k_machine.specs.declared.step.Done.{Done}
+use Rattle.r3k_machine.specs.LoadSlot.{DelayedLoad}
 use Rattle.r3k_machine.specs.State.{State, register, with_register, landed}
-use Rattle.r3k_machine.specs.LoadStore.{fetched, loaded_from, stored_to, words_after}
+use Rattle.r3k_machine.specs.LoadStore.{meaning_of_fetch, fetched, loaded_from, core_after_load, stored_to, core_after_store, words_after}
+use Rattle.r3k_machine.specs.Address.{met}
+use Rattle.r3k_machine.specs.Translation.{with_entry_read, with_entry_written, with_probe}
+use Rattle.cop0.specs.declared.number.TheConstants.{INDEX, RANDOM}
 use Rattle.r3k_machine.specs.Exceptions.{entered, exception_of, is_unusable, without_row}
 
 -- what a step leaves and tells
@@ -28,16 +33,16 @@ pub record Outcome : Type 0 where
   pub state : State
   pub done : Done
 
--- what it tells: it at most fetched, or it loaded too, or stored, into a word of RAM or into none
+-- what it tells: it at most fetched, or it loaded too, from a page or from none, or stored, into a word of RAM or into none
 abbrev pub fetching : Option ℕ → Done
 fetching page = record { sent = None; stored = None; touched = page ∷ None ∷ [] }
 
-abbrev pub loading : (page loaded : ℕ) → Done
-loading page from = record { sent = None; stored = None; touched = Some page ∷ Some from ∷ [] }
+abbrev pub loading : ℕ → Option ℕ → Done
+loading page from = record { sent = None; stored = None; touched = Some page ∷ from ∷ [] }
 
 abbrev pub page_stored : Option ℕ → Option ℕ
 page_stored None = None
-page_stored (Some address) = Some (address / 4096)
+page_stored (Some address) = Some (address / PAGE_BYTES)
 
 abbrev pub storing : ℕ → Option ℕ → Done
 storing page address = record { sent = None; stored = address; touched = Some page ∷ page_stored address ∷ [] }
@@ -83,11 +88,11 @@ abbrev pub with_write : Core → (number value : ℕ) → Core
 with_write core number value = record core { registers = with_register core.registers number value }
 
 -- The value of a load waits in the slot. One for r0 leaves the slot empty.
-abbrev pub slot : (number value : ℕ) → Option Pending
-slot number value = if number == 0 then None else Some (record { register = number; value = value })
+abbrev pub slot_after_load : (number value : ℕ) → Option DelayedLoad
+slot_after_load number value = if number == 0 then None else Some (record { register = number; value = value })
 
 abbrev pub with_slot : Core → (number value : ℕ) → Core
-with_slot core number value = record core { load = slot number value }
+with_slot core number value = record core { load = slot_after_load number value }
 
 -- A branch marks the next instruction as one in a delay slot, taken or not; the target comes behind it.
 abbrev pub next_pc_of : Core → Option ℕ → ℕ
@@ -97,105 +102,116 @@ next_pc_of core (Some target) = target
 abbrev pub branched : Core → Option ℕ → Core
 branched core target = record core { next_pc = next_pc_of core target; delay = true }
 
--- what the instruction leaves and tells, or its exception
-abbrev pub Completes : Type 0
-Completes = Result Outcome Exception
+-- what the instruction leaves and tells, or its exception, with the processor as its access left it
+pub record Fault : Type 0 where
+  pub core : Core
+  pub exception : Exception
+
+abbrev pub faulted : Core → Exception → Fault
+faulted core exception = record { core = core; exception = exception }
+
+abbrev pub Completion : Type 0
+Completion = Result Outcome Fault
 
 -- an instruction that touches no memory but the page that it was fetched from
-abbrev pub quietly : State → ℕ → Core → Completes
-quietly s page core = Ok (record { state = record { core = core; words = s.words }; done = fetching (Some page) })
+abbrev pub completion_without_access : State → ℕ → Core → Completion
+completion_without_access s page core = Ok (record { state = record { core = core; words = s.words }; done = fetching (Some page) })
 
--- A load from a word. One that merges keeps bytes of the register once the pending load has landed.
-abbrev pub loads : State → ℕ → LoadKind → (number address : ℕ) → Result Word Exception → Completes
-loads s page kind number address (Err exception) = Err exception
-loads s page kind number address (Ok w) = Ok (record {
+-- A load. One that merges keeps bytes of the register once the pending load has landed.
+abbrev pub completion_of_load : State → ℕ → LoadKind → (number address : ℕ) → Result Loaded Exception → Completion
+completion_of_load s page kind number address (Err exception) = Err (faulted s.core exception)
+completion_of_load s page kind number address (Ok w) = Ok (record {
   state = record { core = with_slot (passed s.core) number (loaded kind (address % 4) w.word (register (passed s.core) number)); words = s.words };
   done = loading page w.page;
 })
 
 -- a store, into a word of RAM or into none
-abbrev pub stores : State → ℕ → List ℕ → Result (Option ℕ) Exception → Completes
-stores s page words (Err exception) = Err exception
-stores s page words (Ok address) = Ok (record {
+abbrev pub completion_of_store : State → ℕ → List ℕ → Result (Option ℕ) Exception → Completion
+completion_of_store s page words (Err exception) = Err (faulted s.core exception)
+completion_of_store s page words (Ok address) = Ok (record {
   state = record { core = passed s.core; words = words };
   done = storing page address;
 })
 
--- An instruction by its effect. Those on translation entries are reserved as long as nothing translates.
-abbrev pub performs : ℕ → State → ℕ → Effect → Completes
-performs pages s page (Write number value) = quietly s page (with_write (passed s.core) number value)
-performs pages s page (WriteHi value) = quietly s page (record (passed s.core) { hi = value })
-performs pages s page (WriteLo value) = quietly s page (record (passed s.core) { lo = value })
-performs pages s page (WriteHiLo hi lo) = quietly s page (record (passed s.core) { hi = hi; lo = lo })
-performs pages s page (Jump target) = quietly s page (branched (passed s.core) target)
-performs pages s page (JumpAndLink target number value) =
-    quietly s page (with_write (branched (passed s.core) target) number value)
-performs pages s page (Trap trap) = Err (exception_of trap)
-performs pages s page (Load kind number address) =
-    loads s page kind number address (loaded_from pages s.words s.core kind address)
-performs pages s page (Store kind address value) =
-    stores s page (words_after s.words (stored_to pages s.core kind address) (stored kind (address % 4) value)) (stored_to pages s.core kind address)
-performs pages s page (MoveFromControl number control) =
-    quietly s page (with_slot (passed s.core) number (register_of s.core.cop0 control))
-performs pages s page (MoveToControl control value) =
-    quietly s page (record (passed s.core) { cop0 = written s.core.cop0 control value })
-performs pages s page ReturnFromException =
-    quietly s page (record (passed s.core) { cop0 = control.returned s.core.cop0 })
-performs pages s page effect = Err ReservedInstruction
+-- an instruction by its effect
+abbrev pub completion_of_effect : ℕ → State → ℕ → Effect → Completion
+completion_of_effect pages s page (Write number value) = completion_without_access s page (with_write (passed s.core) number value)
+completion_of_effect pages s page (WriteHi value) = completion_without_access s page (record (passed s.core) { hi = value })
+completion_of_effect pages s page (WriteLo value) = completion_without_access s page (record (passed s.core) { lo = value })
+completion_of_effect pages s page (WriteHiLo hi lo) = completion_without_access s page (record (passed s.core) { hi = hi; lo = lo })
+completion_of_effect pages s page (Jump target) = completion_without_access s page (branched (passed s.core) target)
+completion_of_effect pages s page (JumpAndLink target number value) =
+    completion_without_access s page (with_write (branched (passed s.core) target) number value)
+completion_of_effect pages s page (Trap trap) = Err (faulted s.core (exception_of trap))
+completion_of_effect pages s page (Load kind number address) =
+    completion_of_load (record { core = core_after_load s.core kind address; words = s.words }) page kind number address (loaded_from pages s.words s.core kind address)
+completion_of_effect pages s page (Store kind address value) =
+    completion_of_store (record { core = core_after_store s.core kind address value; words = s.words }) page (words_after s.words (stored_to pages s.core kind address) (stored kind (address % 4) value)) (stored_to pages s.core kind address)
+completion_of_effect pages s page (MoveFromControl number control) =
+    completion_without_access s page (with_slot (passed s.core) number (register_of s.core.cop0 control))
+completion_of_effect pages s page (MoveToControl control value) =
+    completion_without_access s page (record (passed s.core) { cop0 = written s.core.cop0 control value })
+completion_of_effect pages s page ReturnFromException =
+    completion_without_access s page (record (passed s.core) { cop0 = control.returned s.core.cop0 })
+completion_of_effect pages s page ReadEntry = completion_without_access s page (with_entry_read (passed s.core))
+completion_of_effect pages s page WriteIndexedEntry = completion_without_access s page (with_entry_written (passed s.core) INDEX)
+completion_of_effect pages s page WriteRandomEntry = completion_without_access s page (with_entry_written (passed s.core) RANDOM)
+completion_of_effect pages s page ProbeEntry = completion_without_access s page (with_probe (passed s.core))
 
 -- the instruction of a word
-abbrev pub performs_row : ℕ → State → Word → Option Operation → Completes
-performs_row pages s w None = Err (without_row w.word)
-performs_row pages s w (Some i) = performs pages s w.page (effect_of i (operands_of s.core i))
+abbrev pub completion_of_operation : ℕ → State → Word → Option Operation → Completion
+completion_of_operation pages s w None = Err (faulted s.core (without_row w.word))
+completion_of_operation pages s w (Some i) = completion_of_effect pages s w.page (effect_of i (operands_of s.core i))
 
-abbrev pub executes : ℕ → State → Word → Completes
-executes pages s w =
-    if is_unusable s.core w.word then Err (CoprocessorUnusable Cp0) else performs_row pages s w (operation_of w.word)
+abbrev pub completion_of_word : ℕ → State → Word → Completion
+completion_of_word pages s w =
+    if is_unusable s.core w.word then Err (faulted s.core (CoprocessorUnusable Cp0)) else completion_of_operation pages s w (operation_of w.word)
 
--- a call that completes an instruction, or leaves everything as it was
-abbrev pub CompletesAs : Result Done Exception → State → State → Completes → Type 0
-CompletesAs (Ok done) old new completes = completes ≡ Ok (record { state = new; done = done })
-CompletesAs (Err exception) old new completes = (completes ≡ Err exception) × (new ≡ old)
+-- a call that completes an instruction, or leaves the words as they were, and the processor as the access left it
+abbrev pub IsCompletion : Result Done Exception → State → State → Completion → Type 0
+IsCompletion (Ok done) old new completion = completion ≡ Ok (record { state = new; done = done })
+IsCompletion (Err exception) old new completion = (completion ≡ Err (faulted new.core exception)) × (new.words ≡ old.words)
 
 -- an exception in place of the instruction
-abbrev pub excepted : State → Option ℕ → Exception → Outcome
-excepted s page exception = record { state = record { core = entered s.core exception; words = s.words }; done = fetching page }
+abbrev pub outcome_of_exception : State → Option ℕ → Exception → Outcome
+outcome_of_exception s page exception = record { state = record { core = entered s.core exception; words = s.words }; done = fetching page }
 
-abbrev pub concluded : State → ℕ → Completes → Outcome
-concluded s page (Ok outcome) = outcome
-concluded s page (Err exception) = excepted s (Some page) exception
+abbrev pub outcome_of_completion : State → ℕ → Completion → Outcome
+outcome_of_completion s page (Ok outcome) = outcome
+outcome_of_completion s page (Err fault) =
+    outcome_of_exception (record { core = fault.core; words = s.words }) (Some page) fault.exception
 
-abbrev pub executed : ℕ → State → Result Word Exception → Outcome
-executed pages s (Err exception) = excepted s None exception
-executed pages s (Ok w) = concluded s w.page (executes pages s w)
+abbrev pub outcome_of_fetch : ℕ → State → Result Word Exception → Outcome
+outcome_of_fetch pages s (Err exception) = outcome_of_exception s None exception
+outcome_of_fetch pages s (Ok w) = outcome_of_completion s w.page (completion_of_word pages s w)
 
 -- the instruction at PC
-abbrev pub instructed : ℕ → State → Outcome
-instructed pages s = executed pages s (fetched pages s.words s.core)
+abbrev pub outcome_of_instruction : ℕ → State → Outcome
+outcome_of_instruction pages s = outcome_of_fetch pages (record { core = met s.core (meaning_of_fetch s.core); words = s.words }) (fetched pages s.words s.core)
 
 -- 5. Random falls by one.
 abbrev pub fallen : Core → Core
 fallen core = record core { cop0 = control.fallen core.cop0 }
 
 -- the fourth part: an interrupt or an instruction
-abbrev pub interrupted_or_instructed : ℕ → State → Outcome
-interrupted_or_instructed pages s =
+abbrev pub outcome_of_interrupt_or_instruction : ℕ → State → Outcome
+outcome_of_interrupt_or_instruction pages s =
     if control.is_wanted s.core.cop0
     then record { state = record { core = interrupted s.core; words = s.words }; done = fetching None }
-    else instructed pages s
+    else outcome_of_instruction pages s
 
 -- and the fifth
-abbrev pub ended : Outcome → Outcome
-ended o = record { state = record { core = fallen o.state.core; words = o.state.words }; done = o.done }
+abbrev pub with_fall : Outcome → Outcome
+with_fall o = record { state = record { core = fallen o.state.core; words = o.state.words }; done = o.done }
 
 -- One step of a machine with so many RAM pages, in which these bytes arrive: its five parts in their order.
-unfoldable pub turn : ℕ → List TimedByte → State → Outcome
-turn pages events s =
-    ended (interrupted_or_instructed pages (record { core = sampled (ticked (arrived events s.core)); words = s.words }))
+unfoldable pub outcome_of_step : ℕ → List TimedByte → State → Outcome
+outcome_of_step pages events s =
+    with_fall (outcome_of_interrupt_or_instruction pages (record { core = sampled (ticked (arrived events s.core)); words = s.words }))
 
 -- the state after a step, and what the step tells
 abbrev pub next : ℕ → List TimedByte → State → State
-next pages events s = (turn pages events s).state
+next pages events s = (outcome_of_step pages events s).state
 
 abbrev pub told : ℕ → List TimedByte → State → Done
-told pages events s = (turn pages events s).done
+told pages events s = (outcome_of_step pages events s).done

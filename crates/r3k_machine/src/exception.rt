@@ -2,7 +2,7 @@
 
 ghost use Rattle.std.specs.Prelude.{◌≡◌};
 ghost use Rattle.r3k_machine.specs.State.{landed};
-ghost use Rattle.r3k_machine.specs.Exceptions.{bad_of, code_of, coprocessor_of, entered, exc_of, exception_of, without_row};
+ghost use Rattle.r3k_machine.specs.Exceptions.{bad_of, code_of, entered, exc_of, exception_of, is_mapped, is_refill, without_row};
 
 use crate::state::Core;
 use cop0::{Coprocessor, Exc, ExcCode};
@@ -19,6 +19,12 @@ pub enum Exception {
     AddressErrorLoad(u32),
     /// AdES: a store to such an address.
     AddressErrorStore(u32),
+    /// TLBL: a fetch or load from an address without a valid entry. Where kuseg has none at all, one is to be refilled.
+    TlbLoad { address: u32, refill: bool },
+    /// TLBS: a store to such an address.
+    TlbStore { address: u32, refill: bool },
+    /// Mod: a store to a page that is not dirty.
+    Modification(u32),
     /// IBE: a fetch from neither RAM nor ROM.
     BusErrorFetch,
     /// DBE: a load from an unassigned address.
@@ -44,23 +50,18 @@ impl Exception {
             Exception::Interrupt => ExcCode::Interrupt,
             Exception::AddressErrorLoad(_) => ExcCode::AddressLoad,
             Exception::AddressErrorStore(_) => ExcCode::AddressStore,
+            Exception::TlbLoad { .. } => ExcCode::TlbLoad,
+            Exception::TlbStore { .. } => ExcCode::TlbStore,
+            Exception::Modification(_) => ExcCode::Modification,
             Exception::BusErrorFetch => ExcCode::BusFetch,
             Exception::BusErrorLoad => ExcCode::BusLoad,
             Exception::SystemCall => ExcCode::SystemCall,
             Exception::Breakpoint => ExcCode::Breakpoint,
             Exception::ReservedInstruction => ExcCode::ReservedInstruction,
-            Exception::CoprocessorUnusable(_) => ExcCode::CoprocessorUnusable,
+            Exception::CoprocessorUnusable(coprocessor) => {
+                ExcCode::CoprocessorUnusable(coprocessor)
+            }
             Exception::Overflow => ExcCode::Overflow,
-        }
-    }
-
-    // The coprocessor that is not usable. Any other exception tells coprocessor 0.
-    fn coprocessor(self) -> Coprocessor
-        ensures { result ≡ coprocessor_of self }
-    {
-        match self {
-            Exception::CoprocessorUnusable(coprocessor) => coprocessor,
-            _ => Coprocessor::Cp0,
         }
     }
 
@@ -69,10 +70,32 @@ impl Exception {
         ensures { result ≡ bad_of self }
     {
         match self {
-            Exception::AddressErrorLoad(address) | Exception::AddressErrorStore(address) => {
-                Some(address)
-            }
+            Exception::AddressErrorLoad(address)
+            | Exception::AddressErrorStore(address)
+            | Exception::TlbLoad { address, .. }
+            | Exception::TlbStore { address, .. }
+            | Exception::Modification(address) => Some(address),
             _ => None,
+        }
+    }
+
+    // Whether Context and EntryHi are loaded too.
+    fn is_mapped(self) -> bool
+        ensures { result ≡ is_mapped self }
+    {
+        matches!(
+            self,
+            Exception::TlbLoad { .. } | Exception::TlbStore { .. } | Exception::Modification(_)
+        )
+    }
+
+    // Whether the handler for user misses is called.
+    fn is_refill(self) -> bool
+        ensures { result ≡ is_refill self }
+    {
+        match self {
+            Exception::TlbLoad { refill, .. } | Exception::TlbStore { refill, .. } => refill,
+            _ => false,
         }
     }
 
@@ -108,9 +131,9 @@ impl Core {
     pub(crate) fn land(&mut self)
         ensures { self.new ≡ record self.old { registers = landed self.old.registers self.old.load; load = None } }
     {
-        if let Some(load) = self.load {
-            self.registers[load.register() as usize] = load.value();
-            self.load = None;
+        if let Some(load) = self.processor.load {
+            self.processor.registers[load.register() as usize] = load.value();
+            self.processor.load = None;
         }
     }
 
@@ -120,12 +143,11 @@ impl Core {
     {
         Exc {
             code: exception.code(),
-            ce: exception.coprocessor(),
-            pc: self.pc,
-            delay: self.delay,
+            pc: self.processor.pc,
+            delay: self.processor.delay,
             bad: exception.bad_address(),
-            mapped: false,
-            refill: false,
+            mapped: exception.is_mapped(),
+            refill: exception.is_refill(),
         }
     }
 
@@ -134,10 +156,10 @@ impl Core {
         ensures { self.new ≡ entered self.old exception }
     {
         let exc = self.exc(exception);
-        let vector = self.cop0.enter(exc);
+        let vector = self.processor.cop0.enter(exc);
         self.land();
-        self.pc = vector;
-        self.next_pc = add(vector, 4);
-        self.delay = false;
+        self.processor.pc = vector;
+        self.processor.next_pc = add(vector, 4);
+        self.processor.delay = false;
     }
 }

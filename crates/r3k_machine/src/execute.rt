@@ -1,18 +1,20 @@
 //! What an instruction does to the machine.
 
 ghost use Rattle.std.specs.Prelude.{◌≡◌, ◌<◌};
+ghost use Rattle.cop0.specs.Changes as control;
+ghost use Rattle.cop0.specs.Registers.{written};
 ghost use Rattle.r3k_exec.specs.Effects.{NamesRegisters};
 ghost use Rattle.r3k_machine.specs.Exceptions.{is_unusable};
 ghost use Rattle.r3k_machine.specs.State.{with_register};
-ghost use Rattle.r3k_machine.specs.Step.{CompletesAs, branched, executes, operands_of, passed, performs, slot};
+ghost use Rattle.r3k_machine.specs.Step.{IsCompletion, branched, completion_of_word, operands_of, passed, completion_of_effect, slot_after_load};
 
 use crate::exception::Exception;
 use crate::load_store::{Word, load, store};
 use crate::memory::Mem;
-use crate::state::{Core, Load};
-use crate::turn::Done;
+use crate::state::{Core, DelayedLoad};
+use crate::step::Done;
 use cop0::Coprocessor;
-use cop0::number::STATUS;
+use cop0::number::{INDEX, RANDOM};
 use r3k_decode::{Insn, decode};
 use r3k_exec::{Effect, Operands, effect};
 use r3k_word::arithmetic::add;
@@ -25,11 +27,11 @@ impl Core {
         ensures { result ≡ operands_of self.now insn.now }
     {
         Operands {
-            rs: self.registers[insn.rs() as usize],
-            rt: self.registers[insn.rt() as usize],
-            hi: self.hi,
-            lo: self.lo,
-            pc: self.pc,
+            rs: self.processor.registers[insn.rs() as usize],
+            rt: self.processor.registers[insn.rt() as usize],
+            hi: self.processor.hi,
+            lo: self.processor.lo,
+            pc: self.processor.pc,
         }
     }
 
@@ -38,9 +40,7 @@ impl Core {
     fn is_unusable(&self, word: u32) -> bool
         ensures { result ≡ is_unusable self.now word }
     {
-        self.in_user_mode()
-            && field::<31, 26>(word) == 16
-            && field::<28, 28>(self.cop0.read(STATUS)) == 0
+        field::<31, 26>(word) == 16 && !self.processor.cop0.is_usable()
     }
 
     // Completes an instruction, but for what it writes: the pending load lands, and the next instruction follows.
@@ -49,9 +49,9 @@ impl Core {
         ensures { self.new ≡ passed self.old }
     {
         self.land();
-        self.pc = self.next_pc;
-        self.next_pc = add(self.next_pc, 4);
-        self.delay = false;
+        self.processor.pc = self.processor.next_pc;
+        self.processor.next_pc = add(self.processor.next_pc, 4);
+        self.processor.delay = false;
     }
 
     // Writes a register. r0 stays 0.
@@ -61,20 +61,50 @@ impl Core {
         ensures { self.new ≡ record self.old { registers = with_register self.old.registers number value } }
     {
         if number != 0 {
-            self.registers[number as usize] = value;
+            self.processor.registers[number as usize] = value;
         }
+    }
+
+    #[inline]
+    fn set_hi(&mut self, value: u32)
+        ensures { self.new ≡ record self.old { hi = value } }
+    {
+        self.processor.hi = value;
+    }
+
+    #[inline]
+    fn set_lo(&mut self, value: u32)
+        ensures { self.new ≡ record self.old { lo = value } }
+    {
+        self.processor.lo = value;
+    }
+
+    // Writes a control register.
+    #[inline]
+    fn write_control(&mut self, number: u8, value: u32)
+        ensures { self.new ≡ record self.old { cop0 = written self.old.cop0 number value } }
+    {
+        self.processor.cop0.write(number, value);
+    }
+
+    // Returns from an exception.
+    #[inline]
+    fn return_from_exception(&mut self)
+        ensures { self.new ≡ record self.old { cop0 = control.returned self.old.cop0 } }
+    {
+        self.processor.cop0.rfe();
     }
 
     // Fills the load slot. A load into r0 leaves it empty.
     #[inline]
     fn set_slot(&mut self, number: u8, value: u32)
         requires { number < 32 }
-        ensures { self.new ≡ record self.old { load = slot number value } }
+        ensures { self.new ≡ record self.old { load = slot_after_load number value } }
     {
-        self.load = if number == 0 {
+        self.processor.load = if number == 0 {
             None
         } else {
-            Some(Load::new(number, value))
+            Some(DelayedLoad::new(number, value))
         };
     }
 
@@ -83,25 +113,26 @@ impl Core {
     fn branch(&mut self, target: Option<u32>)
         ensures { self.new ≡ branched self.old target }
     {
-        self.delay = true;
+        self.processor.delay = true;
         if let Some(target) = target {
-            self.next_pc = target;
+            self.processor.next_pc = target;
         }
     }
 }
 
-// Performs the effect of the instruction at the PC, which was fetched from a page. An exception leaves everything as it was.
+// Performs the effect of the instruction at the PC, which was fetched from a page. An exception leaves the words as they were, and the processor as
+// the access left it.
 #[inline]
-fn perform<M: Mem>(
+fn perform_effect<M: Mem>(
     core: &mut Core,
     memory: &mut M,
     page: u32,
     effect: Effect,
 ) -> Result<Done, Exception>
     requires { NamesRegisters effect }
-    ensures completes { CompletesAs result
+    ensures completes { IsCompletion result
         (record { core = core.old; words = M.words memory.old }) (record { core = core.new; words = M.words memory.new })
-        (performs (M.ram memory.old) (record { core = core.old; words = M.words memory.old }) page effect) }
+        (completion_of_effect (M.ram memory.old) (record { core = core.old; words = M.words memory.old }) page effect) }
     ensures same { M.ram memory.new ≡ M.ram memory.old }
 {
     match effect {
@@ -111,16 +142,16 @@ fn perform<M: Mem>(
         }
         Effect::WriteHi { value } => {
             core.complete();
-            core.hi = value;
+            core.set_hi(value);
         }
         Effect::WriteLo { value } => {
             core.complete();
-            core.lo = value;
+            core.set_lo(value);
         }
         Effect::WriteHiLo { hi, lo } => {
             core.complete();
-            core.hi = hi;
-            core.lo = lo;
+            core.set_hi(hi);
+            core.set_lo(lo);
         }
         Effect::Jump { target } => {
             core.complete();
@@ -143,7 +174,7 @@ fn perform<M: Mem>(
         } => {
             let loaded = load(core, memory, kind, address)?;
             core.complete();
-            let kept = core.registers[register as usize];
+            let kept = core.registers()[register as usize];
             core.set_slot(register, kind.loaded(address, loaded.word, kept));
             return Ok(Done::loading(page, loaded.page));
         }
@@ -157,37 +188,48 @@ fn perform<M: Mem>(
             return Ok(Done::storing(page, stored));
         }
         Effect::MoveFromControl { register, control } => {
-            let value = core.cop0.read(control);
+            let value = core.cop0().read(control);
             core.complete();
             core.set_slot(register, value);
         }
         Effect::MoveToControl { control, value } => {
             core.complete();
-            core.cop0.write(control, value);
+            core.write_control(control, value);
         }
         Effect::ReturnFromException => {
             core.complete();
-            core.cop0.rfe();
+            core.return_from_exception();
         }
-        // Nothing translates yet.
-        Effect::ReadEntry
-        | Effect::WriteIndexedEntry
-        | Effect::WriteRandomEntry
-        | Effect::ProbeEntry => return Err(Exception::ReservedInstruction),
+        Effect::ReadEntry => {
+            core.complete();
+            core.read_entry();
+        }
+        Effect::WriteIndexedEntry => {
+            core.complete();
+            core.write_entry(INDEX);
+        }
+        Effect::WriteRandomEntry => {
+            core.complete();
+            core.write_entry(RANDOM);
+        }
+        Effect::ProbeEntry => {
+            core.complete();
+            core.probe_entry();
+        }
     }
     Ok(Done::fetching(Some(page)))
 }
 
-/// Runs the instruction that was fetched. An exception leaves everything as it was.
+/// Runs the instruction that was fetched. An exception leaves the words as they were, and the processor as the access left it.
 #[inline]
-pub(crate) fn execute<M: Mem>(
+pub(crate) fn execute_word<M: Mem>(
     core: &mut Core,
     memory: &mut M,
     fetched: Word,
 ) -> Result<Done, Exception>
-    ensures completes { CompletesAs result
+    ensures completes { IsCompletion result
         (record { core = core.old; words = M.words memory.old }) (record { core = core.new; words = M.words memory.new })
-        (executes (M.ram memory.old) (record { core = core.old; words = M.words memory.old }) fetched) }
+        (completion_of_word (M.ram memory.old) (record { core = core.old; words = M.words memory.old }) fetched) }
     ensures same { M.ram memory.new ≡ M.ram memory.old }
 {
     if core.is_unusable(fetched.word) {
@@ -197,5 +239,5 @@ pub(crate) fn execute<M: Mem>(
         return Err(Exception::without_row(fetched.word));
     };
     let effect = effect(&insn, core.operands(&insn));
-    perform(core, memory, fetched.page, effect)
+    perform_effect(core, memory, fetched.page, effect)
 }

@@ -1,11 +1,10 @@
 //! Laws of the run: nothing runs here.
 
-ghost use Rattle.std.specs.Prelude.{◌≡◌, ℕ, ◌+◌, ◌++◌, List, length, slice_index};
+ghost use Rattle.std.specs.Prelude.{◌≡◌, ℕ, ◌+◌, ◌++◌, List, length};
 ghost use Rattle.input_log.specs.Event.{TimedByte};
-ghost use Rattle.r3k_image.specs.Boot.{Boot};
-ghost use Rattle.r3k_machine.specs.declared.turn.Done.{Done};
+ghost use Rattle.r3k_machine.specs.declared.step.Done.{Done};
 ghost use Rattle.r3k_machine.specs.State.{State};
-ghost use Rattle.r3k_machine.specs.Run.{run, trace, state_at, console_of, last_writer, later};
+ghost use Rattle.r3k_machine.specs.Run.{run, trace, console_of, last_writer, later};
 
 /// A run and its trace split at any point, and so do the console and the last writer.
 pub fn run_laws()
@@ -18,10 +17,4 @@ pub fn run_laws()
         console_of line (first ++ rest) ≡ console_of line first ++ console_of line rest }
     ensures writer { (address : ℕ) (first rest : List Done) →
         last_writer address (first ++ rest) ≡ later (length first) (last_writer address rest) (last_writer address first) }
-{}
-
-/// In the run from reset r0 stays 0.
-pub fn reset_laws()
-    ensures { (pages : ℕ) (image : Boot) (log : List TimedByte) (n : ℕ) →
-        slice_index (state_at pages image log n).core.registers 0 ≡ 0 }
 {}

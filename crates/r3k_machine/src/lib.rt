@@ -4,13 +4,18 @@
 mod address;
 mod exception;
 mod execute;
+mod flat;
+mod isolated;
 mod laws;
 mod load_store;
 mod memory;
 mod state;
-mod turn;
+pub mod step;
+mod translation;
 
-pub use laws::{reset_laws, run_laws};
+pub use address::Where;
+pub use flat::FlatMemory;
+pub use laws::run_laws;
 pub use memory::Mem;
-pub use state::{Core, Load};
-pub use turn::{Done, step};
+pub use state::{Core, DelayedLoad};
+pub use step::Done;

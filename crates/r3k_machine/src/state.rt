@@ -1,25 +1,29 @@
 //! The state of the processor: all but the words of RAM and ROM.
 
-ghost use Rattle.std.specs.Prelude.{◌≡◌, IfOk};
+ghost use Rattle.std.specs.Prelude.{◌≡◌, ◌<◌, IfOk, slice_index_or};
+ghost use Rattle.tlb64.specs.Entries.{empty_entry};
+ghost use Rattle.r3k_machine.specs.Core.{HoldsZero};
 ghost use Rattle.r3k_machine.specs.Reset.{reset_core};
 
 use cop0::Cop0;
+use dcache::Caches;
 use r3k_image::Image;
 use std::alloc::{AllocError, Global};
 use std::marker::Model;
+use tlb64::{Entry, Tlb};
 
 /// A load whose value has not landed yet: its register, 1 to 31, and the value.
 #[derive(Clone, Copy, Debug, PartialEq, Eq)]
-pub struct Load {
+pub struct DelayedLoad {
     register: u8,
     value: u32,
 }
 
-impl Model for Load {
+impl Model for DelayedLoad {
     ghost use Rattle.std.specs.Prelude.{◌<◌};
-    ghost use Rattle.r3k_machine.specs.Pending.{Pending};
+    ghost use Rattle.r3k_machine.specs.LoadSlot.{DelayedLoad};
 
-    ghost Value = { Pending };
+    ghost Value = { DelayedLoad };
 
     ghost view = { λ a. record { register = a.register; value = a.value } };
 
@@ -28,17 +32,15 @@ impl Model for Load {
     ghost inverse = { λ p. record { register = p.register; value = p.value } };
 }
 
-impl Load {
-    ghost use Rattle.std.specs.Prelude.{◌<◌};
-
+impl DelayedLoad {
     /// A load into a register that is not r0.
     #[inline]
-    pub fn new(register: u8, value: u32) -> Load
+    pub fn new(register: u8, value: u32) -> DelayedLoad
         requires above { 0 < register }
         requires within { register < 32 }
         ensures { result ≡ record { register = register; value = value } }
     {
-        Load { register, value }
+        DelayedLoad { register, value }
     }
 
     /// The register that the value is for, 1 to 31.
@@ -60,36 +62,194 @@ impl Load {
     }
 }
 
-/// The processor: registers (r0 stays 0), HI, LO, PC, next PC, delay mark, load slot and control registers.
-#[derive(Clone, Copy, Debug, PartialEq, Eq)]
+/// The small part of the processor, which is copied freely.
+#[derive(Clone, Copy, Debug)]
+pub(crate) struct Processor {
+    pub(crate) registers: [u32; 32],
+    pub(crate) hi: u32,
+    pub(crate) lo: u32,
+    pub(crate) pc: u32,
+    pub(crate) next_pc: u32,
+    pub(crate) delay: bool,
+    pub(crate) load: Option<DelayedLoad>,
+    pub(crate) cop0: Cop0,
+}
+
+/// The processor: registers (r0 holds 0), HI, LO, PC, next PC, delay mark, load slot, control registers, translation entries and
+/// the arrays of the isolated cache.
+#[derive(Debug, Drop)]
 pub struct Core {
-    pub registers: [u32; 32],
-    pub hi: u32,
-    pub lo: u32,
-    pub pc: u32,
-    pub next_pc: u32,
-    pub delay: bool,
-    pub load: Option<Load>,
-    pub cop0: Cop0,
+    pub(crate) processor: Processor,
+    pub(crate) tlb: Tlb,
+    // On the heap, and never copied but by `copy`.
+    pub(crate) caches: Caches,
+}
+
+impl Model for Core {
+    ghost use Rattle.r3k_machine.specs.Core.{Core, HoldsZero};
+
+    ghost Value = { Core };
+
+    ghost view = { λ c. record {
+      registers = c.processor.registers;
+      hi = c.processor.hi;
+      lo = c.processor.lo;
+      pc = c.processor.pc;
+      next_pc = c.processor.next_pc;
+      delay = c.processor.delay;
+      load = c.processor.load;
+      cop0 = c.processor.cop0;
+      entries = c.tlb;
+      caches = c.caches;
+    } };
+
+    ghost invariant = { λ c. HoldsZero c.processor.registers };
 }
 
 /// The PC at reset, in kseg1.
 pub const RESET_PC: u32 = 0xBFC0_0000;
 
 impl Core {
-    /// The processor at reset. The image's words are those of a memory beside it.
-    pub fn reset(_alloc: Global, _image: &Image) -> Result<Core, AllocError>
+    /// The processor at reset. The image's words are those of a memory beside it. All memory is taken here.
+    pub fn reset(alloc: Global, _image: &Image) -> Result<Core, AllocError>
         ensures { IfOk result (λ core. core ≡ reset_core) }
     {
         Ok(Core {
-            registers: [0; 32],
-            hi: 0,
-            lo: 0,
-            pc: RESET_PC,
-            next_pc: RESET_PC + 4,
-            delay: false,
-            load: None,
-            cop0: Cop0::new(),
+            processor: Processor {
+                registers: [0; 32],
+                hi: 0,
+                lo: 0,
+                pc: RESET_PC,
+                next_pc: RESET_PC + 4,
+                delay: false,
+                load: None,
+                cop0: Cop0::new(),
+            },
+            tlb: Tlb::new(),
+            caches: Caches::new(alloc)?,
         })
     }
+
+    /// Another processor that holds the same.
+    pub fn copy(&self, alloc: Global) -> Result<Core, AllocError>
+        ensures { IfOk result (λ copy. copy ≡ self.now) }
+    {
+        let mut tlb = Tlb::new();
+        tlb.assign(&self.tlb);
+        Ok(Core {
+            processor: self.processor,
+            tlb,
+            caches: self.caches.copy(alloc)?,
+        })
+    }
+
+    /// Makes the processor hold what another does. It takes no memory.
+    pub fn assign(&mut self, other: &Core)
+        ensures { self.new ≡ other.now }
+    {
+        self.processor = other.processor;
+        self.tlb.assign(&other.tlb);
+        self.caches.assign(&other.caches);
+    }
+
+    /// The registers. r0 holds 0.
+    #[inline]
+    pub fn registers(&self) -> &[u32; 32]
+        ensures registers { result.now ≡ self.now.registers }
+        ensures zero { HoldsZero result.now }
+    {
+        &self.processor.registers
+    }
+
+    /// HI.
+    pub fn hi(&self) -> u32
+        ensures { result ≡ self.now.hi }
+    {
+        self.processor.hi
+    }
+
+    /// LO.
+    pub fn lo(&self) -> u32
+        ensures { result ≡ self.now.lo }
+    {
+        self.processor.lo
+    }
+
+    /// The address of the next instruction.
+    pub fn pc(&self) -> u32
+        ensures { result ≡ self.now.pc }
+    {
+        self.processor.pc
+    }
+
+    /// The address of the one after it.
+    pub fn next_pc(&self) -> u32
+        ensures { result ≡ self.now.next_pc }
+    {
+        self.processor.next_pc
+    }
+
+    /// Whether the next instruction stands in a delay slot.
+    pub fn delay(&self) -> bool
+        ensures { result ≡ self.now.delay }
+    {
+        self.processor.delay
+    }
+
+    /// The load that has not landed yet.
+    pub fn load(&self) -> Option<DelayedLoad>
+        ensures { result ≡ self.now.load }
+    {
+        self.processor.load
+    }
+
+    /// The control registers.
+    pub fn cop0(&self) -> &Cop0
+        ensures { result.now ≡ self.now.cop0 }
+    {
+        &self.processor.cop0
+    }
+
+    /// The translation entry at a place from 0 to 63.
+    pub fn entry(&self, index: u32) -> Entry
+        requires { index < 64 }
+        ensures { result ≡ slice_index_or self.now.entries index empty_entry }
+    {
+        self.tlb.read(index)
+    }
+}
+
+impl PartialEq for Core {
+    ghost use Rattle.std.specs.Prelude.{◌≡◌, ◌↔◌, IsTrue};
+    ghost use Rattle.std.specs.Cmp.{decided, partial_equiv_from_equiv};
+    ghost use Rattle.r3k_machine.specs.Same.{is_same, is_same_decides};
+
+    ghost eq = { is_same };
+
+    ghost laws = { partial_equiv_from_equiv (decided is_same is_same_decides) };
+
+    /// Whether all that both processors hold is equal.
+    fn eq(&self, other: &Core) -> bool
+        ensures value { result ≡ is_same self.now other.now }
+        ensures equal { IsTrue result ↔ (self.now ≡ other.now) }
+    {
+        let (a, b) = (&self.processor, &other.processor);
+        a.registers == b.registers
+            && a.hi == b.hi
+            && a.lo == b.lo
+            && a.pc == b.pc
+            && a.next_pc == b.next_pc
+            && a.delay == b.delay
+            && a.load == b.load
+            && a.cop0 == b.cop0
+            && self.tlb == other.tlb
+            && self.caches == other.caches
+    }
+}
+
+impl Eq for Core {
+    ghost use Rattle.std.specs.Cmp.{decided};
+    ghost use Rattle.r3k_machine.specs.Same.{is_same, is_same_decides};
+
+    ghost laws = { decided is_same is_same_decides };
 }

@@ -1,0 +1,158 @@
+//! One step, in its written order.
+
+ghost use Rattle.std.specs.Prelude.{◌≡◌, None};
+ghost use Rattle.r3k_machine.specs.Step.{arrived, fallen, fetching, outcome_of_instruction, interrupted, outcome_of_interrupt_or_instruction, loading, next, sampled, storing, ticked, told};
+
+use crate::exception::Exception;
+use crate::execute::execute_word;
+use crate::load_store::fetch;
+use crate::memory::Mem;
+use crate::state::Core;
+use dz_serial::Sent;
+use input_log::Event;
+use r3k_word::layout::PAGE_BYTES;
+
+/// What a step tells: the byte that it sent, the physical address of the word of RAM that it stored into, and the pages
+/// that it fetched from and loaded from or stored into, of RAM first and then of ROM.
+#[derive(Clone, Copy, Debug, PartialEq, Eq)]
+pub struct Done {
+    pub sent: Option<Sent>,
+    pub stored: Option<u32>,
+    pub touched: [Option<u32>; 2],
+}
+
+impl Done {
+    // A step that at most fetched.
+    #[inline]
+    pub(crate) fn fetching(page: Option<u32>) -> Done
+        ensures { result ≡ fetching page }
+    {
+        Done {
+            sent: None,
+            stored: None,
+            touched: [page, None],
+        }
+    }
+
+    // A step that fetched and loaded, from a page or from the isolated cache.
+    #[inline]
+    pub(crate) fn loading(page: u32, loaded: Option<u32>) -> Done
+        ensures { result ≡ loading page loaded }
+    {
+        Done {
+            sent: None,
+            stored: None,
+            touched: [Some(page), loaded],
+        }
+    }
+
+    // A step that fetched and stored, into a word of RAM if there was one.
+    #[inline]
+    pub(crate) fn storing(page: u32, stored: Option<u32>) -> Done
+        ensures { result ≡ storing page stored }
+    {
+        Done {
+            sent: None,
+            stored,
+            touched: [Some(page), stored.map(|address| address / PAGE_BYTES)],
+        }
+    }
+}
+
+impl Core {
+    // The log's bytes reach the serial part. There is none yet, and so they are ignored, as by a receiver that is off.
+    #[inline]
+    fn arrive(&mut self, _events: &[Event])
+        ensures { self.new ≡ arrived _events.now self.old }
+    {}
+
+    // Clock and serial part advance. There are none yet.
+    #[inline]
+    fn tick(&mut self)
+        ensures { self.new ≡ ticked self.old }
+    {}
+
+    // Cause takes the interrupt lines. There is nothing yet that raises one.
+    #[inline]
+    fn sample(&mut self)
+        ensures { self.new ≡ sampled self.old }
+    {
+        self.processor.cop0.sample(false, false);
+    }
+
+    // Takes the interrupt in place of the instruction at the PC.
+    #[inline]
+    fn interrupt(&mut self) -> Done
+        ensures state { self.new ≡ interrupted self.old }
+        ensures told { result ≡ fetching None }
+    {
+        self.enter(Exception::Interrupt);
+        Done::fetching(None)
+    }
+
+    // Random falls.
+    #[inline]
+    fn fall(&mut self)
+        ensures { self.new ≡ fallen self.old }
+    {
+        self.processor.cop0.fall();
+    }
+}
+
+// Runs the instruction at the PC, or takes its exception.
+#[inline]
+fn run_instruction<M: Mem>(core: &mut Core, memory: &mut M) -> Done
+    ensures state { record { core = core.new; words = M.words memory.new }
+        ≡ (outcome_of_instruction (M.ram memory.old) (record { core = core.old; words = M.words memory.old })).state }
+    ensures told { result ≡ (outcome_of_instruction (M.ram memory.old) (record { core = core.old; words = M.words memory.old })).done }
+    ensures same { M.ram memory.new ≡ M.ram memory.old }
+{
+    let fetched = match fetch(core, memory) {
+        Ok(fetched) => fetched,
+        Err(exception) => {
+            core.enter(exception);
+            return Done::fetching(None);
+        }
+    };
+    match execute_word(core, memory, fetched) {
+        Ok(done) => done,
+        Err(exception) => {
+            core.enter(exception);
+            Done::fetching(Some(fetched.page))
+        }
+    }
+}
+
+// Takes an interrupt where one is wanted, else runs the instruction at the PC.
+#[inline]
+fn interrupt_or_run<M: Mem>(core: &mut Core, memory: &mut M) -> Done
+    ensures state { record { core = core.new; words = M.words memory.new }
+        ≡ (outcome_of_interrupt_or_instruction (M.ram memory.old) (record { core = core.old; words = M.words memory.old })).state }
+    ensures told { result
+        ≡ (outcome_of_interrupt_or_instruction (M.ram memory.old) (record { core = core.old; words = M.words memory.old })).done }
+    ensures same { M.ram memory.new ≡ M.ram memory.old }
+{
+    if core.cop0().wanted() {
+        core.interrupt()
+    } else {
+        run_instruction(core, memory)
+    }
+}
+
+/// One step: the bytes of its time arrive, clock and serial part advance, the interrupt lines are sampled, an interrupt is
+/// taken or the instruction at the PC is run, and Random falls.
+#[tactic(auto, unfolding(crate::specs::Step::outcome_of_step))]
+#[inline]
+pub fn step<M: Mem>(core: &mut Core, memory: &mut M, events: &[Event]) -> Done
+    ensures state { record { core = core.new; words = M.words memory.new }
+        ≡ next (M.ram memory.old) events.now (record { core = core.old; words = M.words memory.old }) }
+    ensures told { result ≡ told (M.ram memory.old) events.now (record { core = core.old; words = M.words memory.old }) }
+    ensures same { M.ram memory.new ≡ M.ram memory.old }
+{
+    core.arrive(events);
+    core.tick();
+    core.sample();
+    let done = interrupt_or_run(core, memory);
+    core.fall();
+    done
+}
