@@ -6,7 +6,7 @@ use std::str;
 use std::test::Fail;
 
 // What the program writes for an input of so many bytes of a kind and then a script.
-fn replies(alloc: Global, kind: &str, bytes: &[u8], script: &[u8]) -> Result<Vec<u8>, Fail> {
+pub fn replies(alloc: Global, kind: &str, bytes: &[u8], script: &[u8]) -> Result<Vec<u8>, Fail> {
     let mut input = Vec::from_slice(alloc, bytes)?;
     input.extend_from_slice(script)?;
     let size = bytes.len();
@@ -161,5 +161,89 @@ fn branch_in_a_delay_slot(rt: HostRuntime) -> Result<(), Fail> {
     let text = str::from_utf8(output.as_slice())?;
     let want = "pc 0xbfc00010 next 0xbfc00014 hi 0x00000000 lo 0x00000000 delay 1 load none\n";
     assert!(rt; text.contains(want));
+    Ok(())
+}
+
+/// At reset all entries are of page 0 and not valid.
+#[test]
+fn translation_at_reset(rt: HostRuntime) -> Result<(), Fail> {
+    let script =
+        b"where 0x80000010\nwhere 0xbfc00000\nwhere 0x1000\nwhere 0xc0000000\nwhere 0\ntlb 63\n";
+    let output = replies(rt.alloc(), "rom", &[], script)?;
+    let want =
+        b"where 0x00000010 cached\nwhere 0x1fc00000 uncached\nwhere tlbl refill\nwhere tlbl\n\
+        where tlbl\ntlb 63 0x00000000 0x00000000\n"
+            .as_slice();
+    assert_eq!(rt; output.as_slice(), want);
+    Ok(())
+}
+
+/// Words are those of the position, told with their addresses.
+#[test]
+fn words_of_memory(rt: HostRuntime) -> Result<(), Fail> {
+    // lui r1, 0xa000; sw r1, 8(r1)
+    let rom = rom_of(rt.alloc(), &[0x3C01_A000, 0xAC21_0008])?;
+    let script = b"mem 8 1\ngoto 2\nmem 4 3\nback 1\nmem 8 1\n";
+    let output = replies(rt.alloc(), "rom", &rom, script)?;
+    let want = b"0x00000008 0x00000000\npos 2\n0x00000004 0x00000000\n0x00000008 0xa0000000\n\
+        0x0000000c 0x00000000\npos 1\n0x00000008 0x00000000\n"
+        .as_slice();
+    assert_eq!(rt; output.as_slice(), want);
+    Ok(())
+}
+
+/// Targets are counted from the physical address; a word without a row is told as one.
+#[test]
+fn words_as_instructions(rt: HostRuntime) -> Result<(), Fail> {
+    // bgez r7, .+20; j 0x1fc00000; a word without a row
+    let rom = rom_of(rt.alloc(), &[0x04E1_0004, 0x0BF0_0000, 0xFFFF_FFFF])?;
+    let output = replies(rt.alloc(), "rom", &rom, b"dis 0x1fc00000 3\n")?;
+    let want = b"0x1fc00000 0x04e10004 bgez r7, 0x1fc00014\n\
+        0x1fc00004 0x0bf00000 j 0x1fc00000\n0x1fc00008 0xffffffff .word 0xffffffff\n"
+        .as_slice();
+    assert_eq!(rt; output.as_slice(), want);
+    Ok(())
+}
+
+/// The first and the last words of RAM and ROM are shown, and what is neither is refused, each refusal in its order.
+#[test]
+fn limits_of_memory(rt: HostRuntime) -> Result<(), Fail> {
+    let cases = [
+        ("mem 0 1", "0x00000000 0x00000000"),
+        ("mem 0x7ffffc 1", "0x007ffffc 0x00000000"),
+        ("mem 0x7ffffc 2", "error 6 NotMemory"),
+        ("mem 0x800000 1", "error 6 NotMemory"),
+        ("mem 0x1fbffffc 2", "error 6 NotMemory"),
+        ("dis 0x1fc3fffc 1", "0x1fc3fffc 0x00000000 sll r0, r0, 0"),
+        ("dis 0x1fc3fffc 2", "error 6 NotMemory"),
+        ("mem 0xfffffffc 32", "error 6 NotMemory"),
+        ("mem 0xffffffff 1", "error 5 Unaligned"),
+        ("mem 1 0", "error 3 Range"),
+        ("mem 1 33", "error 3 Range"),
+        ("mem 0x100000000 1", "error 3 Range"),
+        ("mem 2", "error 2 Syntax"),
+        ("dis 0x100000000 x", "error 2 Syntax"),
+    ];
+    let mut script = Vec::new(rt.alloc());
+    let mut want = Vec::new(rt.alloc());
+    for (line, reply) in cases {
+        script.extend_from_slice(line.as_bytes())?;
+        script.extend_from_slice(b"\n")?;
+        want.extend_from_slice(reply.as_bytes())?;
+        want.extend_from_slice(b"\n")?;
+    }
+    let output = replies(rt.alloc(), "rom", &[], &script)?;
+    assert_eq!(rt; output.as_slice(), want.as_slice());
+    Ok(())
+}
+
+/// A query far along a run is answered: the empty ROM is `sll r0, r0, 0`, and behind its last word a fetch faults.
+#[test]
+fn query_at_twenty_million(rt: HostRuntime) -> Result<(), Fail> {
+    let output = replies(rt.alloc(), "rom", &[], b"goto 20000000\nreg 0\n")?;
+    assert_eq!(rt;
+        output.as_slice(),
+        b"pos 20000000\nr0 0x00000000\n".as_slice()
+    );
     Ok(())
 }

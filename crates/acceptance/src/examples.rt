@@ -1,62 +1,615 @@
-//! The examples that ship with the program, each with the text that its folder expects.
-use crate::served::run_program;
+//! The examples of `examples`, of `docs/USING.md` and of `bench/stored`, each with the replies that stand there. Made by
+//! `.ci/pages --write`: change those.
+use crate::commands::replies;
+use std::alloc::Global;
+use std::process::Abort;
 use std::test::Fail;
 
-// The ROM of examples/exceptions.
-const EXCEPTIONS: [u32; 41] = [
-    0x3C08_BFC0,
-    0x3508_0068,
-    0x3C09_8000,
-    0x3529_0080,
-    0x240A_0004,
-    0x8D0B_0000,
-    0x2508_0004,
-    0xAD2B_0000,
-    0x254A_FFFF,
-    0x1540_FFFB,
-    0x2529_0004,
-    0x3C10_A000,
-    0x3610_1000,
-    0x3411_0001,
-    0x4091_6000,
-    0x0000_000C,
-    0x3C12_7FFF,
-    0x3652_FFFF,
-    0x2253_0001,
-    0x8E14_0002,
-    0x8E02_FFDC,
-    0x8E03_FFE8,
-    0x8E04_FFF4,
-    0x8E05_FFFC,
-    0x1000_FFFF,
-    0x24C6_0001,
-    0x3C1A_BFC0,
-    0x375A_0078,
-    0x0340_0008,
-    0x0000_0000,
-    0x401A_6800,
-    0x401B_7000,
-    0x335A_007C,
-    0xAE1A_0000,
-    0xAE1B_0004,
-    0x401A_4000,
-    0x277B_0004,
-    0xAE1A_0008,
-    0x2610_000C,
-    0x0360_0008,
-    0x4200_0010,
-];
+// Holds the program's output on an image of a kind and a script to the replies.
+fn holds(
+    rt: &impl Abort,
+    alloc: Global,
+    kind: &str,
+    image: &[u8],
+    script: &[u8],
+    want: &[u8],
+) -> Result<(), Fail> {
+    let output = replies(alloc, kind, image, script)?;
+    assert_eq!(rt; output.as_slice(), want);
+    Ok(())
+}
 
-/// Its system call, overflow and address error, and what its handler noted.
+const EXCEPTIONS: &[u8; 1941] = b"\
+    # A boot ROM that sets up exception handling, and then takes a system call, an overflow and an address error.\n\
+    \x20       lui r8, 0xbfc0                  # copy the stub to the general vector in RAM\n\
+    \x20       ori r8, r8, 0x0068              # where the stub stands in ROM\n\
+    \x20       lui r9, 0x8000\n\
+    \x20       ori r9, r9, 0x0080\n\
+    \x20       addiu r10, r0, 4\n\
+    copy:\n\
+    \x20       lw r11, 0(r8)\n\
+    \x20       addiu r8, r8, 4                 # in the load's delay slot\n\
+    \x20       sw r11, 0(r9)\n\
+    \x20       addiu r10, r10, -1\n\
+    \x20       bne r10, r0, copy\n\
+    \x20       addiu r9, r9, 4                 # in the branch's delay slot\n\
+    \x20       lui r16, 0xa000                 # where the handler notes what it sees\n\
+    \x20       ori r16, r16, 0x1000\n\
+    \x20       ori r17, r0, 0x0001\n\
+    \x20       mtc0 r17, c12                   # BEV 0: the vector in RAM from now on; IEc 1\n\
+    \x20       syscall 0                       # the first exception\n\
+    \x20       lui r18, 0x7fff\n\
+    \x20       ori r18, r18, 0xffff\n\
+    \x20       addi r19, r18, 1                # the second: an overflow, r19 stays 0\n\
+    \x20       lw r20, 2(r16)                  # the third: an address error\n\
+    \x20       lw r2, -36(r16)                 # the three codes, each times 4\n\
+    \x20       lw r3, -24(r16)\n\
+    \x20       lw r4, -12(r16)\n\
+    \x20       lw r5, -4(r16)                  # the bad address\n\
+    done:\n\
+    \x20       beq r0, r0, done\n\
+    \x20       addiu r6, r6, 1\n\
+    \n\
+    # The stub, at 0xbfc00068.\n\
+    \x20       lui r26, 0xbfc0\n\
+    \x20       ori r26, r26, 0x0078            # where the handler stands in ROM\n\
+    \x20       jr r26\n\
+    \x20       sll r0, r0, 0\n\
+    \n\
+    # The handler, at 0xbfc00078.\n\
+    \x20       mfc0 r26, c13                   # Cause\n\
+    \x20       mfc0 r27, c14                   # EPC\n\
+    \x20       andi r26, r26, 0x007c           # the code, times 4\n\
+    \x20       sw r26, 0(r16)\n\
+    \x20       sw r27, 4(r16)\n\
+    \x20       mfc0 r26, c8                    # BadVAddr\n\
+    \x20       addiu r27, r27, 4               # behind the instruction\n\
+    \x20       sw r26, 8(r16)\n\
+    \x20       addiu r16, r16, 12\n\
+    \x20       jr r27\n\
+    \x20       rfe                             # in the jump's delay slot\n";
+
+const LOAD_SLOT: &[u8; 529] = b"\
+    # A load still in its delay slot.\n\
+    \x20       .org 0x00000100                 # in RAM\n\
+    \x20       .word 5\n\
+    \n\
+    \x20       .org 0x1fc00000                 # the ROM, which the processor runs from 0xbfc00000\n\
+    \x20       lui r1, 0xa000                  # r1 is 0xa0000000, the start of RAM in kseg1\n\
+    \x20       lw r2, 256(r1)                  # loads the 5, which waits in the load slot\n\
+    \x20       addu r3, r2, r0                 # reads r2 in the load's delay slot: r3 becomes 0\n\
+    \x20       addu r4, r2, r0                 # the value has landed: r4 becomes 5\n";
+
+const RANDOM_1: &[u8; 3524] = b"\
+    \x52\x33\x4b\x49\x4d\x47\x31\x0a\x01\x00\x00\x00\x01\x00\x00\x00\
+    \x00\x00\x00\x00\x00\x00\x01\x01\x01\x00\x20\x06\x09\x00\x00\x00\
+    \x00\x00\x00\x00\x07\x00\x00\x00\x00\x00\x1a\x3c\x00\x22\x5a\x37\
+    \x00\x10\x9a\x40\x00\x70\x1b\x40\x06\x00\x00\x42\x08\x00\x60\x03\
+    \x10\x00\x00\x42\x80\x00\x00\x00\x11\x00\x00\x00\x00\x68\x80\x40\
+    \x00\x70\x1b\x40\x00\x68\x1a\x40\x04\x00\x7b\x27\x74\x00\x5a\x33\
+    \x10\x00\x5a\x3b\x03\x00\x40\x13\x00\x00\x00\x00\x08\x00\x60\x03\
+    \x10\x00\x00\x42\x00\x08\x1a\x40\xc0\xbf\x1b\x3c\x02\xd1\x1a\x00\
+    \x00\x10\x7b\x37\x21\xd8\x5b\x03\x08\x00\x60\x03\x00\x60\x99\x40\
+    \x00\x10\x00\x00\x42\x01\x00\x00\x09\x00\x4a\x15\x19\x91\xc3\x25\
+    \x00\x00\x00\xaa\x29\x00\x69\x8a\x04\x44\xae\x31\x00\x60\x99\x40\
+    \x20\x50\xb4\x00\x28\x00\x01\x8e\x01\x00\x00\x42\x10\x00\x00\x42\
+    \x14\x04\xf0\x0f\xff\xff\xe2\x8a\x4d\x6e\x7d\x01\x20\x50\xe1\x00\
+    \xf7\x04\x6e\x34\x42\x25\x05\x00\x20\x60\xec\x00\x08\x00\x30\x04\
+    \x06\x00\xa3\x01\x26\x68\x84\x00\x04\x00\x44\x10\x21\x10\x16\x01\
+    \x20\x38\xa9\x01\x3b\x00\x49\x30\x19\x00\x8a\x00\xfd\xff\x31\x05\
+    \x0c\x00\x00\x1d\x1f\xe2\xed\x26\x4c\x57\xa7\x00\x0b\x00\xc0\x1c\
+    \x23\x04\xf0\x0f\x23\x48\x59\x00\x23\x68\x12\x02\x03\x29\x1d\x00\
+    \x01\x00\x40\x1d\x04\x00\x48\x86\x48\x02\xc7\x29\x07\x78\xd3\x02\
+    \x07\x00\x20\x07\x3a\x00\x05\x01\x70\x93\x49\x30\x02\x00\x40\x82\
+    \x02\x00\xa1\x14\xed\xc9\x48\xd3\x19\x00\xc5\x00\x01\x00\x26\x86\
+    \x08\x00\x00\x42\x22\x40\x53\x03\x13\x00\x40\x01\x21\x78\xcb\x03\
+    \x13\x00\x60\x01\x06\x00\xe0\x04\x07\x00\x2d\x10\x10\xd0\x00\x00\
+    \x39\x04\xf0\x0b\x23\x38\x2f\x00\x4b\x1a\xec\x30\x18\x00\xcc\x01\
+    \xc3\x3a\x17\x00\x0f\x59\x4c\x31\x2a\x20\x4a\x01\x03\x74\x03\x00\
+    \x12\x70\x00\x00\x0c\x00\xea\x96\x27\x10\x83\x02\xfd\xff\x21\x04\
+    \xb1\x54\x69\x34\x25\x28\xf3\x01\x00\x00\xa4\x14\x25\x00\xc8\x02\
+    \x9b\xff\x24\x31\x00\x60\x09\x40\x02\x00\x6a\x92\x27\x40\x53\x00\
+    \xcc\xda\x06\x3c\x11\x00\x20\x01\x1a\x00\xe0\x00\x4c\x49\xc5\x00\
+    \x4b\x04\xf0\x0b\x82\x4c\x00\x00\x22\x28\xba\x03\x09\x00\x81\x06\
+    \xc3\x5d\x0d\x00\xdc\xc2\x43\x31\x10\x00\x00\x42\x2b\x48\x17\x01\
+    \x01\x00\xb0\x04\x21\x08\xd3\x00\x20\x30\xe4\x01\x1b\x00\x2e\x00\
+    \x0c\x7a\x0f\x00\x00\x00\xe6\x96\x80\x46\x0f\x00\x00\x60\x99\x40\
+    \xff\xff\x23\x96\x0c\x00\x01\x16\x26\x08\xdf\x03\x2b\x40\x91\x02\
+    \xbf\x35\xf1\xa7\x24\x08\x8d\x02\x03\x00\x40\x18\x14\x3e\x4d\x24\
+    \x10\x00\x00\x42\x1b\x00\xf5\x03\x0c\x00\xa0\x1c\x13\x00\x00\x00\
+    \x06\x00\x60\x03\xd3\xc7\xa3\x39\x2b\x50\x4e\x01\x00\x00\xcb\x86\
+    \x8c\x83\x05\x01\x12\x18\x00\x00\x2a\x18\xd9\x03\x08\x00\x00\x42\
+    \x2a\x38\x6d\x03\x23\x40\x92\x01\x30\x00\x47\x82\x0a\x00\xf1\x04\
+    \x8c\x4c\xe9\x00\x19\x00\x4e\x01\x21\x20\xf6\x02\x2a\x00\x11\x00\
+    \x01\x00\xa1\x05\x2b\x30\x9d\x03\xfe\xff\x06\x86\x23\x38\xec\x00\
+    \x06\x00\x81\x04\x10\x00\x00\x42\x6b\x26\x1e\xe5\x28\x00\x81\xae\
+    \x1f\x07\x09\x3c\xb0\x7a\xca\x30\x2b\x50\x10\x00\x2b\x28\x9f\x02\
+    \x04\x00\x43\x15\x07\x30\x79\x01\x00\x00\xcf\x8a\x00\x68\x81\x40\
+    \x22\x20\x9f\x01\x06\x00\x00\x42\x02\x00\x06\xab\x04\x00\x8d\xa2\
+    \x0a\x00\x87\x15\xe1\xdd\x8e\x21\x2b\x18\xb3\x02\x00\x00\x8c\xaa\
+    \x22\x60\x92\x03\xde\xd0\x4c\xaf\x33\x00\x6d\x92\x21\x40\x2f\x00\
+    \x40\x4f\x1e\x00\xfd\xff\x06\xab\x02\x00\x00\x42\x07\x00\x40\x1d\
+    \x24\x28\xee\x01\xa6\x04\xf0\x0f\x6f\x31\xe9\x24\x00\x61\x10\x00\
+    \x9e\x04\xf0\x0b\x12\x00\x00\x00\x8c\x22\x01\x01\x00\x00\x01\x9b\
+    \xe6\x20\xcf\x20\x13\x00\xa7\x82\x02\x00\x00\x42\x04\x00\x30\x06\
+    \x0e\x00\xed\x8a\x20\x78\xc0\x03\xcd\xfe\x61\x21\x00\x60\x99\x40\
+    \x63\x9a\xc5\x35\xe6\xa1\x42\x29\x13\x38\xaa\x34\x08\x00\x91\x04\
+    \x06\x58\xe3\x00\x04\x00\xe1\x04\x0a\x4c\x0e\x34\x0b\x00\x8f\x10\
+    \x01\x00\x90\x05\x21\x40\xed\x03\x08\x00\x00\x42\x21\x30\xb7\x03\
+    \x9f\x55\x52\x0c\x06\x00\x40\x18\x22\x18\xc8\x01\x0d\x36\x64\x00\
+    \x65\xa2\xc1\x24\xb5\xde\x04\x28\x22\x28\xd3\x03\x1f\x00\xaa\x01\
+    \x00\x40\x85\x40\x21\x28\xcd\x02\x26\x18\x84\x00\x22\x70\x7b\x00\
+    \x27\x60\x7e\x00\x26\x58\x21\x02\x0a\x00\xb1\x05\x13\x00\x80\x00\
+    \x10\x00\x00\x42\x05\x00\xc1\x01\x20\x40\x6d\x03\x08\x00\x0d\x8a\
+    \x06\x70\x95\x00\x01\x00\xe1\x05\x01\x00\xb0\x04\x4f\x89\x23\x29\
+    \x1b\x00\xce\x00\x30\x00\x65\x8e\x27\x00\x49\x00\x00\x68\x82\x40\
+    \x04\x00\xad\x92\x02\x00\x00\x42\x00\x00\x05\xaf\xfd\xfb\xb1\x05\
+    \x81\x1b\x16\x3c\xe0\x04\xf0\x0b\x06\x00\x00\x42\x10\x78\x00\x00\
+    \x30\x00\x44\xa2\x26\x30\xdf\x01\x22\x48\x91\x01\x06\x60\x81\x03\
+    \x8c\x9b\x70\x00\x00\x68\x86\x40\x27\x58\xf5\x01\x07\x48\x7e\x02\
+    \x0a\x00\x09\xa3\x11\x00\x40\x01\xfc\xff\x21\xa6\xfc\xff\x4c\x15\
+    \xf3\xd6\x8d\x39\x10\x00\xa7\x89\xe6\xa6\x07\x3c\x13\xe0\xa6\x2c\
+    \xfc\xff\xaf\xae\x22\x40\xc2\x01\x42\x57\x16\x00\x32\x00\x6e\xa2\
+    \xf9\x04\xf0\x0b\xf4\x04\xf0\x0f\xff\xff\x08\x87\x07\x28\x50\x02\
+    \x0c\x18\x29\x24\x19\x00\xef\x01\x81\x66\x03\x29\x19\x00\xc9\xa6\
+    \x18\x00\xe7\x01\xfe\xff\x21\x04\x3c\x96\xe8\x31\x20\x58\x2c\x02\
+    \x2b\x28\xe7\x01\x06\x00\xce\x96\xfb\x04\xf0\x0b\x0c\x00\xcd\x82\
+    \x08\x00\x80\x03\x26\x44\xed\x00\x0c\x00\xa9\x92\x06\x00\x00\x42\
+    \x08\x00\x07\x8f\xed\xb0\x4f\x38\x04\x78\x15\x03\x06\x05\xf0\x0b\
+    \x09\x05\xf0\x0f\x28\x00\x69\xa2\xfc\xff\xc3\x92\x03\x00\xe0\x05\
+    \x08\x00\x80\xa2\x0c\x00\x90\x04\x12\x68\x00\x00\x29\x00\x80\xb8\
+    \x3f\x9b\x0b\x2d\xff\xff\x70\x05\x03\x00\x60\x1d\xff\xff\x23\x11\
+    \x1e\x05\xf0\x0b\x00\x10\x8a\x40\x08\x00\x0c\x97\x57\xbe\x1a\x6f\
+    \xfb\x36\xac\x24\x12\x50\x00\x00\x07\x70\xce\x02\x27\xa8\x42\x02\
+    \xfe\x67\xec\x2c\x00\x28\x0e\x40\x12\x38\x00\x00\x00\x20\x8e\x40\
+    \x0a\x00\x2c\x99\x12\x18\x00\x00\x20\x50\x50\x02\xcc\x61\x61\x00\
+    \x12\x58\x00\x00\x28\x00\x46\x8a\x31\x00\xea\xa6\x0a\x00\x91\x05\
+    \x31\x00\x0c\xaa\x7b\x69\xcc\xab\x0f\x00\x27\xb8\x06\x48\x6f\x02\
+    \x07\x70\x30\x02\xe7\xc3\x25\x2d\x2f\x56\x24\x25\x19\x00\x8c\xae\
+    \x0a\x00\x00\x86\x04\x00\x74\x00\x28\x00\xc3\x92\x27\x00\x0b\x00\
+    \x2b\x00\xa9\x01\x02\x00\x0f\x15\x24\x68\x09\x01\x0c\x00\x28\x10\
+    \x18\x00\x4b\xba\x91\x9c\xc7\x24\x03\x00\x05\x9b\x00\x68\x82\x40\
+    \x07\x00\xd3\x00\x1b\x00\x6d\x01\x07\x50\x42\x00\x12\x50\x00\x00\
+    \x27\x20\x17\x00\x02\x00\xe0\x1d\xbf\xfe\x00\x10\x00\x00\x00\x00\
+    \x00\x20\x00\x00\x20\x00\x00\x00\x50\xb5\x34\xef\x00\x00\x00\x00\
+    \x28\x00\x00\x00\xff\xff\xff\x7f\xff\xff\xff\xff\x01\x00\x00\x00\
+    \x7f\x8c\x13\x5f\x00\x00\x00\x80\xff\xff\xff\xff\xff\xff\xff\xff\
+    \xff\xff\xff\x7f\xff\xff\xff\x7f\x9f\x09\x53\x12\x00\x00\x00\x80\
+    \x00\x00\x00\x00\xff\xff\xff\xff\x39\x00\x00\x00\x06\x27\x19\x64\
+    \xff\xff\xff\xff\xc4\xa8\xf0\x45\x00\x00\x00\x80\x9e\x19\x4a\x48\
+    \x88\x6c\x84\x50\x8b\x01\x83\x85\x00\x00\x00\x80\x79\x29\xe4\x7c\
+    \x0e\x00\x00\x00\x00\x00\x00\x00\x00\x00\x00\x00\x00\x00\x00\x80\
+    \x22\x28\x03\x18\x01\x00\x00\x00\x00\x00\xc0\x1f\x02\x00\x00\x00\
+    \x80\x00\xf0\x0b\x00\x00\x00\x00\x00\x01\xc0\x1f\x07\x00\x00\x00\
+    \x00\x00\x1a\x3c\x00\x17\x5a\x37\x00\x10\x9a\x40\x00\x70\x1b\x40\
+    \x06\x00\x00\x42\x08\x00\x60\x03\x10\x00\x00\x42\x80\x01\xc0\x1f\
+    \x10\x00\x00\x00\x00\x70\x1b\x40\x00\x68\x1a\x40\x04\x00\x7b\x27\
+    \x74\x00\x5a\x33\x10\x00\x5a\x3b\x03\x00\x40\x13\x00\x00\x00\x00\
+    \x08\x00\x60\x03\x10\x00\x00\x42\x00\x08\x1a\x40\xc0\xbf\x1b\x3c\
+    \x02\xd1\x1a\x00\x00\x10\x7b\x37\x21\xd8\x5b\x03\x08\x00\x60\x03\
+    \x00\x60\x99\x40\x00\x02\xc0\x1f\x82\x00\x00\x00\x00\x00\x01\x3c\
+    \x80\x10\x21\x34\x00\x50\x81\x40\xc0\x1f\x01\x3c\x00\x15\x21\x34\
+    \x00\x10\x81\x40\x00\x00\x01\x3c\x00\x2e\x21\x34\x00\x00\x81\x40\
+    \x02\x00\x00\x42\xff\x7f\x01\x3c\x00\xf0\x21\x34\x00\x50\x81\x40\
+    \xc0\x1f\x01\x3c\x00\x15\x21\x34\x00\x10\x81\x40\x00\x00\x01\x3c\
+    \x00\x37\x21\x34\x00\x00\x81\x40\x02\x00\x00\x42\x40\x00\x01\x3c\
+    \x80\x00\x21\x34\x00\x50\x81\x40\xe8\x1f\x01\x3c\x00\x03\x21\x34\
+    \x00\x10\x81\x40\x00\x00\x01\x3c\x00\x05\x21\x34\x00\x00\x81\x40\
+    \x02\x00\x00\x42\x00\x00\x01\x3c\x80\x10\x21\x34\x00\x50\x81\x40\
+    \x00\x10\x01\x3c\x00\x0b\x21\x34\x00\x10\x81\x40\x00\x00\x01\x3c\
+    \x00\x28\x21\x34\x00\x00\x81\x40\x02\x00\x00\x42\x00\x00\x01\x3c\
+    \x00\x10\x21\x34\x00\x50\x81\x40\x00\x00\x01\x3c\x00\x12\x21\x34\
+    \x00\x10\x81\x40\x00\x00\x01\x3c\x00\x0e\x21\x34\x00\x00\x81\x40\
+    \x02\x00\x00\x42\x00\xc0\x01\x3c\x00\x00\x21\x34\x00\x50\x81\x40\
+    \x00\x00\x01\x3c\x00\x26\x21\x34\x00\x10\x81\x40\x00\x00\x01\x3c\
+    \x00\x31\x21\x34\x00\x00\x81\x40\x02\x00\x00\x42\x00\x00\x01\x3c\
+    \x40\x00\x21\x34\x00\x50\x81\x40\x4b\xb5\x01\x3c\x40\x3c\x21\x34\
+    \xff\xa7\x02\x3c\x38\x0d\x42\x34\xff\xff\x03\x3c\xff\xff\x63\x34\
+    \xbf\x28\x04\x3c\xea\xf9\x84\x34\x00\x00\x05\x3c\x00\x00\xa5\x34\
+    \xaf\x21\x06\x3c\xfd\x8c\xc6\x34\x00\x00\x07\x3c\x00\x00\xe7\x34\
+    \x75\x16\x08\x3c\x27\x87\x08\x35\x00\x00\x09\x3c\x01\x00\x29\x35\
+    \x00\x00\x0a\x3c\x12\x00\x4a\x35\x00\x00\x0b\x3c\x00\x00\x6b\x35\
+    \xb8\x88\x0c\x3c\xe1\x94\x8c\x35\x00\x00\x0d\x3c\x01\x00\xad\x35\
+    \x00\x80\x0e\x3c\x00\x00\xce\x35\xb9\x1e\x0f\x3c\xd7\x67\xef\x35\
+    \x00\xa0\x10\x3c\x28\x20\x10\x36\x7f\x80\x11\x3c\xe8\xff\x31\x36\
+    \x00\xa0\x12\x3c\x2e\x20\x52\x36\x00\x80\x13\x3c\x34\x20\x73\x36\
+    \x00\x00\x14\x3c\x28\x10\x94\x36\x00\x80\x15\x3c\x3f\x20\xb5\x36\
+    \x40\x00\x16\x3c\x14\x00\xd6\x36\x00\xa0\x17\x3c\x08\x20\xf7\x36\
+    \x40\x00\x18\x3c\x34\x00\x18\x37\x44\x10\x19\x3c\x3c\x13\x39\x37\
+    \x8f\x52\x1a\x3c\x03\x9e\x5a\x37\x00\x00\x1b\x3c\x00\x00\x7b\x37\
+    \x00\xc0\x1c\x3c\x8c\x01\x9c\x37\xc0\xbf\x1d\x3c\x1c\x10\xbd\x37\
+    \x00\x80\x1e\x3c\xec\x11\xde\x37\xff\xff\x1f\x3c\xff\xff\xff\x37\
+    \x11\x00\x60\x00\x13\x00\x80\x00\x00\x60\x99\x40\x08\x00\x80\x03\
+    \x00\x00\x00\x00\x00\x10\xc0\x1f\x42\x01\x00\x00\x22\x48\x90\x02\
+    \x01\x00\x06\x87\x11\x00\x40\x01\xc3\x17\x02\x00\x0c\x00\xc0\x1d\
+    \xb0\x5a\x24\x29\xff\xff\xcd\x82\x01\x00\x00\x42\xab\x4f\xc6\x24\
+    \x04\x60\x43\x00\x82\xbf\xeb\x2c\x0c\x00\x82\x96\x69\xfc\x43\x2d\
+    \x19\x00\xe8\x01\x94\x0d\x54\x24\x00\xf8\x82\x40\x2b\x68\x5e\x01\
+    \x2a\x18\x90\x00\x0c\xdd\x63\x34\x01\x00\x00\x42\x02\x00\x70\x04\
+    \x25\x20\x89\x00\x1a\x00\x01\x93\x1a\x00\x85\x01\x4d\x82\xc3\x01\
+    \x26\x28\x09\x01\x49\x62\x0f\x3c\x25\x04\xf0\x0f\x0a\x00\x40\x15\
+    \x18\x00\xa7\x00\x2b\x38\xae\x01\x1e\x04\xf0\x0b\x00\x00\x80\xac\
+    \x23\x04\xf0\x0b\x19\x00\x2a\x00\x2b\x04\xf0\x0b\x25\x04\xf0\x0f\
+    \x69\x00\x80\xac\x02\x00\x90\x04\x27\x38\x7e\x02\x1b\x00\xea\x01\
+    \x02\x00\x30\x06\x06\x00\x00\x42\x06\x50\xb2\x01\x00\x68\x81\x40\
+    \x13\x00\xa0\x00\x00\x41\x13\x00\x08\x00\x87\x14\x13\x00\xe0\x01\
+    \xdf\x07\x66\x35\x2b\x00\xa9\x9a\xb3\xa7\x54\xca\x02\x00\xe0\xba\
+    \x0c\x00\xcd\xac\xcc\x68\x61\x00\x9e\x83\x4d\x39\x30\x00\x21\x9a\
+    \x6d\xb6\x7c\x29\x02\x00\x00\x42\xdc\xa3\x32\xe4\x00\xf8\x8c\x40\
+    \x27\x59\xcd\x28\x05\x00\x50\x05\x08\x00\x00\x42\x2b\x00\x85\x86\
+    \xfe\xff\xcc\x96\x0b\x00\x67\x10\x27\x34\x26\x24\x00\x80\x09\x40\
+    \x18\x00\x0a\x00\x10\x00\x00\x42\x7a\x16\x40\x2c\xc2\x70\x07\x00\
+    \x21\x70\x49\x03\x06\x00\x00\x42\xc3\x4f\x13\x00\x4f\x04\xf0\x0f\
+    \x2a\x00\x09\xbb\x0b\x00\x80\x1d\x57\x04\xf0\x0f\x19\x00\xc2\x01\
+    \x59\x04\xf0\x0b\x06\x00\x00\x42\x26\x20\xe3\x00\x13\x00\xc0\x00\
+    \x43\x01\x1a\x00\x03\xc9\x03\x00\x08\x00\x60\x1c\x20\x60\x04\x00\
+    \x42\xde\x0b\x3c\x0c\xa0\x6e\x01\x8c\x70\x22\x00\x1a\x00\xc6\x00\
+    \x25\x50\x7f\x00\x02\x00\x68\x8a\x09\x00\x01\x07\x63\x69\x81\x25\
+    \x5c\xbe\x0b\x27\x57\x43\x8f\x2d\x01\x00\x00\x42\xb9\x98\xc2\x2c\
+    \xe4\x59\x09\x3c\x04\x50\x01\x02\x07\x00\x82\x96\x10\x58\x00\x00\
+    \x09\x18\xc0\x03\x0c\x00\x6f\x10\x6c\x04\xf0\x0f\x98\x00\x6f\x00\
+    \x28\x00\x80\xa6\x12\x18\x00\x00\x01\x00\x00\x42\xb1\x1b\x0a\x38\
+    \x18\x00\x88\x02\x09\x00\x20\x04\x13\x00\x80\x01\xc2\x36\x0d\x00\
+    \x26\x20\x45\x02\x19\x00\xca\x01\x08\x00\x00\x42\x13\x00\x80\x01\
+    \x06\x38\x06\x02\x0b\x00\xa5\x11\x1a\x00\x6b\x01\x13\x00\x40\x01\
+    \xfc\x77\xee\x31\x02\x00\x00\x42\x00\x68\x81\x40\x3f\xf7\xce\x33\
+    \x42\x36\x00\x00\x09\x00\x61\xae\xbd\x9f\x0e\x39\x20\x28\x27\x00\
+    \x00\x68\x8a\x40\x23\xb0\x80\x03\x14\x75\xa4\x38\x07\x00\x60\x04\
+    \x1a\x00\xc0\x00\x40\x2b\x0f\x00\x56\x1c\xaf\x2c\x23\x10\x75\x03\
+    \x0c\x91\x0f\x00\x10\x48\x00\x00\x19\x00\x40\xa6\xfc\xff\xed\xa6\
+    \x21\x28\xdd\x02\x03\x00\x20\x05\x05\x00\x07\x11\x04\x60\x03\x00\
+    \x58\x14\x9c\xba\x4c\x7c\x2a\x00\x84\xee\xab\x24\x24\x00\xdb\x00\
+    \x01\x00\xa8\xa2\x23\x78\x14\x03\x09\x00\x2b\xa9\xfd\xff\x81\x05\
+    \xea\xe1\xcc\x29\xed\xd5\xe2\x30\x01\x00\x00\x42\xab\x04\xf0\x0f\
+    \x06\x18\xfa\x00\x06\x10\x8b\x03\x09\x00\xa0\x1a\x25\x10\xef\x02\
+    \x18\x00\x45\x03\x08\x00\x00\x42\x08\x00\xc0\x03\x00\x30\x09\x40\
+    \x12\x28\x00\x00\xb5\x04\xb0\x0b\xb2\x04\xf0\x0f\x08\x00\xc0\x03\
+    \xbf\x82\x10\x3c\xb0\x04\xf0\x0f\xc2\x53\x0d\x00\x06\x00\xe1\x04\
+    \x2a\x50\xb5\x00\x01\x00\x00\x42\x7a\x02\x0e\x3c\x11\x00\x20\x01\
+    \x13\x00\x09\xa3\x06\x60\xde\x00\x30\x00\x89\x82\x05\x00\x02\x8a\
+    \x07\x28\x2e\x03\x24\x58\x4b\x00\x21\x38\x23\x01\x05\x07\xc2\x31\
+    \x09\x00\x2a\xaa\x11\x00\x0f\x8b\x22\x10\x10\x00\x20\x68\xf1\x00\
+    \x01\x00\x1c\x92\xff\xff\x02\xaa\x56\x9c\x8f\x2c\x11\x00\x2a\x96\
+    \x00\x60\x99\x40\x04\x78\x20\x03\x1a\x00\x2c\x01\x05\x00\xb1\x04\
+    \x2a\x48\xd9\x00\xcf\x04\xf0\x0b\x11\x00\x80\x00\x04\x28\x60\x01\
+    \x30\x00\xca\x96\xc3\x43\x04\x00\x71\x09\x0d\x3c\xfb\x87\xac\x39\
+    \x08\x00\xaf\x10\x9d\xc3\x67\x2d\x02\x00\x00\x42\x07\x10\x51\x02\
+    \x8a\x4f\xb5\x31\x24\x30\x7a\x01\x00\x30\x04\x40\x02\x00\x00\x05\
+    \x08\x00\xe2\xa6\x00\x68\x81\x40\x19\x00\x01\x00\x27\x28\x94\x02\
+    \x04\x00\x29\xaa\x82\x26\x07\x3c\xad\x46\x28\x34\xf7\x56\x01\x31\
+    \x23\x00\xa0\x03\x78\x48\x28\x2d\x06\x00\x71\x04\x00\x08\x88\x40\
+    \x18\xe0\x0f\x3c\x12\x60\x00\x00\x80\x6b\x1d\x00\x11\x80\x4c\xae\
+    \xf1\x04\xf0\x0b\x0b\xbf\x6e\x21\xe6\x27\x3e\x6f\x2a\x70\x81\x02\
+    \x72\xc5\xf3\x9b\x00\x20\x8c\x40\x19\x00\x0e\x01\x06\x00\x80\x1d\
+    \x00\x00\x43\xaa\x07\x30\x83\x02\x11\x00\x80\x01\xbd\xb0\xe4\x34\
+    \x00\x68\x80\x40\xc0\x1a\x10\x00\x08\x00\xad\xae\x13\x00\xc8\x86\
+    \x02\x00\x00\x42\x05\x00\x4c\xba\x28\x00\x03\x99\x04\x00\xf1\x07\
+    \x0b\x00\x04\x14\x53\x9a\x04\x30\x09\x78\xa0\x03\x18\x00\x2e\x02\
+    \x21\x50\x04\x01\x25\x30\xd5\x01\x24\x38\x76\x00\x49\x26\xcc\x34\
+    \x0c\xb1\x4b\x01\x66\x44\xaf\x30\x89\x2e\xa8\x29\x10\x00\x01\xba\
+    \x0c\x00\x41\x07\x19\x00\x63\x01\x03\x00\xe0\x1f\x01\x00\xf1\x05\
+    \x76\x5e\xc9\x34\x21\x60\x6f\x03\x1b\x00\x60\x96\x08\x00\x00\x42\
+    \xc0\x76\x10\x00\x81\x2b\xe2\x39\x18\x00\xaa\x00\x08\x00\x00\x42\
+    \x0b\x00\x82\x14\x00\x6b\x1d\x00\x24\x60\xb7\x02\x08\x00\x80\x03\
+    \xef\xb0\x09\x39\xfe\xff\xc6\xba\x00\x60\x99\x40\x77\xad\x43\x2d\
+    \x42\x3e\xa0\x36\xb8\x64\xe9\x31\xfb\xec\x23\x29\x40\x2d\x13\x00\
+    \x18\x00\x88\x96\x25\x08\x46\x00\x03\x00\xa1\xba\x09\x10\xa0\x03\
+    \x25\x50\xbe\x00\x03\x00\x2c\xba\x21\x58\x72\x02\x00\x00\xe7\x9a\
+    \x20\x28\x88\x03\x02\x00\x2f\xba\x11\x00\x0c\xae\x09\x00\xe1\x05\
+    \x03\x00\xae\x15\x12\x78\x00\x00\x02\x00\x00\x42\x11\x00\xe5\x82\
+    \x10\x28\x00\x00\x03\x00\x03\x9a\x2f\xbe\xdd\xcd\x3f\x05\xf0\x0b\
+    \x0b\x00\x02\xab\xed\xaa\x60\x24\x3d\x05\xf0\x0f\x42\x12\x1b\x00\
+    \x04\x28\xd9\x03\x72\xe9\x4e\x20\x11\x00\xe0\x01\x28\x00\x01\x97\
+    \x23\x10\x66\x01\x21\x20\xcb\x03\x10\x00\x00\x42\xbf\xfe\x00\x10\
+    \x00\x00\x00\x00";
+
+const RANDOM_2: &[u8; 3640] = b"\
+    \x52\x33\x4b\x49\x4d\x47\x31\x0a\x28\x00\x00\x00\x01\x00\x00\x00\
+    \x59\x00\x59\x00\x23\x00\x07\x28\x02\x04\x2f\x02\x09\x00\x00\x00\
+    \x00\x00\x00\x00\x11\x00\x00\x00\x00\x68\x80\x40\x00\x70\x1b\x40\
+    \x00\x68\x1a\x40\x04\x00\x7b\x27\x74\x00\x5a\x33\x10\x00\x5a\x3b\
+    \x03\x00\x40\x13\x00\x00\x00\x00\x08\x00\x60\x03\x10\x00\x00\x42\
+    \x00\x08\x1a\x40\xc0\xbf\x1b\x3c\x02\xd1\x1a\x00\x00\x10\x7b\x37\
+    \x21\xd8\x5b\x03\x08\x00\x60\x03\x00\x60\x99\x40\x80\x00\x00\x00\
+    \x11\x00\x00\x00\x00\x68\x80\x40\x00\x70\x1b\x40\x00\x68\x1a\x40\
+    \x04\x00\x7b\x27\x74\x00\x5a\x33\x10\x00\x5a\x3b\x03\x00\x40\x13\
+    \x00\x00\x00\x00\x08\x00\x60\x03\x10\x00\x00\x42\x00\x08\x1a\x40\
+    \xc0\xbf\x1b\x3c\x02\xd1\x1a\x00\x00\x10\x7b\x37\x21\xd8\x5b\x03\
+    \x08\x00\x60\x03\x00\x60\x99\x40\x00\x10\x00\x00\x42\x01\x00\x00\
+    \x09\x04\xf0\x0b\x01\x00\x00\x42\x13\x00\xa0\x01\x8d\xcf\x0d\x00\
+    \x2b\x18\xeb\x02\x12\x10\x00\x00\x0b\x00\xc4\x8e\x02\x00\x00\x42\
+    \x01\x00\x38\x14\x9d\x13\xdf\x39\x5d\x78\x05\x34\x00\x50\x02\x40\
+    \x02\x00\x25\x96\xfc\xff\x4a\x92\x00\xe0\x8a\x2e\x08\x00\x40\x04\
+    \x13\x00\xa0\x01\x8c\x28\xa8\x00\x06\x00\x00\x42\x13\x00\x60\xa6\
+    \x0c\x00\xc2\x15\x13\x00\x62\x92\x02\x00\x0d\xae\x19\x00\x2e\x01\
+    \x24\x68\x74\x03\x04\x00\xc6\xba\xfc\xff\x8b\x8a\x10\x70\x00\x00\
+    \x40\x55\x0d\x00\x27\x28\xa5\x02\x84\x08\x48\x24\x28\x00\x6b\x8a\
+    \x06\x00\x00\x42\x26\x28\x7a\x03\x08\x00\x00\x42\xcd\x5e\xee\x01\
+    \x12\x9f\x0c\x30\x09\x00\x40\x11\x30\x04\xf0\x0f\xfc\xff\x6a\xaa\
+    \xff\xff\x87\xba\x00\x68\x82\x40\x04\x00\x0a\x9a\x02\x00\xcc\xae\
+    \xff\xff\x10\x04\x00\x60\x99\x40\xd9\x5a\xe7\x35\xf8\xf4\xaa\x2d\
+    \xfc\xff\xc0\x04\x08\x00\xc0\x03\x01\x00\x00\x42\x26\x30\x59\x00\
+    \xff\xff\xc7\xba\x00\x00\x42\x8e\x39\x04\xf0\x0f\xd6\xbc\x0f\x3c\
+    \x01\x00\x01\x05\xff\xff\x03\xa3\x19\x00\xe6\x01\x26\x48\xfa\x01\
+    \xac\xa8\x47\x38\x80\x42\x0a\x00\x03\x0a\x0e\x00\x80\x7e\x13\x00\
+    \xaa\xe0\x0e\x28\xc1\x92\x03\x2d\x83\x44\x28\xec\x12\x20\x00\x00\
+    \x23\x00\xfd\x01\x05\x00\x6a\x9a\x00\x08\x0e\x40\x4e\x04\xf0\x0b\
+    \x0c\x00\x50\x04\x27\x58\xd7\x02\x20\x50\x76\x01\x02\x00\x00\x42\
+    \x09\x78\xa0\x03\xcd\x61\x37\x00\x02\x00\x00\x42\x40\xc0\x14\xf9\
+    \x02\x00\x00\x42\x10\x18\x00\x00\x07\x70\x18\x03\x2b\x18\x44\x00\
+    \x00\x00\xa1\x04\x07\x00\xb0\x04\x4d\x12\x0b\x01\x1b\x00\xa9\x00\
+    \x1a\x00\x26\x01\x30\x00\x06\xae\xfb\xff\xf1\x04\x24\x18\xe1\x02\
+    \x08\x00\xad\x14\x2a\x30\x14\x01\x1b\x00\xaa\x00\x02\x00\x00\x42\
+    \x1a\x00\x0f\x01\x23\x70\x09\x00\x05\x00\x30\x05\x09\x00\x04\x15\
+    \x0b\x00\x4a\x10\x04\x78\x45\x03\xb2\x8d\x86\x24\x0c\x00\x00\x04\
+    \x22\x10\x59\x01\x0c\x07\xae\x01\x07\x48\x76\x01\x00\x68\x81\x40\
+    \x00\x08\x06\x40\xc2\x1a\x0f\x00\xcf\x7f\xce\x29\x74\x04\xf0\x0b\
+    \x4c\xc0\x61\x01\x06\x78\x2e\x01\x5f\xad\xe7\x25\x13\x00\x89\xa2\
+    \x8a\x1c\xef\x99\xff\xff\x2d\x8a\x26\xe0\xfe\x03\x82\x04\xf0\x0f\
+    \x02\x00\x00\x42\xc2\x35\x06\x00\x98\x24\x67\x35\x83\x16\x1b\x00\
+    \x1a\x00\xa8\x01\x0c\x00\x40\x19\x04\x97\xae\x20\x07\x48\xd8\x01\
+    \x20\x48\x99\x02\xfc\xff\x01\x9b\x04\x58\x5d\x03\x13\x00\x40\x00\
+    \x7a\x8a\xc1\x61\x4d\x76\x8d\x01\x07\x18\xaf\x01\x19\x00\x0c\x01\
+    \x23\x70\xf6\x02\x04\x00\x0b\xa2\x0b\x00\x47\x14\x18\x00\x4e\x93\
+    \x0c\xa7\x20\x02\x2a\x00\x68\x86\x1a\x00\xcd\x01\x10\x00\x00\x42\
+    \x0a\x00\xe0\x1c\x10\x00\x00\x42\x97\xf1\x01\x3c\x54\xa8\xcf\x29\
+    \x13\x00\x40\x00\x1a\x00\xa1\x00\x18\x00\xc5\xa2\x33\x00\x4e\xba\
+    \xe7\xf9\x47\x29\x0b\x00\xc2\x19\x0a\x00\xc7\xa2\x00\x00\xe8\x8e\
+    \x1a\x52\x0c\x3c\x9a\x45\xc9\x39\xfd\xff\x31\x04\x21\x20\xb2\x00\
+    \x12\x08\x00\x00\xa6\x6b\x65\x22\x01\x00\xc3\xb8\x24\x20\x23\x00\
+    \x12\x58\x00\x00\x00\x60\x99\x40\x2a\x30\x1b\x01\x2b\x40\x72\x03\
+    \x1a\x00\xeb\x01\x03\x00\xc6\x8a\x00\x00\x01\xa2\xcd\xab\x41\x00\
+    \x2b\x10\x4c\x03\x21\x50\xab\x02\x12\x40\x00\x00\x07\x70\x18\x03\
+    \x04\x70\x64\x01\xb8\x04\xf0\x0b\x11\x00\x40\x01\x25\x60\x16\x03\
+    \x94\xe1\xe6\x30\x0c\x00\xaf\x11\x1b\x00\x69\x01\x04\x00\x70\x98\
+    \x06\x00\x00\x42\x23\x08\x19\x01\x00\x68\x81\x40\x0c\x00\x61\x9a\
+    \x27\x50\x02\x01\x25\x20\x80\x00\x10\x10\x00\x00\x0a\x00\xd1\x05\
+    \x25\x50\x66\x03\x30\x00\x23\x96\x08\x00\xa1\x04\x11\x00\x80\x01\
+    \x08\x00\x6f\x11\x06\x40\x5d\x00\x02\x00\x8b\x92\x11\x00\x60\x01\
+    \x19\x00\x24\x00\x30\x00\x65\xba\x06\x00\x00\x42\x02\x00\xca\xa2\
+    \xc7\x34\xef\x24\x0c\x00\x4c\x8a\x00\x68\x81\x40\xa8\x1b\xa1\x24\
+    \x1b\x00\x08\x83\x69\xd0\x6e\x2d\x27\x00\x89\x01\xd9\x04\xf0\x0b\
+    \x00\x50\x0a\x40\x42\x1b\x12\x00\x27\x00\xc9\x01\x54\xa9\xae\x35\
+    \x23\x68\xfd\x00\xff\xff\x6d\x14\x20\x48\x8b\x00\xed\x6c\x07\x3c\
+    \x18\x20\x83\x00\x24\x40\xa6\x01\x1a\x00\xc1\x01\x06\x00\x00\x42\
+    \x25\x50\xcc\x02\x07\x08\x9c\x01\x23\x20\xcf\x01\x13\x00\x6e\x8a\
+    \x08\x00\xef\x10\xa6\xeb\x4a\x25\x28\x00\x47\x86\x08\x00\xa0\x03\
+    \x00\x50\x8e\x40\xea\x04\xf0\x0b\x8b\x86\x21\x29\x26\x30\x5b\x02\
+    \x24\x20\x45\x03\x04\x30\x4a\x01\xcd\xd8\x0c\x00\x04\x78\xad\x03\
+    \x2a\x58\x93\x03\x19\x00\x00\x00\x4d\x52\xc6\x00\x23\x18\x7e\x00\
+    \x13\x00\x60\x00\x02\x00\x24\x92\x18\x00\x44\xa6\x8d\xa2\x82\x00\
+    \x27\x70\xb6\x03\x00\x70\x88\x40\xc6\x1f\x80\xb7\x08\x00\x00\x42\
+    \xb4\xc0\xc7\x29\x06\x05\xf0\x0b\x18\x00\x6c\x01\x08\x00\x00\x42\
+    \x08\x00\xec\xae\x11\x00\xc0\x00\x22\x30\x11\x00\x00\x68\x81\x40\
+    \x02\x00\xe1\x04\x43\x33\x0f\x00\x04\x70\x09\x01\x1b\x00\x48\x01\
+    \x23\x38\x57\x02\xec\x87\xaf\x24\x65\x1d\x28\x43\x07\x30\xce\x03\
+    \x26\x60\xa9\x00\x00\x60\x99\x40\x01\x00\x2f\x8e\x00\x68\x81\x40\
+    \x06\x20\xb2\x00\xfc\xff\x40\x1d\x20\x78\x2e\x01\x26\x28\xf4\x03\
+    \x57\x44\x80\x30\x18\x00\x6a\x01\x31\x00\x62\x82\x07\x00\x60\x05\
+    \xe4\xc9\x2b\xb0\x74\xd2\x2d\x2c\x26\x10\xde\x02\x21\x08\x8b\x01\
+    \x1e\x05\xf0\x0b\x1b\x00\x29\x00\x22\x00\x53\x00\x07\x00\x44\xa2\
+    \x00\x00\xad\x8e\x1b\x00\x63\x00\x22\x08\x9a\x02\x01\x00\x20\x1c\
+    \x34\x25\xca\x25\x03\x00\xc0\x19\x2b\x68\xee\x03\x40\x66\x0f\x00\
+    \x10\x00\xe9\x8a\x99\x2d\x0f\x3c\xc0\x14\x1c\x00\x26\x28\x94\x00\
+    \x4c\x23\xae\x24\x06\x00\x00\x42\x08\x00\x87\x12\x06\x78\xfa\x03\
+    \x0c\x00\x28\xa6\x40\x70\x0b\x00\x19\x00\x24\x00\x2b\xb1\xa7\x34\
+    \x25\x50\x46\x01\x19\x00\xe1\x01\x00\x00\x09\xae\x03\x00\xca\xa2\
+    \x1c\x00\x71\xaa\xa3\x10\xc4\x28\x46\xaa\x4d\x35\x05\x00\xc0\x1d\
+    \x05\x00\x00\x19\x00\x68\x81\x40\x00\x08\x04\x40\x1a\x00\xec\x01\
+    \xbf\xfe\x00\x10\x00\x00\x00\x00\x00\x20\x00\x00\x20\x00\x00\x00\
+    \x54\xbe\x83\xad\x00\x00\x00\x00\x2e\xc5\xfa\xb1\xff\xff\xff\x7f\
+    \x00\x00\x00\x00\x00\x00\x00\x80\x00\x00\x00\x80\x0f\x00\x00\x00\
+    \xff\xff\xff\x7f\x00\x00\x00\x00\x00\x00\x00\x00\xff\xff\xff\x7f\
+    \x2e\x12\x99\xea\x01\x00\x00\x00\x00\x00\x00\x00\x30\x54\x0b\xbc\
+    \xff\xff\xff\x7f\xff\xff\xff\x7f\xff\xff\xff\x7f\xff\xff\xff\x7f\
+    \x01\x00\x00\x00\xff\xff\xff\x7f\x3c\x00\x00\x00\x21\xb5\xfd\xe9\
+    \x5a\x33\xee\xdc\x00\x00\x00\x80\xff\xff\xff\x7f\xfd\xbf\x33\x13\
+    \x00\x00\x00\x00\xff\xff\xff\xff\xe7\xd2\xa7\xec\x01\x00\x00\x00\
+    \x00\x00\xc0\x1f\x02\x00\x00\x00\x80\x00\xf0\x0b\x00\x00\x00\x00\
+    \x00\x01\xc0\x1f\x10\x00\x00\x00\x00\x70\x1b\x40\x00\x68\x1a\x40\
+    \x04\x00\x7b\x27\x74\x00\x5a\x33\x10\x00\x5a\x3b\x03\x00\x40\x13\
+    \x00\x00\x00\x00\x08\x00\x60\x03\x10\x00\x00\x42\x00\x08\x1a\x40\
+    \xc0\xbf\x1b\x3c\x02\xd1\x1a\x00\x00\x10\x7b\x37\x21\xd8\x5b\x03\
+    \x08\x00\x60\x03\x00\x60\x99\x40\x80\x01\xc0\x1f\x10\x00\x00\x00\
+    \x00\x70\x1b\x40\x00\x68\x1a\x40\x04\x00\x7b\x27\x74\x00\x5a\x33\
+    \x10\x00\x5a\x3b\x03\x00\x40\x13\x00\x00\x00\x00\x08\x00\x60\x03\
+    \x10\x00\x00\x42\x00\x08\x1a\x40\xc0\xbf\x1b\x3c\x02\xd1\x1a\x00\
+    \x00\x10\x7b\x37\x21\xd8\x5b\x03\x08\x00\x60\x03\x00\x60\x99\x40\
+    \x00\x02\xc0\x1f\x8c\x00\x00\x00\x00\xc0\x01\x3c\x00\x00\x21\x34\
+    \x00\x50\x81\x40\xe0\x1f\x01\x3c\x00\x05\x21\x34\x00\x10\x81\x40\
+    \x00\x00\x01\x3c\x00\x27\x21\x34\x00\x00\x81\x40\x02\x00\x00\x42\
+    \x00\xc0\x01\x3c\x00\x00\x21\x34\x00\x50\x81\x40\x00\x00\x01\x3c\
+    \x00\x26\x21\x34\x00\x10\x81\x40\x00\x00\x01\x3c\x00\x2a\x21\x34\
+    \x00\x00\x81\x40\x02\x00\x00\x42\x00\x00\x01\x3c\x00\x00\x21\x34\
+    \x00\x50\x81\x40\xc0\x1f\x01\x3c\x00\x16\x21\x34\x00\x10\x81\x40\
+    \x00\x00\x01\x3c\x00\x10\x21\x34\x00\x00\x81\x40\x02\x00\x00\x42\
+    \x00\x00\x01\x3c\x40\x10\x21\x34\x00\x50\x81\x40\xe8\x1f\x01\x3c\
+    \x00\x05\x21\x34\x00\x10\x81\x40\x00\x00\x01\x3c\x00\x05\x21\x34\
+    \x00\x00\x81\x40\x02\x00\x00\x42\x00\x00\x01\x3c\x80\x00\x21\x34\
+    \x00\x50\x81\x40\xc0\x1f\x01\x3c\x00\x1b\x21\x34\x00\x10\x81\x40\
+    \x00\x00\x01\x3c\x00\x13\x21\x34\x00\x00\x81\x40\x02\x00\x00\x42\
+    \x00\xc0\x01\x3c\x00\x00\x21\x34\x00\x50\x81\x40\xe0\x1f\x01\x3c\
+    \x00\x06\x21\x34\x00\x10\x81\x40\x00\x00\x01\x3c\x00\x10\x21\x34\
+    \x00\x00\x81\x40\x02\x00\x00\x42\x40\x00\x01\x3c\x40\x00\x21\x34\
+    \x00\x50\x81\x40\x00\x10\x01\x3c\x00\x0f\x21\x34\x00\x10\x81\x40\
+    \x00\x00\x01\x3c\x00\x34\x21\x34\x00\x00\x81\x40\x02\x00\x00\x42\
+    \x00\x00\x01\x3c\x40\x00\x21\x34\x00\x50\x81\x40\x00\x00\x01\x3c\
+    \x01\x00\x21\x34\x00\x00\x02\x3c\x00\x00\x42\x34\x00\x80\x03\x3c\
+    \x00\x00\x63\x34\x59\x51\x04\x3c\x34\x51\x84\x34\x00\x00\x05\x3c\
+    \x00\x00\xa5\x34\x92\x98\x06\x3c\x08\x82\xc6\x34\xff\x7f\x07\x3c\
+    \xff\xff\xe7\x34\x00\x00\x08\x3c\x00\x00\x08\x35\xc3\xe8\x09\x3c\
+    \xe8\x87\x29\x35\x00\x00\x0a\x3c\x01\x00\x4a\x35\x00\x00\x0b\x3c\
+    \x02\x00\x6b\x35\x00\x00\x0c\x3c\x00\x00\x8c\x35\x00\x80\x0d\x3c\
+    \x00\x00\xad\x35\x00\x00\x0e\x3c\x12\x00\xce\x35\x00\x00\x0f\x3c\
+    \x01\x00\xef\x35\x80\x80\x10\x3c\x0c\x00\x10\x36\x00\xc0\x11\x3c\
+    \x20\x00\x31\x36\x00\x80\x12\x3c\x2c\x20\x52\x36\x00\x80\x13\x3c\
+    \x30\x20\x73\x36\x00\xa0\x14\x3c\x2d\x20\x94\x36\x00\x80\x15\x3c\
+    \x28\x20\xb5\x36\x00\x80\x16\x3c\x14\x20\xd6\x36\x00\xa0\x17\x3c\
+    \x08\x20\xf7\x36\xc0\xbf\x18\x3c\x2c\x10\x18\x37\x44\x00\x19\x3c\
+    \x1d\xbf\x39\x37\x00\x00\x1a\x3c\x00\x00\x5a\x37\xff\x7f\x1b\x3c\
+    \xff\xff\x7b\x37\x00\xa0\x1c\x3c\x44\x14\x9c\x37\xc0\xbf\x1d\x3c\
+    \xf4\x14\xbd\x37\xc0\x9f\x1e\x3c\xd8\x12\xde\x37\x00\x00\x1f\x3c\
+    \x00\x00\xff\x37\x11\x00\x60\x00\x13\x00\x80\x00\x00\x60\x99\x40\
+    \x08\x00\xa0\x03\x10\x00\x00\x42\x00\x10\xc0\x1f\x42\x01\x00\x00\
+    \x01\x00\x00\x42\x06\x00\x00\x42\x26\x28\x4b\x00\x1a\x00\x65\x00\
+    \x1b\x00\xe9\x01\x03\x00\xcd\x8e\x03\x00\xa0\x19\x01\x00\x80\x1c\
+    \x06\x00\x00\x42\x00\x09\x05\x00\x01\x00\x00\x42\x20\x40\xf9\x03\
+    \xb7\x10\x88\x31\x09\x00\x40\x18\x12\x00\x82\x96\x10\x48\x00\x00\
+    \x02\x00\xaf\x11\x00\x10\x02\x40\x09\x40\xa0\x03\x2a\x48\x01\x03\
+    \x03\x00\xcd\x8a\x00\x00\x21\xae\x05\x2f\x45\x31\x04\x00\xb0\x05\
+    \x1d\x04\xf0\x0b\x08\x15\xee\x2c\x02\x00\x00\x42\x1b\x00\x04\x00\
+    \x20\x18\xc8\x03\x2b\x00\xec\xae\x10\x10\x00\x00\x1b\x00\x61\x01\
+    \xf9\x53\x04\x3c\x1a\x00\x2c\x00\x2a\x08\x6e\x01\x20\x60\x02\x00\
+    \x20\x50\xe9\x02\x80\x2e\x13\x00\x82\x70\x0b\x00\x00\x48\x0c\x40\
+    \x12\x50\x00\x00\x04\x40\x2a\x02\x28\x00\x05\x8b\x06\x58\x68\x01\
+    \x10\x00\x00\x42\x03\x27\x0e\x00\x00\x60\x99\x40\x4d\x48\xa0\x01\
+    \xaf\x0e\xa3\x28\x00\x0b\x18\x00\x0b\x00\x20\x19\x12\x00\x00\x00\
+    \x31\xfd\x20\x31\x25\x10\x0b\x00\x01\x00\x8e\x8e\x10\x00\x00\x42\
+    \x00\x60\x99\x40\x06\x00\x00\x42\x08\x00\x60\x96\x06\x38\xab\x01\
+    \x24\x28\x4d\x02\x06\x00\x00\x42\x0a\x00\x31\x04\x18\x00\x4a\x8c\
+    \x06\x78\x47\x02\x5d\x10\xc7\x68\x00\x00\x20\xba\x06\x00\x20\x18\
+    \x44\x3a\x5f\x7b\x3f\x2f\xc7\x35\x09\x50\x80\x03\x04\x18\x33\x03\
+    \x19\x00\x85\x01\x42\x18\x12\x00\x11\x00\xe0\x01\x00\x60\x99\x40\
+    \x12\xd0\x00\x00\x28\x00\x44\x86\x10\x00\x00\x42\x10\x00\x00\x42\
+    \x00\x1a\x1e\x00\x06\x00\x00\x42\xe6\x7d\x86\x2d\x02\x00\x80\x1c\
+    \x30\x00\x0a\x8b\x00\x68\x81\x40\x03\x00\x61\xa2\x16\x52\xe3\x39\
+    \xea\xea\x3c\xd5\x4d\x34\x05\x00\x24\x20\x22\x01\x18\x00\xea\xae\
+    \x26\x18\x45\x02\x2a\x58\x80\x01\x10\x00\x00\x42\x01\x00\x00\x42\
+    \x20\x20\xa3\x01\x06\x38\x80\x00\xff\xff\x00\x18\x04\x00\x0f\x9a\
+    \x06\x00\x00\x42\x0c\x00\x48\xae\x22\x58\xa9\x03\x09\x00\xc0\x18\
+    \x1b\x00\xac\x00\x00\x00\xfb\xba\x23\x60\xbb\x02\x27\x00\x96\x00\
+    \x00\x68\x0f\x40\x21\x50\x2a\x03\x26\x10\xdf\x00\x23\x96\x04\x3c\
+    \xff\xff\x0f\xbb\x8c\x32\x4f\x02\x18\x00\x62\xba\x13\x00\x80\x00\
+    \x04\x00\xef\xae\x08\x00\x00\x42\x08\x00\x0e\xab\xcc\x34\xc1\x00\
+    \x01\x00\x06\x8b\xcf\x88\x4f\x21\x01\x00\xea\x15\x00\x68\x82\x40\
+    \x11\x00\xa0\x01\x23\x48\x5b\x02\x10\x00\x00\x42\x29\x00\x58\xae\
+    \x01\x00\x01\x87\xee\xfa\x06\x3c\x06\x00\x00\x42\x0a\x00\xc0\x18\
+    \xdc\x17\x47\x38\x10\x00\x00\x42\x26\x68\x83\x02\x1b\x00\x21\x01\
+    \x10\x04\x00\x42\xc3\x63\x05\x00\x08\x00\x00\x42\x4c\x0f\xa4\x01\
+    \x03\x00\x42\x14\x06\x00\xc1\xaa\x01\x00\x80\x04\x18\x00\x63\x00\
+    \x10\x00\x03\x80\x06\x00\x00\x42\x00\x68\x81\x40\x00\x10\x87\x40\
+    \x00\x60\x99\x40\x03\x00\x60\x05\x07\x00\xc0\x1d\x05\x00\xf1\x05\
+    \x08\x00\x00\x42\x28\x00\x3e\x86\x00\x10\x8a\x40\x02\x00\xe5\xa2\
+    \x26\x70\x2d\x02\x0b\x00\x50\x05\x00\xf8\x8c\x40\x09\x08\x80\x03\
+    \x1a\x00\xea\x01\x0b\x00\x80\x05\x00\x60\x99\x40\x01\x00\xa3\xba\
+    \x13\x00\x40\x00\x22\x38\x43\x02\xc2\x5d\x00\x00\x1b\x00\x87\x8a\
+    \x23\x60\x06\x03\x00\x68\x82\x40\x0a\x00\xd1\x04\x88\x95\x23\x21\
+    \xc3\x49\x03\x00\x06\x00\x00\x42\x23\x10\xaa\x03\xb3\x04\xf0\x0b\
+    \x01\x00\x00\x42\x22\x08\x17\x02\x30\x00\xa8\x82\xc0\x21\x05\x00\
+    \x01\x00\xc8\xa4\x08\x00\x54\x8e\x10\x00\x00\x42\x10\x00\x00\x42\
+    \x11\x00\x00\x01\x23\x48\x4d\x02\x07\x48\x80\x00\x02\x00\x00\x42\
+    \x20\x10\xa7\x00\x13\x04\x00\x01\x20\x50\xf9\x03\xfc\xff\xe8\x9a\
+    \x0c\x00\xae\x96\x04\x00\x82\x82\x2a\x08\xb7\x01\x20\x70\x93\x03\
+    \x0a\x00\x8f\x96\x01\x00\x20\x1d\x82\x76\x07\x00\x31\x88\xeb\x34\
+    \x0c\x00\x6d\x11\x24\x08\x60\x02\x01\x00\x00\x42\x75\xb9\x0e\x2d\
+    \x04\x00\x71\x05\x05\x00\xeb\xae\x23\x70\x7e\x03\x06\x40\x50\x02\
+    \x08\x00\x6b\xa6\x40\x6f\x00\x00\x0b\x00\x40\x04\x01\x00\xe8\x15\
+    \x97\xc2\xa3\x2c\x13\x00\x20\x01\x1b\x00\x4a\x01\x28\x00\xa0\x98\
+    \x28\x00\x84\xa2\x28\x00\x04\xaf\x26\x08\x15\x03\xfe\xff\x6c\x9a\
+    \x1b\x00\x02\xa2\x4a\xe0\x4d\x2d\x7e\x97\x0f\x39\xe8\x04\xf0\x0f\
+    \x00\x50\x16\x40\x97\xf8\xe3\x39\x0c\xd4\x67\x01\x08\x00\x00\x42\
+    \xe9\x04\xf0\x0f\x02\x7a\x00\x00\x21\x48\x0d\x02\x2b\x58\x97\x02\
+    \x34\x47\x46\x34\x4f\x4c\x26\x77\x00\x00\x2d\x8d\x70\xc0\x0c\x3c\
+    \x00\x68\x82\x40\x04\x00\x6a\xaa\x06\x00\x41\x04\x23\x60\x74\x02\
+    \x26\x48\x52\x03\x18\x00\x48\x01\x10\x00\x00\x42\x01\x00\x00\x42\
+    \x07\x00\x80\x04\x06\x00\x00\x42\x06\x00\x00\x42\x19\x00\xed\x01\
+    \x24\x08\x1f\x00\x06\x00\x00\x42\x13\x00\x40\x00\x1a\x00\xa9\x00\
+    \x00\x00\xa2\xba\x04\xf9\xac\x24\x00\xf8\x85\x40\x30\x00\x0e\xa7\
+    \x18\x00\xe6\x00\x1b\x00\x1e\xaa\x04\x00\x8c\x01\x22\x40\x8f\x03\
+    \x07\x60\x14\x03\x0c\x00\x71\x04\x20\x48\x78\x03\x26\x10\x39\x02\
+    \x4f\x34\xc5\x34\x18\x00\x68\x00\x8f\xaf\x4c\x34\x29\x00\x8e\xa2\
+    \x33\x00\xc4\xa6\xff\xff\x4c\x92\x05\x00\x23\x8a\xd2\xa9\x5c\x8a\
+    \x1a\x00\xe5\x01\x26\x68\x92\x00\x06\x00\x00\x42\x04\x00\xa3\xa6\
+    \x0c\x9d\x65\x00\x02\x00\x00\x42\x00\x00\xab\x9a\x08\x00\x80\x03\
+    \x04\x28\x99\x02\x07\x08\x7b\x02\x1d\x05\xf0\x0b\x25\x10\xd6\x02\
+    \x00\x70\x00\x40\x00\x00\x2e\x92\xe1\x4e\x2e\x21\x00\x20\x85\x40\
+    \x06\xd6\x60\x2c\x8b\x5d\x08\x3c\xe9\x33\xa0\x39\x0b\x00\x00\x04\
+    \x11\x00\xe2\xa6\x20\x60\x97\x03\x04\x00\x11\x04\x5e\x90\xeb\x20\
+    \xfc\xff\x2e\xba\x07\x00\x40\x1c\x2d\x05\xf0\x0b\xcf\xdb\xd9\x2c\
+    \x42\x7a\x8b\x00\x10\x00\x00\x42\x5d\x51\x2a\x2f\x25\x68\xa8\x00\
+    \x24\x48\xd4\x02\xfc\xff\xb5\x96\x96\xd5\x1c\x3c\x0a\x00\x40\x1c\
+    \x21\x88\x16\x02\xfc\xff\xef\x96\x10\x00\x48\xae\x04\x08\x17\x03\
+    \x04\x00\x00\x19\x18\x40\x07\x00\x20\x30\xbe\x01\x7f\x5c\xe8\x29\
+    \x00\x68\x82\x40\x0f\x00\x20\xa2\x11\x00\xc0\x00\x00\x3d\x17\x00\
+    \xbf\xfe\x00\x10\x00\x00\x00\x00";
+
+const USER_MODE: &[u8; 2195] = b"\
+    # Boot code that starts a user program through translation entries: its pages are refilled as they are missed, and it makes a\n\
+    # system call.\n\
+    \n\
+    # The vector of user misses, 0x80000000: the page's word of the page table becomes an entry.\n\
+    \x20       .org 0x00000000\n\
+    \x20       mfc0 r26, c4                    # Context: where the page's word stands in the table\n\
+    \x20       mfc0 r27, c14                   # EPC: where to go on\n\
+    \x20       lw r26, 0(r26)\n\
+    \x20       sll r0, r0, 0                   # in the load's delay slot\n\
+    \x20       mtc0 r26, c2                    # EntryLo\n\
+    \x20       sll r0, r0, 0\n\
+    \x20       tlbwr\n\
+    \x20       jr r27\n\
+    \x20       rfe                             # in the jump's delay slot: back to the mode before\n\
+    \n\
+    # The general vector, 0x80000080: notes the exception, and goes on behind it.\n\
+    \x20       .org 0x00000080\n\
+    \x20       mfc0 r26, c14                   # EPC\n\
+    \x20       mfc0 r27, c13                   # Cause\n\
+    \x20       addiu r26, r26, 4\n\
+    \x20       andi r27, r27, 0x007c           # the code, times 4\n\
+    \x20       addu r20, r27, r0\n\
+    \x20       addiu r21, r21, 1               # how many there were\n\
+    \x20       jr r26\n\
+    \x20       rfe\n\
+    \n\
+    # The user program, at the virtual address 0x00400000.\n\
+    \x20       .org 0x00010000\n\
+    \x20       lui r8, 0x0050                  # its data, at 0x00500000\n\
+    \x20       ori r9, r0, 0x002a\n\
+    \x20       sw r9, 0(r8)\n\
+    \x20       lw r10, 0(r8)\n\
+    \x20       addiu r9, r9, 1                 # in the load's delay slot\n\
+    \x20       syscall 0\n\
+    done:\n\
+    \x20       beq r0, r0, done\n\
+    \x20       sll r0, r0, 0\n\
+    \n\
+    # The page table, a word for each page: what EntryLo is to hold.\n\
+    \x20       .org 0x00201000\n\
+    \x20       .word 0x00010200                # page 0x00400: frame 0x00010, valid\n\
+    \x20       .org 0x00201400\n\
+    \x20       .word 0x00011600                # page 0x00500: frame 0x00011, valid and dirty\n\
+    \n\
+    # Reset.\n\
+    \x20       .org 0x1fc00000\n\
+    \x20       lui r8, 0x8020\n\
+    \x20       mtc0 r8, c4                     # Context: the page table stands at 0x80200000\n\
+    \x20       mtc0 r0, c10                    # EntryHi: process 0\n\
+    \x20       ori r9, r0, 0x0008\n\
+    \x20       mtc0 r9, c12                    # Status: the mode before is user mode; BEV 0, so the vectors are those in RAM\n\
+    \x20       lui r10, 0x0040\n\
+    \x20       jr r10\n\
+    \x20       rfe                             # in the jump's delay slot: user mode\n";
+
+/// The example `exceptions`.
 #[test]
 fn exceptions(rt: HostRuntime) -> Result<(), Fail> {
-    let mut input = Vec::new(rt.alloc());
-    for word in EXCEPTIONS {
-        input.extend_from_slice(&word.to_le_bytes())?;
-    }
-    input.extend_from_slice(b"goto 34\ncp0\ngoto 52\ncp0\nreg 19\ngoto 68\ncp0\ngoto 89\nregs\n")?;
-    let run = run_program(rt.alloc(), &["r3kwb", "--size", "164"], &input, 4096)?;
-    let want = "pos 34\n\
+    let alloc = rt.alloc();
+    holds(
+        &rt,
+        alloc,
+        "source",
+        EXCEPTIONS,
+        b"\
+        goto 34\n\
+        cp0\n\
+        goto 52\n\
+        cp0\n\
+        reg 19\n\
+        goto 68\n\
+        cp0\n\
+        goto 89\n\
+        regs\n",
+        b"\
+        pos 34\n\
         index 0x00000000 random 0x00001d00 entrylo 0x00000000 context 0x00000000 badvaddr 0x00000000 entryhi 0x00000000 status 0x00000004 cause 0x00000020 epc 0xbfc0003c prid 0x00000220\n\
         pos 52\n\
         index 0x00000000 random 0x00000b00 entrylo 0x00000000 context 0x00000000 badvaddr 0x00000000 entryhi 0x00000000 status 0x00000004 cause 0x00000030 epc 0xbfc00048 prid 0x00000220\n\
@@ -72,8 +625,1011 @@ fn exceptions(rt: HostRuntime) -> Result<(), Fail> {
         r16 0xa0001024 0x00000001 0x7fffffff 0x00000000\n\
         r20 0x00000000 0x00000000 0x00000000 0x00000000\n\
         r24 0x00000000 0x00000000 0xa000101a 0xbfc00050\n\
-        r28 0x00000000 0x00000000 0x00000000 0x00000000\n";
-    assert_eq!(rt; run.output.as_slice(), want.as_bytes());
-    assert_eq!(rt; run.status, 0);
+        r28 0x00000000 0x00000000 0x00000000 0x00000000\n",
+    )?;
+    Ok(())
+}
+
+/// The example `load-slot`.
+#[test]
+fn load_slot(rt: HostRuntime) -> Result<(), Fail> {
+    let alloc = rt.alloc();
+    holds(
+        &rt,
+        alloc,
+        "source",
+        LOAD_SLOT,
+        b"\
+        goto 2\n\
+        regs\n",
+        b"\
+        pos 2\n\
+        pc 0xbfc00008 next 0xbfc0000c hi 0x00000000 lo 0x00000000 delay 0 load r2 0x00000005\n\
+        r0 0x00000000 0xa0000000 0x00000000 0x00000000\n\
+        r4 0x00000000 0x00000000 0x00000000 0x00000000\n\
+        r8 0x00000000 0x00000000 0x00000000 0x00000000\n\
+        r12 0x00000000 0x00000000 0x00000000 0x00000000\n\
+        r16 0x00000000 0x00000000 0x00000000 0x00000000\n\
+        r20 0x00000000 0x00000000 0x00000000 0x00000000\n\
+        r24 0x00000000 0x00000000 0x00000000 0x00000000\n\
+        r28 0x00000000 0x00000000 0x00000000 0x00000000\n",
+    )?;
+    Ok(())
+}
+
+/// The example `user-mode`.
+#[test]
+fn user_mode(rt: HostRuntime) -> Result<(), Fail> {
+    let alloc = rt.alloc();
+    holds(
+        &rt,
+        alloc,
+        "source",
+        USER_MODE,
+        b"\
+        # The first instruction of the user program misses.\n\
+        goto 8\n\
+        where 0x00400000\n\
+        goto 9\n\
+        cp0\n\
+        # The handler has written the entry that Random named.\n\
+        goto 18\n\
+        tlb 48\n\
+        where 0x00400008\n\
+        # The store misses too, and then is made.\n\
+        goto 21\n\
+        reg 9\n\
+        goto 31\n\
+        tlb 36\n\
+        mem 0x00011000 1\n\
+        # The system call, and the program behind it, which sees nothing of the kernel.\n\
+        goto 34\n\
+        cp0\n\
+        goto 42\n\
+        reg 20\n\
+        reg 21\n\
+        where 0x80000000\n\
+        dis 0x00010000 6\n",
+        b"\
+        pos 8\n\
+        where tlbl refill\n\
+        pos 9\n\
+        index 0x00000000 random 0x00003600 entrylo 0x00000000 context 0x80201000 badvaddr 0x00400000 entryhi 0x00400000 status 0x00000008 cause 0x00000008 epc 0x00400000 prid 0x00000220\n\
+        pos 18\n\
+        tlb 48 0x00400000 0x00010200\n\
+        where 0x00010008 cached\n\
+        pos 21\n\
+        r9 0x0000002a\n\
+        pos 31\n\
+        tlb 36 0x00500000 0x00011600\n\
+        0x00011000 0x0000002a\n\
+        pos 34\n\
+        index 0x00000000 random 0x00001d00 entrylo 0x00011600 context 0x80201400 badvaddr 0x00500000 entryhi 0x00500000 status 0x00000008 cause 0x00000020 epc 0x00400014 prid 0x00000220\n\
+        pos 42\n\
+        r20 0x00000020\n\
+        r21 0x00000001\n\
+        where adel\n\
+        0x00010000 0x3c080050 lui r8, 0x0050\n\
+        0x00010004 0x3409002a ori r9, r0, 0x002a\n\
+        0x00010008 0xad090000 sw r9, 0(r8)\n\
+        0x0001000c 0x8d0a0000 lw r10, 0(r8)\n\
+        0x00010010 0x25290001 addiu r9, r9, 1\n\
+        0x00010014 0x0000000c syscall 0\n",
+    )?;
+    Ok(())
+}
+
+/// The sessions of `docs/USING.md`.
+#[test]
+fn using(rt: HostRuntime) -> Result<(), Fail> {
+    let alloc = rt.alloc();
+    holds(
+        &rt,
+        alloc,
+        "source",
+        LOAD_SLOT,
+        b"\
+        goto 2\n\
+        reg 1\n\
+        quit\n",
+        b"\
+        pos 2\n\
+        r1 0xa0000000\n",
+    )?;
+    holds(
+        &rt,
+        alloc,
+        "source",
+        LOAD_SLOT,
+        b"\
+        # a comment\n\
+        position\n\
+        goto\n\
+        goto 18446744073709551616\n\
+        goto 0x10\n",
+        b"\
+        error 2 Syntax\n\
+        error 2 Syntax\n\
+        error 3 Range\n\
+        pos 16\n",
+    )?;
+    holds(
+        &rt,
+        alloc,
+        "source",
+        LOAD_SLOT,
+        b"\
+        pos\n",
+        b"\
+        pos 0\n",
+    )?;
+    holds(
+        &rt,
+        alloc,
+        "source",
+        LOAD_SLOT,
+        b"\
+        goto 3\n\
+        step 2\n\
+        back 4\n\
+        back 2\n\
+        goto 4294967295\n\
+        step 1\n",
+        b"\
+        pos 3\n\
+        pos 5\n\
+        pos 1\n\
+        error 7 TooFar\n\
+        pos 4294967295\n\
+        error 7 TooFar\n",
+    )?;
+    holds(
+        &rt,
+        alloc,
+        "source",
+        LOAD_SLOT,
+        b"\
+        goto 2\n\
+        regs\n",
+        b"\
+        pos 2\n\
+        pc 0xbfc00008 next 0xbfc0000c hi 0x00000000 lo 0x00000000 delay 0 load r2 0x00000005\n\
+        r0 0x00000000 0xa0000000 0x00000000 0x00000000\n\
+        r4 0x00000000 0x00000000 0x00000000 0x00000000\n\
+        r8 0x00000000 0x00000000 0x00000000 0x00000000\n\
+        r12 0x00000000 0x00000000 0x00000000 0x00000000\n\
+        r16 0x00000000 0x00000000 0x00000000 0x00000000\n\
+        r20 0x00000000 0x00000000 0x00000000 0x00000000\n\
+        r24 0x00000000 0x00000000 0x00000000 0x00000000\n\
+        r28 0x00000000 0x00000000 0x00000000 0x00000000\n",
+    )?;
+    holds(
+        &rt,
+        alloc,
+        "source",
+        LOAD_SLOT,
+        b"\
+        goto 4\n\
+        reg 4\n\
+        reg 32\n",
+        b"\
+        pos 4\n\
+        r4 0x00000005\n\
+        error 3 Range\n",
+    )?;
+    holds(
+        &rt,
+        alloc,
+        "source",
+        EXCEPTIONS,
+        b"\
+        goto 34\n\
+        cp0\n",
+        b"\
+        pos 34\n\
+        index 0x00000000 random 0x00001d00 entrylo 0x00000000 context 0x00000000 badvaddr 0x00000000 entryhi 0x00000000 status 0x00000004 cause 0x00000020 epc 0xbfc0003c prid 0x00000220\n",
+    )?;
+    holds(
+        &rt,
+        alloc,
+        "source",
+        LOAD_SLOT,
+        b"\
+        tlb 63\n\
+        tlb 64\n",
+        b"\
+        tlb 63 0x00000000 0x00000000\n\
+        error 3 Range\n",
+    )?;
+    holds(
+        &rt,
+        alloc,
+        "source",
+        LOAD_SLOT,
+        b"\
+        where 0x80000010\n\
+        where 0xbfc00000\n\
+        where 0x1000\n\
+        where 0xc0000000\n\
+        where 0\n",
+        b"\
+        where 0x00000010 cached\n\
+        where 0x1fc00000 uncached\n\
+        where tlbl refill\n\
+        where tlbl\n\
+        where tlbl\n",
+    )?;
+    holds(
+        &rt,
+        alloc,
+        "source",
+        EXCEPTIONS,
+        b"\
+        mem 0x1000 1\n\
+        goto 89\n\
+        mem 0x1000 9\n\
+        mem 0x1001 1\n\
+        mem 0x007ffffc 2\n\
+        mem 0 33\n",
+        b"\
+        0x00001000 0x00000000\n\
+        pos 89\n\
+        0x00001000 0x00000020\n\
+        0x00001004 0xbfc0003c\n\
+        0x00001008 0x00000000\n\
+        0x0000100c 0x00000030\n\
+        0x00001010 0xbfc00048\n\
+        0x00001014 0x00000000\n\
+        0x00001018 0x00000010\n\
+        0x0000101c 0xbfc0004c\n\
+        0x00001020 0xa000101a\n\
+        error 5 Unaligned\n\
+        error 6 NotMemory\n\
+        error 3 Range\n",
+    )?;
+    holds(
+        &rt,
+        alloc,
+        "source",
+        LOAD_SLOT,
+        b"\
+        dis 0x1fc00000 4\n",
+        b"\
+        0x1fc00000 0x3c01a000 lui r1, 0xa000\n\
+        0x1fc00004 0x8c220100 lw r2, 256(r1)\n\
+        0x1fc00008 0x00401821 addu r3, r2, r0\n\
+        0x1fc0000c 0x00402021 addu r4, r2, r0\n",
+    )?;
+    holds(
+        &rt,
+        alloc,
+        "source",
+        LOAD_SLOT,
+        b"\
+        goto 7\n\
+        quit\n\
+        pos\n",
+        b"\
+        pos 7\n",
+    )?;
+    Ok(())
+}
+
+/// The random images of `bench/stored`.
+#[test]
+fn random(rt: HostRuntime) -> Result<(), Fail> {
+    let alloc = rt.alloc();
+    holds(
+        &rt,
+        alloc,
+        "image",
+        RANDOM_1,
+        b"\
+        goto 1525\n\
+        step 9\n\
+        back 2\n\
+        regs \n\
+        reg 21\n\
+        cp0 \n\
+        tlb 12\n\
+        where 0xfffff000\n\
+        mem 0x1fc01020 16\n\
+        dis 0x1020 16\n\
+        goto 3673\n\
+        step 8\n\
+        back 13\n\
+        regs \n\
+        reg 30\n\
+        cp0 \n\
+        tlb 16\n\
+        where 0xc0000003\n\
+        mem 0x1010 16\n\
+        dis 0x1fc01004 16\n\
+        goto 2249\n\
+        step 0\n\
+        back 17\n\
+        regs \n\
+        reg 2\n\
+        cp0 \n\
+        tlb 41\n\
+        where 0x80001000\n\
+        mem 0x1020 16\n\
+        dis 0x1fc01018 16\n\
+        goto 3489\n\
+        step 5\n\
+        back 10\n\
+        regs \n\
+        reg 16\n\
+        cp0 \n\
+        tlb 26\n\
+        where 0x7ffff003\n\
+        mem 0x1fc01018 16\n\
+        dis 0x201c 16\n\
+        goto 2200\n\
+        step 3\n\
+        back 3\n\
+        regs \n\
+        reg 24\n\
+        cp0 \n\
+        tlb 36\n\
+        where 0x80000000\n\
+        mem 0x1000 16\n\
+        dis 0x2024 16\n\
+        goto 890\n\
+        step 12\n\
+        back 19\n\
+        regs \n\
+        reg 28\n\
+        cp0 \n\
+        tlb 28\n\
+        where 0x40000003\n\
+        mem 0x102c 16\n\
+        dis 0x1010 16\n",
+        b"\
+        pos 1525\n\
+        pos 1534\n\
+        pos 1532\n\
+        pc 0xc00003bc next 0xc00003c0 hi 0xffffffff lo 0x28bff9ea delay 0 load none\n\
+        r0 0x00000000 0xb54b3c40 0xa7ff0d38 0xffffffff\n\
+        r4 0x28bff9ea 0x00000000 0x21af8cfd 0x00000000\n\
+        r8 0x16758727 0x00000001 0x00000012 0x00000000\n\
+        r12 0x88b894e1 0x00000001 0x80000000 0x1eb967d7\n\
+        r16 0xa0002028 0x807fffe8 0xa000202e 0x80002034\n\
+        r20 0x00001028 0x8000203f 0x00400014 0xa0002008\n\
+        r24 0x00400034 0x1044133c 0x00000010 0xc00003bc\n\
+        r28 0xc000018c 0xbfc0101c 0x800011ec 0xffffffff\n\
+        r21 0x8000203f\n\
+        index 0x00003100 random 0x00002b00 entrylo 0x00002600 context 0x00100000 badvaddr 0xc00003b8 entryhi 0xc0000040 status 0x1044133c cause 0x00000008 epc 0xc00003b8 prid 0x00000220\n\
+        tlb 12 0x00000000 0x00000000\n\
+        where tlbl\n\
+        0x1fc01020 0x24c64fab\n\
+        0x1fc01024 0x00436004\n\
+        0x1fc01028 0x2cebbf82\n\
+        0x1fc0102c 0x9682000c\n\
+        0x1fc01030 0x2d43fc69\n\
+        0x1fc01034 0x01e80019\n\
+        0x1fc01038 0x24540d94\n\
+        0x1fc0103c 0x4082f800\n\
+        0x1fc01040 0x015e682b\n\
+        0x1fc01044 0x0090182a\n\
+        0x1fc01048 0x3463dd0c\n\
+        0x1fc0104c 0x42000001\n\
+        0x1fc01050 0x04700002\n\
+        0x1fc01054 0x00892025\n\
+        0x1fc01058 0x9301001a\n\
+        0x1fc0105c 0x0185001a\n\
+        0x00001020 0x42000001 tlbr\n\
+        0x00001024 0x42000010 rfe\n\
+        0x00001028 0x0ff00414 jal 0x0fc01050\n\
+        0x0000102c 0x8ae2ffff lwl r2, -1(r23)\n\
+        0x00001030 0x017d6e4d break 390585\n\
+        0x00001034 0x00e15020 add r10, r7, r1\n\
+        0x00001038 0x346e04f7 ori r14, r3, 0x04f7\n\
+        0x0000103c 0x00052542 srl r4, r5, 21\n\
+        0x00001040 0x00ec6020 add r12, r7, r12\n\
+        0x00001044 0x04300008 bltzal r1, 0x00001068\n\
+        0x00001048 0x01a30006 srlv r0, r3, r13\n\
+        0x0000104c 0x00846826 xor r13, r4, r4\n\
+        0x00001050 0x10440004 beq r2, r4, 0x00001064\n\
+        0x00001054 0x01161021 addu r2, r8, r22\n\
+        0x00001058 0x01a93820 add r7, r13, r9\n\
+        0x0000105c 0x3049003b andi r9, r2, 0x003b\n\
+        pos 3673\n\
+        pos 3681\n\
+        pos 3668\n\
+        pc 0xbfc00194 next 0xbfc00198 hi 0xffffffff lo 0x28bff9ea delay 0 load none\n\
+        r0 0x00000000 0xb54b3c40 0xa7ff0d38 0xffffffff\n\
+        r4 0x28bff9ea 0x00000000 0x21af8cfd 0x00000000\n\
+        r8 0x16758727 0x00000001 0x00000012 0x00000000\n\
+        r12 0x88b894e1 0x00000001 0x80000000 0x1eb967d7\n\
+        r16 0xa0002028 0x807fffe8 0xa000202e 0x80002034\n\
+        r20 0x00001028 0x8000203f 0x00400014 0xa0002008\n\
+        r24 0x00400034 0x1044133c 0x00000010 0xc0000714\n\
+        r28 0xc000018c 0xbfc0101c 0x800011ec 0xffffffff\n\
+        r30 0x800011ec\n\
+        index 0x00003100 random 0x00002300 entrylo 0x00002600 context 0x00100000 badvaddr 0xc0000710 entryhi 0xc0000040 status 0x10441330 cause 0x00000008 epc 0xc0000710 prid 0x00000220\n\
+        tlb 16 0x00000000 0x00000000\n\
+        where tlbl\n\
+        0x00001010 0x31ae4404\n\
+        0x00001014 0x40996000\n\
+        0x00001018 0x00b45020\n\
+        0x0000101c 0x8e010028\n\
+        0x00001020 0x42000001\n\
+        0x00001024 0x42000010\n\
+        0x00001028 0x0ff00414\n\
+        0x0000102c 0x8ae2ffff\n\
+        0x00001030 0x017d6e4d\n\
+        0x00001034 0x00e15020\n\
+        0x00001038 0x346e04f7\n\
+        0x0000103c 0x00052542\n\
+        0x00001040 0x00ec6020\n\
+        0x00001044 0x04300008\n\
+        0x00001048 0x01a30006\n\
+        0x0000104c 0x00846826\n\
+        0x1fc01004 0x87060001 lh r6, 1(r24)\n\
+        0x1fc01008 0x01400011 mthi r10\n\
+        0x1fc0100c 0x000217c3 sra r2, r2, 31\n\
+        0x1fc01010 0x1dc0000c bgtz r14, 0x1fc01044\n\
+        0x1fc01014 0x29245ab0 slti r4, r9, 23216\n\
+        0x1fc01018 0x82cdffff lb r13, -1(r22)\n\
+        0x1fc0101c 0x42000001 tlbr\n\
+        0x1fc01020 0x24c64fab addiu r6, r6, 20395\n\
+        0x1fc01024 0x00436004 sllv r12, r3, r2\n\
+        0x1fc01028 0x2cebbf82 sltiu r11, r7, -16510\n\
+        0x1fc0102c 0x9682000c lhu r2, 12(r20)\n\
+        0x1fc01030 0x2d43fc69 sltiu r3, r10, -919\n\
+        0x1fc01034 0x01e80019 multu r15, r8\n\
+        0x1fc01038 0x24540d94 addiu r20, r2, 3476\n\
+        0x1fc0103c 0x4082f800 mtc0 r2, c31\n\
+        0x1fc01040 0x015e682b sltu r13, r10, r30\n\
+        pos 2249\n\
+        pos 2249\n\
+        pos 2232\n\
+        pc 0xc00004d4 next 0xc00004d8 hi 0xffffffff lo 0x28bff9ea delay 0 load none\n\
+        r0 0x00000000 0xb54b3c40 0xa7ff0d38 0xffffffff\n\
+        r4 0x28bff9ea 0x00000000 0x21af8cfd 0x00000000\n\
+        r8 0x16758727 0x00000001 0x00000012 0x00000000\n\
+        r12 0x88b894e1 0x00000001 0x80000000 0x1eb967d7\n\
+        r16 0xa0002028 0x807fffe8 0xa000202e 0x80002034\n\
+        r20 0x00001028 0x8000203f 0x00400014 0xa0002008\n\
+        r24 0x00400034 0x1044133c 0x00000010 0xc00004d4\n\
+        r28 0xc000018c 0xbfc0101c 0x800011ec 0xffffffff\n\
+        r2 0xa7ff0d38\n\
+        index 0x00003100 random 0x00000f00 entrylo 0x00002600 context 0x00100000 badvaddr 0xc00004d0 entryhi 0xc0000040 status 0x1044133c cause 0x00000008 epc 0xc00004d0 prid 0x00000220\n\
+        tlb 41 0x00000000 0x00000000\n\
+        where 0x00001000 cached\n\
+        0x00001020 0x42000001\n\
+        0x00001024 0x42000010\n\
+        0x00001028 0x0ff00414\n\
+        0x0000102c 0x8ae2ffff\n\
+        0x00001030 0x017d6e4d\n\
+        0x00001034 0x00e15020\n\
+        0x00001038 0x346e04f7\n\
+        0x0000103c 0x00052542\n\
+        0x00001040 0x00ec6020\n\
+        0x00001044 0x04300008\n\
+        0x00001048 0x01a30006\n\
+        0x0000104c 0x00846826\n\
+        0x00001050 0x10440004\n\
+        0x00001054 0x01161021\n\
+        0x00001058 0x01a93820\n\
+        0x0000105c 0x3049003b\n\
+        0x1fc01018 0x82cdffff lb r13, -1(r22)\n\
+        0x1fc0101c 0x42000001 tlbr\n\
+        0x1fc01020 0x24c64fab addiu r6, r6, 20395\n\
+        0x1fc01024 0x00436004 sllv r12, r3, r2\n\
+        0x1fc01028 0x2cebbf82 sltiu r11, r7, -16510\n\
+        0x1fc0102c 0x9682000c lhu r2, 12(r20)\n\
+        0x1fc01030 0x2d43fc69 sltiu r3, r10, -919\n\
+        0x1fc01034 0x01e80019 multu r15, r8\n\
+        0x1fc01038 0x24540d94 addiu r20, r2, 3476\n\
+        0x1fc0103c 0x4082f800 mtc0 r2, c31\n\
+        0x1fc01040 0x015e682b sltu r13, r10, r30\n\
+        0x1fc01044 0x0090182a slt r3, r4, r16\n\
+        0x1fc01048 0x3463dd0c ori r3, r3, 0xdd0c\n\
+        0x1fc0104c 0x42000001 tlbr\n\
+        0x1fc01050 0x04700002 bltzal r3, 0x1fc0105c\n\
+        0x1fc01054 0x00892025 or r4, r4, r9\n\
+        pos 3489\n\
+        pos 3494\n\
+        pos 3484\n\
+        pc 0xbfc00184 next 0xbfc00188 hi 0xffffffff lo 0x28bff9ea delay 0 load r27 0xc00006c8\n\
+        r0 0x00000000 0xb54b3c40 0xa7ff0d38 0xffffffff\n\
+        r4 0x28bff9ea 0x00000000 0x21af8cfd 0x00000000\n\
+        r8 0x16758727 0x00000001 0x00000012 0x00000000\n\
+        r12 0x88b894e1 0x00000001 0x80000000 0x1eb967d7\n\
+        r16 0xa0002028 0x807fffe8 0xa000202e 0x80002034\n\
+        r20 0x00001028 0x8000203f 0x00400014 0xa0002008\n\
+        r24 0x00400034 0x1044133c 0x00000010 0xc00006c8\n\
+        r28 0xc000018c 0xbfc0101c 0x800011ec 0xffffffff\n\
+        r16 0xa0002028\n\
+        index 0x00003100 random 0x00003300 entrylo 0x00002600 context 0x00100000 badvaddr 0xc00006c8 entryhi 0xc0000040 status 0x10441330 cause 0x00000008 epc 0xc00006c8 prid 0x00000220\n\
+        tlb 26 0x00000000 0x00000000\n\
+        where tlbl\n\
+        0x1fc01018 0x82cdffff\n\
+        0x1fc0101c 0x42000001\n\
+        0x1fc01020 0x24c64fab\n\
+        0x1fc01024 0x00436004\n\
+        0x1fc01028 0x2cebbf82\n\
+        0x1fc0102c 0x9682000c\n\
+        0x1fc01030 0x2d43fc69\n\
+        0x1fc01034 0x01e80019\n\
+        0x1fc01038 0x24540d94\n\
+        0x1fc0103c 0x4082f800\n\
+        0x1fc01040 0x015e682b\n\
+        0x1fc01044 0x0090182a\n\
+        0x1fc01048 0x3463dd0c\n\
+        0x1fc0104c 0x42000001\n\
+        0x1fc01050 0x04700002\n\
+        0x1fc01054 0x00892025\n\
+        0x0000201c 0x80000000 lb r0, 0(r0)\n\
+        0x00002020 0xffffffff .word 0xffffffff\n\
+        0x00002024 0xffffffff .word 0xffffffff\n\
+        0x00002028 0x7fffffff .word 0x7fffffff\n\
+        0x0000202c 0x7fffffff .word 0x7fffffff\n\
+        0x00002030 0x1253099f beq r18, r19, 0x000046b0\n\
+        0x00002034 0x80000000 lb r0, 0(r0)\n\
+        0x00002038 0x00000000 sll r0, r0, 0\n\
+        0x0000203c 0xffffffff .word 0xffffffff\n\
+        0x00002040 0x00000039 .word 0x00000039\n\
+        0x00002044 0x64192706 .word 0x64192706\n\
+        0x00002048 0xffffffff .word 0xffffffff\n\
+        0x0000204c 0x45f0a8c4 .word 0x45f0a8c4\n\
+        0x00002050 0x80000000 lb r0, 0(r0)\n\
+        0x00002054 0x484a199e .word 0x484a199e\n\
+        0x00002058 0x50846c88 .word 0x50846c88\n\
+        pos 2200\n\
+        pos 2203\n\
+        pos 2200\n\
+        pc 0xbfc0019c next 0xbfc001a0 hi 0xffffffff lo 0x28bff9ea delay 0 load none\n\
+        r0 0x00000000 0xb54b3c40 0xa7ff0d38 0xffffffff\n\
+        r4 0x28bff9ea 0x00000000 0x21af8cfd 0x00000000\n\
+        r8 0x16758727 0x00000001 0x00000012 0x00000000\n\
+        r12 0x88b894e1 0x00000001 0x80000000 0x1eb967d7\n\
+        r16 0xa0002028 0x807fffe8 0xa000202e 0x80002034\n\
+        r20 0x00001028 0x8000203f 0x00400014 0xa0002008\n\
+        r24 0x00400034 0x1044133c 0x00000010 0xc00004c8\n\
+        r28 0xc000018c 0xbfc0101c 0x800011ec 0xffffffff\n\
+        r24 0x00400034\n\
+        index 0x00003100 random 0x00002f00 entrylo 0x00002600 context 0x00100000 badvaddr 0xc00004c4 entryhi 0xc0000040 status 0x10441330 cause 0x00000008 epc 0xc00004c4 prid 0x00000220\n\
+        tlb 36 0x00000000 0x00000000\n\
+        where 0x00000000 cached\n\
+        0x00001000 0x154a0009\n\
+        0x00001004 0x25c39119\n\
+        0x00001008 0xaa000000\n\
+        0x0000100c 0x8a690029\n\
+        0x00001010 0x31ae4404\n\
+        0x00001014 0x40996000\n\
+        0x00001018 0x00b45020\n\
+        0x0000101c 0x8e010028\n\
+        0x00001020 0x42000001\n\
+        0x00001024 0x42000010\n\
+        0x00001028 0x0ff00414\n\
+        0x0000102c 0x8ae2ffff\n\
+        0x00001030 0x017d6e4d\n\
+        0x00001034 0x00e15020\n\
+        0x00001038 0x346e04f7\n\
+        0x0000103c 0x00052542\n\
+        0x00002024 0xffffffff .word 0xffffffff\n\
+        0x00002028 0x7fffffff .word 0x7fffffff\n\
+        0x0000202c 0x7fffffff .word 0x7fffffff\n\
+        0x00002030 0x1253099f beq r18, r19, 0x000046b0\n\
+        0x00002034 0x80000000 lb r0, 0(r0)\n\
+        0x00002038 0x00000000 sll r0, r0, 0\n\
+        0x0000203c 0xffffffff .word 0xffffffff\n\
+        0x00002040 0x00000039 .word 0x00000039\n\
+        0x00002044 0x64192706 .word 0x64192706\n\
+        0x00002048 0xffffffff .word 0xffffffff\n\
+        0x0000204c 0x45f0a8c4 .word 0x45f0a8c4\n\
+        0x00002050 0x80000000 lb r0, 0(r0)\n\
+        0x00002054 0x484a199e .word 0x484a199e\n\
+        0x00002058 0x50846c88 .word 0x50846c88\n\
+        0x0000205c 0x8583018b lh r3, 395(r12)\n\
+        0x00002060 0x80000000 lb r0, 0(r0)\n\
+        pos 890\n\
+        pos 902\n\
+        pos 883\n\
+        pc 0xbfc00180 next 0xbfc00184 hi 0xffffffff lo 0x28bff9ea delay 0 load none\n\
+        r0 0x00000000 0xb54b3c40 0xa7ff0d38 0xffffffff\n\
+        r4 0x28bff9ea 0x00000000 0x21af8cfd 0x00000000\n\
+        r8 0x16758727 0x00000001 0x00000012 0x00000000\n\
+        r12 0x88b894e1 0x00000001 0x80000000 0x1eb967d7\n\
+        r16 0xa0002028 0x807fffe8 0xa000202e 0x80002034\n\
+        r20 0x00001028 0x8000203f 0x00400014 0xa0002008\n\
+        r24 0x00400034 0x1044133c 0x00000010 0xc00002b8\n\
+        r28 0xc000018c 0xbfc0101c 0x800011ec 0xffffffff\n\
+        r28 0xc000018c\n\
+        index 0x00003100 random 0x00001400 entrylo 0x00002600 context 0x00100000 badvaddr 0xc00002b8 entryhi 0xc0000040 status 0x10441330 cause 0x00000008 epc 0xc00002b8 prid 0x00000220\n\
+        tlb 28 0x00000000 0x00000000\n\
+        where tlbl refill\n\
+        0x0000102c 0x8ae2ffff\n\
+        0x00001030 0x017d6e4d\n\
+        0x00001034 0x00e15020\n\
+        0x00001038 0x346e04f7\n\
+        0x0000103c 0x00052542\n\
+        0x00001040 0x00ec6020\n\
+        0x00001044 0x04300008\n\
+        0x00001048 0x01a30006\n\
+        0x0000104c 0x00846826\n\
+        0x00001050 0x10440004\n\
+        0x00001054 0x01161021\n\
+        0x00001058 0x01a93820\n\
+        0x0000105c 0x3049003b\n\
+        0x00001060 0x008a0019\n\
+        0x00001064 0x0531fffd\n\
+        0x00001068 0x1d00000c\n\
+        0x00001010 0x31ae4404 andi r14, r13, 0x4404\n\
+        0x00001014 0x40996000 mtc0 r25, c12\n\
+        0x00001018 0x00b45020 add r10, r5, r20\n\
+        0x0000101c 0x8e010028 lw r1, 40(r16)\n\
+        0x00001020 0x42000001 tlbr\n\
+        0x00001024 0x42000010 rfe\n\
+        0x00001028 0x0ff00414 jal 0x0fc01050\n\
+        0x0000102c 0x8ae2ffff lwl r2, -1(r23)\n\
+        0x00001030 0x017d6e4d break 390585\n\
+        0x00001034 0x00e15020 add r10, r7, r1\n\
+        0x00001038 0x346e04f7 ori r14, r3, 0x04f7\n\
+        0x0000103c 0x00052542 srl r4, r5, 21\n\
+        0x00001040 0x00ec6020 add r12, r7, r12\n\
+        0x00001044 0x04300008 bltzal r1, 0x00001068\n\
+        0x00001048 0x01a30006 srlv r0, r3, r13\n\
+        0x0000104c 0x00846826 xor r13, r4, r4\n",
+    )?;
+    holds(
+        &rt,
+        alloc,
+        "image",
+        RANDOM_2,
+        b"\
+        goto 2496\n\
+        step 11\n\
+        back 1\n\
+        regs \n\
+        reg 8\n\
+        cp0 \n\
+        tlb 43\n\
+        where 0xfffff003\n\
+        mem 0x2018 16\n\
+        dis 0x201c 16\n\
+        goto 360\n\
+        step 15\n\
+        back 11\n\
+        regs \n\
+        reg 17\n\
+        cp0 \n\
+        tlb 55\n\
+        where 0xfffff003\n\
+        mem 0x24 16\n\
+        dis 0x10 16\n\
+        goto 3174\n\
+        step 2\n\
+        back 7\n\
+        regs \n\
+        reg 6\n\
+        cp0 \n\
+        tlb 8\n\
+        where 0xc0000000\n\
+        mem 0x2014 16\n\
+        dis 0x2004 16\n\
+        goto 1877\n\
+        step 4\n\
+        back 15\n\
+        regs \n\
+        reg 11\n\
+        cp0 \n\
+        tlb 30\n\
+        where 0x80400003\n\
+        mem 0x28 16\n\
+        dis 0x2008 16\n\
+        goto 828\n\
+        step 8\n\
+        back 1\n\
+        regs \n\
+        reg 4\n\
+        cp0 \n\
+        tlb 42\n\
+        where 0x400000\n\
+        mem 0x103c 16\n\
+        dis 0x2038 16\n\
+        goto 1353\n\
+        step 0\n\
+        back 16\n\
+        regs \n\
+        reg 5\n\
+        cp0 \n\
+        tlb 59\n\
+        where 0x80000003\n\
+        mem 0x2034 16\n\
+        dis 0x30 16\n",
+        b"\
+        pos 2496\n\
+        pos 2507\n\
+        pos 2506\n\
+        pc 0xbfc01590 next 0xbfc01594 hi 0x00000000 lo 0x0008308c delay 0 load none\n\
+        r0 0x00000000 0x00000000 0xc044bf3d 0x00000001\n\
+        r4 0x51595134 0x97e3a000 0x00004734 0x7fffffff\n\
+        r8 0x0008308c 0x800023ec 0x00000001 0x00000000\n\
+        r12 0xbfbfc8f8 0xd1597118 0x20000060 0xe0400e9c\n\
+        r16 0x8080000c 0xc0000020 0x8000202c 0x80002030\n\
+        r20 0xa000202d 0x80002028 0x7fffc040 0xa0002008\n\
+        r24 0xbfc0102c 0x0044bf1d 0x00000010 0xbfc01590\n\
+        r28 0xa0001444 0xbfc014f4 0x9fc012d8 0xbfc0141c\n\
+        r8 0x0008308c\n\
+        index 0x00001200 random 0x00001500 entrylo 0x10000f00 context 0x00100000 badvaddr 0xbfc013cc entryhi 0xc0000040 status 0x0064bf3d cause 0x00000300 epc 0xbfc0158c prid 0x00000220\n\
+        tlb 43 0x00000000 0x00000000\n\
+        where tlbl\n\
+        0x00002018 0x80000000\n\
+        0x0000201c 0x0000000f\n\
+        0x00002020 0x7fffffff\n\
+        0x00002024 0x00000000\n\
+        0x00002028 0x00000000\n\
+        0x0000202c 0x7fff0001\n\
+        0x00002030 0xea99122e\n\
+        0x00002034 0x00000000\n\
+        0x00002038 0x00000000\n\
+        0x0000203c 0xbc0b5430\n\
+        0x00002040 0x7fffffff\n\
+        0x00002044 0x7fffffff\n\
+        0x00002048 0x00000000\n\
+        0x0000204c 0x7fffffff\n\
+        0x00002050 0x00000001\n\
+        0x00002054 0x7f6034ff\n\
+        0x0000201c 0x0000000f .word 0x0000000f\n\
+        0x00002020 0x7fffffff .word 0x7fffffff\n\
+        0x00002024 0x00000000 sll r0, r0, 0\n\
+        0x00002028 0x00000000 sll r0, r0, 0\n\
+        0x0000202c 0x7fff0001 .word 0x7fff0001\n\
+        0x00002030 0xea99122e .word 0xea99122e\n\
+        0x00002034 0x00000000 sll r0, r0, 0\n\
+        0x00002038 0x00000000 sll r0, r0, 0\n\
+        0x0000203c 0xbc0b5430 .word 0xbc0b5430\n\
+        0x00002040 0x7fffffff .word 0x7fffffff\n\
+        0x00002044 0x7fffffff .word 0x7fffffff\n\
+        0x00002048 0x00000000 sll r0, r0, 0\n\
+        0x0000204c 0x7fffffff .word 0x7fffffff\n\
+        0x00002050 0x00000001 .word 0x00000001\n\
+        0x00002054 0x7f6034ff .word 0x7f6034ff\n\
+        0x00002058 0x0000003c .word 0x0000003c\n\
+        pos 360\n\
+        pos 375\n\
+        pos 364\n\
+        pc 0xbfc0142c next 0xbfc01430 hi 0xffffffff lo 0x9ff774c6 delay 0 load none\n\
+        r0 0x00000000 0x00000000 0xc044bf3d 0x00000001\n\
+        r4 0x51595134 0x0000777f 0x00004734 0x7fffffff\n\
+        r8 0x9ff774c6 0xc0400e4c 0x00000001 0xd6fc8d0c\n\
+        r12 0xc044bfbf 0x00000001 0x20000060 0x00089f7e\n\
+        r16 0x8080000c 0xc0000020 0x8000202c 0x80002030\n\
+        r20 0xa000202d 0x80002028 0x00000040 0xa0002008\n\
+        r24 0xbfc0102c 0x0044bf1d 0x00000020 0xbfc0141c\n\
+        r28 0xa0001444 0xbfc014f4 0x9fc012d8 0xbfc0141c\n\
+        r17 0xc0000020\n\
+        index 0x00001200 random 0x00002300 entrylo 0x10000f00 context 0x00101000 badvaddr 0xc0400e4c entryhi 0xc0400040 status 0x0064bf3d cause 0x00000030 epc 0xbfc01418 prid 0x00000220\n\
+        tlb 55 0x00000000 0x00000000\n\
+        where tlbl\n\
+        0x00000024 0x42000010\n\
+        0x00000028 0x401a0800\n\
+        0x0000002c 0x3c1bbfc0\n\
+        0x00000030 0x001ad102\n\
+        0x00000034 0x377b1000\n\
+        0x00000038 0x035bd821\n\
+        0x0000003c 0x03600008\n\
+        0x00000040 0x40996000\n\
+        0x00000044 0x00000000\n\
+        0x00000048 0x00000000\n\
+        0x0000004c 0x00000000\n\
+        0x00000050 0x00000000\n\
+        0x00000054 0x00000000\n\
+        0x00000058 0x00000000\n\
+        0x0000005c 0x00000000\n\
+        0x00000060 0x00000000\n\
+        0x00000010 0x335a0074 andi r26, r26, 0x0074\n\
+        0x00000014 0x3b5a0010 xori r26, r26, 0x0010\n\
+        0x00000018 0x13400003 beq r26, r0, 0x00000028\n\
+        0x0000001c 0x00000000 sll r0, r0, 0\n\
+        0x00000020 0x03600008 jr r27\n\
+        0x00000024 0x42000010 rfe\n\
+        0x00000028 0x401a0800 mfc0 r26, c1\n\
+        0x0000002c 0x3c1bbfc0 lui r27, 0xbfc0\n\
+        0x00000030 0x001ad102 srl r26, r26, 4\n\
+        0x00000034 0x377b1000 ori r27, r27, 0x1000\n\
+        0x00000038 0x035bd821 addu r27, r26, r27\n\
+        0x0000003c 0x03600008 jr r27\n\
+        0x00000040 0x40996000 mtc0 r25, c12\n\
+        0x00000044 0x00000000 sll r0, r0, 0\n\
+        0x00000048 0x00000000 sll r0, r0, 0\n\
+        0x0000004c 0x00000000 sll r0, r0, 0\n\
+        pos 3174\n\
+        pos 3176\n\
+        pos 3169\n\
+        pc 0xbfc00188 next 0xbfc0018c hi 0x00000000 lo 0x0008308c delay 0 load r26 0x00000300\n\
+        r0 0x00000000 0x00000000 0xc044bf3d 0x00000001\n\
+        r4 0x51595134 0x97e3a000 0x00004734 0x7fffffff\n\
+        r8 0x0008308c 0x800023ec 0x00000001 0x00000000\n\
+        r12 0xbfbfc8f8 0xd1597118 0x20000060 0xe0400e9c\n\
+        r16 0x8080000c 0xc0000020 0x8000202c 0x80002030\n\
+        r20 0xa000202d 0x80002028 0x7fffc040 0xa0002008\n\
+        r24 0xbfc0102c 0x0044bf1d 0x00000010 0xbfc01698\n\
+        r28 0xa0001444 0xbfc014f4 0x9fc012d8 0xbfc0141c\n\
+        r6 0x00004734\n\
+        index 0x00001200 random 0x00001e00 entrylo 0x10000f00 context 0x00100000 badvaddr 0xbfc013cc entryhi 0xc0000040 status 0x0064bf34 cause 0x00000300 epc 0xbfc01698 prid 0x00000220\n\
+        tlb 8 0x00000000 0x00000000\n\
+        where 0x10000000 uncached\n\
+        0x00002014 0x80000000\n\
+        0x00002018 0x80000000\n\
+        0x0000201c 0x0000000f\n\
+        0x00002020 0x7fffffff\n\
+        0x00002024 0x00000000\n\
+        0x00002028 0x00000000\n\
+        0x0000202c 0x7fff0001\n\
+        0x00002030 0xea99122e\n\
+        0x00002034 0x00000000\n\
+        0x00002038 0x00000000\n\
+        0x0000203c 0xbc0b5430\n\
+        0x00002040 0x7fffffff\n\
+        0x00002044 0x7fffffff\n\
+        0x00002048 0x00000000\n\
+        0x0000204c 0x7fffffff\n\
+        0x00002050 0x00000001\n\
+        0x00002004 0x00000000 sll r0, r0, 0\n\
+        0x00002008 0xb1fac52e .word 0xb1fac52e\n\
+        0x0000200c 0xffff88d0 .word 0xffff88d0\n\
+        0x00002010 0x00000000 sll r0, r0, 0\n\
+        0x00002014 0x80000000 lb r0, 0(r0)\n\
+        0x00002018 0x80000000 lb r0, 0(r0)\n\
+        0x0000201c 0x0000000f .word 0x0000000f\n\
+        0x00002020 0x7fffffff .word 0x7fffffff\n\
+        0x00002024 0x00000000 sll r0, r0, 0\n\
+        0x00002028 0x00000000 sll r0, r0, 0\n\
+        0x0000202c 0x7fff0001 .word 0x7fff0001\n\
+        0x00002030 0xea99122e .word 0xea99122e\n\
+        0x00002034 0x00000000 sll r0, r0, 0\n\
+        0x00002038 0x00000000 sll r0, r0, 0\n\
+        0x0000203c 0xbc0b5430 .word 0xbc0b5430\n\
+        0x00002040 0x7fffffff .word 0x7fffffff\n\
+        pos 1877\n\
+        pos 1881\n\
+        pos 1866\n\
+        pc 0xbfc01490 next 0xbfc01494 hi 0x00000000 lo 0x0008308c delay 0 load none\n\
+        r0 0x00000000 0x00000000 0xc044bf3d 0x00000001\n\
+        r4 0x51595134 0x97e3a000 0x00004734 0x7fffffff\n\
+        r8 0x0008308c 0x800023ec 0x00000001 0x00000000\n\
+        r12 0xbfbfc8f8 0xd1597118 0x20000060 0xe0400e9c\n\
+        r16 0x8080000c 0xc0000020 0x8000202c 0x80002030\n\
+        r20 0xa000202d 0x80002028 0x7fffc040 0xa0002008\n\
+        r24 0xbfc0102c 0x0044bf1d 0x00000010 0xbfc01490\n\
+        r28 0xa0001444 0xbfc014f4 0x9fc012d8 0xbfc0141c\n\
+        r11 0x00000000\n\
+        index 0x00001200 random 0x00002d00 entrylo 0x10000f00 context 0x00100000 badvaddr 0xbfc013cc entryhi 0xc0000040 status 0x0064bf3d cause 0x00000300 epc 0xbfc0148c prid 0x00000220\n\
+        tlb 30 0xc0000040 0x10000f00\n\
+        where 0x00400003 cached\n\
+        0x00000028 0x401a0800\n\
+        0x0000002c 0x3c1bbfc0\n\
+        0x00000030 0x001ad102\n\
+        0x00000034 0x377b1000\n\
+        0x00000038 0x035bd821\n\
+        0x0000003c 0x03600008\n\
+        0x00000040 0x40996000\n\
+        0x00000044 0x00000000\n\
+        0x00000048 0x00000000\n\
+        0x0000004c 0x00000000\n\
+        0x00000050 0x00000000\n\
+        0x00000054 0x00000000\n\
+        0x00000058 0x00000000\n\
+        0x0000005c 0x00000000\n\
+        0x00000060 0x00000000\n\
+        0x00000064 0x00000000\n\
+        0x00002008 0xb1fac52e .word 0xb1fac52e\n\
+        0x0000200c 0xffff88d0 .word 0xffff88d0\n\
+        0x00002010 0x00000000 sll r0, r0, 0\n\
+        0x00002014 0x80000000 lb r0, 0(r0)\n\
+        0x00002018 0x80000000 lb r0, 0(r0)\n\
+        0x0000201c 0x0000000f .word 0x0000000f\n\
+        0x00002020 0x7fffffff .word 0x7fffffff\n\
+        0x00002024 0x00000000 sll r0, r0, 0\n\
+        0x00002028 0x00000000 sll r0, r0, 0\n\
+        0x0000202c 0x7fff0001 .word 0x7fff0001\n\
+        0x00002030 0xea99122e .word 0xea99122e\n\
+        0x00002034 0x00000000 sll r0, r0, 0\n\
+        0x00002038 0x00000000 sll r0, r0, 0\n\
+        0x0000203c 0xbc0b5430 .word 0xbc0b5430\n\
+        0x00002040 0x7fffffff .word 0x7fffffff\n\
+        0x00002044 0x7fffffff .word 0x7fffffff\n\
+        pos 828\n\
+        pos 836\n\
+        pos 835\n\
+        pc 0xbfc001a0 next 0xbfc012f4 hi 0x00000000 lo 0x0008308c delay 1 load none\n\
+        r0 0x00000000 0x00000000 0xc044bf3d 0x00000001\n\
+        r4 0x51595134 0x97e3a000 0x00004734 0x7fffffff\n\
+        r8 0x0008308c 0x800023ec 0x00000001 0x00000000\n\
+        r12 0xbfbfc8f8 0xd1597118 0x20000060 0xe0400e9c\n\
+        r16 0x8080000c 0xc0000020 0x8000202c 0x80002030\n\
+        r20 0xa000202d 0x80002028 0x7fffc040 0xa0002008\n\
+        r24 0xbfc0102c 0x0044bf1d 0x00000010 0xbfc012f4\n\
+        r28 0xa0001444 0xbfc014f4 0x9fc012d8 0xbfc0141c\n\
+        r4 0x51595134\n\
+        index 0x00001200 random 0x00000c00 entrylo 0x10000f00 context 0x00100000 badvaddr 0xbfc013cc entryhi 0xc0000040 status 0x0064bf34 cause 0x00000300 epc 0xbfc012f0 prid 0x00000220\n\
+        tlb 42 0xc0000000 0x00002600\n\
+        where 0x10000000 uncached\n\
+        0x0000103c 0x04400008\n\
+        0x00001040 0x01a00013\n\
+        0x00001044 0x00a8288c\n\
+        0x00001048 0x42000006\n\
+        0x0000104c 0xa6600013\n\
+        0x00001050 0x15c2000c\n\
+        0x00001054 0x92620013\n\
+        0x00001058 0xae0d0002\n\
+        0x0000105c 0x012e0019\n\
+        0x00001060 0x03746824\n\
+        0x00001064 0xbac60004\n\
+        0x00001068 0x8a8bfffc\n\
+        0x0000106c 0x00007010\n\
+        0x00001070 0x000d5540\n\
+        0x00001074 0x02a52827\n\
+        0x00001078 0x24480884\n\
+        0x00002038 0x00000000 sll r0, r0, 0\n\
+        0x0000203c 0xbc0b5430 .word 0xbc0b5430\n\
+        0x00002040 0x7fffffff .word 0x7fffffff\n\
+        0x00002044 0x7fffffff .word 0x7fffffff\n\
+        0x00002048 0x00000000 sll r0, r0, 0\n\
+        0x0000204c 0x7fffffff .word 0x7fffffff\n\
+        0x00002050 0x00000001 .word 0x00000001\n\
+        0x00002054 0x7f6034ff .word 0x7f6034ff\n\
+        0x00002058 0x0000003c .word 0x0000003c\n\
+        0x0000205c 0xe9fdb521 .word 0xe9fdb521\n\
+        0x00002060 0xdcee335a .word 0xdcee335a\n\
+        0x00002064 0x80000000 lb r0, 0(r0)\n\
+        0x00002068 0x7fffffff .word 0x7fffffff\n\
+        0x0000206c 0x1333bffd beq r25, r19, 0xffff2064\n\
+        0x00002070 0x00000000 sll r0, r0, 0\n\
+        0x00002074 0xffffffff .word 0xffffffff\n\
+        pos 1353\n\
+        pos 1353\n\
+        pos 1337\n\
+        pc 0xbfc00180 next 0xbfc00184 hi 0x00000000 lo 0x0008308c delay 0 load none\n\
+        r0 0x00000000 0x00000000 0xc044bf3d 0x00000001\n\
+        r4 0x51595134 0x97e3a000 0x00004734 0x7fffffff\n\
+        r8 0x0008308c 0x800023ec 0x00000001 0x00000000\n\
+        r12 0xbfbfc8f8 0xd1597118 0x20000060 0xe0400e9c\n\
+        r16 0x8080000c 0xc0000020 0x8000202c 0x80002030\n\
+        r20 0xa000202d 0x80002028 0x7fffc040 0xa0002008\n\
+        r24 0xbfc0102c 0x0044bf1d 0x00000010 0xbfc013bc\n\
+        r28 0xa0001444 0xbfc014f4 0x9fc012d8 0xbfc0141c\n\
+        r5 0x97e3a000\n\
+        index 0x00001200 random 0x00000e00 entrylo 0x10000f00 context 0x00100000 badvaddr 0xbfc013cc entryhi 0xc0000040 status 0x0064bf34 cause 0x00000300 epc 0xbfc013bc prid 0x00000220\n\
+        tlb 59 0x00000000 0x00000000\n\
+        where 0x00000003 cached\n\
+        0x00002034 0x00000000\n\
+        0x00002038 0x00000000\n\
+        0x0000203c 0xbc0b5430\n\
+        0x00002040 0x7fffffff\n\
+        0x00002044 0x7fffffff\n\
+        0x00002048 0x00000000\n\
+        0x0000204c 0x7fffffff\n\
+        0x00002050 0x00000001\n\
+        0x00002054 0x7f6034ff\n\
+        0x00002058 0x0000003c\n\
+        0x0000205c 0xe9fdb521\n\
+        0x00002060 0xdcee335a\n\
+        0x00002064 0x80000000\n\
+        0x00002068 0x7fffffff\n\
+        0x0000206c 0x1333bffd\n\
+        0x00002070 0x00000000\n\
+        0x00000030 0x001ad102 srl r26, r26, 4\n\
+        0x00000034 0x377b1000 ori r27, r27, 0x1000\n\
+        0x00000038 0x035bd821 addu r27, r26, r27\n\
+        0x0000003c 0x03600008 jr r27\n\
+        0x00000040 0x40996000 mtc0 r25, c12\n\
+        0x00000044 0x00000000 sll r0, r0, 0\n\
+        0x00000048 0x00000000 sll r0, r0, 0\n\
+        0x0000004c 0x00000000 sll r0, r0, 0\n\
+        0x00000050 0x00000000 sll r0, r0, 0\n\
+        0x00000054 0x00000000 sll r0, r0, 0\n\
+        0x00000058 0x00000000 sll r0, r0, 0\n\
+        0x0000005c 0x00000000 sll r0, r0, 0\n\
+        0x00000060 0x00000000 sll r0, r0, 0\n\
+        0x00000064 0x00000000 sll r0, r0, 0\n\
+        0x00000068 0x00000000 sll r0, r0, 0\n\
+        0x0000006c 0x00000000 sll r0, r0, 0\n",
+    )?;
     Ok(())
 }

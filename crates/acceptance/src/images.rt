@@ -42,13 +42,62 @@ fn image_that_does_not_fit(rt: HostRuntime) -> Result<(), Fail> {
     let run = run_on::<16, 64>(alloc, &words, &input, 4096)?;
     assert_eq!(rt; run.output.len(), 0);
     assert_eq!(rt;
-        run.fault.as_slice(),
+        run.told.as_slice(),
         b"r3kwb: error 9 BadImage Pages\n".as_slice()
     );
     assert_eq!(rt; run.status, 1);
     let run = run_on::<17, 64>(alloc, &words, &input, 4096)?;
     assert_eq!(rt; run.output.as_slice(), b"pos 0\n".as_slice());
     assert_eq!(rt; run.status, 0);
+    Ok(())
+}
+
+/// Source is assembled, or its first fault is told with its line; the words of an image from source are judged by the
+/// machine's RAM like any.
+#[test]
+fn source(rt: HostRuntime) -> Result<(), Fail> {
+    let alloc = rt.alloc();
+    let cases = [
+        (
+            "lui r1, 0xa000\nlw r2, 256(r1)\n.org 0x100\n.word 5\n",
+            "goto 3\nreg 2\nmem 0x100 1\n",
+            "pos 3\nr2 0x00000005\n0x00000100 0x00000005\n",
+            "",
+            0,
+        ),
+        (
+            ".org 0x1fc40000\n.word 1\n",
+            "pos\n",
+            "",
+            "r3kwb: error 13 BadSource 2 Place\n",
+            1,
+        ),
+        (
+            "nop\n",
+            "pos\n",
+            "",
+            "r3kwb: error 13 BadSource 1 Name\n",
+            1,
+        ),
+        (
+            ".org 0x10000\n.word 0\n",
+            "pos\n",
+            "",
+            "r3kwb: error 9 BadImage Pages\n",
+            1,
+        ),
+    ];
+    for (source, script, want, fault, status) in cases {
+        let mut input = Vec::from_slice(alloc, source.as_bytes())?;
+        input.extend_from_slice(script.as_bytes())?;
+        let size = source.len();
+        let size = format!(in alloc; "{size}")?;
+        let words = ["r3kwb", "--kind", "source", "--size", size.as_str()];
+        let run = run_on::<16, 64>(alloc, &words, &input, 3)?;
+        assert_eq!(rt; run.output.as_slice(), want.as_bytes(), "at {source:?}");
+        assert_eq!(rt; run.told.as_slice(), fault.as_bytes(), "at {source:?}");
+        assert_eq!(rt; run.status, status, "at {source:?}");
+    }
     Ok(())
 }
 
@@ -64,7 +113,7 @@ fn image_of_all_reads(rt: HostRuntime) -> Result<(), Fail> {
     for (size, fault, status) in cases {
         let run = run_program(alloc, &["r3kwb", "--size", size], &input, 1)?;
         assert_eq!(rt; run.output.len(), 0);
-        assert_eq!(rt; run.fault.as_slice(), fault.as_bytes());
+        assert_eq!(rt; run.told.as_slice(), fault.as_bytes());
         assert_eq!(rt; run.status, status);
     }
     Ok(())

@@ -2,6 +2,10 @@
 #![tactic(auto)]
 
 #[cfg(test)]
+mod assembler;
+#[cfg(test)]
+mod command_line;
+#[cfg(test)]
 mod commands;
 #[cfg(test)]
 mod effects;
@@ -14,12 +18,20 @@ mod exceptions;
 #[cfg(test)]
 mod images;
 #[cfg(test)]
+mod isolated;
+#[cfg(test)]
 mod machine;
 #[cfg(test)]
 mod programs;
+#[cfg(test)]
+mod readers;
 #[cfg(test)]
 mod scripts;
 #[cfg(test)]
 mod served;
 #[cfg(test)]
 mod steps;
+#[cfg(test)]
+mod translation;
+#[cfg(test)]
+mod vectors;

@@ -106,7 +106,7 @@ fn formats_and_the_program(rt: HostRuntime) -> Result<(), Fail> {
     let alloc = rt.alloc();
     let mut longer = Vec::from_slice(alloc, &EMPTY_IMAGE)?;
     longer.push(0)?;
-    let cases: [(&str, &[u8], &str, u8); 5] = [
+    let cases: [(&str, &[u8], &str, u8); 4] = [
         (
             "31",
             &EMPTY_IMAGE[..31],
@@ -120,7 +120,6 @@ fn formats_and_the_program(rt: HostRuntime) -> Result<(), Fail> {
             1,
         ),
         ("40", &EMPTY_IMAGE, "r3kwb: error 11 ReadFault\n", 3),
-        ("67108865", &EMPTY_IMAGE, "", 2),
         ("32", &EMPTY_IMAGE, "", 0),
     ];
     for (size, input, fault, status) in cases {
@@ -130,11 +129,9 @@ fn formats_and_the_program(rt: HostRuntime) -> Result<(), Fail> {
             input,
             4096,
         )?;
-        assert_eq!(rt; run.fault.as_slice(), fault.as_bytes(), "at size {size}");
+        assert_eq!(rt; run.told.as_slice(), fault.as_bytes(), "at size {size}");
         assert_eq!(rt; run.status, status, "at size {size}");
         assert_eq!(rt; run.output.len(), 0);
     }
-    let help = run_program(alloc, &["r3kwb", "--help"], &[], 4096)?;
-    assert_eq!(rt; help.status, 0);
     Ok(())
 }

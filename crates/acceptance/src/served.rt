@@ -3,13 +3,13 @@ ghost use Rattle.std.specs.Prelude.{◌<◌};
 ghost use Rattle.workbench.specs.Sizes.{AreSizes};
 
 use std::alloc::{AllocError, Global};
-use workbench::{Plan, fault_line, options, serve, status};
+use workbench::{Plan, r3kwb};
 
-/// What a run wrote, the line of its fault, and its status.
+/// What a run wrote to its output, what it told on its errors, and its status.
 #[derive(Drop)]
 pub struct Served {
     pub output: Vec<u8>,
-    pub fault: Vec<u8>,
+    pub told: Vec<u8>,
     pub status: u8,
 }
 
@@ -35,20 +35,19 @@ pub fn run_on<const PAGES: u32, const SPAN: u32>(
     requires sizes { AreSizes PAGES SPAN }
     requires piece { 0 < piece }
 {
-    let mut reader = Plan::new(alloc, input, piece, 0)?;
-    let mut writer = Plan::new(alloc, &[], 4096, 65_536)?;
-    let outcome = match options(alloc, words) {
-        Ok(options) => serve::<PAGES, SPAN, Plan, Plan>(alloc, options, &mut reader, &mut writer),
-        Err(fault) => Err(fault),
-    };
-    let mut line = Vec::new(alloc);
-    match &outcome {
-        Ok(()) | Err(workbench::RunFault::Usage(_)) | Err(workbench::RunFault::Help(_)) => {}
-        Err(fault) => line.extend_from_slice(fault_line(fault).as_slice())?,
-    }
+    let mut input = Plan::new(alloc, input, piece, 0)?;
+    let mut output = Plan::new(alloc, &[], 4096, 65_536)?;
+    let mut errors = Plan::new(alloc, &[], 4096, 4096)?;
+    let status = r3kwb::<PAGES, SPAN, Plan, Plan, Plan>(
+        alloc,
+        Some(words),
+        &mut input,
+        &mut output,
+        &mut errors,
+    );
     Ok(Served {
-        output: Vec::from_slice(alloc, writer.written())?,
-        fault: line,
-        status: status(&outcome),
+        output: Vec::from_slice(alloc, output.written())?,
+        told: Vec::from_slice(alloc, errors.written())?,
+        status,
     })
 }

@@ -1,10 +1,10 @@
--- Every reply but Nothing ends with a line feed.
-use Rattle.std.proofs.Common.{◌≢◌, ℕ, ◌+◌, ◌*◌, List, [], ◌∷◌, ◌++◌, refl, subst, sym, ap, ◌∙◌, append_assoc, codes}
+-- Replies end with a line feed.
+use Rattle.std.proofs.Common.{ℕ, zero, suc, ◌+◌, ◌*◌, ◌%◌, ◌^◌, ◌<◌, Bool, true, false, length, slice_index, arith, List, [], ◌∷◌, ◌++◌, refl, subst, sym, ap, ◌∙◌, append_assoc, codes}
 use Rattle.std.specs.Fmt.{decimal}
 use Rattle.wb_text.specs.Text.{line}
-use Rattle.wb_text.specs.Reply.{EndsWithLineFeed, text_of, state_text, row_text, rows_text, refusal_text, value_text, control_text}
+use Rattle.wb_text.specs.Reply.{EndsWithLineFeed, HasText, text_of, state_text, row_text, rows_text, refusal_text, value_text, control_text, entry_text, where_text, memory_text, words_text}
 use Rattle.wb_text.specs.declared.reply.Reply.{Reply}
-use Rattle.wb_text.specs.declared.reply.Reply.TheVariants.{Position, Registers, Register, Control, Nothing, Fault}
+use Rattle.wb_text.specs.declared.reply.Reply.TheVariants.{Position, Registers, Register, Control, Entry, Where, Memory, Instructions, Nothing, Fault}
 use Rattle.wb_text.proofs.Rows.{rows_text-more}
 
 -- what stands before a line changes nothing at its end
@@ -16,10 +16,21 @@ rows_end registers row =
     let P : List ℕ → Type 0 = EndsWithLineFeed in
     subst P (sym (rows_text-more registers row)) (behind (rows_text registers row) (line (row_text registers (4 * row))) (row_text registers (4 * row), refl))
 
-pub ends_with_line_feed : (reply : Reply) → reply ≢ Nothing → EndsWithLineFeed (text_of reply)
+words_end : (instruction : Bool) (address : ℕ) (words : List ℕ) (count : ℕ) → 0 < count → EndsWithLineFeed (words_text instruction address words count)
+unfolding words_text
+words_end instruction address words zero some = absurd ((let none : 0 < 0 → ⊥ = λ h. omega (arith, h) in none) some)
+words_end instruction address words (suc place) some =
+    let last : List ℕ = memory_text instruction ((address + 4 * place) % 2 ^ 32) (slice_index words place) in
+    behind (words_text instruction address words place) (line last) (last, refl)
+
+pub ends_with_line_feed : (reply : Reply) → HasText reply → EndsWithLineFeed (text_of reply)
 ends_with_line_feed (Position position) some = (codes "pos " ++ decimal position, refl)
 ends_with_line_feed (Registers r) some = behind (line (state_text r)) (rows_text r.registers 8) (rows_end r.registers 7)
 ends_with_line_feed (Register number value) some = (value_text number value, refl)
 ends_with_line_feed (Control c) some = (control_text c, refl)
-ends_with_line_feed Nothing some = absurd (some refl)
+ends_with_line_feed (Entry number hi lo) some = (entry_text number hi lo, refl)
+ends_with_line_feed (Where place) some = (where_text place, refl)
+ends_with_line_feed (Memory w) some = words_end false w.address w.words.items (length w.words.items) some
+ends_with_line_feed (Instructions w) some = words_end true w.address w.words.items (length w.words.items) some
+ends_with_line_feed Nothing some = absurd some
 ends_with_line_feed (Fault fault) some = (refusal_text fault, refl)

@@ -1,41 +1,49 @@
 -- The commands of a script and how a line says them (own).
-use Rattle.std.specs.Prelude.{ℕ, ◌∷◌, [], List, ◌^◌, ◌==◌, Option, Some, None, Result, Ok, Err, if◌then◌else◌, nat_lt, nat_le, length, codes, slice_index}
-use Rattle.std.specs.List.{list_all}
+use Rattle.std.specs.Prelude.{ℕ, ◌∷◌, [], List, ◌-◌, ◌^◌, Option, Some, None, Result, Ok, Err, if◌then◌else◌, nat_lt, length, codes, slice_index}
 use Rattle.std.specs.Str.{bytes_eq}
 use Rattle.std.specs.Str.Lines.{strip_carriage_return}
-use Rattle.wb_text.specs.Number.{number_of}
+use Rattle.wb_text.specs.Number.{number_of, number_within}
 use Rattle.wb_text.specs.Words.{words_of, begins_comment}
 use Rattle.wb_text.specs.declared.command.Command.{Command}
-use Rattle.wb_text.specs.declared.command.Command.TheVariants.{Pos, Goto, Step, Back, Regs, Reg, Cp0, Quit}
+use Rattle.wb_text.specs.declared.command.Command.TheVariants.{Pos, Goto, Step, Back, Regs, Reg, Cp0, Tlb, Where, Mem, Dis, Quit}
 use Rattle.wb_text.specs.declared.fault.Fault.{Fault}
-use Rattle.wb_text.specs.declared.fault.Fault.TheVariants.{Syntax, Range}
+use Rattle.wb_text.specs.declared.fault.Fault.TheVariants.{Syntax}
 
--- a number in front of numbers, where all are some
-abbrev pub with_number : Option ℕ → Option (List ℕ) → Option (List ℕ)
-with_number (Some number) (Some numbers) = Some (number ∷ numbers)
-with_number (Some number) None = None
-with_number None numbers = None
+-- the refusal of two that comes first: Syntax comes before Range
+abbrev pub first_of : Fault → Fault → Fault
+first_of Syntax other = Syntax
+first_of fault other = other
 
--- the numbers that these words are, where each is one
-abbrev pub all_numbers : List (List ℕ) → Option (List ℕ)
-all_numbers [] = Some []
-all_numbers (word ∷ words) = with_number (number_of word) (all_numbers words)
+-- a number in front of numbers
+abbrev pub in_front : Result ℕ Fault → Result (List ℕ) Fault → Result (List ℕ) Fault
+in_front (Ok number) (Ok numbers) = Ok (number ∷ numbers)
+in_front (Ok number) (Err fault) = Err fault
+in_front (Err fault) (Ok numbers) = Err fault
+in_front (Err fault) (Err other) = Err (first_of fault other)
 
--- A word that is no number is Syntax, and after that a number above 2^64 - 1 is Range.
-abbrev pub in_range : Option (List ℕ) → Result (List ℕ) Fault
-in_range None = Err Syntax
-in_range (Some numbers) =
-    if list_all (λ number. nat_lt number (2 ^ 64)) numbers then Ok numbers else Err Range
+-- The numbers of a command that allows each a range, from a least to a greatest one. Another number of words is Syntax.
+abbrev pub numbers_of : List (ℕ × ℕ) → List (List ℕ) → Result (List ℕ) Fault
+numbers_of [] [] = Ok []
+numbers_of [] (word ∷ words) = Err Syntax
+numbers_of (range ∷ ranges) [] = Err Syntax
+numbers_of (range ∷ ranges) (word ∷ words) =
+    in_front (number_within range.0 range.1 (number_of word)) (numbers_of ranges words)
 
--- the numbers of a command that takes so many: another number of words is Syntax
-abbrev pub numbers_of : ℕ → List (List ℕ) → Result (List ℕ) Fault
-numbers_of count words = if length words == count then in_range (all_numbers words) else Err Syntax
+-- the ranges of numbers: of any, of a register, of a translation entry, of an address, and of how many words a reply shows
+abbrev pub any_number : ℕ × ℕ
+any_number = (0, 2 ^ 64 - 1)
 
--- the numbers of a command that are at most so much: one above it is Range
-abbrev pub at_most : ℕ → Result (List ℕ) Fault → Result (List ℕ) Fault
-at_most greatest (Ok numbers) =
-    if list_all (λ number. nat_le number greatest) numbers then Ok numbers else Err Range
-at_most greatest (Err fault) = Err fault
+abbrev pub register_number : ℕ × ℕ
+register_number = (0, 31)
+
+abbrev pub entry_number : ℕ × ℕ
+entry_number = (0, 63)
+
+abbrev pub address : ℕ × ℕ
+address = (0, 2 ^ 32 - 1)
+
+abbrev pub word_count : ℕ × ℕ
+word_count = (1, 32)
 
 -- the command that its numbers make
 abbrev pub made_by : (List ℕ → Command) → Result (List ℕ) Fault → Result Command Fault
@@ -45,19 +53,27 @@ made_by make (Err fault) = Err fault
 -- the command of a name and the words after it: another name is Syntax
 abbrev pub command_named : List ℕ → List (List ℕ) → Result Command Fault
 command_named name words =
-    if bytes_eq name (codes "pos") then made_by (λ _. Pos) (numbers_of 0 words)
+    if bytes_eq name (codes "pos") then made_by (λ _. Pos) (numbers_of [] words)
     else (if bytes_eq name (codes "goto") then
-    made_by (λ numbers. Goto (slice_index numbers 0)) (numbers_of 1 words)
+    made_by (λ numbers. Goto (slice_index numbers 0)) (numbers_of (any_number ∷ []) words)
     else (if bytes_eq name (codes "step") then
-    made_by (λ numbers. Step (slice_index numbers 0)) (numbers_of 1 words)
+    made_by (λ numbers. Step (slice_index numbers 0)) (numbers_of (any_number ∷ []) words)
     else (if bytes_eq name (codes "back") then
-    made_by (λ numbers. Back (slice_index numbers 0)) (numbers_of 1 words)
-    else (if bytes_eq name (codes "regs") then made_by (λ _. Regs) (numbers_of 0 words)
+    made_by (λ numbers. Back (slice_index numbers 0)) (numbers_of (any_number ∷ []) words)
+    else (if bytes_eq name (codes "regs") then made_by (λ _. Regs) (numbers_of [] words)
     else (if bytes_eq name (codes "reg") then
-    made_by (λ numbers. Reg (slice_index numbers 0)) (at_most 31 (numbers_of 1 words))
-    else (if bytes_eq name (codes "cp0") then made_by (λ _. Cp0) (numbers_of 0 words)
-    else (if bytes_eq name (codes "quit") then made_by (λ _. Quit) (numbers_of 0 words)
-    else Err Syntax)))))))
+    made_by (λ numbers. Reg (slice_index numbers 0)) (numbers_of (register_number ∷ []) words)
+    else (if bytes_eq name (codes "cp0") then made_by (λ _. Cp0) (numbers_of [] words)
+    else (if bytes_eq name (codes "tlb") then
+    made_by (λ numbers. Tlb (slice_index numbers 0)) (numbers_of (entry_number ∷ []) words)
+    else (if bytes_eq name (codes "where") then
+    made_by (λ numbers. Where (slice_index numbers 0)) (numbers_of (address ∷ []) words)
+    else (if bytes_eq name (codes "mem") then
+    made_by (λ numbers. Mem (slice_index numbers 0) (slice_index numbers 1)) (numbers_of (address ∷ word_count ∷ []) words)
+    else (if bytes_eq name (codes "dis") then
+    made_by (λ numbers. Dis (slice_index numbers 0) (slice_index numbers 1)) (numbers_of (address ∷ word_count ∷ []) words)
+    else (if bytes_eq name (codes "quit") then made_by (λ _. Quit) (numbers_of [] words)
+    else Err Syntax)))))))))))
 
 -- what a line with a command says
 abbrev pub some_command : Result Command Fault → Result (Option Command) Fault

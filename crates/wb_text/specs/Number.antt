@@ -1,6 +1,6 @@
 -- Numbers in a script line (own): decimal digits, or 0x and hexadecimal digits of either case. A
 -- number has no greatest value here.
-use Rattle.std.specs.Prelude.{ℕ, ◌^◌, List, Option, Some, None, Result, Ok, Err, if◌then◌else◌, nat_lt, length, ◌&&◌, drop, nat_eq, codes}
+use Rattle.std.specs.Prelude.{ℕ, ◌^◌, List, Option, Some, None, Result, Ok, Err, if◌then◌else◌, nat_lt, nat_le, length, ◌&&◌, drop, nat_eq, codes}
 use Rattle.std.specs.List.{list_all, starts_with}
 use Rattle.std.specs.Char.{is_digit}
 use Rattle.std.specs.Str.Parse.{digits_value}
@@ -22,3 +22,8 @@ number_of word =
 abbrev pub number_in_range : Option ℕ → Result ℕ Fault
 number_in_range None = Err Syntax
 number_in_range (Some number) = if nat_lt number (2 ^ 64) then Ok number else Err Range
+
+-- one number of a command that allows a range: another one is Range
+abbrev pub number_within : (least most : ℕ) → Option ℕ → Result ℕ Fault
+number_within least most None = Err Syntax
+number_within least most (Some number) = if nat_le least number && nat_le number most then Ok number else Err Range

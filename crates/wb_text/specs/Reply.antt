@@ -1,18 +1,22 @@
 -- The replies of a script and their text (own).
-use Rattle.std.specs.Prelude.{◌≡◌, ℕ, zero, suc, ◌+◌, ◌*◌, List, [], ◌++◌, Bool, true, false, Option, Some, None, codes, slice_index}
+use Rattle.std.specs.Prelude.{◌≡◌, ℕ, zero, suc, ◌+◌, ◌*◌, ◌%◌, ◌^◌, ◌<◌, List, [], ◌++◌, length, Bool, true, false, Option, Some, None, codes, slice_index}
 use Rattle.std.specs.Fmt.{decimal}
+use Rattle.r3k_disasm.specs.Instruction.{text_of as instruction_text}
 use Rattle.wb_text.specs.Text.{word_text, register_text, line}
 use Rattle.wb_text.specs.declared.reply.ControlRegisters.{ControlRegisters}
 use Rattle.wb_text.specs.declared.fault.Fault.{Fault}
-use Rattle.wb_text.specs.declared.fault.Fault.TheVariants.{Memory, Syntax, Range, NoEvent, Unaligned, NotMemory, TooFar, NotFound}
+use Rattle.wb_text.specs.declared.fault.Fault.TheVariants.{Memory as OutOfMemory, Syntax, Range, NoEvent, Unaligned, NotMemory, TooFar, NotFound}
 use Rattle.wb_text.specs.declared.reply.Load.{Load}
 use Rattle.wb_text.specs.declared.reply.Registers.{Registers as AllRegisters}
+use Rattle.wb_text.specs.declared.memory.Words.{Words}
+use Rattle.wb_text.specs.declared.reply.Where.{Where}
+use Rattle.wb_text.specs.declared.reply.Where.TheVariants.{Cached, Uncached, AddressError, Refill, Miss}
 use Rattle.wb_text.specs.declared.reply.Reply.{Reply}
-use Rattle.wb_text.specs.declared.reply.Reply.TheVariants.{Position, Registers, Register, Control, Nothing, Fault as Refused}
+use Rattle.wb_text.specs.declared.reply.Reply.TheVariants.{Position, Registers, Register, Control, Entry, Where as Place, Memory, Instructions, Nothing, Fault as Refused}
 
 -- a refusal by its number and name
 abbrev pub refusal_text : Fault → List ℕ
-refusal_text Memory = codes "error 1 Memory"
+refusal_text OutOfMemory = codes "error 1 Memory"
 refusal_text Syntax = codes "error 2 Syntax"
 refusal_text Range = codes "error 3 Range"
 refusal_text NoEvent = codes "error 4 NoEvent"
@@ -65,14 +69,52 @@ control_text c =
     ++ codes " status " ++ word_text c.status ++ codes " cause " ++ word_text c.cause
     ++ codes " epc " ++ word_text c.epc ++ codes " prid " ++ word_text c.prid
 
+-- what a translation entry shows
+abbrev pub entry_text : (number hi lo : ℕ) → List ℕ
+entry_text number hi lo = codes "tlb " ++ decimal number ++ codes " " ++ word_text hi ++ codes " " ++ word_text lo
+
+-- where an address leads
+abbrev pub where_text : Where → List ℕ
+where_text (Cached physical) = codes "where " ++ word_text physical ++ codes " cached"
+where_text (Uncached physical) = codes "where " ++ word_text physical ++ codes " uncached"
+where_text AddressError = codes "where adel"
+where_text Refill = codes "where tlbl refill"
+where_text Miss = codes "where tlbl"
+
+-- what the line of a word of memory says: its address and the word, and as an instruction its text too
+unfoldable pub memory_text : (instruction : Bool) (address word : ℕ) → List ℕ
+memory_text false address word = word_text address ++ codes " " ++ word_text word
+memory_text true address word = word_text address ++ codes " " ++ word_text word ++ codes " " ++ instruction_text address word
+
+-- the lines of the first words from an address on
+unfoldable pub words_text : Bool → ℕ → List ℕ → ℕ → List ℕ
+words_text instruction address words zero = []
+words_text instruction address words (suc place) =
+    words_text instruction address words place ++ line (memory_text instruction ((address + 4 * place) % 2 ^ 32) (slice_index words place))
+
+-- the lines of all words
+abbrev pub all_words_text : Bool → Words → List ℕ
+all_words_text instruction w = words_text instruction w.address w.words.items (length w.words.items)
+
 -- the text of a reply
 abbrev pub text_of : Reply → List ℕ
 text_of (Position position) = line (codes "pos " ++ decimal position)
 text_of (Registers r) = line (state_text r) ++ rows_text r.registers 8
 text_of (Register number value) = line (value_text number value)
 text_of (Control c) = line (control_text c)
+text_of (Entry number hi lo) = line (entry_text number hi lo)
+text_of (Place place) = line (where_text place)
+text_of (Memory w) = all_words_text false w
+text_of (Instructions w) = all_words_text true w
 text_of Nothing = []
 text_of (Refused fault) = line (refusal_text fault)
+
+-- a reply has a text: it isn't that of `quit`, and shows a word if it shows words
+abbrev pub HasText : Reply → Type 0
+HasText Nothing = ⊥
+HasText (Memory w) = 0 < length w.words.items
+HasText (Instructions w) = 0 < length w.words.items
+HasText reply = Unit {0}
 
 -- a text that isn't empty and whose last byte is a line feed
 abbrev pub EndsWithLineFeed : List ℕ → Type 0

@@ -2,11 +2,12 @@
 
 ghost use Rattle.std.specs.Prelude.{◌≡◌, ◌<◌, MatchResult, Ok, Err, ℕ, List, [], ◌∷◌, length};
 ghost use Rattle.wb_text.specs.Words.{words_of};
-ghost use Rattle.wb_text.specs.Command.{command_of, command_of_words, command_named, numbers_of, at_most};
+ghost use Rattle.wb_text.specs.Number.{number_of, number_within};
+ghost use Rattle.wb_text.specs.Command.{command_of, command_of_words, command_named, first_of, numbers_of};
 
+use crate::bounded::{Address, Bounded, EntryNumber, RegisterNumber, WordCount};
 use crate::fault::Fault;
 use crate::number::number;
-use crate::register::RegisterNumber;
 use crate::words::first_word;
 
 /// A command of a script.
@@ -26,6 +27,14 @@ pub enum Command {
     Reg(RegisterNumber),
     /// Shows the control registers.
     Cp0,
+    /// Shows a translation entry.
+    Tlb(EntryNumber),
+    /// Shows where an address leads.
+    Where(Address),
+    /// Shows words of memory.
+    Mem { address: Address, count: WordCount },
+    /// Shows words of memory as instructions.
+    Dis { address: Address, count: WordCount },
     /// Ends the script.
     Quit,
 }
@@ -68,19 +77,32 @@ fn command_by_name(name: &[u8], rest: &[u8]) -> Result<Command, Fault>
         no_number(rest)?;
         Ok(Command::Pos)
     } else if name == b"goto".as_slice() {
-        Ok(Command::Goto(one_number(rest)?))
+        let position = one_number::<0, { u64::MAX }>(rest)?;
+        Ok(Command::Goto(position.get()))
     } else if name == b"step".as_slice() {
-        Ok(Command::Step(one_number(rest)?))
+        let count = one_number::<0, { u64::MAX }>(rest)?;
+        Ok(Command::Step(count.get()))
     } else if name == b"back".as_slice() {
-        Ok(Command::Back(one_number(rest)?))
+        let count = one_number::<0, { u64::MAX }>(rest)?;
+        Ok(Command::Back(count.get()))
     } else if name == b"regs".as_slice() {
         no_number(rest)?;
         Ok(Command::Regs)
     } else if name == b"reg".as_slice() {
-        Ok(Command::Reg(register_number(rest)?))
+        Ok(Command::Reg(one_number(rest)?))
     } else if name == b"cp0".as_slice() {
         no_number(rest)?;
         Ok(Command::Cp0)
+    } else if name == b"tlb".as_slice() {
+        Ok(Command::Tlb(one_number(rest)?))
+    } else if name == b"where".as_slice() {
+        Ok(Command::Where(one_number(rest)?))
+    } else if name == b"mem".as_slice() {
+        let (address, count) = two_numbers(rest)?;
+        Ok(Command::Mem { address, count })
+    } else if name == b"dis".as_slice() {
+        let (address, count) = two_numbers(rest)?;
+        Ok(Command::Dis { address, count })
     } else if name == b"quit".as_slice() {
         no_number(rest)?;
         Ok(Command::Quit)
@@ -91,7 +113,7 @@ fn command_by_name(name: &[u8], rest: &[u8]) -> Result<Command, Fault>
 
 // Judges the words of a command that takes no number.
 fn no_number(rest: &[u8]) -> Result<(), Fault>
-    ensures { let numbers = numbers_of 0 (words_of rest.now) in
+    ensures { let numbers = numbers_of [] (words_of rest.now) in
         MatchResult result (λ _. numbers ≡ Ok []) (λ fault. numbers ≡ Err fault) }
 {
     match first_word(rest) {
@@ -101,24 +123,55 @@ fn no_number(rest: &[u8]) -> Result<(), Fault>
 }
 
 // The number of a command that takes one.
-fn one_number(rest: &[u8]) -> Result<u64, Fault>
-    ensures { let numbers = numbers_of 1 (words_of rest.now) in
+fn one_number<const LEAST: u64, const MOST: u64>(rest: &[u8]) -> Result<Bounded<LEAST, MOST>, Fault>
+    ensures { let numbers = numbers_of ((LEAST, MOST) ∷ []) (words_of rest.now) in
         MatchResult result (λ number. numbers ≡ Ok (number ∷ [])) (λ fault. numbers ≡ Err fault) }
 {
     let Some((word, after)) = first_word(rest) else {
         return Err(Fault::Syntax);
     };
     no_number(after)?;
-    number(word)
+    bounded_number(word)
 }
 
-// The number of a command that takes that of a register.
-fn register_number(rest: &[u8]) -> Result<RegisterNumber, Fault>
-    ensures { let numbers = at_most 31 (numbers_of 1 (words_of rest.now)) in
-        MatchResult result (λ number. numbers ≡ Ok (number ∷ [])) (λ fault. numbers ≡ Err fault) }
+// The numbers of a command that takes two.
+fn two_numbers<const LEAST: u64, const MOST: u64, const NEXT_LEAST: u64, const NEXT_MOST: u64>(
+    rest: &[u8],
+) -> Result<(Bounded<LEAST, MOST>, Bounded<NEXT_LEAST, NEXT_MOST>), Fault>
+    ensures { let numbers = numbers_of ((LEAST, MOST) ∷ (NEXT_LEAST, NEXT_MOST) ∷ []) (words_of rest.now) in
+        MatchResult result (λ pair. numbers ≡ Ok (pair.0 ∷ pair.1 ∷ [])) (λ fault. numbers ≡ Err fault) }
 {
-    let number = one_number(rest)?;
-    RegisterNumber::new(number).ok_or(Fault::Range)
+    let Some((word, after)) = first_word(rest) else {
+        return Err(Fault::Syntax);
+    };
+    match (bounded_number(word), one_number(after)) {
+        (Ok(number), Ok(next)) => Ok((number, next)),
+        (Ok(_), Err(fault)) => Err(fault),
+        (Err(fault), Ok(_)) => Err(fault),
+        (Err(fault), Err(other)) => Err(first_refusal(fault, other)),
+    }
+}
+
+// The refusal of two that comes first: Syntax comes before Range.
+fn first_refusal(fault: Fault, other: Fault) -> Fault
+    ensures { result ≡ first_of fault other }
+{
+    match fault {
+        Fault::Syntax => fault,
+        _ => other,
+    }
+}
+
+// The number in a range that a word is: Syntax where it is none, and Range where it is out of the range.
+fn bounded_number<const LEAST: u64, const MOST: u64>(
+    word: &[u8],
+) -> Result<Bounded<LEAST, MOST>, Fault>
+    ensures { result ≡ number_within LEAST MOST (number_of word.now) }
+{
+    match number(word) {
+        Ok(number) => Bounded::new(number).ok_or(Fault::Range),
+        Err(fault) => Err(fault),
+    }
 }
 
 /// A line of more than 257 bytes is Syntax, whatever it holds: so its first 258 bytes say as much

@@ -1,18 +1,21 @@
 //! The text of the workbench: script lines to commands, and replies to text.
 #![tactic(auto)]
 
+pub mod bounded;
 pub mod command;
 pub mod fault;
+pub mod memory;
 mod number;
-pub mod register;
 pub mod reply;
 mod text;
 mod words;
 
+pub use bounded::{Address, Bounded, EntryNumber, RegisterNumber, WordCount};
 pub use command::{Command, parse_line};
 pub use fault::Fault;
-pub use register::RegisterNumber;
-pub use reply::{ControlRegisters, Load, Registers, Reply, reply_text};
+pub use memory::Words;
+pub use reply::{ControlRegisters, Load, Registers, Reply, Where, reply_text};
+pub use text::decimal_digits;
 
 #[cfg(test)]
 mod tests;

@@ -1,12 +1,14 @@
 //! Replies of a script, and their text.
 
-ghost use Rattle.std.specs.Prelude.{◌≡◌, ◌≢◌, ◌+◌, ◌≤◌, ◌++◌, length};
+ghost use Rattle.std.specs.Prelude.{◌≡◌, ◌+◌, ◌≤◌, ◌++◌, length};
 ghost use Rattle.arrayvec.specs.ArrayVec.{array_vec_len};
 ghost use Rattle.wb_text.specs.Text.{line, word_text};
-ghost use Rattle.wb_text.specs.Reply.{text_of, EndsWithLineFeed, refusal_text, flag_text, value_text, load_text};
-ghost use Rattle.wb_text.specs.Reply.{state_text, row_text, rows_text, control_text};
+ghost use Rattle.wb_text.specs.Reply.{text_of, EndsWithLineFeed, HasText, refusal_text, flag_text, value_text, load_text};
+ghost use Rattle.wb_text.specs.Reply.{state_text, row_text, rows_text, control_text, where_text, memory_text, all_words_text};
 
+use crate::bounded::{EntryNumber, RegisterNumber};
 use crate::fault::Fault;
+use crate::memory::Words;
 use crate::text::{Text, push_decimal, push_text, push_word};
 use arrayvec::ArrayVec;
 
@@ -46,17 +48,47 @@ pub struct ControlRegisters {
     pub prid: u32,
 }
 
-/// The reply to a command.
+/// Where an address leads.
 #[derive(Clone, Copy, Debug, PartialEq, Eq)]
+pub enum Where {
+    /// To a physical address that is cacheable.
+    Cached(u32),
+    /// To one that is not.
+    Uncached(u32),
+    /// To an address error.
+    AddressError,
+    /// To a miss at the vector for user misses.
+    Refill,
+    /// To a miss, or to an entry that is not valid, at the general vector.
+    Miss,
+}
+
+/// The reply to a command.
+#[derive(Debug, Drop, PartialEq, Eq)]
 pub enum Reply {
     /// The position, of `pos`, `goto`, `step` and `back`.
     Position(u64),
     /// The registers, of `regs`.
     Registers(Registers),
     /// A register, of `reg`.
-    Register { number: u8, value: u32 },
+    Register {
+        number: RegisterNumber,
+        value: u32,
+    },
     /// The control registers, of `cp0`.
     Control(ControlRegisters),
+    /// A translation entry, of `tlb`.
+    Entry {
+        number: EntryNumber,
+        hi: u32,
+        lo: u32,
+    },
+    /// Where an address leads, of `where`.
+    Where(Where),
+    /// Words of memory, of `mem`.
+    Memory(Words),
+    /// Words of memory with their texts as instructions, of `dis`.
+    Instructions(Words),
     /// No text, of `quit`.
     Nothing,
     /// A refusal.
@@ -79,10 +111,20 @@ pub fn reply_text(reply: &Reply) -> ArrayVec<u8, 4096>
             push_rows(&mut text, &registers.registers);
         }
         Reply::Register { number, value } => {
-            push_register(&mut text, *number, *value);
+            push_register(&mut text, number.get(), *value);
             push_text(&mut text, b"\n");
         }
         Reply::Control(control) => push_control(&mut text, control),
+        Reply::Entry { number, hi, lo } => {
+            push_text(&mut text, b"tlb ");
+            push_decimal(&mut text, number.get());
+            push_field(&mut text, b" ", *hi);
+            push_field(&mut text, b" ", *lo);
+            push_text(&mut text, b"\n");
+        }
+        Reply::Where(place) => push_where(&mut text, *place),
+        Reply::Memory(words) => push_words(&mut text, words, false),
+        Reply::Instructions(words) => push_words(&mut text, words, true),
         Reply::Nothing => {}
         Reply::Fault(fault) => {
             push_text(&mut text, refusal(*fault));
@@ -141,18 +183,18 @@ fn push_load(text: &mut Text, load: Option<Load>)
 {
     match load {
         None => push_text(text, b"none"),
-        Some(load) => push_register(text, load.register, load.value),
+        Some(load) => push_register(text, u64::from(load.register), load.value),
     }
 }
 
 // Appends a register and its value.
-fn push_register(text: &mut Text, number: u8, value: u32)
+fn push_register(text: &mut Text, number: u64, value: u32)
     requires { array_vec_len text.old ≤ 4000 }
     ensures items { text.new.items ≡ text.old.items ++ value_text number value }
     ensures room { array_vec_len text.new ≤ array_vec_len text.old + 32 }
 {
     push_text(text, b"r");
-    push_decimal(text, u64::from(number));
+    push_decimal(text, number);
     push_text(text, b" ");
     push_word(text, value);
 }
@@ -215,7 +257,58 @@ fn push_row(text: &mut Text, registers: &[u32; 32], first: usize)
     push_text(text, b"\n");
 }
 
-/// Every reply but `Nothing` has a text, and it ends with a line feed.
+// Appends the line that tells where an address leads.
+fn push_where(text: &mut Text, place: Where)
+    requires { array_vec_len text.old ≤ 1000 }
+    ensures { text.new.items ≡ text.old.items ++ line (where_text place) }
+{
+    push_text(text, b"where ");
+    match place {
+        Where::Cached(physical) => {
+            push_word(text, physical);
+            push_text(text, b" cached\n");
+        }
+        Where::Uncached(physical) => {
+            push_word(text, physical);
+            push_text(text, b" uncached\n");
+        }
+        Where::AddressError => push_text(text, b"adel\n"),
+        Where::Refill => push_text(text, b"tlbl refill\n"),
+        Where::Miss => push_text(text, b"tlbl\n"),
+    }
+}
+
+// Appends the lines of words of memory, with their texts as instructions or without.
+fn push_words(text: &mut Text, words: &Words, instructions: bool)
+    requires { array_vec_len text.old ≤ 1000 }
+    ensures { text.new.items ≡ text.old.items ++ all_words_text instructions words.now }
+{
+    for (place, word) in words.words.iter().enumerate() {
+        push_memory(
+            text,
+            words.address.wrapping_add(4 * place as u32),
+            *word,
+            instructions,
+        );
+    }
+}
+
+// Appends the line of a word of memory, with its text as an instruction or without.
+fn push_memory(text: &mut Text, address: u32, word: u32, instruction: bool)
+    requires { array_vec_len text.old ≤ 4000 }
+    ensures items { text.new.items ≡ text.old.items ++ line (memory_text instruction address word) }
+    ensures room { array_vec_len text.new ≤ array_vec_len text.old + 63 }
+{
+    push_word(text, address);
+    push_field(text, b" ", word);
+    if instruction {
+        push_text(text, b" ");
+        push_text(text, r3k_disasm::text(address, word).as_bytes());
+    }
+    push_text(text, b"\n");
+}
+
+/// Every reply has a text that ends with a line feed, but for that of `quit` and one that shows no word.
 pub fn reply_laws()
-    ensures { (reply : Reply) → reply ≢ Reply.Nothing → EndsWithLineFeed (text_of reply) }
+    ensures { (reply : Reply) → HasText reply → EndsWithLineFeed (text_of reply) }
 {}

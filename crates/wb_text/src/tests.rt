@@ -1,5 +1,6 @@
 //! Lines and replies, by example.
 use super::*;
+use arrayvec::ArrayVec;
 use std::process::Abort;
 use std::test::Fail;
 
@@ -55,6 +56,41 @@ fn queries_of_the_processor(rt: HostRuntime) -> Result<(), Fail> {
     says(&rt, b"cp0 1", Err(Fault::Syntax));
     assert_eq!(rt; RegisterNumber::new(32), None);
     assert_eq!(rt; last.get(), 31);
+    Ok(())
+}
+
+#[test]
+fn queries_of_memory(rt: HostRuntime) -> Result<(), Fail> {
+    let last = Address::new(0xffff_fffc).ok_or("last")?;
+    let count = WordCount::new(32).ok_or("32")?;
+    says(
+        &rt,
+        b"mem 0xfffffffc 32",
+        Ok(Some(Command::Mem {
+            address: last,
+            count,
+        })),
+    );
+    says(
+        &rt,
+        b"dis 4294967292 0x20",
+        Ok(Some(Command::Dis {
+            address: last,
+            count,
+        })),
+    );
+    says(&rt, b"tlb 64", Err(Fault::Range));
+    says(&rt, b"where 0x100000000", Err(Fault::Range));
+    says(&rt, b"where", Err(Fault::Syntax));
+    says(&rt, b"where 0xfffffffc", Ok(Some(Command::Where(last))));
+    says(&rt, b"mem 0x100000000 1", Err(Fault::Range));
+    says(&rt, b"mem 0 0", Err(Fault::Range));
+    says(&rt, b"dis 0 33", Err(Fault::Range));
+    says(&rt, b"mem 0x100000000 x", Err(Fault::Syntax));
+    says(&rt, b"mem 0x100000000", Err(Fault::Syntax));
+    says(&rt, b"dis 0", Err(Fault::Syntax));
+    says(&rt, b"dis x 33", Err(Fault::Syntax));
+    says(&rt, b"dis 0 1 1", Err(Fault::Syntax));
     Ok(())
 }
 
@@ -157,17 +193,18 @@ fn branch_in_delay_slot(rt: HostRuntime) {
 }
 
 #[test]
-fn one_register(rt: HostRuntime) {
+fn one_register(rt: HostRuntime) -> Result<(), Fail> {
     let reply = Reply::Register {
-        number: 2,
+        number: RegisterNumber::new(2).ok_or("2")?,
         value: 5,
     };
     shows(&rt, &reply, b"r2 0x00000005\n");
     let reply = Reply::Register {
-        number: 31,
+        number: RegisterNumber::new(31).ok_or("31")?,
         value: 0xffffffff,
     };
     shows(&rt, &reply, b"r31 0xffffffff\n");
+    Ok(())
 }
 
 // After a system call in a delay slot.
@@ -192,6 +229,52 @@ fn control_registers(rt: HostRuntime) {
 badvaddr 0x00000000 entryhi 0x00000000 status 0x00400004 cause 0x80000020 epc 0xbfc0000c \
 prid 0x00000220\n",
     );
+}
+
+#[test]
+fn translation(rt: HostRuntime) -> Result<(), Fail> {
+    let number = EntryNumber::new(63).ok_or("63")?;
+    let (hi, lo) = (0x1040, 0xabc00f00);
+    shows(
+        &rt,
+        &Reply::Entry { number, hi, lo },
+        b"tlb 63 0x00001040 0xabc00f00\n",
+    );
+    let cases: [(Where, &[u8]); 5] = [
+        (Where::Cached(0x10), b"where 0x00000010 cached\n"),
+        (Where::Uncached(0x1fc00000), b"where 0x1fc00000 uncached\n"),
+        (Where::AddressError, b"where adel\n"),
+        (Where::Refill, b"where tlbl refill\n"),
+        (Where::Miss, b"where tlbl\n"),
+    ];
+    for (place, text) in cases {
+        shows(&rt, &Reply::Where(place), text);
+    }
+    Ok(())
+}
+
+// A branch in ROM, and the word after it.
+#[test]
+fn words_of_memory(rt: HostRuntime) -> Result<(), Fail> {
+    let mut words = ArrayVec::new();
+    words.push(0x04e1_0004);
+    words.push(0);
+    let address = 0x1fc0_1010;
+    let memory = Reply::Memory(Words { address, words });
+    shows(
+        &rt,
+        &memory,
+        b"0x1fc01010 0x04e10004\n0x1fc01014 0x00000000\n",
+    );
+    let mut words = ArrayVec::new();
+    words.push(0x04e1_0004);
+    let instructions = Reply::Instructions(Words { address, words });
+    shows(
+        &rt,
+        &instructions,
+        b"0x1fc01010 0x04e10004 bgez r7, 0x1fc01024\n",
+    );
+    Ok(())
 }
 
 #[test]

@@ -19,18 +19,27 @@ pub fn push_text(text: &mut Text, piece: &[u8])
     let _ = text.try_extend_from_slice(piece);
 }
 
+/// A number in decimal.
+pub fn decimal_digits(number: u64) -> ArrayVec<u8, 20>
+    ensures { result.items ≡ decimal number }
+{
+    if number < 10 {
+        let mut digits = ArrayVec::new();
+        digits.push(b'0' + number as u8);
+        return digits;
+    }
+    let mut digits = decimal_digits(number / 10);
+    digits.push(b'0' + (number % 10) as u8);
+    digits
+}
+
 /// Appends a number in decimal, of at most 20 digits.
 pub fn push_decimal(text: &mut Text, number: u64)
     requires { array_vec_len text.old + 20 ≤ 4096 }
     ensures items { text.new.items ≡ text.old.items ++ decimal number }
     ensures room { array_vec_len text.new ≤ array_vec_len text.old + 20 }
 {
-    if number < 10 {
-        text.push(b'0' + number as u8);
-        return;
-    }
-    push_decimal(text, number / 10);
-    text.push(b'0' + (number % 10) as u8);
+    push_text(text, decimal_digits(number).as_slice());
 }
 
 /// Appends a word: 0x and eight hexadecimal digits.

@@ -1,9 +1,8 @@
-mod LineLemmas
-mod RuleLemmas
-mod StepLemmas
-mod WordLemmas
-pub mod Answers
-pub mod Faults
 mod Feeds
+pub mod Answers
+pub mod Fronts
+pub mod Outcomes
+pub mod Places
 pub mod Scripts
 pub mod Takes
+pub mod Telling

@@ -1,106 +1,152 @@
--- What one byte of a script does.
-use Rattle.std.proofs.Common.{◌≡◌, ◌≢◌, ℕ, ◌<◌, ◌≤◌, Bool, true, false, List, [], ◌∷◌, ◌++◌, ◌+◌, length, take, drop, get_or, append_assoc, Option, refl, sym, ap, subst, ◌∙◌, cond, arith, ltb}
-use Rattle.std.proofs.KnownBytes.{Appends-trans, Consumes-trans}
-use Rattle.std.proofs.lemmas.List.{append-nil, take_more, take-append-drop}
-use Rattle.std.specs.Io.KnownBytes.{Appends, Consumes}
+-- What one byte of a script does, and a piece.
+use Rattle.std.proofs.Common.{◌≡◌, ◌≢◌, ℕ, ◌<◌, ◌≤◌, Bool, true, false, List, [], ◌∷◌, ◌++◌, ◌+◌, length, take, drop, get_or, append_assoc, Option, Some, Result, Ok, Err, MatchResult, unwrap_or, inl, refl, sym, ap, subst, ◌∙◌, cond, arith, ltb}
 use Rattle.std.proofs.lemmas.Bool.{ltb-false}
-use Rattle.workbench.specs.Pending.{HasNoFeed}
+use Rattle.std.proofs.lemmas.List.{append-nil, take_more, take-append-drop}
+use Rattle.wb_io.specs.Calls.{Call, Each, MovesSome, TakesAll, TakesFront, bytes_moved, bytes_of}
+use Rattle.wb_io.proofs.CallLemmas.{Each-append, TakesAll-append, TakesFront-after, bytes_moved-append}
+use Rattle.workbench.specs.LineBuffer.{HasNoFeed}
+use Rattle.wb_options.specs.declared.fault.RunFault.{RunFault}
+use Rattle.wb_options.specs.declared.fault.RunFault.TheVariants.{WriteFault}
+use Rattle.workbench.specs.Runs.{IsPiece, NoQuit, ScriptRuns, WritesText}
+use Rattle.workbench.specs.Script.{IsText, Quits, QuitsAnyway, complete_lines, lines_of}
 use Rattle.workbench.specs.Session.{Triple}
-use Rattle.workbench.specs.Script.{Answered, Ends, GoesOn, IsText, Quits, Took, lines_of}
-use Rattle.workbench.proofs.Scripts.{goes_on_after_line, ends_at_quit, goes_on_with_byte, goes_on_without_byte, goes_on_twice, ends_later, ends_anyway, text_at_last_line, text_at_last_quit}
+use Rattle.workbench.specs.Taking.{Answered, Ends, GoesOn, Stops, Took, Unanswered}
+use Rattle.workbench.proofs.Scripts.{goes_on_after_line, ends_at_quit, goes_on_with_byte, goes_on_without_byte, goes_on_twice, ends_later, ends_anyway, stops_anyway, stops_at_line, stops_later, text_of_last_line, text_of_last_quit}
+use Rattle.workbench.proofs.Feeds.{no_feed_push}
 
 -- a byte that is no line feed is kept, or dropped behind the first 258
 pub kept_or_dropped : (pages : ℕ) (s : Triple) (old new : List ℕ) (byte : ℕ) → HasNoFeed old → byte ≢ 10 → new ≡ cond (ltb (length old) 258) (old ++ byte ∷ []) old → GoesOn pages s (old ++ byte ∷ []) s new []
 kept_or_dropped pages s old new byte n b e = by_room (ltb (length old) 258) refl
   where
     by_room : (r : Bool) → ltb (length old) 258 ≡ r → GoesOn pages s (old ++ byte ∷ []) s new []
-    by_room true r = subst (λ (z : List ℕ). GoesOn pages s (old ++ byte ∷ []) s z []) (sym (e ∙ ap (λ test. cond test (old ++ byte ∷ []) old) r)) (goes_on_with_byte pages s (old ++ byte ∷ []))
+    by_room true r = subst (λ (z : List ℕ). GoesOn pages s (old ++ byte ∷ []) s z []) (sym (e ∙ ap (λ test. cond test (old ++ byte ∷ []) old) r)) (goes_on_with_byte pages s (old ++ byte ∷ []) (no_feed_push old byte n b))
     by_room false r =
         let long : 258 ≤ length old = ltb-false (length old) 258 r in
         subst (λ (z : List ℕ). GoesOn pages s (old ++ byte ∷ []) s z []) (sym (e ∙ ap (λ test. cond test (old ++ byte ∷ []) old) r)) (goes_on_without_byte pages s old byte n b (omega arith))
 
 -- a line feed ends a line
-pub took_line : (pages : ℕ) (s new : Triple) (old rest : List ℕ) (byte : ℕ) (written written' : Option (List ℕ)) (quits : Bool) → HasNoFeed old → byte ≡ 10 → rest ≡ [] → (text : List ℕ) × Appends written written' text × Answered pages s old new text quits → Took pages s new old rest (byte ∷ []) written written' quits
-took_line pages s new old rest byte written written' true n b r h =
-    (h.0, h.1, subst (λ (z : ℕ). Ends pages s (old ++ z ∷ []) h.0) (sym b) (subst (λ (z : List ℕ). Ends pages s (old ++ 10 ∷ []) z) (sym h.2.1) (ends_at_quit pages s old n h.2.0)))
-took_line pages s new old rest byte written written' false n b r h =
-    (h.0, h.1, subst (λ (z : ℕ). GoesOn pages s (old ++ z ∷ []) new rest h.0) (sym b) (subst (λ (z : List ℕ). GoesOn pages s (old ++ 10 ∷ []) new z h.0) (sym r) (goes_on_after_line pages s new old h.0 n h.2)))
+pub took_line : (pages : ℕ) (s new : Triple) (old rest : List ℕ) (byte : ℕ) (calls : List Call) (quits : Bool) → HasNoFeed old → byte ≡ 10 → rest ≡ [] → Answered pages s old new calls quits → Took pages s new old rest (byte ∷ []) calls quits
+took_line pages s new old rest byte calls true n b r h =
+    subst (λ (cs : List Call). Each MovesSome cs × Ends pages s (old ++ byte ∷ []) (bytes_moved cs)) (sym h.1) (tt, subst (λ (z : ℕ). Ends pages s (old ++ z ∷ []) []) (sym b) (ends_at_quit pages s old n h.0))
+took_line pages s new old rest byte calls false n b r h =
+    (h.0, subst (λ (z : ℕ). GoesOn pages s (old ++ z ∷ []) new rest (bytes_moved calls)) (sym b) (subst (λ (z : List ℕ). GoesOn pages s (old ++ 10 ∷ []) new z (bytes_moved calls)) (sym r) (goes_on_after_line pages s new old (bytes_moved calls) n h.1)))
 
--- a last line is answered
-pub ends_as : (pages : ℕ) (s new : Triple) (line text : List ℕ) (quits : Bool) → HasNoFeed line → 0 < length line → Answered pages s line new text quits → IsText pages s (lines_of line) text
-ends_as pages s new [] text quits n l h = absurd (omega arith)
-ends_as pages s new (byte ∷ kept) text true n l h =
-    subst (λ (z : List ℕ). IsText pages s (lines_of (byte ∷ kept)) z) (sym h.1)
-    (text_at_last_quit pages s s (byte ∷ kept) [] byte kept (goes_on_with_byte pages s (byte ∷ kept)) n h.0)
-ends_as pages s new (byte ∷ kept) text false n l h =
-    text_at_last_line pages s s new (byte ∷ kept) [] text byte kept (goes_on_with_byte pages s (byte ∷ kept)) n h
+pub stopped_line : (pages : ℕ) (s : Triple) (old : List ℕ) (byte : ℕ) (calls : List Call) → HasNoFeed old → byte ≡ 10 → Unanswered pages s old calls → Stops pages s (old ++ byte ∷ []) calls
+stopped_line pages s old byte calls n b h = subst (λ (z : ℕ). Stops pages s (old ++ z ∷ []) calls) (sym b) (stops_at_line pages s old calls n h)
 
--- bytes of a piece, one after the other
-pub piece_goes_on : (pages : ℕ) (s t u : Triple) (pending piece : List ℕ) (i byte : ℕ) (b d x y : List ℕ) → i < length piece → byte ≡ get_or piece i 0 → GoesOn pages s (pending ++ take i piece) t b x → GoesOn pages t (b ++ byte ∷ []) u d y → GoesOn pages s (pending ++ take (i + 1) piece) u d (x ++ y)
-piece_goes_on pages s t u pending piece i byte b d x y l e f g =
-    subst (λ (z : List ℕ). GoesOn pages s z u d (x ++ y)) (one_more pending piece i byte l e) (goes_on_twice pages s t u (pending ++ take i piece) b (byte ∷ []) d x y f g)
-  where
-    one_more : (pending piece : List ℕ) (i byte : ℕ) → i < length piece → byte ≡ get_or piece i 0 → (pending ++ take i piece) ++ byte ∷ [] ≡ pending ++ take (i + 1) piece
-    one_more pending piece i byte l e = append_assoc pending (take i piece) (byte ∷ []) ∙ ap (λ (z : List ℕ). pending ++ z) (ap (λ (n : ℕ). take i piece ++ n ∷ []) e ∙ sym (take_more piece i 0 l))
+-- a last line is answered, or its answer is stopped
+pub ends_as : (pages : ℕ) (s new : Triple) (line : List ℕ) (calls : List Call) (quits : Bool) → HasNoFeed line → 0 < length line → Answered pages s line new calls quits → WritesText TakesAll pages s (lines_of line) calls
+ends_as pages s new [] calls quits n l h = absurd (omega arith)
+ends_as pages s new (byte ∷ kept) calls true n l h =
+    ([], text_of_last_quit pages s byte kept n h.0, subst (λ (cs : List Call). TakesAll [] cs) (sym h.1) (record { each = tt; all = refl }))
+ends_as pages s new (byte ∷ kept) calls false n l h =
+    (bytes_moved calls, text_of_last_line pages s new byte kept (bytes_moved calls) n h.1, record { each = h.0; all = refl })
 
-pub piece_ends : (pages : ℕ) (s t : Triple) (pending piece : List ℕ) (i byte : ℕ) (b x y : List ℕ) → i < length piece → byte ≡ get_or piece i 0 → GoesOn pages s (pending ++ take i piece) t b x → Ends pages t (b ++ byte ∷ []) y → Ends pages s (pending ++ piece) (x ++ y)
-piece_ends pages s t pending piece i byte b x y l e f g =
-    subst (λ (z : List ℕ). Ends pages s z (x ++ y)) (all_of pending piece i byte l e)
-    (ends_anyway pages s ((pending ++ take i piece) ++ byte ∷ []) (drop (i + 1) piece) (x ++ y) (ends_later pages s t (pending ++ take i piece) b (byte ∷ []) x y f g))
-  where
-    all_of : (pending piece : List ℕ) (i byte : ℕ) → i < length piece → byte ≡ get_or piece i 0 → ((pending ++ take i piece) ++ byte ∷ []) ++ drop (i + 1) piece ≡ pending ++ piece
-    all_of pending piece i byte l e =
-        ap (λ (z : List ℕ). z ++ drop (i + 1) piece) (append_assoc pending (take i piece) (byte ∷ []) ∙ ap (λ (z : List ℕ). pending ++ z) (ap (λ (n : ℕ). take i piece ++ n ∷ []) e ∙ sym (take_more piece i 0 l)))
-        ∙ (append_assoc pending (take (i + 1) piece) (drop (i + 1) piece) ∙ ap (λ (z : List ℕ). pending ++ z) (take-append-drop (i + 1) piece))
+pub ends_stopped : (pages : ℕ) (s : Triple) (line : List ℕ) (calls : List Call) → HasNoFeed line → 0 < length line → Unanswered pages s line calls → WritesText TakesFront pages s (lines_of line) calls
+ends_stopped pages s [] calls n l h = absurd (omega arith)
+ends_stopped pages s (byte ∷ kept) calls n l h = (h.1, text_of_last_line pages s h.0 byte kept h.1 n h.2, h.3)
+
+-- the bytes of a piece, one after the other
+one_more : (pending piece : List ℕ) (i byte : ℕ) → i < length piece → byte ≡ get_or piece i 0 → (pending ++ take i piece) ++ byte ∷ [] ≡ pending ++ take (i + 1) piece
+one_more pending piece i byte l e = append_assoc pending (take i piece) (byte ∷ []) ∙ ap (λ (z : List ℕ). pending ++ z) (ap (λ (n : ℕ). take i piece ++ n ∷ []) e ∙ sym (take_more piece i 0 l))
+
+all_of : (pending piece : List ℕ) (i byte : ℕ) → i < length piece → byte ≡ get_or piece i 0 → ((pending ++ take i piece) ++ byte ∷ []) ++ drop (i + 1) piece ≡ pending ++ piece
+all_of pending piece i byte l e =
+    ap (λ (z : List ℕ). z ++ drop (i + 1) piece) (one_more pending piece i byte l e)
+    ∙ (append_assoc pending (take (i + 1) piece) (drop (i + 1) piece) ∙ ap (λ (z : List ℕ). pending ++ z) (take-append-drop (i + 1) piece))
+
+-- a part was taken, and then another
+pub took_more : (pages : ℕ) (s t u : Triple) (a b p d : List ℕ) (first second : List Call) → Each MovesSome first → GoesOn pages s a t b (bytes_moved first) → Took pages t u b d p second false → Each MovesSome (first ++ second) × GoesOn pages s (a ++ p) u d (bytes_moved (first ++ second))
+took_more pages s t u a b p d first second e f h =
+    (Each-append MovesSome first second e h.0, subst (GoesOn pages s (a ++ p) u d) (sym (bytes_moved-append first second)) (goes_on_twice pages s t u a b p d (bytes_moved first) (bytes_moved second) f h.1))
+
+pub took_quit : (pages : ℕ) (s t u : Triple) (a b p d : List ℕ) (first second : List Call) → Each MovesSome first → GoesOn pages s a t b (bytes_moved first) → Took pages t u b d p second true → Each MovesSome (first ++ second) × Ends pages s (a ++ p) (bytes_moved (first ++ second))
+took_quit pages s t u a b p d first second e f h =
+    (Each-append MovesSome first second e h.0, subst (Ends pages s (a ++ p)) (sym (bytes_moved-append first second)) (ends_later pages s t a b p (bytes_moved first) (bytes_moved second) f h.1))
+
+pub stopped_later : (pages : ℕ) (s t : Triple) (a b p : List ℕ) (first second : List Call) → Each MovesSome first → GoesOn pages s a t b (bytes_moved first) → Stops pages t (b ++ p) second → Stops pages s (a ++ p) (first ++ second)
+stopped_later pages s t a b p first second e f h = stops_later pages s t a b p (bytes_moved first) first second f (record { each = e; all = refl }) h
 
 -- a byte of a piece, after those before it
-pub byte_goes_on : (pages : ℕ) (s t u : Triple) (pending piece : List ℕ) (i byte : ℕ) (b d x : List ℕ) (w v z : Option (List ℕ)) (quits : Bool) → i < length piece → byte ≡ get_or piece i 0 → Appends w v x → GoesOn pages s (pending ++ take i piece) t b x → Took pages t u b d (byte ∷ []) v z quits → quits ≡ false → (text : List ℕ) × Appends w z text × GoesOn pages s (pending ++ take (i + 1) piece) u d text
-byte_goes_on pages s t u pending piece i byte b d x w v z true l e a f h q = absurd (let bad : true ≡ false = q in cc)
-byte_goes_on pages s t u pending piece i byte b d x w v z false l e a f h q =
-    (x ++ h.0, Appends-trans w v z x h.0 a h.1, piece_goes_on pages s t u pending piece i byte b d x h.0 l e f h.2)
+pub byte_taken : (pages : ℕ) (s t u : Triple) (pending piece : List ℕ) (i byte : ℕ) (b d : List ℕ) (first second : List Call) (quits : Bool) → quits ≡ false → i < length piece → byte ≡ get_or piece i 0 → Each MovesSome first → GoesOn pages s (pending ++ take i piece) t b (bytes_moved first) → Took pages t u b d (byte ∷ []) second quits → Each MovesSome (first ++ second) × GoesOn pages s (pending ++ take (i + 1) piece) u d (bytes_moved (first ++ second))
+byte_taken pages s t u pending piece i byte b d first second true q l is e f h = absurd (let bad : true ≡ false = q in cc)
+byte_taken pages s t u pending piece i byte b d first second false q l is e f h =
+    let all = took_more pages s t u (pending ++ take i piece) b (byte ∷ []) d first second e f h in
+    (all.0, subst (λ (z : List ℕ). GoesOn pages s z u d (bytes_moved (first ++ second))) (one_more pending piece i byte l is) all.1)
 
-pub byte_ends : (pages : ℕ) (s t u : Triple) (pending piece : List ℕ) (i byte : ℕ) (b d x : List ℕ) (w v z : Option (List ℕ)) (quits : Bool) → i < length piece → byte ≡ get_or piece i 0 → Appends w v x → GoesOn pages s (pending ++ take i piece) t b x → Took pages t u b d (byte ∷ []) v z quits → quits ≡ true → (text : List ℕ) × Appends w z text × Ends pages s (pending ++ piece) text
-byte_ends pages s t u pending piece i byte b d x w v z false l e a f h q = absurd (let bad : false ≡ true = q in cc)
-byte_ends pages s t u pending piece i byte b d x w v z true l e a f h q =
-    (x ++ h.0, Appends-trans w v z x h.0 a h.1, piece_ends pages s t pending piece i byte b x h.0 l e f h.2)
+pub byte_quits : (pages : ℕ) (s t u : Triple) (pending piece : List ℕ) (i byte : ℕ) (b d : List ℕ) (first second : List Call) (quits : Bool) → quits ≡ true → i < length piece → byte ≡ get_or piece i 0 → Each MovesSome first → GoesOn pages s (pending ++ take i piece) t b (bytes_moved first) → Took pages t u b d (byte ∷ []) second quits → Each MovesSome (first ++ second) × Ends pages s (pending ++ piece) (bytes_moved (first ++ second))
+byte_quits pages s t u pending piece i byte b d first second false q l is e f h = absurd (let bad : false ≡ true = q in cc)
+byte_quits pages s t u pending piece i byte b d first second true q l is e f h =
+    let all = took_quit pages s t u (pending ++ take i piece) b (byte ∷ []) d first second e f h in
+    (all.0, subst (λ (z : List ℕ). Ends pages s z (bytes_moved (first ++ second))) (all_of pending piece i byte l is) (ends_anyway pages s _ (drop (i + 1) piece) _ all.1))
+
+pub byte_stops : (pages : ℕ) (s t : Triple) (pending piece : List ℕ) (i byte : ℕ) (b : List ℕ) (first second : List Call) → i < length piece → byte ≡ get_or piece i 0 → Each MovesSome first → GoesOn pages s (pending ++ take i piece) t b (bytes_moved first) → Stops pages t (b ++ byte ∷ []) second → Stops pages s (pending ++ piece) (first ++ second)
+byte_stops pages s t pending piece i byte b first second l is e f h =
+    subst (λ (z : List ℕ). Stops pages s z (first ++ second)) (all_of pending piece i byte l is)
+    (stops_anyway pages s _ (drop (i + 1) piece) _ (stopped_later pages s t (pending ++ take i piece) b (byte ∷ []) first second e f h))
+
+-- the bytes of one read more
+bytes_moved-append_one : (calls : List Call) (call : Call) → bytes_moved (calls ++ call ∷ []) ≡ bytes_moved calls ++ bytes_of call
+bytes_moved-append_one calls call = bytes_moved-append calls (call ∷ []) ∙ ap (λ (z : List ℕ). bytes_moved calls ++ z) (append-nil (bytes_of call))
+
+bytes_moved-append_none : (calls : List Call) (call : Call) → bytes_of call ≡ [] → bytes_moved (calls ++ call ∷ []) ≡ bytes_moved calls
+bytes_moved-append_none calls call none = bytes_moved-append_one calls call ∙ (ap (λ (z : List ℕ). bytes_moved calls ++ z) none ∙ append-nil (bytes_moved calls))
+
+end_text : (pages : ℕ) (s t : Triple) (a b x y all : List ℕ) → all ≡ a → GoesOn pages s a t b x → IsText pages t (lines_of b) y → IsText pages s (lines_of all) (x ++ y)
+end_text pages s t a b x y all is f h =
+    subst (λ (z : List ℕ). IsText pages s (lines_of z) (x ++ y)) (append-nil a ∙ sym is)
+    (f.text_goes_on [] y (subst (λ (z : List ℕ). IsText pages t (lines_of z) y) (sym (append-nil b)) h))
 
 -- a piece of the script, after those before it
-pub piece_taken : (pages : ℕ) (s t u : Triple) (script piece b d x : List ℕ) (w v z : Option (List ℕ)) (quits : Bool) → Appends w v x → GoesOn pages s script t b x → Took pages t u b d piece v z quits → quits ≡ false → (text : List ℕ) × Appends w z text × GoesOn pages s (script ++ piece) u d text
-piece_taken pages s t u script piece b d x w v z true a f h q = absurd (let bad : true ≡ false = q in cc)
-piece_taken pages s t u script piece b d x w v z false a f h q =
-    (x ++ h.0, Appends-trans w v z x h.0 a h.1, goes_on_twice pages s t u script b piece d x h.0 f h.2)
+pub piece_taken : (pages : ℕ) (s t u : Triple) (reads writes calls : List Call) (read : Call) (b d : List ℕ) (quits : Bool) → quits ≡ false → Each MovesSome writes → GoesOn pages s (bytes_moved reads) t b (bytes_moved writes) → Took pages t u b d (bytes_of read) calls quits → Each MovesSome (writes ++ calls) × GoesOn pages s (bytes_moved (reads ++ read ∷ [])) u d (bytes_moved (writes ++ calls))
+piece_taken pages s t u reads writes calls read b d true q e f h = absurd (let bad : true ≡ false = q in cc)
+piece_taken pages s t u reads writes calls read b d false q e f h =
+    let all = took_more pages s t u (bytes_moved reads) b (bytes_of read) d writes calls e f h in
+    (all.0, subst (λ (z : List ℕ). GoesOn pages s z u d (bytes_moved (writes ++ calls))) (sym (bytes_moved-append_one reads read)) all.1)
 
-pub piece_quits : (pages : ℕ) (s t u : Triple) (script piece b d x : List ℕ) (w v z : Option (List ℕ)) (quits : Bool) → Appends w v x → GoesOn pages s script t b x → Took pages t u b d piece v z quits → quits ≡ true → (text : List ℕ) × Appends w z text × IsText pages s (lines_of (script ++ piece)) text × Quits (lines_of (script ++ piece))
-piece_quits pages s t u script piece b d x w v z false a f h q = absurd (let bad : false ≡ true = q in cc)
-piece_quits pages s t u script piece b d x w v z true a f h q =
-    let e = ends_later pages s t script b piece x h.0 f h.2 in (
-      x ++ h.0,
-      Appends-trans w v z x h.0 a h.1,
-      subst (λ (ls : List ℕ). IsText pages s (lines_of ls) (x ++ h.0)) (append-nil (script ++ piece)) (e.is_text []),
-      subst (λ (ls : List ℕ). Quits (lines_of ls)) (append-nil (script ++ piece)) (e.quits []),
+pub piece_quits : (pages : ℕ) (s t u : Triple) (reads writes calls : List Call) (read : Call) (b d : List ℕ) (quits : Bool) → quits ≡ true → Each MovesSome writes → GoesOn pages s (bytes_moved reads) t b (bytes_moved writes) → Took pages t u b d (bytes_of read) calls quits → QuitsAnyway (bytes_moved (reads ++ read ∷ [])) × WritesText TakesAll pages s (lines_of (bytes_moved (reads ++ read ∷ []))) (writes ++ calls)
+piece_quits pages s t u reads writes calls read b d false q e f h = absurd (let bad : false ≡ true = q in cc)
+piece_quits pages s t u reads writes calls read b d true q e f h =
+    let all = took_quit pages s t u (bytes_moved reads) b (bytes_of read) d writes calls e f h in
+    let ends = subst (λ (z : List ℕ). Ends pages s z (bytes_moved (writes ++ calls))) (sym (bytes_moved-append_one reads read)) all.1 in (
+      ends.quits,
+      (bytes_moved (writes ++ calls), subst (λ (z : List ℕ). IsText pages s (lines_of z) (bytes_moved (writes ++ calls))) (append-nil (bytes_moved (reads ++ read ∷ []))) (ends.is_text []), record { each = all.0; all = refl }),
     )
 
--- the script ends with a part of a line
-pub script_ends : (pages : ℕ) (s t : Triple) (script b x y : List ℕ) (w v z : Option (List ℕ)) → Appends w v x → GoesOn pages s script t b x → Appends v z y → IsText pages t (lines_of b) y → (text : List ℕ) × Appends w z text × IsText pages s (lines_of script) text
-script_ends pages s t script b x y w v z a f c h = (
-  x ++ y,
-  Appends-trans w v z x y a c,
-  subst (λ (ls : List ℕ). IsText pages s (lines_of ls) (x ++ y)) (append-nil script)
-      (f.text_goes_on [] y (subst (λ (ls : List ℕ). IsText pages t (lines_of ls) y) (sym (append-nil b)) h)),
+pub piece_stops : (pages : ℕ) (s t : Triple) (reads writes calls : List Call) (read : Call) (b : List ℕ) → Each MovesSome writes → GoesOn pages s (bytes_moved reads) t b (bytes_moved writes) → Stops pages t (b ++ bytes_of read) calls → (bytes : List ℕ) → WritesText TakesFront pages s (lines_of (bytes_moved (reads ++ read ∷ []) ++ bytes)) (writes ++ calls)
+piece_stops pages s t reads writes calls read b e f h =
+    (subst (λ (z : List ℕ). Stops pages s z (writes ++ calls)) (sym (bytes_moved-append_one reads read)) (stopped_later pages s t (bytes_moved reads) b (bytes_of read) writes calls e f h)).front
+
+-- the script ends behind a part of a line, which is answered, or its answer is stopped
+pub end_written : (pages : ℕ) (s t : Triple) (reads writes calls : List Call) (last : Call) (b : List ℕ) → bytes_of last ≡ [] → Each MovesSome writes → GoesOn pages s (bytes_moved reads) t b (bytes_moved writes) → WritesText TakesAll pages t (lines_of b) calls → WritesText TakesAll pages s (lines_of (bytes_moved (reads ++ last ∷ []))) (writes ++ calls)
+end_written pages s t reads writes calls last b none e f h = (
+  bytes_moved writes ++ h.0,
+  end_text pages s t (bytes_moved reads) b (bytes_moved writes) h.0 (bytes_moved (reads ++ last ∷ [])) (bytes_moved-append_none reads last none) f h.1,
+  TakesAll-append (bytes_moved writes) h.0 writes calls (record { each = e; all = refl }) h.2,
 )
 
--- a part of a line without bytes has no text
-pub nothing_left : (pages : ℕ) (s : Triple) (pending : List ℕ) → length pending ≡ 0 → IsText pages s (lines_of pending) []
-unfolding lines_of
-nothing_left pages s [] e = refl
-nothing_left pages s (b ∷ bs) e = absurd (omega arith)
+pub end_stopped : (pages : ℕ) (s t : Triple) (reads writes calls : List Call) (last : Call) (b : List ℕ) → bytes_of last ≡ [] → Each MovesSome writes → GoesOn pages s (bytes_moved reads) t b (bytes_moved writes) → WritesText TakesFront pages t (lines_of b) calls → WritesText TakesFront pages s (lines_of (bytes_moved (reads ++ last ∷ []))) (writes ++ calls)
+end_stopped pages s t reads writes calls last b none e f h = (
+  bytes_moved writes ++ h.0,
+  end_text pages s t (bytes_moved reads) b (bytes_moved writes) h.0 (bytes_moved (reads ++ last ∷ [])) (bytes_moved-append_none reads last none) f h.1,
+  TakesFront-after (bytes_moved writes) h.0 writes calls (record { each = e; all = refl }) h.2,
+)
 
--- bytes that were read, and a piece behind them
-pub read_more : (a b d : Option (List ℕ)) (script piece : List ℕ) → Consumes a b script → Consumes b d piece → (all : List ℕ) × Consumes a d all
-read_more a b d script piece f g = (script ++ piece, Consumes-trans a b d script piece f g)
+-- reading is cut off: the complete lines were answered
+pub cut_written : (pages : ℕ) (s t : Triple) (reads writes : List Call) (last : Call) (b : List ℕ) → bytes_of last ≡ [] → Each MovesSome writes → GoesOn pages s (bytes_moved reads) t b (bytes_moved writes) → WritesText TakesAll pages s (complete_lines (bytes_moved (reads ++ last ∷ []))) writes
+cut_written pages s t reads writes last b none e f = (
+  bytes_moved writes,
+  subst (λ (z : List ℕ). IsText pages s (complete_lines z) (bytes_moved writes)) (sym (bytes_moved-append_none reads last none)) f.complete_text,
+  record { each = e; all = refl },
+)
 
--- a read of no bytes consumes none
-pub nothing_consumed : (a b d : Option (List ℕ)) (script : List ℕ) (count : ℕ) (buffer : List ℕ) → count ≡ 0 → Consumes a b script → Consumes b d (take count buffer) → Consumes a d script
-nothing_consumed a b d script count buffer e f g =
-    let none : take count buffer ≡ [] = ap (λ (n : ℕ). take n buffer) e in
-    subst (Consumes a d) (append-nil script) (Consumes-trans a b d script [] f (subst (Consumes b d) none g))
+pub no_quit_at_end : (pages : ℕ) (s t : Triple) (reads writes : List Call) (last : Call) (b : List ℕ) → bytes_of last ≡ [] → GoesOn pages s (bytes_moved reads) t b (bytes_moved writes) → NoQuit (reads ++ last ∷ [])
+no_quit_at_end pages s t reads writes last b none f q = f.no_quit (subst (λ (z : List ℕ). Quits (complete_lines z)) (bytes_moved-append_none reads last none) q)
+
+-- how the script's run ends where its input does
+pub end_runs : {T : Type 0} (pages most : ℕ) (s t : Triple) (r : Result T RunFault) (reads writes calls : List Call) (last : Call) (b : List ℕ) → Each IsPiece reads → last.asked ≡ 4096 → 0 < last.asked → last.moved ≡ Some [] → Each MovesSome writes → GoesOn pages s (bytes_moved reads) t b (bytes_moved writes) → MatchResult r (λ _. WritesText TakesAll pages t (lines_of b) calls) (λ fault. (fault ≡ WriteFault) × WritesText TakesFront pages t (lines_of b) calls) → ScriptRuns pages most s r (reads ++ last ∷ []) (writes ++ calls)
+end_runs pages most s t (Ok done) reads writes calls last b each asked some none e f h =
+    (inl (record { pieces = reads; last = last; reads_are = refl; each = each; asked = asked; so = (some, none) }, no_quit_at_end pages s t reads writes last b (ap (λ (m : Option (List ℕ)). unwrap_or m []) none) f), end_written pages s t reads writes calls last b (ap (λ (m : Option (List ℕ)). unwrap_or m []) none) e f h)
+end_runs pages most s t (Err fault) reads writes calls last b each asked some none e f h =
+    subst (λ (z : RunFault). ScriptRuns {T = Unit {0}} pages most s (Err z) (reads ++ last ∷ []) (writes ++ calls)) (sym h.0)
+    (inl (record { pieces = reads; last = last; reads_are = refl; each = each; asked = asked; so = (some, none) }, no_quit_at_end pages s t reads writes last b (ap (λ (m : Option (List ℕ)). unwrap_or m []) none) f, end_stopped pages s t reads writes calls last b (ap (λ (m : Option (List ℕ)). unwrap_or m []) none) e f h.1))

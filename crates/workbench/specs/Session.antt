@@ -1,27 +1,57 @@
 -- A session (own): an image, a log and a position, and the answer to each command.
-use Rattle.std.specs.Prelude.{◌≡◌, ◌⊎◌, ℕ, ◌+◌, ◌-◌, Bool, true, false, List, Option, Some, None, if◌then◌else◌, nat_le, refl, slice_index}
+use Rattle.std.specs.Prelude.{◌≡◌, ◌⊎◌, ℕ, ◌+◌, ◌-◌, ◌≤◌, Bool, true, false, List, map, Option, Some, None, Result, Ok, Err, if◌then◌else◌, nat_le, refl, slice_index, slice_index_or}
 use Rattle.std.specs.Coded.{Coded, code_by, coded×, coded_ℕ, coded_list}
 use Rattle.cop0.specs.Registers.{Registers as ControlState, register_of}
 use Rattle.input_log.specs.Event.{TimedByte}
-use Rattle.r3k_image.specs.Boot.{Boot, boot_code}
-use Rattle.r3k_machine.specs.declared.state.Core.{Core}
-use Rattle.r3k_machine.specs.Pending.{Pending}
+use Rattle.r3k_image.specs.Boot.{Boot, FitsRam, boot_code}
+use Rattle.r3k_image.specs.declared.fault.ImageKind.TheVariants.{Pages}
+use Rattle.r3k_machine.specs.Core.{Core}
+use Rattle.r3k_machine.specs.Address.{where_at}
+use Rattle.r3k_machine.specs.LoadSlot.{DelayedLoad}
+use Rattle.r3k_machine.specs.declared.address.Where.{Where as MachineWhere}
+use Rattle.r3k_machine.specs.declared.address.Where.TheVariants as machine_where
 use Rattle.r3k_machine.specs.Run.{state_at}
+use Rattle.tlb64.specs.Entries.{empty_entry}
+use Rattle.tlb64.specs.declared.entry.Entry.{Entry}
+use Rattle.wb_options.specs.declared.fault.RunFault.{RunFault}
+use Rattle.wb_options.specs.declared.fault.RunFault.TheVariants.{Memory as OutOfMemory, BadImage}
 use Rattle.wb_text.specs.declared.command.Command.{Command}
-use Rattle.wb_text.specs.declared.command.Command.TheVariants.{Pos, Goto, Step, Back, Regs, Reg, Cp0, Quit}
+use Rattle.wb_text.specs.declared.command.Command.TheVariants.{Pos, Goto, Step, Back, Regs, Reg, Cp0, Tlb, Where as WhereIs, Mem, Dis, Quit}
 use Rattle.wb_text.specs.declared.fault.Fault.{Fault}
 use Rattle.wb_text.specs.declared.fault.Fault.TheVariants.{Memory, NotFound, TooFar}
+use Rattle.wb_text.specs.declared.memory.Words.{Words}
 use Rattle.wb_text.specs.declared.reply.ControlRegisters.{ControlRegisters}
 use Rattle.wb_text.specs.declared.reply.Load.{Load}
 use Rattle.wb_text.specs.declared.reply.Registers.{Registers as AllRegisters}
+use Rattle.wb_text.specs.declared.reply.Where.{Where}
+use Rattle.wb_text.specs.declared.reply.Where.TheVariants.{Cached, Uncached, AddressError, Refill, Miss}
 use Rattle.wb_text.specs.declared.reply.Reply.{Reply}
-use Rattle.wb_text.specs.declared.reply.Reply.TheVariants.{Position, Registers, Register, Control, Nothing, Fault as Refused}
+use Rattle.wb_text.specs.declared.reply.Reply.TheVariants.{Position, Registers, Register, Control, Entry as EntryReply, Where as Place, Memory as MemoryReply, Instructions, Nothing, Fault as Refused}
+use Rattle.workbench.specs.Memory.{places_of}
+use Rattle.workbench.specs.Sizes.{AreSizes}
 
 -- what a session is
 pub record Triple : Type 0 where
   pub image : Boot
   pub log : List TimedByte
   pub position : ℕ
+
+-- the greatest position
+abbrev pub max_position : ℕ
+max_position = 4294967295
+
+-- A session of a machine with so many pages of RAM and spans of so many steps: sizes in their ranges, an image that fits,
+-- and a position that is not past the greatest one.
+pub record IsSession (pages span : ℕ) (s : Triple) : Type 0 where
+  pub sizes : AreSizes pages span
+  pub fits : FitsRam pages s.image
+  pub position : s.position ≤ max_position
+
+-- why there is no session of an image
+abbrev pub IsNewFault : ℕ → Boot → RunFault → Type 0
+IsNewFault pages image OutOfMemory = Unit {0}
+IsNewFault pages image (BadImage kind) = (kind ≡ Pages) × ¬ FitsRam pages image
+IsNewFault pages image fault = ⊥
 
 -- how proofs tell two timed bytes, and two sessions, apart: by all their parts
 abbrev pub timed_byte_code : Coded TimedByte
@@ -35,7 +65,7 @@ triple_code =
     (λ p. record { image = p.0; log = p.1.0; position = p.1.1 }) (λ _. refl)
 
 -- what `regs` shows of a processor
-abbrev pub shown_load : Option Pending → Option Load
+abbrev pub shown_load : Option DelayedLoad → Option Load
 shown_load None = None
 shown_load (Some load) = Some (record { register = load.register; value = load.value })
 
@@ -65,6 +95,18 @@ shown_control c = record {
   prid = register_of c 15;
 }
 
+-- what `tlb` shows of a translation entry
+abbrev pub shown_entry : ℕ → Entry → Reply
+shown_entry number entry = EntryReply number entry.hi entry.lo
+
+-- what `where` shows of an address
+abbrev pub shown_place : MachineWhere → Where
+shown_place (machine_where.Cached physical) = Cached physical
+shown_place (machine_where.Uncached physical) = Uncached physical
+shown_place machine_where.Adel = AddressError
+shown_place machine_where.Refill = Refill
+shown_place machine_where.Tlbl = Miss
+
 -- an answer: the session after it, and the reply
 pub record Answer : Type 0 where
   pub session : Triple
@@ -77,16 +119,30 @@ answer session reply = record { session = session; reply = reply }
 abbrev pub refusal : Triple → Fault → Answer
 refusal s fault = answer s (Refused fault)
 
--- a move to a position, which is at most 4294967295
+-- a move to a position, unless it is past the greatest one
 abbrev pub moved : Triple → ℕ → Answer
 moved s position =
-    if nat_le position 4294967295
+    if nat_le position max_position
     then answer (record { image = s.image; log = s.log; position = position }) (Position position)
     else refusal s TooFar
 
 -- the processor at the position of a session
 abbrev pub core_of : ℕ → Triple → Core
 core_of pages s = (state_at pages s.image s.log s.position).core
+
+-- the words of memory that a session shows, from an address on, or why it can't
+abbrev pub words_of : ℕ → Triple → (address : ℕ) → Result (List ℕ) Fault → Result Words Fault
+words_of pages s address (Ok places) =
+    Ok (record { address = address; words = record { items = map (slice_index (state_at pages s.image s.log s.position).words) places } })
+words_of pages s address (Err fault) = Err fault
+
+abbrev pub words_shown : ℕ → Triple → (address count : ℕ) → Result Words Fault
+words_shown pages s address count = words_of pages s address (places_of pages address count)
+
+-- the answer that shows words
+abbrev pub answer_with : Triple → (Words → Reply) → Result Words Fault → Answer
+answer_with s show (Ok words) = answer s (show words)
+answer_with s show (Err fault) = refusal s fault
 
 -- The plain answer of a command, on a machine with so many RAM pages. A refused command keeps the session.
 abbrev pub plain : ℕ → Triple → Command → Answer
@@ -97,6 +153,10 @@ plain pages s (Back count) = if nat_le count s.position then moved s (s.position
 plain pages s Regs = answer s (Registers (shown (core_of pages s)))
 plain pages s (Reg number) = answer s (Register number (slice_index (core_of pages s).registers number))
 plain pages s Cp0 = answer s (Control (shown_control (core_of pages s).cop0))
+plain pages s (Tlb number) = answer s (shown_entry number (slice_index_or (core_of pages s).entries number empty_entry))
+plain pages s (WhereIs address) = answer s (Place (shown_place (where_at (core_of pages s) address)))
+plain pages s (Mem address count) = answer_with s (λ words. MemoryReply words) (words_shown pages s address count)
+plain pages s (Dis address count) = answer_with s (λ words. Instructions words) (words_shown pages s address count)
 plain pages s Quit = answer s Nothing
 
 -- the commands that may be refused for memory
@@ -108,6 +168,10 @@ takes_memory (Back count) = false
 takes_memory Regs = true
 takes_memory (Reg number) = true
 takes_memory Cp0 = true
+takes_memory (Tlb number) = true
+takes_memory (WhereIs address) = true
+takes_memory (Mem address count) = true
+takes_memory (Dis address count) = true
 takes_memory Quit = false
 
 -- the refusals that come before that for memory: 2 to 7

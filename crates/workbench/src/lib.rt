@@ -1,30 +1,17 @@
 //! The workbench: a session over a boot image and an input log, the program's loop over a reader
-//! and a writer, its options and its faults.
+//! and a writer, and the program itself.
 #![tactic(auto)]
 
-mod arguments;
-mod calls;
-mod fault;
-mod flat;
-mod line;
-mod output;
-mod pending;
-mod plan;
+mod line_buffer;
 mod program;
+mod query;
 mod script;
+mod serving;
 mod session;
-mod sink;
-mod source;
 
-pub use arguments::{Kind, MAX_SIZE, Options};
-pub use fault::{RunFault, fault_line, status};
-pub use line::options;
-pub use plan::Plan;
-pub use program::serve;
+pub use program::r3kwb;
 pub use script::run;
+pub use serving::serve;
 pub use session::{MAX_POSITION, Session};
-pub use sink::{Sink, ToWrite};
-pub use source::{Failed, FromRead, Source};
-
-#[cfg(test)]
-mod tests;
+pub use wb_io::{Failed, FromRead, Plan, Sink, Source, ToWrite};
+pub use wb_options::{Kind, MAX_SIZE, Options, RunFault, fault_line, options, status};

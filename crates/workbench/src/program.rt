@@ -1,105 +1,81 @@
-//! The program on its input: an image, and then a script.
-ghost use Rattle.std.specs.Prelude.{◌≡◌, ◌⊎◌, ℕ, ◌+◌, ◌≤◌, List, length, OnOk, IfOk, IfErr};
-ghost use Rattle.std.specs.Io.KnownBytes.{Consumes, Keeps};
-ghost use Rattle.r3k_image.specs.Reading.{Gives};
-ghost use Rattle.workbench.specs.Faults.{ReadsStop, WritesStop};
-ghost use Rattle.workbench.specs.Serve.{Served, image_of, IsFrontFault, IsServeFault};
-ghost use Rattle.workbench.specs.Serve.{ReadPast, RefusedImage, StoppedWithin};
+//! The program: it reads its line, runs the workbench over a reader and a writer, and tells how it went.
+ghost use Rattle.std.specs.Prelude.{List, map};
+ghost use Rattle.std.specs.Option.{option_map};
+ghost use Rattle.wb_io.specs.Calls.{Call, Reads, Writes};
+ghost use Rattle.workbench.specs.Program.{Program, Serving, Tells, error_text, help_text};
 ghost use Rattle.workbench.specs.Sizes.{AreSizes};
 
-use crate::arguments::{Kind, Options};
-use crate::fault::RunFault;
-use crate::script::{MAX_READS, PIECE_BYTES, run_with};
-use crate::sink::Sink;
-use crate::source::Source;
-use input_log::Log;
-use r3k_image::{Image, ImageFault, raw_rom, read_image};
+use crate::serving::serve;
 use std::alloc::Global;
+use wb_io::{Sink, Source, write_whole};
+use wb_options::{RunFault, fault_line, options, status};
 
-/// Reads as many bytes as the options say, makes the image of their kind, and runs the script that follows on a machine
-/// with that image and the empty log. All reads together are at most 2^20.
+/// The program on its words, the first of which is its name, or on none where there was no memory for them: serves what
+/// they ask for, with replies to `output`, tells of a fault on `errors`, and gives help on `output`. The result is the exit
+/// status.
 ///
-/// Input that ends within the image is a read fault. Nothing is written until the image is read and found good, and to fit
-/// the machine.
-pub fn serve<const PAGES: u32, const SPAN: u32, R: Source, W: Sink>(
+/// Nobody is left to tell where telling fails.
+pub fn r3kwb<const PAGES: u32, const SPAN: u32, R: Source, W: Sink, E: Sink>(
     alloc: Global,
-    options: Options,
-    reader: &mut R,
-    writer: &mut W,
+    words: Option<&[&str]>,
+    input: &mut R,
+    output: &mut W,
+    errors: &mut E,
+) -> u8
+    requires sizes { AreSizes PAGES SPAN }
+    ensures { (reads : List Call) × (writes : List Call) × (told : List Call)
+        × Reads (R.reads input.old) (R.reads input.new) (R.left input.old) (R.left input.new) reads
+        × Writes (W.writes output.old) (W.writes output.new) (W.written output.old) (W.written output.new) writes
+        × Writes (E.writes errors.old) (E.writes errors.new) (E.written errors.old) (E.written errors.new) told
+        × Program PAGES (option_map (λ given. map (λ word. word.now) given.now) words.entry) result reads writes told }
+{
+    let outcome = outcome_of::<PAGES, SPAN, R, W>(alloc, words, input, output);
+    report(&outcome, output, errors);
+    status(&outcome)
+}
+
+// Serves what the words ask for, or says why not.
+fn outcome_of<const PAGES: u32, const SPAN: u32, R: Source, W: Sink>(
+    alloc: Global,
+    words: Option<&[&str]>,
+    input: &mut R,
+    output: &mut W,
 ) -> Result<(), RunFault>
     requires sizes { AreSizes PAGES SPAN }
-    ensures served { OnOk result (Served PAGES options.kind options.size
-        (R.left reader.old) (R.left reader.new) (W.written writer.old) (W.written writer.new)) }
-    ensures reads { OnOk result (R.failed_reads reader.new ≡ R.failed_reads reader.old) }
-    ensures writes { OnOk result (W.failed_writes writer.new ≡ W.failed_writes writer.old) }
-    ensures made { R.reads reader.new ≤ R.reads reader.old + 1048576 }
-    ensures fault { let reads = ReadsStop 1048576
-        (R.failed_reads reader.old) (R.failed_reads reader.new) (R.reads reader.old) (R.reads reader.new) in
-        IfErr result (IsServeFault
-        (Keeps (W.written writer.old) (W.written writer.new))
-        (RefusedImage PAGES options.kind options.size (R.left reader.old) (R.left reader.new))
-        (StoppedWithin options.size (R.left reader.old) (R.left reader.new) reads)
-        (ReadPast PAGES options.kind options.size (R.left reader.old) (R.left reader.new))
-        reads
-        (WritesStop (W.failed_writes writer.old) (W.failed_writes writer.new)
-        (W.empty_writes writer.old) (W.empty_writes writer.new))) }
+    ensures { (reads : List Call) × (writes : List Call)
+        × Reads (R.reads input.old) (R.reads input.new) (R.left input.old) (R.left input.new) reads
+        × Writes (W.writes output.old) (W.writes output.new) (W.written output.old) (W.written output.new) writes
+        × Serving PAGES (option_map (λ given. map (λ word. word.now) given.now) words.entry) result reads writes }
 {
-    let front = read_front(alloc, options.size as usize, reader)?;
-    let image = image_of(alloc, options.kind, &front.bytes)?;
-    run_with::<PAGES, SPAN, R, W>(
-        alloc,
-        image,
-        Log::new(alloc),
-        reader,
-        writer,
-        front.reads_left,
-    )
-}
-
-// The bytes before the script, and how many reads are left.
-#[derive(Drop)]
-struct Front {
-    bytes: Vec<u8>,
-    reads_left: u32,
-}
-
-// Reads so many bytes, and no more.
-fn read_front<R: Source>(alloc: Global, size: usize, reader: &mut R) -> Result<Front, RunFault>
-    ensures bytes { IfOk result (λ front. Consumes (R.left reader.old) (R.left reader.new) front.bytes.items) }
-    ensures size { IfOk result (λ front. length front.bytes.items ≡ size) }
-    ensures reads { OnOk result (R.failed_reads reader.new ≡ R.failed_reads reader.old) }
-    ensures made { IfOk result (λ front. R.reads reader.new + front.reads_left ≡ R.reads reader.old + 1048576) }
-    ensures at_most { R.reads reader.new ≤ R.reads reader.old + 1048576 }
-    ensures fault { IfErr result (IsFrontFault (StoppedWithin size (R.left reader.old) (R.left reader.new)
-        (ReadsStop 1048576 (R.failed_reads reader.old) (R.failed_reads reader.new) (R.reads reader.old) (R.reads reader.new)))) }
-{
-    let mut bytes = Vec::new(alloc);
-    let mut piece = [0u8; PIECE_BYTES];
-    let mut reads_left = MAX_READS;
-    while bytes.len() < size {
-        if reads_left == 0 {
-            return Err(RunFault::ReadFault);
-        }
-        reads_left -= 1;
-        let missing = size - bytes.len();
-        let wanted = missing.min(PIECE_BYTES);
-        let Ok(count) = reader.read(&mut piece[..wanted]) else {
-            return Err(RunFault::ReadFault);
-        };
-        if count == 0 {
-            return Err(RunFault::ReadFault);
-        }
-        bytes.extend_from_slice(&piece[..count])?;
+    let words = match words {
+        None => return Err(RunFault::Memory),
+        Some(words) => words,
+    };
+    match options(alloc, words) {
+        Err(fault) => Err(fault),
+        Ok(options) => serve::<PAGES, SPAN, R, W>(alloc, options, input, output),
     }
-    Ok(Front { bytes, reads_left })
 }
 
-// The image that bytes of a kind make.
-fn image_of(alloc: Global, kind: Kind, bytes: &[u8]) -> Result<Image, ImageFault>
-    ensures { Gives (λ image. image) result (image_of kind bytes.now) }
+// Tells of a fault on `errors`, and gives help on `output`.
+fn report<W: Sink, E: Sink>(outcome: &Result<(), RunFault>, output: &mut W, errors: &mut E)
+    ensures { (helped : List Call) × (told : List Call)
+        × Writes (W.writes output.old) (W.writes output.new) (W.written output.old) (W.written output.new) helped
+        × Writes (E.writes errors.old) (E.writes errors.new) (E.written errors.old) (E.written errors.new) told
+        × Tells (help_text outcome.now) helped
+        × Tells (error_text outcome.now) told }
 {
-    match kind {
-        Kind::Rom => raw_rom(alloc, bytes),
-        Kind::Image => read_image(alloc, bytes),
+    match outcome {
+        Ok(()) => {}
+        Err(RunFault::Help(text)) => {
+            let _ = write_whole(output, text.as_bytes());
+        }
+        Err(RunFault::Usage(text)) => {
+            let _ = write_whole(errors, text.as_bytes());
+        }
+        Err(fault) => {
+            let line = fault_line(fault);
+            let _ = write_whole(errors, line.as_slice());
+        }
     }
 }

@@ -1,25 +1,21 @@
 //! A script: its lines are read, answered one after the other, and each reply is written whole.
-ghost use Rattle.std.specs.Prelude.{◌≡◌, ℕ, ◌+◌, ◌≤◌, ◌∷◌, [], List, OnOk, IfOk, IfErr};
-ghost use Rattle.std.specs.Io.KnownBytes.{Appends, Consumes};
-ghost use Rattle.r3k_image.specs.Boot.{FitsRam};
-ghost use Rattle.workbench.specs.Faults.{IsRunFault, IsScriptFault, ReadsStop, Untouched, WritesStop};
-ghost use Rattle.workbench.specs.Script.{Answered, EndsAs, Ran, Took, is_quit};
+ghost use Rattle.std.specs.Prelude.{◌≡◌, ◌≤◌, ◌∷◌, ◌++◌, [], List, MatchResult, length};
+ghost use Rattle.wb_io.specs.Calls.{Call, Reads, TakesAll, TakesFront, Writes};
+ghost use Rattle.wb_options.specs.declared.fault.RunFault.TheVariants.{WriteFault};
+ghost use Rattle.workbench.specs.LineBuffer.{HasNoFeed};
+ghost use Rattle.workbench.specs.Runs.{Runs, ScriptRuns, WritesText};
+ghost use Rattle.workbench.specs.Script.{is_quit, lines_of};
 ghost use Rattle.workbench.specs.Sizes.{AreSizes};
-ghost use Rattle.workbench.specs.declared.fault.RunFault.TheVariants.{WriteFault};
+ghost use Rattle.workbench.specs.Taking.{Answered, IsAnswer, Stops, Took, Unanswered};
 
-use crate::fault::RunFault;
-use crate::output::write_whole;
-use crate::pending::Pending;
+use crate::line_buffer::LineBuffer;
 use crate::session::Session;
-use crate::sink::Sink;
-use crate::source::Source;
 use input_log::Log;
 use r3k_image::Image;
 use std::alloc::Global;
+use wb_io::{PIECE_BYTES, Sink, Source, write_whole};
+use wb_options::RunFault;
 use wb_text::{Command, Reply, parse_line, reply_text};
-
-/// The most bytes that are asked of a reader at once.
-pub(crate) const PIECE_BYTES: usize = 4096;
 
 /// The most reads of a run.
 pub(crate) const MAX_READS: u32 = 1 << 20;
@@ -37,17 +33,11 @@ pub fn run<const PAGES: u32, const SPAN: u32, R: Source, W: Sink>(
     writer: &mut W,
 ) -> Result<(), RunFault>
     requires sizes { AreSizes PAGES SPAN }
-    ensures fits { OnOk result (FitsRam PAGES image) }
-    ensures ran { OnOk result (Ran PAGES (record { image = image; log = log; position = 0 })
-        (R.left reader.old) (R.left reader.new) (W.written writer.old) (W.written writer.new)) }
-    ensures reads { OnOk result (R.failed_reads reader.new ≡ R.failed_reads reader.old) }
-    ensures writes { OnOk result (W.failed_writes writer.new ≡ W.failed_writes writer.old) }
-    ensures made { R.reads reader.new ≤ R.reads reader.old + 1048576 }
-    ensures consumed { (script : List ℕ) × Consumes (R.left reader.old) (R.left reader.new) script }
-    ensures fault { IfErr result (IsRunFault PAGES image
-        (Untouched (R.reads reader.old) (R.reads reader.new) (R.left reader.old) (R.left reader.new) (W.written writer.old) (W.written writer.new))
-        (ReadsStop 1048576 (R.failed_reads reader.old) (R.failed_reads reader.new) (R.reads reader.old) (R.reads reader.new))
-        (WritesStop (W.failed_writes writer.old) (W.failed_writes writer.new) (W.empty_writes writer.old) (W.empty_writes writer.new))) }
+    ensures { (reads : List Call) × (writes : List Call)
+        × Reads (R.reads reader.old) (R.reads reader.new) (R.left reader.old) (R.left reader.new) reads
+        × Writes (W.writes writer.old) (W.writes writer.new) (W.written writer.old) (W.written writer.new) writes
+        × (length reads ≤ 1048576)
+        × Runs PAGES 1048576 image log result reads writes }
 {
     run_with::<PAGES, SPAN, R, W>(alloc, image, log, reader, writer, MAX_READS)
 }
@@ -59,53 +49,50 @@ pub(crate) fn run_with<const PAGES: u32, const SPAN: u32, R: Source, W: Sink>(
     log: Log,
     reader: &mut R,
     writer: &mut W,
-    reads: u32,
+    most: u32,
 ) -> Result<(), RunFault>
     requires sizes { AreSizes PAGES SPAN }
-    ensures fits { OnOk result (FitsRam PAGES image) }
-    ensures ran { OnOk result (Ran PAGES (record { image = image; log = log; position = 0 })
-        (R.left reader.old) (R.left reader.new) (W.written writer.old) (W.written writer.new)) }
-    ensures reads { OnOk result (R.failed_reads reader.new ≡ R.failed_reads reader.old) }
-    ensures writes { OnOk result (W.failed_writes writer.new ≡ W.failed_writes writer.old) }
-    ensures made { R.reads reader.new ≤ R.reads reader.old + reads }
-    ensures consumed { (script : List ℕ) × Consumes (R.left reader.old) (R.left reader.new) script }
-    ensures fault { IfErr result (IsRunFault PAGES image
-        (Untouched (R.reads reader.old) (R.reads reader.new) (R.left reader.old) (R.left reader.new) (W.written writer.old) (W.written writer.new))
-        (ReadsStop reads (R.failed_reads reader.old) (R.failed_reads reader.new) (R.reads reader.old) (R.reads reader.new))
-        (WritesStop (W.failed_writes writer.old) (W.failed_writes writer.new) (W.empty_writes writer.old) (W.empty_writes writer.new))) }
+    ensures { (reads : List Call) × (writes : List Call)
+        × Reads (R.reads reader.old) (R.reads reader.new) (R.left reader.old) (R.left reader.new) reads
+        × Writes (W.writes writer.old) (W.writes writer.new) (W.written writer.old) (W.written writer.new) writes
+        × (length reads ≤ most)
+        × Runs PAGES most image log result reads writes }
 {
-    let mut session = Session::<PAGES, SPAN>::new(alloc, image, log)?;
-    run_script(&mut session, reader, writer, reads)
+    let mut session = match Session::<PAGES, SPAN>::new(alloc, image, log) {
+        Ok(session) => session,
+        Err(fault) => return Err(fault),
+    };
+    run_script(&mut session, reader, writer, most)
 }
 
 // Reads a script and answers its lines.
-#[tactic(auto, using(crate::proofs::Takes::read_more))]
 fn run_script<const PAGES: u32, const SPAN: u32, R: Source, W: Sink>(
     session: &mut Session<PAGES, SPAN>,
     reader: &mut R,
     writer: &mut W,
-    reads: u32,
+    most: u32,
 ) -> Result<(), RunFault>
-    ensures ran { OnOk result (Ran PAGES session.old (R.left reader.old) (R.left reader.new) (W.written writer.old) (W.written writer.new)) }
-    ensures reads { OnOk result (R.failed_reads reader.new ≡ R.failed_reads reader.old) }
-    ensures writes { OnOk result (W.failed_writes writer.new ≡ W.failed_writes writer.old) }
-    ensures made { R.reads reader.new ≤ R.reads reader.old + reads }
-    ensures consumed { (script : List ℕ) × Consumes (R.left reader.old) (R.left reader.new) script }
-    ensures fault { IfErr result (IsScriptFault
-        (ReadsStop reads (R.failed_reads reader.old) (R.failed_reads reader.new) (R.reads reader.old) (R.reads reader.new))
-        (WritesStop (W.failed_writes writer.old) (W.failed_writes writer.new) (W.empty_writes writer.old) (W.empty_writes writer.new))) }
+    ensures { (reads : List Call) × (writes : List Call)
+        × Reads (R.reads reader.old) (R.reads reader.new) (R.left reader.old) (R.left reader.new) reads
+        × Writes (W.writes writer.old) (W.writes writer.new) (W.written writer.old) (W.written writer.new) writes
+        × (length reads ≤ most)
+        × ScriptRuns PAGES most session.old result reads writes }
 {
-    let mut pending = Pending::new();
+    let mut line = LineBuffer::new();
     let mut piece = [0u8; PIECE_BYTES];
-    for _made in 0..reads {
-        let Ok(count) = reader.read(&mut piece) else {
-            return Err(RunFault::ReadFault);
+    for _made in 0..most {
+        let count = match reader.read(&mut piece) {
+            Err(_) => return Err(RunFault::ReadFault),
+            Ok(0) => return end_script(session, &line, writer),
+            Ok(count) => count,
         };
-        if count == 0 {
-            return end_script(session, &pending, writer);
-        }
-        if take_piece(session, &mut pending, &piece[..count], writer)? {
-            return Ok(());
+        match take_piece(session, &mut line, &piece[..count], writer) {
+            Err(fault) => return Err(fault),
+            Ok(quits) => {
+                if quits {
+                    return Ok(());
+                }
+            }
         }
     }
     // The most reads were made.
@@ -115,40 +102,47 @@ fn run_script<const PAGES: u32, const SPAN: u32, R: Source, W: Sink>(
 // Answers a last line that no line feed ends.
 fn end_script<const PAGES: u32, const SPAN: u32, W: Sink>(
     session: &mut Session<PAGES, SPAN>,
-    pending: &Pending,
+    line: &LineBuffer,
     writer: &mut W,
 ) -> Result<(), RunFault>
-    ensures text { OnOk result ((text : List ℕ) × Appends (W.written writer.old) (W.written writer.new) text
-        × EndsAs PAGES session.old pending.now text) }
-    ensures writes { OnOk result (W.failed_writes writer.new ≡ W.failed_writes writer.old) }
-    ensures taken { OnOk result (W.empty_writes writer.new ≡ W.empty_writes writer.old) }
-    ensures fault { IfErr result (λ fault. (fault ≡ WriteFault) × WritesStop
-        (W.failed_writes writer.old) (W.failed_writes writer.new) (W.empty_writes writer.old) (W.empty_writes writer.new)) }
+    ensures { (calls : List Call)
+        × Writes (W.writes writer.old) (W.writes writer.new) (W.written writer.old) (W.written writer.new) calls
+        × MatchResult result
+        (λ _. WritesText TakesAll PAGES session.old (lines_of line.now) calls)
+        (λ fault. (fault ≡ WriteFault) × WritesText TakesFront PAGES session.old (lines_of line.now) calls) }
 {
-    let line = pending.bytes();
-    if line.is_empty() {
+    let bytes = line.bytes();
+    if bytes.is_empty() {
         return Ok(());
     }
-    answer_line(session, line, writer)?;
-    Ok(())
+    match answer_line(session, bytes, writer) {
+        Err(fault) => Err(fault),
+        Ok(_) => Ok(()),
+    }
 }
 
 // Takes the bytes of a piece in turn, up to a line `quit`, and says whether there was one.
 fn take_piece<const PAGES: u32, const SPAN: u32, W: Sink>(
     session: &mut Session<PAGES, SPAN>,
-    pending: &mut Pending,
+    line: &mut LineBuffer,
     piece: &[u8],
     writer: &mut W,
 ) -> Result<bool, RunFault>
-    ensures goes { IfOk result (λ quits. Took PAGES session.old session.new pending.old pending.new piece.now (W.written writer.old) (W.written writer.new) quits) }
-    ensures writes { OnOk result (W.failed_writes writer.new ≡ W.failed_writes writer.old) }
-    ensures taken { OnOk result (W.empty_writes writer.new ≡ W.empty_writes writer.old) }
-    ensures fault { IfErr result (λ fault. (fault ≡ WriteFault) × WritesStop
-        (W.failed_writes writer.old) (W.failed_writes writer.new) (W.empty_writes writer.old) (W.empty_writes writer.new)) }
+    requires { HasNoFeed line.old }
+    ensures { (calls : List Call)
+        × Writes (W.writes writer.old) (W.writes writer.new) (W.written writer.old) (W.written writer.new) calls
+        × MatchResult result
+        (λ quits. Took PAGES session.old session.new line.old line.new piece.now calls quits)
+        (λ fault. (fault ≡ WriteFault) × Stops PAGES session.old (line.old ++ piece.now) calls) }
 {
     for byte in piece {
-        if take_byte(session, pending, *byte, writer)? {
-            return Ok(true);
+        match take_byte(session, line, *byte, writer) {
+            Err(fault) => return Err(fault),
+            Ok(quits) => {
+                if quits {
+                    return Ok(true);
+                }
+            }
         }
     }
     Ok(false)
@@ -157,23 +151,27 @@ fn take_piece<const PAGES: u32, const SPAN: u32, W: Sink>(
 // Takes a byte, and says whether it ends a line `quit`.
 fn take_byte<const PAGES: u32, const SPAN: u32, W: Sink>(
     session: &mut Session<PAGES, SPAN>,
-    pending: &mut Pending,
+    line: &mut LineBuffer,
     byte: u8,
     writer: &mut W,
 ) -> Result<bool, RunFault>
-    ensures goes { IfOk result (λ quits. Took PAGES session.old session.new pending.old pending.new (byte ∷ []) (W.written writer.old) (W.written writer.new) quits) }
-    ensures writes { OnOk result (W.failed_writes writer.new ≡ W.failed_writes writer.old) }
-    ensures taken { OnOk result (W.empty_writes writer.new ≡ W.empty_writes writer.old) }
-    ensures fault { IfErr result (λ fault. (fault ≡ WriteFault) × WritesStop
-        (W.failed_writes writer.old) (W.failed_writes writer.new) (W.empty_writes writer.old) (W.empty_writes writer.new)) }
+    ensures { (calls : List Call)
+        × Writes (W.writes writer.old) (W.writes writer.new) (W.written writer.old) (W.written writer.new) calls
+        × MatchResult result
+        (λ quits. Took PAGES session.old session.new line.old line.new (byte ∷ []) calls quits)
+        (λ fault. (fault ≡ WriteFault) × Stops PAGES session.old (line.old ++ byte ∷ []) calls) }
 {
     if byte != b'\n' {
-        pending.push(byte);
+        line.push(byte);
         return Ok(false);
     }
-    let quits = answer_line(session, pending.bytes(), writer)?;
-    pending.clear();
-    Ok(quits)
+    match answer_line(session, line.bytes(), writer) {
+        Err(fault) => Err(fault),
+        Ok(quits) => {
+            line.clear();
+            Ok(quits)
+        }
+    }
 }
 
 // Answers a line, and says whether it is `quit`.
@@ -182,26 +180,52 @@ fn answer_line<const PAGES: u32, const SPAN: u32, W: Sink>(
     line: &[u8],
     writer: &mut W,
 ) -> Result<bool, RunFault>
-    ensures answered { IfOk result (λ quits. (text : List ℕ) × Appends (W.written writer.old) (W.written writer.new) text
-        × Answered PAGES session.old line.now session.new text quits) }
-    ensures writes { OnOk result (W.failed_writes writer.new ≡ W.failed_writes writer.old) }
-    ensures taken { OnOk result (W.empty_writes writer.new ≡ W.empty_writes writer.old) }
-    ensures fault { IfErr result (λ fault. (fault ≡ WriteFault) × WritesStop
-        (W.failed_writes writer.old) (W.failed_writes writer.new) (W.empty_writes writer.old) (W.empty_writes writer.new)) }
+    ensures { (calls : List Call)
+        × Writes (W.writes writer.old) (W.writes writer.new) (W.written writer.old) (W.written writer.new) calls
+        × MatchResult result
+        (λ quits. Answered PAGES session.old line.now session.new calls quits)
+        (λ fault. (fault ≡ WriteFault) × Unanswered PAGES session.old line.now calls) }
 {
-    let reply = match parse_line(line) {
-        Err(fault) => Reply::Fault(fault),
-        Ok(None) => return Ok(false),
-        Ok(Some(command)) => {
-            if is_quit(&command) {
-                return Ok(true);
-            }
-            session.apply(command)
-        }
+    let reply = match answer_to(session, line) {
+        Answer::Quit => return Ok(true),
+        Answer::Nothing => return Ok(false),
+        Answer::Reply(reply) => reply,
     };
     let text = reply_text(&reply);
-    write_whole(writer, text.as_slice())?;
-    Ok(false)
+    match write_whole(writer, text.as_slice()) {
+        Err(_) => Err(RunFault::WriteFault),
+        Ok(()) => Ok(false),
+    }
+}
+
+// What a line brings.
+#[derive(Drop)]
+enum Answer {
+    // The end of the script.
+    Quit,
+    // Nothing: it has no command.
+    Nothing,
+    // A reply.
+    Reply(Reply),
+}
+
+// Does what a line says, unless that is `quit`.
+fn answer_to<const PAGES: u32, const SPAN: u32>(
+    session: &mut Session<PAGES, SPAN>,
+    line: &[u8],
+) -> Answer
+    ensures { IsAnswer PAGES session.old line.now session.new result }
+{
+    match parse_line(line) {
+        Err(fault) => Answer::Reply(Reply::Fault(fault)),
+        Ok(None) => Answer::Nothing,
+        Ok(Some(command)) => {
+            if is_quit(&command) {
+                return Answer::Quit;
+            }
+            Answer::Reply(session.apply(command))
+        }
+    }
 }
 
 fn is_quit(command: &Command) -> bool

@@ -1,24 +1,28 @@
 //! A session: an image, a log and a position, and the answer to each command.
 
-ghost use Rattle.std.specs.Prelude.{◌≡◌, MatchResult};
+ghost use Rattle.std.specs.Prelude.{◌≡◌, ◌⊎◌, Err, IsOk, MatchResult};
 ghost use Rattle.r3k_image.specs.Boot.{FitsRam};
-ghost use Rattle.r3k_image.specs.declared.fault.ImageKind.TheVariants.{Pages};
-ghost use Rattle.workbench.specs.Session.{Answers, answer, moved, shown, shown_control};
+ghost use Rattle.workbench.specs.Session.{Answers, IsNewFault, answer, moved, shown, shown_control, shown_entry, shown_place, words_shown};
+ghost use Rattle.workbench.specs.Memory.{places_of};
+ghost use Rattle.wb_text.specs.declared.fault.Fault.TheVariants.{Memory};
 ghost use Rattle.workbench.specs.Sizes.{AreSizes};
-ghost use Rattle.workbench.specs.declared.fault.RunFault.TheVariants.{BadImage};
 
-use crate::fault::RunFault;
-use crate::flat::core_at;
+use crate::query::{machine_at, places_from, words_at};
 use cop0::Cop0;
 use cop0::number::{
     BAD_VADDR, CAUSE, CONTEXT, ENTRY_HI, ENTRY_LO, EPC, INDEX, PRID, RANDOM, STATUS,
 };
 use input_log::Log;
 use r3k_image::{Image, ImageKind};
-use r3k_machine::Core;
+use r3k_machine::{self as machine, Core};
 use std::alloc::Global;
 use std::marker::Model;
-use wb_text::{Command, ControlRegisters, Fault, Load, RegisterNumber, Registers, Reply};
+use tlb64::Entry;
+use wb_options::RunFault;
+use wb_text::{
+    Address, Command, ControlRegisters, EntryNumber, Fault, Load, RegisterNumber, Registers, Reply,
+    Where, WordCount, Words,
+};
 
 /// The greatest position.
 pub const MAX_POSITION: u64 = 4_294_967_295;
@@ -33,9 +37,7 @@ pub struct Session<const PAGES: u32, const SPAN: u32> {
 }
 
 impl<const PAGES: u32, const SPAN: u32> Model for Session<PAGES, SPAN> {
-    ghost use Rattle.std.specs.Prelude.{◌≤◌};
-    ghost use Rattle.r3k_word.specs.declared.layout.TheConstants.{MAX_RAM_PAGES};
-    ghost use Rattle.workbench.specs.Session.{Triple, triple_code};
+    ghost use Rattle.workbench.specs.Session.{IsSession, Triple, triple_code};
 
     ghost Value = { Triple };
 
@@ -43,7 +45,7 @@ impl<const PAGES: u32, const SPAN: u32> Model for Session<PAGES, SPAN> {
 
     ghost view = { λ s. record { image = s.image; log = s.log; position = s.position } };
 
-    ghost invariant = { λ _. PAGES ≤ MAX_RAM_PAGES };
+    ghost invariant = { λ s. IsSession PAGES SPAN (record { image = s.image; log = s.log; position = s.position }) };
 }
 
 impl<const PAGES: u32, const SPAN: u32> Session<PAGES, SPAN> {
@@ -53,7 +55,7 @@ impl<const PAGES: u32, const SPAN: u32> Session<PAGES, SPAN> {
         requires sizes { AreSizes PAGES SPAN }
         ensures { MatchResult result
             (λ s. FitsRam PAGES image × (s ≡ record { image = image; log = log; position = 0 }))
-            (λ fault. (fault ≡ BadImage Pages) × (FitsRam PAGES image → ⊥)) }
+            (IsNewFault PAGES image) }
     {
         if !image.fits(PAGES) {
             return Err(RunFault::BadImage(ImageKind::Pages));
@@ -78,6 +80,16 @@ impl<const PAGES: u32, const SPAN: u32> Session<PAGES, SPAN> {
             Command::Regs => self.registers(),
             Command::Reg(number) => self.register(number),
             Command::Cp0 => self.control(),
+            Command::Tlb(number) => self.entry(number),
+            Command::Where(address) => self.place(address),
+            Command::Mem { address, count } => match self.words(address, count) {
+                Ok(words) => Reply::Memory(words),
+                Err(fault) => Reply::Fault(fault),
+            },
+            Command::Dis { address, count } => match self.words(address, count) {
+                Ok(words) => Reply::Instructions(words),
+                Err(fault) => Reply::Fault(fault),
+            },
             Command::Quit => Reply::Nothing,
         }
     }
@@ -117,8 +129,8 @@ impl<const PAGES: u32, const SPAN: u32> Session<PAGES, SPAN> {
     fn registers(&self) -> Reply
         ensures { Answers PAGES self.now Command.Regs self.now result }
     {
-        match core_at::<PAGES>(self.alloc, &self.image, &self.log, self.position) {
-            Ok(core) => Reply::Registers(registers_of(&core)),
+        match machine_at::<PAGES>(self.alloc, &self.image, &self.log, self.position) {
+            Ok(machine) => Reply::Registers(registers_of(&machine.core)),
             Err(_) => Reply::Fault(Fault::Memory),
         }
     }
@@ -127,11 +139,10 @@ impl<const PAGES: u32, const SPAN: u32> Session<PAGES, SPAN> {
     fn register(&self, register: RegisterNumber) -> Reply
         ensures { Answers PAGES self.now (Command.Reg register) self.now result }
     {
-        let number = register.get();
-        match core_at::<PAGES>(self.alloc, &self.image, &self.log, self.position) {
-            Ok(core) => Reply::Register {
-                number,
-                value: core.registers[usize::from(number)],
+        match machine_at::<PAGES>(self.alloc, &self.image, &self.log, self.position) {
+            Ok(machine) => Reply::Register {
+                number: register,
+                value: machine.core.registers()[register.get() as usize],
             },
             Err(_) => Reply::Fault(Fault::Memory),
         }
@@ -141,10 +152,48 @@ impl<const PAGES: u32, const SPAN: u32> Session<PAGES, SPAN> {
     fn control(&self) -> Reply
         ensures { Answers PAGES self.now Command.Cp0 self.now result }
     {
-        match core_at::<PAGES>(self.alloc, &self.image, &self.log, self.position) {
-            Ok(core) => Reply::Control(control_of(&core.cop0)),
+        match machine_at::<PAGES>(self.alloc, &self.image, &self.log, self.position) {
+            Ok(machine) => Reply::Control(control_of(machine.core.cop0())),
             Err(_) => Reply::Fault(Fault::Memory),
         }
+    }
+
+    // Shows a translation entry.
+    fn entry(&self, number: EntryNumber) -> Reply
+        ensures { Answers PAGES self.now (Command.Tlb number) self.now result }
+    {
+        match machine_at::<PAGES>(self.alloc, &self.image, &self.log, self.position) {
+            Ok(machine) => entry_shown(number, machine.core.entry(number.get() as u32)),
+            Err(_) => Reply::Fault(Fault::Memory),
+        }
+    }
+
+    // Shows where an address leads.
+    fn place(&self, address: Address) -> Reply
+        ensures { Answers PAGES self.now (Command.Where address) self.now result }
+    {
+        match machine_at::<PAGES>(self.alloc, &self.image, &self.log, self.position) {
+            Ok(machine) => {
+                Reply::Where(place_shown(machine.core.where_is(address.get() as u32)))
+            }
+            Err(_) => Reply::Fault(Fault::Memory),
+        }
+    }
+
+    // The words of memory from an address on.
+    fn words(&self, address: Address, count: WordCount) -> Result<Words, Fault>
+        ensures { (result ≡ words_shown PAGES self.now address count)
+            ⊎ ((result ≡ Err Memory) × IsOk (places_of PAGES address count)) }
+    {
+        let position = self.position;
+        let places = places_from::<PAGES>(address, count)?;
+        let Ok(machine) = machine_at::<PAGES>(self.alloc, &self.image, &self.log, position) else {
+            return Err(Fault::Memory);
+        };
+        Ok(Words {
+            address: address.get() as u32,
+            words: words_at(&machine.memory, places.as_slice()),
+        })
     }
 }
 
@@ -153,16 +202,16 @@ fn registers_of(core: &Core) -> Registers
     ensures { result ≡ shown core.now }
 {
     Registers {
-        pc: core.pc,
-        next_pc: core.next_pc,
-        hi: core.hi,
-        lo: core.lo,
-        delay: core.delay,
-        load: core.load.map(|load| Load {
+        pc: core.pc(),
+        next_pc: core.next_pc(),
+        hi: core.hi(),
+        lo: core.lo(),
+        delay: core.delay(),
+        load: core.load().map(|load| Load {
             register: load.register(),
             value: load.value(),
         }),
-        registers: core.registers,
+        registers: *core.registers(),
     }
 }
 
@@ -181,5 +230,29 @@ fn control_of(cop0: &Cop0) -> ControlRegisters
         cause: cop0.read(CAUSE),
         epc: cop0.read(EPC),
         prid: cop0.read(PRID),
+    }
+}
+
+// What `tlb` shows of a translation entry.
+fn entry_shown(number: EntryNumber, entry: Entry) -> Reply
+    ensures { result ≡ shown_entry number entry }
+{
+    Reply::Entry {
+        number,
+        hi: entry.hi,
+        lo: entry.lo,
+    }
+}
+
+// What `where` shows of an address.
+fn place_shown(place: machine::Where) -> Where
+    ensures { result ≡ shown_place place }
+{
+    match place {
+        machine::Where::Cached(physical) => Where::Cached(physical),
+        machine::Where::Uncached(physical) => Where::Uncached(physical),
+        machine::Where::Adel => Where::AddressError,
+        machine::Where::Refill => Where::Refill,
+        machine::Where::Tlbl => Where::Miss,
     }
 }

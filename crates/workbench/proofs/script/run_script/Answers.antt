@@ -1,57 +1,129 @@
-use Rattle.std.proofs.Common.{inl, inr, ◌++◌, take, ◌∙◌, arith}
-use Rattle.std.specs.Io.KnownBytes.{IsAtEnd}
-use Rattle.std.proofs.KnownBytes.{Consumes-trans}
-use Rattle.std.proofs.lemmas.Result.{on_ok_weaker}
-use Rattle.workbench.proofs.Takes.{piece_taken, piece_quits, script_ends, nothing_consumed}
+use Rattle.std.proofs.Common.{◌≡◌, ℕ, ◌≤◌, inl, inr, List, [], ◌∷◌, ◌++◌, length, take, Some, Ok, Err, Result, refl, sym, ap, subst, arith, rules, length-append, length-take-le}
+use Rattle.wb_io.specs.Calls.{Call, MovesSome, call}
+use Rattle.wb_io.specs.declared.source.Failed.{Failed}
+use Rattle.wb_io.proofs.CallLemmas.{Each-append_one, Reads-nil, Reads-one, Reads-trans, Writes-nil, Writes-trans}
+use Rattle.wb_options.specs.declared.fault.RunFault.{RunFault}
+use Rattle.workbench.specs.Runs.{IsPiece, ScriptRuns}
+use Rattle.workbench.specs.Taking.{GoesOn}
+use Rattle.workbench.proofs.Scripts.{goes_on_at_first}
+use Rattle.workbench.proofs.Takes.{cut_written, end_runs, no_quit_at_end, piece_quits, piece_stops, piece_taken}
 use Rattle.workbench.proofs.script.run_script.Goals as goal
 
-pub returns-then-branch-clause-ran : goal.returns-then-branch-clause-ran
-returns-then-branch-clause-ran g c =
+pub loop-made-init : goal.loop-made-init
+loop-made-init g c = (
+  [],
+  [],
+  Reads-nil (g.R.Source.reads c.args.reader.now) (g.R.Source.left c.args.reader.now),
+  Writes-nil (g.W.Sink.writes c.args.writer.now) (g.W.Sink.written c.args.writer.now),
+  tt,
+  tt,
+  subst (λ (z : List ℕ). GoesOn g.row.PAGES c.args.session.now [] c.args.session.now z []) (sym c.new-line.ensures) (goes_on_at_first g.row.PAGES c.args.session.now),
+  refl,
+  search rules,
+)
+
+pub returns-in-Err : goal.returns-in-Err
+returns-in-Err g c =
     let h = c.loop-made.invariant in
-    let piece = take c.in-Ok.count c.read.new.buffer in
-    let all = piece_quits g.row.PAGES c.args.session.now c.loop-made.session c.take_piece.new.session h.0 piece c.loop-made.pending c.take_piece.new.pending h.1
-    (g.W.Sink.written c.args.writer.now) (g.W.Sink.written c.loop-made.writer) (g.W.Sink.written c.take_piece.new.writer) c.in_ok-take_piece.field-0
-    h.3 h.4 (c.in_ok-take_piece.ensures {u = tt}).goes c.if-branch.true in (
-      h.0 ++ piece,
-      all.0,
-      Consumes-trans (g.R.Source.left c.args.reader.now) (g.R.Source.left c.loop-made.reader) (g.R.Source.left c.read.new.self) h.0 piece h.2 c.in-Ok.ensures.gives,
-      inr all.3,
-      all.1,
-      all.2,
+    let w = c.in-Err.ensures {u = tt} in
+    let piece = c.loop-made.piece in
+    let answer : Result ℕ Failed = Err c.in-Err.field-0 in
+    let one : Call = call (length piece) answer c.read.new.buffer in
+    let more = length-append h.0 (one ∷ []) in (
+      h.0 ++ one ∷ [],
+      h.1,
+      Reads-trans _ _ _ _ _ _ h.0 (one ∷ []) h.2 (Reads-one _ _ _ _ (length piece) answer c.read.new.buffer w.called w.gives),
+      h.3,
+      omega (arith, more, h.7),
+      (
+        inl (record { pieces = h.0; last = one; reads_are = refl; each = h.4; asked = h.8; so = refl }),
+        no_quit_at_end g.row.PAGES c.args.session.now c.loop-made.session h.0 h.1 one c.loop-made.line refl h.6,
+        cut_written g.row.PAGES c.args.session.now c.loop-made.session h.0 h.1 one c.loop-made.line refl h.5 h.6,
+      ),
+    )
+
+pub returns-in-Ok-eq0 : goal.returns-in-Ok-eq0
+returns-in-Ok-eq0 g c =
+    let h = c.loop-made.invariant in
+    let w = c.in-Ok-eq0.ensures {u = tt} in
+    let v = c.end_script.ensures in
+    let piece = c.loop-made.piece in
+    let count = c.in-Ok-eq0.field-0 in
+    let zero : count ≡ 0 = omega (arith, c.in-Ok-eq0.field-0-test) in
+    let answer : Result ℕ Failed = Ok count in
+    let one : Call = call (length piece) answer c.read.new.buffer in
+    let none : take count c.read.new.buffer ≡ [] = ap (λ (n : ℕ). take n c.read.new.buffer) zero in
+    let more = length-append h.0 (one ∷ []) in (
+      h.0 ++ one ∷ [],
+      h.1 ++ v.0,
+      Reads-trans _ _ _ _ _ _ h.0 (one ∷ []) h.2 (Reads-one _ _ _ _ (length piece) answer c.read.new.buffer w.called w.gives),
+      Writes-trans _ _ _ _ _ _ h.1 v.0 h.3 v.1,
+      omega (arith, more, h.7),
+      end_runs g.row.PAGES c.args.most c.args.session.now c.loop-made.session c.end_script.result h.0 h.1 v.0 one c.loop-made.line h.4 h.8 (omega (arith, h.8)) (ap Some none) h.5 h.6 v.2,
+    )
+
+pub returns-in-Err-take_piece : goal.returns-in-Err-take_piece
+returns-in-Err-take_piece g c =
+    let h = c.loop-made.invariant in
+    let w = c.in-Ok.ensures {u = tt} in
+    let v = c.in-Err-take_piece.ensures {u = tt} in
+    let piece = c.loop-made.piece in
+    let count = c.in-Ok.count in
+    let answer : Result ℕ Failed = Ok count in
+    let one : Call = call (length piece) answer c.read.new.buffer in
+    let within : count ≤ length c.read.new.buffer = omega (arith, w.within, c.read.auto.buffer) in
+    let some : MovesSome one = rw length-take-le (omega (arith, c.in-Ok.count-test)) in
+    let more = length-append h.0 (one ∷ []) in (
+      h.0 ++ one ∷ [],
+      h.1 ++ v.0,
+      Reads-trans _ _ _ _ _ _ h.0 (one ∷ []) h.2 (Reads-one _ _ _ _ (length piece) answer c.read.new.buffer w.called w.gives),
+      Writes-trans _ _ _ _ _ _ h.1 v.0 h.3 v.1,
+      omega (arith, more, h.7),
+      subst (λ (z : RunFault). ScriptRuns {T = Unit {0}} g.row.PAGES c.args.most c.args.session.now (Err z) (h.0 ++ one ∷ []) (h.1 ++ v.0)) (sym v.2.0)
+          (inr (record { pieces = h.0; last = one; reads_are = refl; each = Each-append_one IsPiece h.0 one h.4 (h.8, some); no_quit = h.6.no_quit }, piece_stops g.row.PAGES c.args.session.now c.loop-made.session h.0 h.1 v.0 one c.loop-made.line h.5 h.6 v.2.1)),
+    )
+
+pub returns-then-quits : goal.returns-then-quits
+returns-then-quits g c =
+    let h = c.loop-made.invariant in
+    let w = c.in-Ok.ensures {u = tt} in
+    let v = c.in-Ok-take_piece.ensures {u = tt} in
+    let piece = c.loop-made.piece in
+    let count = c.in-Ok.count in
+    let answer : Result ℕ Failed = Ok count in
+    let one : Call = call (length piece) answer c.read.new.buffer in
+    let within : count ≤ length c.read.new.buffer = omega (arith, w.within, c.read.auto.buffer) in
+    let some : MovesSome one = rw length-take-le (omega (arith, c.in-Ok.count-test)) in
+    let more = length-append h.0 (one ∷ []) in
+    let all = piece_quits g.row.PAGES c.args.session.now c.loop-made.session c.take_piece.new.session h.0 h.1 v.0 one c.loop-made.line c.take_piece.new.line c.in-Ok-take_piece.quits c.if-quits.true h.5 h.6 v.2 in (
+      h.0 ++ one ∷ [],
+      h.1 ++ v.0,
+      Reads-trans _ _ _ _ _ _ h.0 (one ∷ []) h.2 (Reads-one _ _ _ _ (length piece) answer c.read.new.buffer w.called w.gives),
+      Writes-trans _ _ _ _ _ _ h.1 v.0 h.3 v.1,
+      omega (arith, more, h.7),
+      (inr (record { pieces = h.0; last = one; reads_are = refl; each = Each-append_one IsPiece h.0 one h.4 (h.8, some); no_quit = h.6.no_quit }, all.0), all.1),
     )
 
 pub loop-made-preserved : goal.loop-made-preserved
 loop-made-preserved g c =
     let h = c.loop-made.invariant in
-    let piece = take c.in-Ok.count c.read.new.buffer in
-    let all = piece_taken g.row.PAGES c.args.session.now c.loop-made.session c.take_piece.new.session h.0 piece c.loop-made.pending c.take_piece.new.pending h.1
-    (g.W.Sink.written c.args.writer.now) (g.W.Sink.written c.loop-made.writer) (g.W.Sink.written c.take_piece.new.writer) c.in_ok-take_piece.field-0
-    h.3 h.4 (c.in_ok-take_piece.ensures {u = tt}).goes c.if-branch.false in (
-      h.0 ++ piece,
+    let w = c.in-Ok.ensures {u = tt} in
+    let v = c.in-Ok-take_piece.ensures {u = tt} in
+    let piece = c.loop-made.piece in
+    let count = c.in-Ok.count in
+    let answer : Result ℕ Failed = Ok count in
+    let one : Call = call (length piece) answer c.read.new.buffer in
+    let within : count ≤ length c.read.new.buffer = omega (arith, w.within, c.read.auto.buffer) in
+    let some : MovesSome one = rw length-take-le (omega (arith, c.in-Ok.count-test)) in
+    let more = length-append h.0 (one ∷ []) in
+    let all = piece_taken g.row.PAGES c.args.session.now c.loop-made.session c.take_piece.new.session h.0 h.1 v.0 one c.loop-made.line c.take_piece.new.line c.in-Ok-take_piece.quits c.if-quits.false h.5 h.6 v.2 in (
+      h.0 ++ one ∷ [],
+      h.1 ++ v.0,
+      Reads-trans _ _ _ _ _ _ h.0 (one ∷ []) h.2 (Reads-one _ _ _ _ (length piece) answer c.read.new.buffer w.called w.gives),
+      Writes-trans _ _ _ _ _ _ h.1 v.0 h.3 v.1,
+      Each-append_one IsPiece h.0 one h.4 (h.8, some),
       all.0,
-      Consumes-trans (g.R.Source.left c.args.reader.now) (g.R.Source.left c.loop-made.reader) (g.R.Source.left c.read.new.self) h.0 piece h.2 c.in-Ok.ensures.gives,
       all.1,
-      all.2,
-      c.in-Ok.ensures.good ∙ h.5,
-      (c.in_ok-take_piece.ensures {u = tt}).writes ∙ h.6,
-      (c.in_ok-take_piece.ensures {u = tt}).taken ∙ h.7,
-      omega (arith, h.8, c.read.ensures.called),
-      omega (arith, h.9),
+      omega (arith, more, h.7),
+      omega (arith, h.8, c.read.auto.buffer),
     )
-
-pub returns-then-count-eq0-clause-ran : goal.returns-then-count-eq0-clause-ran
-returns-then-count-eq0-clause-ran g c =
-    let h = c.loop-made.invariant in
-    let at_end : IsAtEnd (g.R.Source.left c.read.new.self) = c.in-Ok.ensures.end c.if-count-eq0.true (omega (arith, h.9)) in
-    on_ok_weaker c.end_script.result
-    (λ d.
-    let all = script_ends g.row.PAGES c.args.session.now c.loop-made.session h.0 c.loop-made.pending h.1 d.0
-    (g.W.Sink.written c.args.writer.now) (g.W.Sink.written c.loop-made.writer) (g.W.Sink.written c.end_script.new.writer) h.3 h.4 d.1 d.2 in (
-      h.0,
-      all.0,
-      nothing_consumed (g.R.Source.left c.args.reader.now) (g.R.Source.left c.loop-made.reader) (g.R.Source.left c.read.new.self) h.0 c.in-Ok.count c.read.new.buffer c.if-count-eq0.true h.2 c.in-Ok.ensures.gives,
-      inl at_end,
-      all.1,
-      all.2,
-    ))
-    c.end_script.ensures.text

@@ -1,17 +1,17 @@
-use Rattle.std.proofs.Common.{◌≡◌, ◌+◌, List, ℕ, length}
-use Rattle.std.specs.Io.KnownBytes.{Appends, Consumes}
-use Rattle.workbench.specs.Script.{GoesOn}
+use Rattle.std.proofs.Common.{◌≡◌, List, length}
+use Rattle.wb_io.specs.Calls.{Call, Each, MovesSome, Reads, Writes, bytes_moved}
+use Rattle.workbench.specs.Runs.{IsPiece}
+use Rattle.workbench.specs.Taking.{GoesOn}
 use Rattle.workbench.proofs.script.run_script.Given as goal
 
 -- what was read so far was taken
 abbrev pub invariant-loop-made : goal.invariant-loop-made
 invariant-loop-made g l =
-    (script text : List ℕ)
-    × Consumes (g.R.Source.left l.initial.reader) (g.R.Source.left l.reader) script
-    × Appends (g.W.Sink.written l.initial.writer) (g.W.Sink.written l.writer) text
-    × GoesOn g.row.PAGES l.initial.session script l.session l.pending text
-    × (g.R.Source.failed_reads l.reader ≡ g.R.Source.failed_reads l.initial.reader)
-    × (g.W.Sink.failed_writes l.writer ≡ g.W.Sink.failed_writes l.initial.writer)
-    × (g.W.Sink.empty_writes l.writer ≡ g.W.Sink.empty_writes l.initial.writer)
-    × (g.R.Source.reads l.reader ≡ g.R.Source.reads l.initial.reader + l._made)
+    (reads writes : List Call)
+    × Reads (g.R.Source.reads l.initial.reader) (g.R.Source.reads l.reader) (g.R.Source.left l.initial.reader) (g.R.Source.left l.reader) reads
+    × Writes (g.W.Sink.writes l.initial.writer) (g.W.Sink.writes l.writer) (g.W.Sink.written l.initial.writer) (g.W.Sink.written l.writer) writes
+    × Each IsPiece reads
+    × Each MovesSome writes
+    × GoesOn g.row.PAGES l.initial.session (bytes_moved reads) l.session l.line (bytes_moved writes)
+    × (length reads ≡ l._made)
     × (length l.piece ≡ 4096)

@@ -1,0 +1,120 @@
+//! The program's line: good and wrong words, the texts of usage and help, and the line of a fault.
+use crate::served::run_program;
+use asm_line::kind::AsmKind;
+use r3k_image::ImageKind;
+use std::alloc::Global;
+use std::str;
+use std::test::Fail;
+use workbench::{Kind, Plan, RunFault, fault_line, options, r3kwb, status};
+
+// What a line asks for, or the status that it ends with.
+fn asked<'a>(alloc: Global, words: &'a [&'a str]) -> Result<(Kind, u32), u8> {
+    match options(alloc, words) {
+        Ok(asked) => Ok((asked.kind, asked.size)),
+        Err(fault) => Err(status(&Err(fault))),
+    }
+}
+
+#[test]
+fn good_lines(rt: HostRuntime) {
+    let alloc = rt.alloc();
+    assert_eq!(rt; asked(alloc, &["r3kwb"]), Ok((Kind::Rom, 0)));
+    assert_eq!(rt; asked(alloc, &[]), Ok((Kind::Rom, 0)));
+    let words = ["r3kwb", "--kind", "image", "--size", "32"];
+    assert_eq!(rt; asked(alloc, &words), Ok((Kind::Image, 32)));
+    let words = ["r3kwb", "--kind", "source", "--size", "7"];
+    assert_eq!(rt; asked(alloc, &words), Ok((Kind::Source, 7)));
+    let words = ["r3kwb", "--size=5", "--kind=rom"];
+    assert_eq!(rt; asked(alloc, &words), Ok((Kind::Rom, 5)));
+    let words = ["r3kwb", "--size", "67108864"];
+    assert_eq!(rt; asked(alloc, &words), Ok((Kind::Rom, 67_108_864)));
+}
+
+#[test]
+fn wrong_lines(rt: HostRuntime) {
+    let alloc = rt.alloc();
+    assert_eq!(rt; asked(alloc, &["r3kwb", "--size", "67108865"]), Err(2));
+    assert_eq!(rt; asked(alloc, &["r3kwb", "--size", "-1"]), Err(2));
+    assert_eq!(rt; asked(alloc, &["r3kwb", "--size="]), Err(2));
+    assert_eq!(rt; asked(alloc, &["r3kwb", "--size"]), Err(2));
+    assert_eq!(rt; asked(alloc, &["r3kwb", "--size", "+5"]), Err(2));
+    assert_eq!(rt;
+        asked(alloc, &["r3kwb", "--size", "1", "--size", "1"]),
+        Err(2)
+    );
+    assert_eq!(rt; asked(alloc, &["r3kwb", "--kind", "sources"]), Err(2));
+    assert_eq!(rt; asked(alloc, &["r3kwb", "--kind="]), Err(2));
+    assert_eq!(rt; asked(alloc, &["r3kwb", "--log", "1"]), Err(2));
+    assert_eq!(rt; asked(alloc, &["r3kwb", "image"]), Err(2));
+}
+
+/// Help goes to the output and says what the input is, the statuses, and where the commands are told. Usage goes to the
+/// errors. Neither reads or runs anything.
+#[test]
+fn help_and_usage(rt: HostRuntime) -> Result<(), Fail> {
+    let alloc = rt.alloc();
+    let run = run_program(alloc, &["r3kwb", "--help"], b"pos\n", 1)?;
+    let help = str::from_utf8(run.output.as_slice())?;
+    for part in [
+        "Usage: r3kwb [OPTIONS]",
+        "Standard input is N bytes of the kind, and then a script",
+        "Statuses: 0 good",
+        "docs/USING.md",
+    ] {
+        assert!(rt; help.contains(part), "{part:?} in {help:?}");
+    }
+    assert!(rt; !help.contains("pos 0"));
+    assert_eq!(rt; run.told.len(), 0);
+    assert_eq!(rt; run.status, 0);
+    let run = run_program(alloc, &["r3kwb", "--size", "67108865"], b"pos\n", 1)?;
+    let usage = str::from_utf8(run.told.as_slice())?;
+    assert!(rt; usage.contains("--size is a number from 0 to 67108864"));
+    assert_eq!(rt; run.output.len(), 0);
+    assert_eq!(rt; run.status, 2);
+    Ok(())
+}
+
+/// Without words there was no memory for them.
+#[test]
+fn no_words(rt: HostRuntime) -> Result<(), Fail> {
+    let alloc = rt.alloc();
+    let mut input = Plan::new(alloc, b"pos\n", 1, 0)?;
+    let mut output = Plan::new(alloc, &[], 1, 100)?;
+    let mut errors = Plan::new(alloc, &[], 1, 100)?;
+    let status = r3kwb::<16, 64, Plan, Plan, Plan>(
+        alloc,
+        None,
+        &mut input,
+        &mut output,
+        &mut errors,
+    );
+    assert_eq!(rt; status, 4);
+    assert_eq!(rt; input.left().len(), 4);
+    assert_eq!(rt; output.written().len(), 0);
+    assert_eq!(rt; errors.written(), b"r3kwb: error 1 Memory\n".as_slice());
+    Ok(())
+}
+
+#[test]
+fn fault_lines(rt: HostRuntime) {
+    let short = RunFault::BadImage(ImageKind::Short);
+    assert_eq!(rt;
+        fault_line(&short).as_slice(),
+        b"r3kwb: error 9 BadImage Short\n".as_slice()
+    );
+    let longest = RunFault::BadSource {
+        line: u64::MAX,
+        kind: AsmKind::Overlap,
+    };
+    assert_eq!(rt;
+        fault_line(&longest).as_slice(),
+        b"r3kwb: error 13 BadSource 18446744073709551615 Overlap\n".as_slice()
+    );
+    assert_eq!(rt; status(&Err(longest)), 1);
+    let line = b"r3kwb: error 11 ReadFault\n".as_slice();
+    assert_eq!(rt; fault_line(&RunFault::ReadFault).as_slice(), line);
+    assert_eq!(rt; status(&Err(short)), 1);
+    assert_eq!(rt; status(&Err(RunFault::WriteFault)), 3);
+    assert_eq!(rt; status(&Err(RunFault::Memory)), 4);
+    assert_eq!(rt; status(&Ok(())), 0);
+}

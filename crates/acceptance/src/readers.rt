@@ -1,0 +1,215 @@
+//! Readers and writers: pieces, calls that fail, and what is asked of std's.
+use std::alloc::{AllocError, Global};
+use std::io;
+use std::io::{ErrorKind, Read, Write};
+use std::test::Fail;
+use workbench::{
+    Failed, FromRead, Kind, Options, Plan, RunFault, Sink, Source, ToWrite, serve, status,
+};
+
+const NO_IMAGE: Options = Options {
+    kind: Kind::Rom,
+    size: 0,
+};
+
+#[test]
+fn plan_moves_pieces(rt: HostRuntime) -> Result<(), Fail> {
+    let mut plan = Plan::new(rt.alloc(), b"abcde", 2, 3)?;
+    let mut buffer = *b"....";
+    assert_eq!(rt; plan.read(&mut buffer), Ok(2));
+    assert_eq!(rt; buffer, *b"ab..");
+    assert_eq!(rt; plan.left(), b"cde".as_slice());
+    assert_eq!(rt; plan.write(b"xyz"), Ok(2));
+    assert_eq!(rt; plan.write(b"xyz"), Ok(1));
+    assert_eq!(rt; plan.write(b"xyz"), Ok(0));
+    assert_eq!(rt; plan.written(), b"xyx".as_slice());
+    Ok(())
+}
+
+// A reader and writer of std's over memory. It counts its calls, fails at one of them alone, and moves at most so many
+// bytes a call.
+#[derive(Drop)]
+struct Counting {
+    input: Vec<u8>,
+    given: usize,
+    written: Vec<u8>,
+    piece: usize,
+    calls: u32,
+    fails_at: u32,
+}
+
+impl Counting {
+    fn new(
+        alloc: Global,
+        input: &[u8],
+        piece: usize,
+        fails_at: u32,
+    ) -> Result<Counting, AllocError> {
+        Ok(Counting {
+            input: Vec::from_slice(alloc, input)?,
+            given: 0,
+            written: Vec::new(alloc),
+            piece,
+            calls: 0,
+            fails_at,
+        })
+    }
+
+    // Whether this call is to fail.
+    fn fails(&mut self) -> bool {
+        self.calls = self.calls.saturating_add(1);
+        self.calls == self.fails_at
+    }
+}
+
+impl Read for Counting {
+    fn read(&mut self, buffer: &mut [u8]) -> io::Result<usize> {
+        if self.fails() {
+            return Err(io::Error::from(ErrorKind::Interrupted));
+        }
+        let left = self.input.get(self.given..).unwrap_or(&[]);
+        let count = buffer.len().min(self.piece).min(left.len());
+        buffer[..count].copy_from_slice(&left[..count]);
+        self.given = self.given.saturating_add(count);
+        Ok(count)
+    }
+}
+
+impl Write for Counting {
+    fn write(&mut self, bytes: &[u8]) -> io::Result<usize> {
+        if self.fails() {
+            return Err(io::Error::from(ErrorKind::Interrupted));
+        }
+        let count = bytes.len().min(self.piece);
+        self.written.extend_from_slice(&bytes[..count])?;
+        Ok(count)
+    }
+
+    fn flush(&mut self) -> io::Result<()> {
+        Ok(())
+    }
+}
+
+/// A call of the source is one call of std's reader, also where that gives less than was asked for or fails, and a call of
+/// the sink one of std's writer.
+#[test]
+fn one_call_for_one(rt: HostRuntime) -> Result<(), Fail> {
+    let alloc = rt.alloc();
+    let mut reader = Counting::new(alloc, b"abcde", 2, 2)?;
+    let mut buffer = *b"....";
+    assert_eq!(rt; FromRead::new(&mut reader).read(&mut buffer), Ok(2));
+    assert_eq!(rt; buffer, *b"ab..");
+    assert_eq!(rt; reader.calls, 1);
+    assert_eq!(rt; FromRead::new(&mut reader).read(&mut buffer), Err(Failed));
+    assert_eq!(rt; buffer, *b"ab..");
+    assert_eq!(rt; reader.calls, 2);
+    let mut source = FromRead::new(&mut reader);
+    assert_eq!(rt; source.read(&mut buffer), Ok(2));
+    assert_eq!(rt; source.read(&mut buffer), Ok(1));
+    assert_eq!(rt; source.read(&mut buffer), Ok(0));
+    let mut writer = Counting::new(alloc, b"", 2, 2)?;
+    assert_eq!(rt; ToWrite::new(&mut writer).write(b"xyz"), Ok(2));
+    assert_eq!(rt; writer.calls, 1);
+    assert_eq!(rt; ToWrite::new(&mut writer).write(b"z"), Err(Failed));
+    assert_eq!(rt; writer.calls, 2);
+    assert_eq!(rt; ToWrite::new(&mut writer).write(b"z"), Ok(1));
+    assert_eq!(rt; writer.written.as_slice(), b"xyz".as_slice());
+    Ok(())
+}
+
+// A script of three commands in 13 bytes, and its text of 18.
+const SCRIPT: &[u8] = b"pos\ngoto 7\npos";
+
+const TEXT: &[u8] = b"pos 0\npos 7\npos 7\n";
+
+/// The k-th read fails, in pieces of one byte and of all: the replies of the complete lines before it are out.
+#[test]
+fn each_read_failing(rt: HostRuntime) -> Result<(), Fail> {
+    let alloc = rt.alloc();
+    for call in 1..16u32 {
+        let mut reader = Counting::new(alloc, SCRIPT, 1, call)?;
+        let mut writer = Plan::new(alloc, &[], 4096, 100)?;
+        let mut source = FromRead::new(&mut reader);
+        let outcome = serve::<16, 64, _, Plan>(alloc, NO_IMAGE, &mut source, &mut writer);
+        assert!(rt;
+            matches!(&outcome, Err(RunFault::ReadFault)),
+            "at call {call}"
+        );
+        // The line feeds are the bytes 4 and 11, the read of the end is the 16th.
+        let lines = usize::from(call > 4) + usize::from(call > 11);
+        assert_eq!(rt; writer.written(), &TEXT[..6 * lines], "at call {call}");
+        assert_eq!(rt; reader.calls, call);
+    }
+    for call in 1..3u32 {
+        let mut reader = Counting::new(alloc, SCRIPT, 4096, call)?;
+        let mut writer = Plan::new(alloc, &[], 4096, 100)?;
+        let mut source = FromRead::new(&mut reader);
+        let outcome = serve::<16, 64, _, Plan>(alloc, NO_IMAGE, &mut source, &mut writer);
+        assert_eq!(rt; status(&outcome), 3);
+        let out: &[u8] = if call == 1 { b"" } else { b"pos 0\npos 7\n" };
+        assert_eq!(rt; writer.written(), out);
+    }
+    Ok(())
+}
+
+/// The k-th write fails, byte by byte: what went out is a front of the text, and nothing follows it.
+#[test]
+fn each_write_failing(rt: HostRuntime) -> Result<(), Fail> {
+    let alloc = rt.alloc();
+    for call in 1..19u32 {
+        let mut reader = Plan::new(alloc, SCRIPT, 4096, 0)?;
+        let mut writer = Counting::new(alloc, b"", 1, call)?;
+        let mut sink = ToWrite::new(&mut writer);
+        let outcome = serve::<16, 64, Plan, _>(alloc, NO_IMAGE, &mut reader, &mut sink);
+        assert!(rt;
+            matches!(&outcome, Err(RunFault::WriteFault)),
+            "at call {call}"
+        );
+        assert_eq!(rt; writer.written.as_slice(), &TEXT[..call as usize - 1]);
+        assert_eq!(rt; writer.calls, call);
+    }
+    Ok(())
+}
+
+/// A writer that is full takes none of its bytes.
+#[test]
+fn writer_that_is_full(rt: HostRuntime) -> Result<(), Fail> {
+    let alloc = rt.alloc();
+    for (room, fault) in [(100, 0), (18, 0), (17, 3), (9, 3), (0, 3)] {
+        let mut reader = Plan::new(alloc, SCRIPT, 3, 0)?;
+        let mut writer = Plan::new(alloc, &[], 4, room)?;
+        let outcome = serve::<16, 64, Plan, Plan>(alloc, NO_IMAGE, &mut reader, &mut writer);
+        assert_eq!(rt; status(&outcome), fault);
+        assert_eq!(rt; writer.written(), &TEXT[..room.min(18)]);
+    }
+    Ok(())
+}
+
+/// A script of 1,048,577 bytes, one more than there may be reads, in pieces of 4096.
+#[test]
+fn long_script(rt: HostRuntime) -> Result<(), Fail> {
+    let alloc = rt.alloc();
+    let mut script = vec![in alloc; b'\n'; 1_048_574]?;
+    script.extend_from_slice(b"pos")?;
+    let mut reader = Plan::new(alloc, &script, 4096, 0)?;
+    let mut writer = Plan::new(alloc, &[], 4096, 100)?;
+    let outcome = serve::<16, 64, Plan, Plan>(alloc, NO_IMAGE, &mut reader, &mut writer);
+    assert_eq!(rt; status(&outcome), 0);
+    assert_eq!(rt; writer.written(), b"pos 0\n".as_slice());
+    Ok(())
+}
+
+/// Half a line that spells `quit` is no line yet.
+#[test]
+fn half_a_line(rt: HostRuntime) -> Result<(), Fail> {
+    let alloc = rt.alloc();
+    for piece in [1, 8, 4096] {
+        let mut reader = Plan::new(alloc, b"pos\nquits\npos\n", piece, 0)?;
+        let mut writer = Plan::new(alloc, &[], 4096, 100)?;
+        let outcome = serve::<16, 64, Plan, Plan>(alloc, NO_IMAGE, &mut reader, &mut writer);
+        assert_eq!(rt; status(&outcome), 0);
+        let text = b"pos 0\nerror 2 Syntax\npos 0\n".as_slice();
+        assert_eq!(rt; writer.written(), text, "in pieces of {piece}");
+    }
+    Ok(())
+}

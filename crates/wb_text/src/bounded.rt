@@ -1,0 +1,58 @@
+//! Numbers in the range that a command allows.
+
+use std::marker::Model;
+
+/// A number from `LEAST` to `MOST`.
+#[derive(Clone, Copy, Debug, PartialEq, Eq)]
+pub struct Bounded<const LEAST: u64, const MOST: u64> {
+    number: u64,
+}
+
+/// The number of a register of the processor.
+pub type RegisterNumber = Bounded<0, 31>;
+
+/// The number of a translation entry.
+pub type EntryNumber = Bounded<0, 63>;
+
+/// An address.
+pub type Address = Bounded<0, 0xffff_ffff>;
+
+/// How many words a reply shows.
+pub type WordCount = Bounded<1, 32>;
+
+impl<const LEAST: u64, const MOST: u64> Model for Bounded<LEAST, MOST> {
+    ghost use Rattle.std.specs.Prelude.{ℕ, ◌≤◌};
+
+    ghost Value = { ℕ };
+
+    ghost view = { λ bounded. bounded.number };
+
+    ghost invariant = { λ bounded. (LEAST ≤ bounded.number) × (bounded.number ≤ MOST) };
+
+    ghost inverse = { λ number. record { number = number } };
+}
+
+impl<const LEAST: u64, const MOST: u64> Bounded<LEAST, MOST> {
+    ghost use Rattle.std.specs.Prelude.{◌≡◌, ◌≤◌};
+    ghost use Rattle.std.specs.Option.{SomeIff};
+
+    /// The number, unless it is out of the range.
+    pub fn new(number: u64) -> Option<Bounded<LEAST, MOST>>
+        ensures { SomeIff result ((LEAST ≤ number) × (number ≤ MOST)) number }
+    {
+        if LEAST <= number && number <= MOST {
+            Some(Bounded { number })
+        } else {
+            None
+        }
+    }
+
+    /// The number.
+    pub fn get(self) -> u64
+        ensures value { result ≡ self.entry }
+        ensures least { LEAST ≤ result }
+        ensures most { result ≤ MOST }
+    {
+        self.number
+    }
+}

@@ -1,0 +1,21 @@
+-- The words of memory that a session shows (own).
+use Rattle.std.specs.Prelude.{ℕ, zero, suc, ◌+◌, ◌*◌, ◌%◌, ◌==◌, List, [], ◌∷◌, ◌++◌, Option, Some, None, Result, Err, if◌then◌else◌}
+use Rattle.std.specs.Option.{ok_or}
+use Rattle.r3k_word.specs.Layout.{place_of_word}
+use Rattle.wb_text.specs.declared.fault.Fault.{Fault}
+use Rattle.wb_text.specs.declared.fault.Fault.TheVariants.{Unaligned, NotMemory}
+
+-- a place behind places, where all are some
+abbrev pub place_behind : Option (List ℕ) → Option ℕ → Option (List ℕ)
+place_behind (Some places) (Some place) = Some (places ++ place ∷ [])
+place_behind (Some places) None = None
+place_behind None place = None
+
+-- the places of so many words from an address on, where all are words of RAM or ROM
+unfoldable pub places_from : (pages address count : ℕ) → Option (List ℕ)
+places_from pages address zero = Some []
+places_from pages address (suc count) = place_behind (places_from pages address count) (place_of_word pages (address + 4 * count))
+
+-- those places, or why the words can't be shown
+abbrev pub places_of : (pages address count : ℕ) → Result (List ℕ) Fault
+places_of pages address count = if address % 4 == 0 then ok_or (places_from pages address count) NotMemory else Err Unaligned

@@ -1,0 +1,46 @@
+-- The program (own): what its reader and its two writers get, by its words.
+use Rattle.std.specs.Prelude.{◌≡◌, ◌⊎◌, ℕ, List, [], ◌++◌, Option, Some, None, Result, Ok, Err}
+use Rattle.std.specs.String.{string_bytes}
+use Rattle.wb_io.specs.Calls.{Call, TakesAll, TakesFront}
+use Rattle.wb_options.specs.Fault.{line_of, status_of}
+use Rattle.wb_options.specs.Options.{IsLineFault, IsLine}
+use Rattle.wb_options.specs.declared.arguments.Kind.{Kind}
+use Rattle.wb_options.specs.declared.fault.RunFault.{RunFault}
+use Rattle.wb_options.specs.declared.fault.RunFault.TheVariants.{Memory, Usage, Help}
+use Rattle.workbench.specs.Serve.{Serves}
+
+-- a text, if there is one, was written, whole or up to the first write that failed or took none of it
+abbrev pub Tells : Option (List ℕ) → List Call → Type 0
+Tells None writes = writes ≡ []
+Tells (Some text) writes = TakesAll text writes ⊎ TakesFront text writes
+
+-- what standard error gets at the end: what is wrong with the words, or the line of a fault
+abbrev pub error_text : {T : Type 0} → Result T RunFault → Option (List ℕ)
+error_text (Ok done) = None
+error_text (Err (Usage text)) = Some (string_bytes text)
+error_text (Err (Help text)) = None
+error_text (Err fault) = Some (line_of fault)
+
+-- what standard output gets at the end: help, if that was asked for
+abbrev pub help_text : {T : Type 0} → Result T RunFault → Option (List ℕ)
+help_text (Err (Help text)) = Some (string_bytes text)
+help_text result = None
+
+-- The words were good and were served, or they were not, and this is why; then nothing is read or written. Without words, as
+-- there was no memory for them, it is that.
+abbrev pub Serving : {T : Type 0} → ℕ → Option (List (List ℕ)) → Result T RunFault → (reads writes : List Call) → Type 0
+Serving pages None result reads writes = (result ≡ Err Memory) × (reads ≡ []) × (writes ≡ [])
+Serving pages (Some words) result reads writes =
+    ((kind : Kind) × (size : ℕ) × IsLine words kind size × Serves pages kind size result reads writes)
+    ⊎ ((fault : RunFault) × (result ≡ Err fault) × IsLineFault words fault × (reads ≡ []) × (writes ≡ []))
+
+-- The program: the words are served or not, then help goes to the output, and a fault is told on the errors.
+pub record Program (pages : ℕ) (words : Option (List (List ℕ))) (status : ℕ) (reads writes told : List Call) : Type 0 where
+  pub outcome : Result (Unit {0}) RunFault
+  pub served : List Call
+  pub helped : List Call
+  pub writes_are : writes ≡ served ++ helped
+  pub serving : Serving pages words outcome reads served
+  pub help : Tells (help_text outcome) helped
+  pub error : Tells (error_text outcome) told
+  pub status_is : status ≡ status_of outcome

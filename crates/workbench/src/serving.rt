@@ -1,0 +1,99 @@
+//! The program on its input: an image, and then a script.
+ghost use Rattle.std.specs.Prelude.{◌≡◌, ◌+◌, ◌≤◌, List, MatchResult, length};
+ghost use Rattle.wb_io.specs.Calls.{Call, Reads, Writes, bytes_moved};
+ghost use Rattle.workbench.specs.Serve.{IsFrontFault, Makes, ReadsAll, Serves, image_of};
+ghost use Rattle.workbench.specs.Sizes.{AreSizes};
+
+use crate::script::{MAX_READS, run_with};
+use input_log::Log;
+use r3k_asm::assemble;
+use r3k_image::{Image, raw_rom, read_image};
+use std::alloc::Global;
+use wb_io::{PIECE_BYTES, Sink, Source};
+use wb_options::{Kind, Options, RunFault};
+
+/// Reads as many bytes as the options say, makes the image of their kind, and runs the script that follows on a machine
+/// with that image and the empty log. All reads together are at most 2^20.
+///
+/// Input that ends within the image is a read fault. Nothing is written until the image is read and found good, and to fit
+/// the machine.
+pub fn serve<const PAGES: u32, const SPAN: u32, R: Source, W: Sink>(
+    alloc: Global,
+    options: Options,
+    reader: &mut R,
+    writer: &mut W,
+) -> Result<(), RunFault>
+    requires sizes { AreSizes PAGES SPAN }
+    ensures { (reads : List Call) × (writes : List Call)
+        × Reads (R.reads reader.old) (R.reads reader.new) (R.left reader.old) (R.left reader.new) reads
+        × Writes (W.writes writer.old) (W.writes writer.new) (W.written writer.old) (W.written writer.new) writes
+        × (length reads ≤ 1048576)
+        × Serves PAGES options.kind options.size result reads writes }
+{
+    let front = match read_front(alloc, options.size as usize, reader) {
+        Err(fault) => return Err(fault),
+        Ok(front) => front,
+    };
+    let image = match image_of(alloc, options.kind, &front.bytes) {
+        Err(fault) => return Err(fault),
+        Ok(image) => image,
+    };
+    run_with::<PAGES, SPAN, R, W>(
+        alloc,
+        image,
+        Log::new(alloc),
+        reader,
+        writer,
+        front.reads_left,
+    )
+}
+
+// The bytes before the script, and how many reads are left.
+#[derive(Drop)]
+struct Front {
+    bytes: Vec<u8>,
+    reads_left: u32,
+}
+
+// Reads so many bytes, and no more.
+fn read_front<R: Source>(alloc: Global, size: usize, reader: &mut R) -> Result<Front, RunFault>
+    ensures { (reads : List Call)
+        × Reads (R.reads reader.old) (R.reads reader.new) (R.left reader.old) (R.left reader.new) reads
+        × (length reads ≤ 1048576)
+        × MatchResult result
+        (λ front. ReadsAll size reads × (front.bytes.items ≡ bytes_moved reads) × (front.reads_left + length reads ≡ 1048576))
+        (IsFrontFault size reads) }
+{
+    let mut bytes = Vec::new(alloc);
+    let mut piece = [0u8; PIECE_BYTES];
+    let mut reads_left = MAX_READS;
+    while bytes.len() < size {
+        if reads_left == 0 {
+            return Err(RunFault::ReadFault);
+        }
+        reads_left -= 1;
+        let missing = size - bytes.len();
+        let wanted = missing.min(PIECE_BYTES);
+        let count = match reader.read(&mut piece[..wanted]) {
+            Err(_) => return Err(RunFault::ReadFault),
+            Ok(0) => return Err(RunFault::ReadFault),
+            Ok(count) => count,
+        };
+        match bytes.extend_from_slice(&piece[..count]) {
+            Err(_) => return Err(RunFault::Memory),
+            Ok(()) => {}
+        }
+    }
+    Ok(Front { bytes, reads_left })
+}
+
+// The image that bytes of a kind make.
+fn image_of(alloc: Global, kind: Kind, bytes: &[u8]) -> Result<Image, RunFault>
+    ensures { Makes result (image_of kind bytes.now) }
+{
+    match kind {
+        Kind::Rom => Ok(raw_rom(alloc, bytes)?),
+        Kind::Image => Ok(read_image(alloc, bytes)?),
+        Kind::Source => Ok(assemble(alloc, bytes)?),
+    }
+}
