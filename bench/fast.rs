@@ -1,10 +1,10 @@
-//! A plain interpreter of the same processor, in ordinary Rust, to compare the proved program's speed with: one
+//! A fast interpreter of the same processor, in ordinary Rust, to compare the proved program's speed with: one
 //! `match` over opcode and function, and memory in one vector.
 //!
-//! It has all instructions but the four of the translation entries, which are reserved here. kuseg and kseg2 are
-//! address errors. There are no devices and no isolated cache.
+//! It has all instructions, and keeps what it last looked up in the translation entries. There are no devices and no
+//! isolated cache.
 //!
-//! `plain ROM STEPS` runs so many steps from reset and writes what the commands `goto STEPS` and `regs` reply. How
+//! `fast ROM STEPS` runs so many steps from reset and writes what the commands `goto STEPS` and `regs` reply. How
 //! fast it was goes to standard error.
 
 use std::error::Error;
@@ -19,8 +19,12 @@ const KSEG0: u32 = 0x8000_0000;
 const KSEG2: u32 = 0xC000_0000;
 
 // Registers of coprocessor 0.
+const INDEX: usize = 0;
 const RANDOM: usize = 1;
+const ENTRY_LO: usize = 2;
+const CONTEXT: usize = 4;
 const BAD_VADDR: usize = 8;
+const ENTRY_HI: usize = 10;
 const STATUS: usize = 12;
 const CAUSE: usize = 13;
 const EPC: usize = 14;
@@ -29,12 +33,23 @@ const PRID: usize = 15;
 // Bits of Status. CU0 and KUc; BEV; IEc; the mask of the interrupts, which stand at the same place in Cause.
 const CU0: u32 = 1 << 28;
 const BEV: u32 = 1 << 22;
+const TS: u32 = 1 << 21;
 const INTERRUPTS: u32 = 0xFF00;
 const USER: u32 = 1 << 1;
 const ENABLE: u32 = 1;
 
+// Fields of EntryHi and bits of EntryLo.
+const PAGE: u32 = 0xFFFF_F000;
+const PROCESS: u32 = 0x0000_0FC0;
+const DIRTY: u32 = 1 << 10;
+const VALID: u32 = 1 << 9;
+const GLOBAL: u32 = 1 << 8;
+
 // Codes of exceptions.
 const INTERRUPT: u32 = 0;
+const MODIFIED: u32 = 1;
+const MISS_LOAD: u32 = 2;
+const MISS_STORE: u32 = 3;
 const ADDRESS_ERROR_LOAD: u32 = 4;
 const ADDRESS_ERROR_STORE: u32 = 5;
 const BUS_ERROR_FETCH: u32 = 6;
@@ -45,18 +60,43 @@ const RESERVED: u32 = 10;
 const UNUSABLE: u32 = 11;
 const OVERFLOW: u32 = 12;
 
+const TLBR: u32 = 0x4200_0001;
+const TLBWI: u32 = 0x4200_0002;
+const TLBWR: u32 = 0x4200_0006;
+const TLBP: u32 = 0x4200_0008;
 const RFE: u32 = 0x4200_0010;
 
-/// What keeps an instruction from completing: the code, the number of an unusable coprocessor, and a bad address.
+/// What keeps an instruction from completing: the code, the number of an unusable coprocessor, a bad address, whether that
+/// was to be translated, and whether it is a user miss.
 struct Exception {
     code: u32,
     coprocessor: u32,
     address: Option<u32>,
+    mapped: bool,
+    refill: bool,
 }
+
+/// What an address is used for.
+#[derive(Clone, Copy, PartialEq)]
+enum Use {
+    Fetch,
+    Load,
+    Store,
+}
+
+/// A lookup that is kept: the page and the process, or what is none of both, and what was found.
+#[derive(Clone, Copy)]
+struct Kept {
+    hi: u32,
+    lo: u32,
+    several: bool,
+}
+
+const NOTHING: Kept = Kept { hi: 1, lo: 0, several: false };
 
 impl Exception {
     fn of(code: u32) -> Exception {
-        Exception { code, coprocessor: 0, address: None }
+        Exception { code, coprocessor: 0, address: None, mapped: false, refill: false }
     }
 
     fn unusable(coprocessor: u32) -> Exception {
@@ -88,6 +128,9 @@ struct Machine {
     /// A load that has not landed: its register and the value. There is none where that is r0.
     load: (usize, u32),
     control: [u32; 32],
+    /// EntryHi and EntryLo of each translation entry.
+    entries: [(u32, u32); 64],
+    kept: [Kept; 16],
     /// RAM, then ROM.
     words: Vec<u32>,
 }
@@ -162,6 +205,8 @@ impl Machine {
             delay: false,
             load: (0, 0),
             control,
+            entries: [(0, 0); 64],
+            kept: [NOTHING; 16],
             words,
         }
     }
@@ -186,46 +231,119 @@ impl Machine {
 
     #[cold]
     fn enter(&mut self, exception: Exception, pc: u32, delay: bool) {
-        let Exception { code, coprocessor, address } = exception;
+        let Exception { code, coprocessor, address, mapped, refill } = exception;
         let status = self.control[STATUS];
         self.control[STATUS] = status & !0x3F | status << 2 & 0x3C;
         self.control[CAUSE] = u32::from(delay) << 31 | coprocessor << 28 | self.control[CAUSE] & INTERRUPTS | code << 2;
         self.control[EPC] = if delay { pc.wrapping_sub(4) } else { pc };
         if let Some(address) = address {
             self.control[BAD_VADDR] = address;
+            if mapped {
+                self.control[CONTEXT] = self.control[CONTEXT] & 0xFFE0_0000 | (address & 0x7FFF_F000) >> 10;
+                self.control[ENTRY_HI] = self.control[ENTRY_HI] & !PAGE | address & PAGE;
+            }
         }
         self.land();
-        self.pc = if status & BEV != 0 { 0xBFC0_0180 } else { 0x8000_0080 };
+        self.pc = match (status & BEV != 0, refill) {
+            (true, true) => 0xBFC0_0100,
+            (true, false) => 0xBFC0_0180,
+            (false, true) => 0x8000_0000,
+            (false, false) => 0x8000_0080,
+        };
         self.next_pc = self.pc + 4;
         self.delay = false;
     }
 
-    /// The physical address of an address, or the address error of this code. `low` are the bits that must be 0.
+    /// The physical address of an address. `low` are the bits that must be 0.
     #[inline]
-    fn physical(&self, address: u32, low: u32, code: u32) -> Result<u32, Exception> {
+    fn physical(&mut self, address: u32, low: u32, access: Use) -> Result<u32, Exception> {
         let forbidden = self.control[STATUS] & USER != 0 && address >= KSEG0;
-        if address & low != 0 || forbidden || !(KSEG0..KSEG2).contains(&address) {
+        if address & low != 0 || forbidden {
+            let code = if access == Use::Store { ADDRESS_ERROR_STORE } else { ADDRESS_ERROR_LOAD };
             return Err(Exception { address: Some(address), ..Exception::of(code) });
         }
-        Ok(address & 0x1FFF_FFFF)
+        if (KSEG0..KSEG2).contains(&address) {
+            return Ok(address & 0x1FFF_FFFF);
+        }
+        self.mapped(address, access)
+    }
+
+    /// The same for an address in kuseg or kseg2.
+    fn mapped(&mut self, address: u32, access: Use) -> Result<u32, Exception> {
+        let hi = address & PAGE | self.control[ENTRY_HI] & PROCESS;
+        let slot = (address >> 12) as usize % 8 + if access == Use::Fetch { 8 } else { 0 };
+        let mut kept = self.kept[slot];
+        let fault = |code, refill| Err(Exception { address: Some(address), mapped: true, refill, ..Exception::of(code) });
+        let miss = if access == Use::Store { MISS_STORE } else { MISS_LOAD };
+        if kept.hi != hi {
+            let Some((index, several)) = self.find(hi) else {
+                return fault(miss, address < KSEG0);
+            };
+            kept = Kept { hi, lo: self.entries[index].1, several };
+            self.kept[slot] = kept;
+        }
+        if kept.several {
+            self.control[STATUS] |= TS;
+        }
+        if kept.lo & VALID == 0 {
+            return fault(miss, false);
+        }
+        if access == Use::Store && kept.lo & DIRTY == 0 {
+            return fault(MODIFIED, false);
+        }
+        Ok(kept.lo & PAGE | address & !PAGE)
+    }
+
+    /// The lowest entry that matches, and whether others do.
+    fn find(&self, hi: u32) -> Option<(usize, bool)> {
+        let matches = |entry: &(u32, u32)| {
+            let apart = entry.0 ^ hi;
+            apart & PAGE == 0 && (entry.1 & GLOBAL != 0 || apart & PROCESS == 0)
+        };
+        let mut found = self.entries.iter().enumerate().filter(|(_, entry)| matches(entry));
+        let (index, _) = found.next()?;
+        Some((index, found.next().is_some()))
+    }
+
+    /// The four instructions on entries.
+    fn translate(&mut self, word: u32) {
+        let place = |register: u32| (register >> 8) as usize % 64;
+        match word {
+            TLBR => {
+                let (hi, lo) = self.entries[place(self.control[INDEX])];
+                (self.control[ENTRY_HI], self.control[ENTRY_LO]) = (hi, lo);
+            }
+            TLBWI | TLBWR => {
+                let index = if word == TLBWI { INDEX } else { RANDOM };
+                self.entries[place(self.control[index])] = (self.control[ENTRY_HI], self.control[ENTRY_LO]);
+                self.kept = [NOTHING; 16];
+            }
+            _ => match self.find(self.control[ENTRY_HI]) {
+                Some((index, several)) => {
+                    self.control[INDEX] = (index as u32) << 8;
+                    self.control[STATUS] |= if several { TS } else { 0 };
+                }
+                None => self.control[INDEX] = 1 << 31,
+            },
+        }
     }
 
     /// The aligned word at an address.
     #[inline]
-    fn read(&self, address: u32, low: u32, bus_error: Exception) -> Result<u32, Exception> {
-        let physical = self.physical(address, low, ADDRESS_ERROR_LOAD)?;
+    fn read(&mut self, address: u32, low: u32, access: Use, bus_error: Exception) -> Result<u32, Exception> {
+        let physical = self.physical(address, low, access)?;
         place(physical).map(|place| self.words[place]).ok_or(bus_error)
     }
 
     #[inline]
-    fn load(&self, address: u32, low: u32) -> Result<u32, Exception> {
-        self.read(address, low, Exception::of(BUS_ERROR_LOAD))
+    fn load(&mut self, address: u32, low: u32) -> Result<u32, Exception> {
+        self.read(address, low, Use::Load, Exception::of(BUS_ERROR_LOAD))
     }
 
     /// Stores the bytes of a mask. What is not RAM drops them.
     #[inline]
     fn store(&mut self, address: u32, low: u32, value: u32, mask: u32) -> Result<(), Exception> {
-        let physical = self.physical(address, low, ADDRESS_ERROR_STORE)?;
+        let physical = self.physical(address, low, Use::Store)?;
         if let Some(word) = self.words[..RAM_WORDS].get_mut((physical / 4) as usize) {
             *word = *word & !mask | value & mask;
         }
@@ -264,7 +382,7 @@ impl Machine {
 
     /// Runs the instruction at `pc`.
     fn instruct(&mut self, pc: u32) -> Result<(), Exception> {
-        let w = Word(self.read(pc, 3, Exception::of(BUS_ERROR_FETCH))?);
+        let w = Word(self.read(pc, 3, Use::Fetch, Exception::of(BUS_ERROR_FETCH))?);
         let (s, t) = (self.registers[w.rs()], self.registers[w.rt()]);
         let (signed_s, signed_t) = (s as i32, t as i32);
 
@@ -356,6 +474,7 @@ impl Machine {
             0x0E => self.set(w.rt(), s ^ w.ze()),
             0x0F if w.rs() == 0 => self.set(w.rt(), w.ze() << 16),
             0x10 if self.control[STATUS] & (CU0 | USER) == USER => return Err(Exception::unusable(0)),
+            0x10 if matches!(w.0, TLBR | TLBWI | TLBWR | TLBP) => self.translate(w.0),
             0x10 if w.0 == RFE => {
                 let status = &mut self.control[STATUS];
                 *status = *status & !0xF | *status >> 2 & 0xF;
@@ -407,8 +526,8 @@ fn or_overflow(value: Option<i32>) -> Result<u32, Exception> {
 
 fn main() -> Result<(), Box<dyn Error>> {
     let mut arguments = env::args().skip(1);
-    let rom = fs::read(arguments.next().ok_or("usage: plain ROM STEPS")?)?;
-    let steps: u64 = arguments.next().ok_or("usage: plain ROM STEPS")?.parse()?;
+    let rom = fs::read(arguments.next().ok_or("usage: fast ROM STEPS")?)?;
+    let steps: u64 = arguments.next().ok_or("usage: fast ROM STEPS")?.parse()?;
     let mut machine = Machine::new(&rom);
     let begun = Instant::now();
     for _ in 0..steps {

@@ -1,0 +1,68 @@
+//! The board behind memory: serial part, clock, and the register that enables interrupt lines.
+
+use crate::clock::Clock;
+use crate::image::Image;
+use crate::serial::{Sent, Serial};
+
+const SERIAL: u32 = 0x1FE0_0000;
+const SERIAL_LAST: u32 = 0x1FE0_001F;
+const CLOCK: u32 = 0x1FE8_0000;
+const CLOCK_LAST: u32 = 0x1FE8_00FF;
+const BOARD: u32 = 0x1FF0_0000;
+const BOARD_LAST: u32 = 0x1FF0_0003;
+
+/// The serial part's line among the board's.
+const SERIAL_LINE: u32 = 1 << 7;
+
+#[derive(Clone, Debug, PartialEq)]
+pub struct Bus {
+    pub serial: Serial,
+    pub clock: Clock,
+    /// A bit for each of the board's eight lines.
+    enables: u32,
+}
+
+impl Bus {
+    pub fn new(image: &Image) -> Bus {
+        Bus { serial: Serial::new(image.byte_time), clock: Clock::new(image.clock, image.unit), enables: 0 }
+    }
+
+    #[inline]
+    pub fn tick(&mut self) {
+        self.clock.tick();
+        self.serial.tick();
+    }
+
+    fn lines(&self) -> u32 {
+        if self.serial.line() { SERIAL_LINE } else { 0 }
+    }
+
+    /// Whether the board and whether the clock asks for an interrupt.
+    #[inline]
+    pub fn interrupts(&self) -> (bool, bool) {
+        (self.lines() & self.enables != 0, self.clock.line())
+    }
+
+    /// Reads the aligned word of a physical address, if a device is there.
+    pub fn load(&mut self, physical: u32) -> Option<u32> {
+        let offset = physical & 0xFC;
+        match physical {
+            SERIAL..=SERIAL_LAST => Some(self.serial.read(offset)),
+            CLOCK..=CLOCK_LAST => Some(self.clock.read(offset as usize / 4).into()),
+            BOARD..=BOARD_LAST => Some(self.enables << 16 | self.lines()),
+            _ => None,
+        }
+    }
+
+    /// Writes the bytes of the aligned word of a physical address that `lanes` has bits for. Elsewhere nothing happens.
+    pub fn store(&mut self, physical: u32, value: u32, lanes: u32) -> Option<Sent> {
+        let offset = physical & 0xFC;
+        match physical {
+            SERIAL..=SERIAL_LAST => return self.serial.write(offset, value, lanes),
+            CLOCK..=CLOCK_LAST if lanes & 1 != 0 => self.clock.write(offset as usize / 4, value as u8),
+            BOARD..=BOARD_LAST if lanes & 4 != 0 => self.enables = value >> 16 & 0xFF,
+            _ => {}
+        }
+        None
+    }
+}

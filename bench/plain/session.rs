@@ -1,0 +1,217 @@
+//! A session: image, log and position. Each query runs the machine from reset.
+
+use std::fmt::Write;
+
+use crate::control::{Control, Exception};
+use crate::image::Image;
+use crate::log::{Event, GREATEST, Log};
+use crate::machine::{Done, Machine, Parts};
+use crate::script::{Command, Refusal};
+use crate::table;
+
+pub struct Session {
+    pub image: Image,
+    pub log: Log,
+    pub position: u64,
+    pub parts: Parts,
+}
+
+impl Session {
+    pub fn new(image: Image, log: Log, parts: Parts) -> Session {
+        Session { image, log, position: 0, parts }
+    }
+
+    /// The machine at a position. `watch` is told the number of each step on the way, what it told, and the machine behind it.
+    fn run(&self, position: u64, mut watch: impl FnMut(u64, Done, &Machine)) -> Machine {
+        let mut machine = Machine::new(&self.image, self.parts);
+        let mut events = &self.log.events[..];
+        for time in 0..position {
+            let (now, later) = events.split_at(events.iter().take_while(|event| event.time == time).count());
+            let done = machine.step(now);
+            watch(time, done, &machine);
+            events = later;
+        }
+        machine
+    }
+
+    /// The machine at the present position.
+    fn machine(&self) -> Machine {
+        self.run(self.position, |_, _, _| {})
+    }
+
+    /// The bytes that the steps so far sent on a line, each with its step.
+    fn sent(&self, line: u8) -> Vec<(u64, u8)> {
+        let mut sent = Vec::new();
+        self.run(self.position, |time, done, _| {
+            sent.extend(done.sent.filter(|it| it.line == line).map(|it| (time, it.byte)))
+        });
+        sent
+    }
+
+    /// The reply to a command, or why it is refused; then the session is as it was.
+    pub fn answer(&mut self, command: Command) -> Result<String, Refusal> {
+        match command {
+            Command::Pos => self.move_to(Some(self.position)),
+            Command::Goto(position) => self.move_to(Some(position)),
+            Command::Step(count) => self.move_to(self.position.checked_add(count)),
+            Command::Back(count) => self.move_to(self.position.checked_sub(count)),
+            Command::Visit { address, limit } => self.visit(address, limit),
+            Command::Add { time, line, byte } => event(self.log.add(Event { time, line, byte })?),
+            Command::Del(number) => self.log.delete(number).map(|()| format!("log {}\n", self.log.events.len())),
+            Command::Set { event: number, byte } => event(self.log.set(number, byte)?),
+            Command::Move { event: number, time } => event(self.log.move_to(number, time)?),
+            Command::Patch { address, word } => {
+                self.check_memory(address, 1)?;
+                self.image.words.insert(address, word);
+                Ok("ok\n".into())
+            }
+            Command::Quit => Ok(String::new()),
+            query => self.query(query),
+        }
+    }
+
+    fn move_to(&mut self, position: Option<u64>) -> Result<String, Refusal> {
+        self.position = position.filter(|&it| it <= GREATEST).ok_or(Refusal::TooFar)?;
+        Ok(format!("pos {}\n", self.position))
+    }
+
+    fn visit(&mut self, address: u32, limit: u64) -> Result<String, Refusal> {
+        if address % 4 != 0 {
+            return Err(Refusal::Unaligned);
+        }
+        let last = self.position + limit;
+        if last > GREATEST {
+            return Err(Refusal::TooFar);
+        }
+        let mut found = None;
+        self.run(last, |time, _, machine| {
+            if found.is_none() && time >= self.position && machine.pc == address {
+                found = Some(time + 1);
+            }
+        });
+        self.move_to(Some(found.ok_or(Refusal::NotFound)?))
+    }
+
+    /// The reply to a command that leaves the session as it is.
+    fn query(&self, command: Command) -> Result<String, Refusal> {
+        Ok(match command {
+            Command::Regs => registers(&self.machine()),
+            Command::Reg(register) => format!("r{register} {:#010x}\n", self.machine().registers[register]),
+            Command::Cp0 => control(&self.machine().control),
+            Command::Tlb(number) => {
+                let entry = self.machine().entries.0[number];
+                format!("tlb {number} {:#010x} {:#010x}\n", entry.hi, entry.lo)
+            }
+            Command::Where(address) => match self.machine().where_is(address) {
+                Ok(it) => format!("where {:#010x} {}\n", it.address, if it.cacheable { "cached" } else { "uncached" }),
+                Err(Exception::Address { .. }) => "where adel\n".into(),
+                Err(Exception::Translation { missing: true, .. }) if address < 0x8000_0000 => {
+                    "where tlbl refill\n".into()
+                }
+                Err(_) => "where tlbl\n".into(),
+            },
+            Command::Mem { address, count } => {
+                self.check_memory(address, count)?;
+                words(&self.machine(), address, count, |_, _| String::new())
+            }
+            Command::Dis { address, count } => {
+                self.check_memory(address, count)?;
+                words(&self.machine(), address, count, |address, word| format!(" {}", table::text(address, word)))
+            }
+            Command::Console { line, from, count } => self.console(line, from, count),
+            Command::Writer(address) => {
+                self.check_memory(address, 1)?;
+                self.writer(address)
+            }
+            Command::Find { line, place } => {
+                let sent = self.sent(line);
+                let place = usize::try_from(place).map_err(|_| Refusal::NotFound)?;
+                format!("find {}\n", sent.get(place).ok_or(Refusal::NotFound)?.0)
+            }
+            Command::Log { from, count } => self.events(from, count),
+            _ => unreachable!("no query: {command:?}"),
+        })
+    }
+
+    fn console(&self, line: u8, from: u64, count: usize) -> String {
+        let sent = self.sent(line);
+        let from = usize::try_from(from).unwrap_or(usize::MAX);
+        let bytes: String = sent.iter().skip(from).take(count).map(|(_, byte)| format!("{byte:02x}")).collect();
+        format!("console {line} {} {}\n", sent.len(), if bytes.is_empty() { "none" } else { &bytes })
+    }
+
+    fn writer(&self, address: u32) -> String {
+        let mut last = None;
+        self.run(self.position, |time, done, _| {
+            if done.stored == Some(address) {
+                last = Some(time);
+            }
+        });
+        match last {
+            Some(step) => format!("writer {step}\n"),
+            None if self.image.words.contains_key(&address) => "writer image\n".into(),
+            None => "writer never\n".into(),
+        }
+    }
+
+    fn events(&self, from: u64, count: usize) -> String {
+        let mut text = format!("log {}\n", self.log.events.len());
+        let from = usize::try_from(from).unwrap_or(usize::MAX);
+        for (number, event) in self.log.events.iter().enumerate().skip(from).take(count) {
+            writeln!(text, "{number} {} {} {:#04x}", event.time, event.line, event.byte).unwrap();
+        }
+        text
+    }
+
+    /// The two refusals of a physical address.
+    fn check_memory(&self, address: u32, count: u32) -> Result<(), Refusal> {
+        if address % 4 != 0 {
+            return Err(Refusal::Unaligned);
+        }
+        if self.parts.has_memory(address, count) { Ok(()) } else { Err(Refusal::NotMemory) }
+    }
+}
+
+fn event(number: usize) -> Result<String, Refusal> {
+    Ok(format!("event {number}\n"))
+}
+
+fn registers(machine: &Machine) -> String {
+    let Machine { pc, next_pc, hi, lo, delay, load, .. } = machine;
+    let load = match load {
+        (0, _) => "none".into(),
+        (register, value) => format!("r{register} {value:#010x}"),
+    };
+    let delay = u32::from(*delay);
+    let mut text =
+        format!("pc {pc:#010x} next {next_pc:#010x} hi {hi:#010x} lo {lo:#010x} delay {delay} load {load}\n");
+    for (row, r) in machine.registers.chunks(4).enumerate() {
+        writeln!(text, "r{} {:#010x} {:#010x} {:#010x} {:#010x}", 4 * row, r[0], r[1], r[2], r[3]).unwrap();
+    }
+    text
+}
+
+fn control(control: &Control) -> String {
+    let named = [
+        ("index", control.index),
+        ("random", control.random),
+        ("entrylo", control.entry_lo),
+        ("context", control.context),
+        ("badvaddr", control.bad_vaddr),
+        ("entryhi", control.entry_hi),
+        ("status", control.status),
+        ("cause", control.cause),
+        ("epc", control.epc),
+        ("prid", Control::PRID),
+    ];
+    named.map(|(name, value)| format!("{name} {value:#010x}")).join(" ") + "\n"
+}
+
+/// Lines of words of memory, each with what follows it.
+fn words(machine: &Machine, address: u32, count: u32, behind: impl Fn(u32, u32) -> String) -> String {
+    let line = |address| {
+        let word = machine.word(address);
+        format!("{address:#010x} {word:#010x}{}\n", behind(address, word))
+    };
+    (0..count).map(|place| line(address + 4 * place)).collect()
+}
