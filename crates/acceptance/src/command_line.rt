@@ -8,9 +8,9 @@ use std::test::Fail;
 use workbench::{Kind, Plan, RunFault, fault_line, options, r3kwb, status};
 
 // What a line asks for, or the status that it ends with.
-fn asked<'a>(alloc: Global, words: &'a [&'a str]) -> Result<(Kind, u32), u8> {
+fn asked<'a>(alloc: Global, words: &'a [&'a str]) -> Result<(Kind, u32, u32), u8> {
     match options(alloc, words) {
-        Ok(asked) => Ok((asked.kind, asked.size)),
+        Ok(asked) => Ok((asked.kind, asked.size, asked.log_size)),
         Err(fault) => Err(status(&Err(fault))),
     }
 }
@@ -18,16 +18,20 @@ fn asked<'a>(alloc: Global, words: &'a [&'a str]) -> Result<(Kind, u32), u8> {
 #[test]
 fn good_lines(rt: HostRuntime) {
     let alloc = rt.alloc();
-    assert_eq!(rt; asked(alloc, &["r3kwb"]), Ok((Kind::Rom, 0)));
-    assert_eq!(rt; asked(alloc, &[]), Ok((Kind::Rom, 0)));
+    assert_eq!(rt; asked(alloc, &["r3kwb"]), Ok((Kind::Rom, 0, 0)));
+    assert_eq!(rt; asked(alloc, &[]), Ok((Kind::Rom, 0, 0)));
     let words = ["r3kwb", "--kind", "image", "--size", "32"];
-    assert_eq!(rt; asked(alloc, &words), Ok((Kind::Image, 32)));
+    assert_eq!(rt; asked(alloc, &words), Ok((Kind::Image, 32, 0)));
     let words = ["r3kwb", "--kind", "source", "--size", "7"];
-    assert_eq!(rt; asked(alloc, &words), Ok((Kind::Source, 7)));
+    assert_eq!(rt; asked(alloc, &words), Ok((Kind::Source, 7, 0)));
     let words = ["r3kwb", "--size=5", "--kind=rom"];
-    assert_eq!(rt; asked(alloc, &words), Ok((Kind::Rom, 5)));
+    assert_eq!(rt; asked(alloc, &words), Ok((Kind::Rom, 5, 0)));
+    let words = ["r3kwb", "--log", "18", "--size", "7"];
+    assert_eq!(rt; asked(alloc, &words), Ok((Kind::Rom, 7, 18)));
+    let words = ["r3kwb", "--log=67108864"];
+    assert_eq!(rt; asked(alloc, &words), Ok((Kind::Rom, 0, 67_108_864)));
     let words = ["r3kwb", "--size", "67108864"];
-    assert_eq!(rt; asked(alloc, &words), Ok((Kind::Rom, 67_108_864)));
+    assert_eq!(rt; asked(alloc, &words), Ok((Kind::Rom, 67_108_864, 0)));
 }
 
 #[test]
@@ -44,8 +48,19 @@ fn wrong_lines(rt: HostRuntime) {
     );
     assert_eq!(rt; asked(alloc, &["r3kwb", "--kind", "sources"]), Err(2));
     assert_eq!(rt; asked(alloc, &["r3kwb", "--kind="]), Err(2));
-    assert_eq!(rt; asked(alloc, &["r3kwb", "--log", "1"]), Err(2));
     assert_eq!(rt; asked(alloc, &["r3kwb", "image"]), Err(2));
+    for words in [
+        ["r3kwb", "--log"].as_slice(),
+        &["r3kwb", "--log="],
+        &["r3kwb", "--log", "67108865"],
+        &["r3kwb", "--log", "-1"],
+        &["r3kwb", "--log", "0x1"],
+        &["r3kwb", "--log", "1", "2"],
+        &["r3kwb", "--log", "1", "--log", "1"],
+        &["r3kwb", "--logs", "1"],
+    ] {
+        assert_eq!(rt; asked(alloc, words), Err(2), "{words:?}");
+    }
 }
 
 /// Help goes to the output and says what the input is, the statuses, and where the commands are told. Usage goes to the
@@ -57,8 +72,9 @@ fn help_and_usage(rt: HostRuntime) -> Result<(), Fail> {
     let help = str::from_utf8(run.output.as_slice())?;
     for part in [
         "Usage: r3kwb [OPTIONS]",
-        "Standard input is N bytes of the kind, and then a script",
-        "Statuses: 0 good",
+        "Standard input is the bytes of the kind, then those of the log (0 bytes are the empty log), and then a",
+        "--log <N>",
+        "Statuses: 0 good, also for this help; 1 a bad image, source or log",
         "docs/USING.md",
     ] {
         assert!(rt; help.contains(part), "{part:?} in {help:?}");
@@ -70,6 +86,10 @@ fn help_and_usage(rt: HostRuntime) -> Result<(), Fail> {
     let usage = str::from_utf8(run.told.as_slice())?;
     assert!(rt; usage.contains("--size is a number from 0 to 67108864"));
     assert_eq!(rt; run.output.len(), 0);
+    assert_eq!(rt; run.status, 2);
+    let run = run_program(alloc, &["r3kwb", "--log", "67108865"], b"pos\n", 1)?;
+    let usage = str::from_utf8(run.told.as_slice())?;
+    assert!(rt; usage.contains("--log is a number from 0 to 67108864"));
     assert_eq!(rt; run.status, 2);
     Ok(())
 }

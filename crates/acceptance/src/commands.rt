@@ -7,11 +7,33 @@ use std::test::Fail;
 
 // What the program writes for an input of so many bytes of a kind and then a script.
 pub fn replies(alloc: Global, kind: &str, bytes: &[u8], script: &[u8]) -> Result<Vec<u8>, Fail> {
+    replies_with_log(alloc, kind, bytes, &[], script)
+}
+
+// The same with the bytes of a log before the script.
+pub fn replies_with_log(
+    alloc: Global,
+    kind: &str,
+    bytes: &[u8],
+    log: &[u8],
+    script: &[u8],
+) -> Result<Vec<u8>, Fail> {
     let mut input = Vec::from_slice(alloc, bytes)?;
+    input.extend_from_slice(log)?;
     input.extend_from_slice(script)?;
     let size = bytes.len();
     let size = format!(in alloc; "{size}")?;
-    let words = ["r3kwb", "--kind", kind, "--size", size.as_str()];
+    let log_size = log.len();
+    let log_size = format!(in alloc; "{log_size}")?;
+    let words = [
+        "r3kwb",
+        "--kind",
+        kind,
+        "--size",
+        size.as_str(),
+        "--log",
+        log_size.as_str(),
+    ];
     let run = run_program(alloc, &words, &input, 4096)?;
     Ok(run.output)
 }

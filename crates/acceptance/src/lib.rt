@@ -8,6 +8,8 @@ mod command_line;
 #[cfg(test)]
 mod commands;
 #[cfg(test)]
+mod devices;
+#[cfg(test)]
 mod effects;
 #[cfg(test)]
 mod encodings;
@@ -19,6 +21,8 @@ mod exceptions;
 mod images;
 #[cfg(test)]
 mod isolated;
+#[cfg(test)]
+mod logs;
 #[cfg(test)]
 mod machine;
 #[cfg(test)]

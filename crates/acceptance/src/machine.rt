@@ -1,6 +1,8 @@
 //! A machine with 16 pages of RAM and a program in ROM, run step by step.
 
-use r3k_image::raw_rom;
+use input_log::Event;
+use r3k_asm::assemble;
+use r3k_image::{Image, raw_rom};
 use r3k_machine::step::step;
 use r3k_machine::{Core, Done, FlatMemory, Mem};
 use r3k_word::layout::word_count;
@@ -22,15 +24,38 @@ impl Machine {
             bytes.extend_from_slice(&word.to_le_bytes())?;
         }
         let image = raw_rom(alloc, &bytes)?;
+        Machine::of(alloc, &image)
+    }
+
+    /// The machine at reset, with the words of a source.
+    pub fn boot_source(alloc: Global, source: &str) -> Result<Machine, Fail> {
+        let image = assemble(alloc, source.as_bytes())?;
+        Machine::of(alloc, &image)
+    }
+
+    fn of(alloc: Global, image: &Image) -> Result<Machine, Fail> {
         Ok(Machine {
-            core: Core::reset(alloc, &image)?,
-            memory: FlatMemory::boot(alloc, &image)?,
+            core: Core::reset(alloc, image)?,
+            memory: FlatMemory::boot(alloc, image)?,
         })
     }
 
     /// Runs one step without events.
     pub fn step(&mut self) -> Done {
-        step(&mut self.core, &mut self.memory, &[])
+        self.receive(&[])
+    }
+
+    /// Runs one step in which these bytes arrive.
+    pub fn receive(&mut self, events: &[Event]) -> Done {
+        step(&mut self.core, &mut self.memory, events)
+    }
+
+    /// What a register holds, once a pending load has landed.
+    pub fn register(&self, number: usize) -> u32 {
+        match self.core.load() {
+            Some(load) if load.register() as usize == number => load.value(),
+            _ => self.core.registers()[number % 32],
+        }
     }
 
     /// Runs so many steps.

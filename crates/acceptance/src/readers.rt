@@ -10,6 +10,7 @@ use workbench::{
 const NO_IMAGE: Options = Options {
     kind: Kind::Rom,
     size: 0,
+    log_size: 0,
 };
 
 #[test]

@@ -5,6 +5,7 @@
 
 mod dz;
 mod equal;
+mod quiet;
 mod read;
 mod registers;
 mod scan;
@@ -12,6 +13,7 @@ mod silo;
 mod write;
 
 pub use dz::Dz;
+pub use quiet::quiet_laws;
 pub use write::Sent;
 
 #[cfg(test)]

@@ -282,3 +282,53 @@ fn other_words(rt: HostRuntime) {
     assert!(rt; dz == before);
     assert_eq!(rt; dz.read(TCR), 0xF);
 }
+
+// How many ticks pass before TRDY rises, by the busy counts. With byte time 5 a line that sent is
+// ready at the fifth tick after it; with byte time 6 line 1, which sent first of the four, at the
+// third tick after line 0 did.
+#[test]
+fn quiet_ticks(rt: HostRuntime) {
+    let mut dz = started(5, 4);
+    assert_eq!(rt; dz.quiet(), 0);
+    dz.tick();
+    assert_eq!(rt; dz.quiet(), 0xFFFF_FFFF);
+    dz.write(TDR, 0x41, 15);
+    assert_eq!(rt; dz.quiet(), 4);
+    dz.tick();
+    assert_eq!(rt; dz.quiet(), 3);
+    dz.pass(3);
+    assert_eq!(rt; dz.quiet(), 0);
+    assert_eq!(rt; dz.read(CSR), 0x0220);
+    dz.tick();
+    assert_eq!(rt; dz.read(CSR), 0x8220);
+
+    let mut all = started(6, 0xF);
+    for line in [1, 2, 3, 0] {
+        assert_eq!(rt; tick_and_send(&mut all, 0x41), on(line, 0x41));
+    }
+    assert_eq!(rt; all.quiet(), 2);
+    all.pass(2);
+    assert_eq!(rt; tick_and_send(&mut all, 0x42), on(1, 0x42));
+    // Line 2 is free at the next tick, and line 3 at the one after it.
+    assert_eq!(rt; all.quiet(), 0);
+    all.write(TCR, 0xB, 15);
+    assert_eq!(rt; all.quiet(), 1);
+}
+
+// No tick raises TRDY with no line enabled or with MSE 0. The counts fall nevertheless, to 0 at the
+// least.
+#[test]
+fn quiet_for_ever(rt: HostRuntime) {
+    let mut dz = started(9, 0);
+    assert_eq!(rt; dz.quiet(), 0xFFFF_FFFF);
+    dz.write(TCR, 2, 15);
+    assert_eq!(rt; tick_and_send(&mut dz, 0x41), on(1, 0x41));
+    dz.write(CSR, 0, 15);
+    assert_eq!(rt; dz.quiet(), 0xFFFF_FFFF);
+    dz.pass(7);
+    dz.write(CSR, 0x20, 15);
+    assert_eq!(rt; dz.quiet(), 1);
+    dz.pass(0xFFFF_FFFF);
+    assert_eq!(rt; dz.quiet(), 0);
+    assert_eq!(rt; tick_and_send(&mut dz, 0x42), on(1, 0x42));
+}

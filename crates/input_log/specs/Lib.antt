@@ -1,2 +1,4 @@
 pub mod Event
 pub mod Log
+pub mod Spelling
+pub mod Reading

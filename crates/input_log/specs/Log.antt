@@ -1,14 +1,30 @@
 -- The log (own): a list of timed bytes in order of time. Those of equal time arrive in the order
 -- of the list.
-use Rattle.std.specs.Prelude.{ℕ, List, filter, All, ◌&&◌, nat_le, nat_lt}
+use Rattle.std.specs.Prelude.{ℕ, List, length, filter, All, ◌<◌, ◌≤◌, ◌&&◌, nat_le, nat_lt}
 use Rattle.std.specs.List.Sorted.{IsNonDecreasingBy}
-use Rattle.input_log.specs.Event.{TimedByte, LineExists}
+use Rattle.input_log.specs.declared.limits.TheConstants.{MAX_EVENTS}
+use Rattle.input_log.specs.Event.{TimedByte, LineExists, HoldsByte, IsInTime}
 
--- in order of time, each on a line of the serial part
+-- in order of time
+abbrev pub AreInOrder : List TimedByte → Type 0
+AreInOrder events = IsNonDecreasingBy (λ event. event.time) events
+
+-- in order of time, not too many, each a byte in time on a line of the serial part
 pub record IsLog (events : List TimedByte) : Type 0 where
-  pub in_order : IsNonDecreasingBy (λ event. event.time) events
+  pub in_order : AreInOrder events
+  pub few : length events ≤ MAX_EVENTS
   pub lines_exist : All LineExists events
+  pub hold_bytes : All HoldsByte events
+  pub in_time : All IsInTime events
 
 -- the events of the times from one up to another, which is left out
 abbrev pub window_of : ℕ → ℕ → List TimedByte → List TimedByte
 window_of from to events = filter (λ event. nat_le from event.time && nat_lt event.time to) events
+
+-- each of a time from one up to another, which is left out
+abbrev pub AreWithin : ℕ → ℕ → List TimedByte → Type 0
+AreWithin from to events = All (λ event. (from ≤ event.time) × (event.time < to)) events
+
+-- the events of later times than this one
+abbrev pub later_than : ℕ → List TimedByte → List TimedByte
+later_than time events = filter (λ event. nat_lt time event.time) events

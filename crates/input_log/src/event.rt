@@ -3,7 +3,7 @@
 use std::marker::Model;
 
 /// A byte that arrives at a line of the serial part, in the step `time`. A line is at most 3.
-#[derive(Clone, Copy, Debug, PartialEq, Eq)]
+#[derive(Clone, Copy, Debug, Default, PartialEq, Eq)]
 pub struct Event {
     pub time: u64,
     pub line: u8,

@@ -1,8 +1,24 @@
-//! The log of timed serial bytes that, beside its image, determines a run.
+//! The log of timed serial bytes that, beside its image, determines a run. It is read from the log format and written in it.
 #![tactic(auto)]
 
-pub mod event;
-pub mod log;
+mod cursor;
+mod event;
+mod fault;
+mod format;
+mod laws;
+mod limits;
+mod log;
+mod reading;
+mod writing;
 
+pub use cursor::Cursor;
 pub use event::Event;
+pub use fault::{LogFault, LogKind};
+pub use laws::log_laws;
+pub use limits::{MAX_EVENTS, MAX_TIME};
 pub use log::Log;
+pub use reading::read_log;
+pub use writing::write_log;
+
+#[cfg(test)]
+mod tests;

@@ -1,4 +1,5 @@
 pub mod Count
 pub mod Flags
-pub mod Quiet
+pub mod Passed
 pub mod Second
+pub mod WithinUnit

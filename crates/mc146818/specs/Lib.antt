@@ -5,3 +5,4 @@ pub mod Clock
 pub mod Tick
 pub mod Same
 pub mod Second
+pub mod Quiet

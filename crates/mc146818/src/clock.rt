@@ -17,9 +17,9 @@ pub struct Clock {
     alarm: Alarm,
     a: u8,
     b: u8,
-    flags: u8,
+    pub(crate) flags: u8,
     ram: [u8; RAM_BYTES],
-    divider: Divider,
+    pub(crate) divider: Divider,
 }
 
 impl Model for Clock {
@@ -134,7 +134,7 @@ impl Clock {
 
     // Whether the divider runs.
     #[inline]
-    fn runs(&self) -> bool
+    pub(crate) fn runs(&self) -> bool
         ensures { result ≡ runs self.now }
     {
         field::<6, 4>(u32::from(self.a)) == DV_RUNS
@@ -284,7 +284,7 @@ impl Clock {
 
     // The rate of the periodic interrupt.
     #[inline]
-    fn rate(&self) -> u32
+    pub(crate) fn rate(&self) -> u32
         ensures value { result ≡ rate self.now }
         ensures fits { result < 16 }
     {

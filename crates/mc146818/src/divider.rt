@@ -3,9 +3,11 @@
 //! No tick divides: the count is kept as whole units and the ticks beyond them. So it is a multiple
 //! of 2^k units just where no tick is beyond and the low k bits of the units are 0.
 
-ghost use Rattle.std.specs.Prelude.{◌≡◌, ℕ, ◌<◌, ◌≤◌, ◌==◌, ◌↔◌, IsTrue, ◌*◌, ◌%◌, ◌^◌};
-ghost use Rattle.mc146818.specs.Divider.{next_count, period_of, ends_at, is_near_end};
+ghost use Rattle.std.specs.Prelude.{◌≡◌, ℕ, ◌<◌, ◌≤◌, ◌==◌, ◌↔◌, IsTrue, ◌+◌, ◌-◌, ◌*◌, ◌%◌, ◌^◌};
+ghost use Rattle.mc146818.specs.Divider.{second_of, next_count, period_of, ends_at, is_near_end};
+ghost use Rattle.mc146818.specs.Quiet.{quiet_second, quiet_period};
 
+use crate::quiet::FOREVER;
 use std::marker::Model;
 
 /// Units in a second.
@@ -127,5 +129,53 @@ impl Divider {
         ensures { result ≡ is_near_end self.now.unit self.now.count }
     {
         self.units >= NEAR_END
+    }
+
+    // How many ticks have passed in this second.
+    fn count(&self) -> u32
+        ensures value { result ≡ self.now.count }
+        ensures within { result < second_of self.now.unit }
+    {
+        u32::from(self.units) * u32::from(self.unit) + u32::from(self.ticks)
+    }
+
+    /// How many ticks pass before the one that ends the second.
+    pub fn quiet_second(&self) -> u32
+        ensures { result ≡ quiet_second self.now.unit self.now.count }
+    {
+        u32::from(UNITS) * u32::from(self.unit) - 1 - self.count()
+    }
+
+    /// How many ticks pass before the one that ends a period of this rate.
+    pub fn quiet_period(&self, rate: u32) -> u32
+        requires { rate < 16 }
+        ensures { result ≡ quiet_period (period_of self.now.unit rate) self.now.count }
+    {
+        match rate {
+            0 => FOREVER,
+            1 => self.quiet_multiple(5),
+            2 => self.quiet_multiple(6),
+            _ => self.quiet_multiple(rate - 3),
+        }
+    }
+
+    // How many ticks pass before the one that makes the count a multiple of 2^power units.
+    fn quiet_multiple(&self, power: u32) -> u32
+        requires { power < 13 }
+        ensures { let period = self.now.unit * 2 ^ power in result ≡ period - 1 - self.now.count % period }
+    {
+        let period = u32::from(self.unit) << power;
+        period - 1 - self.count() % period
+    }
+
+    /// Counts so many ticks at once, none of which ends the second.
+    pub fn pass(&mut self, ticks: u32)
+        requires { ticks ≤ quiet_second self.old.unit self.old.count }
+        ensures { self.new ≡ record self.old { count = self.old.count + ticks } }
+    {
+        let count = self.count() + ticks;
+        let unit = u32::from(self.unit);
+        self.units = (count / unit) as u16;
+        self.ticks = (count % unit) as u16;
     }
 }

@@ -6,10 +6,12 @@
 mod clock;
 mod divider;
 pub mod laws;
+mod quiet;
 pub mod registers;
 mod time;
 
 pub use clock::Clock;
+pub use quiet::quiet_laws;
 
 #[cfg(test)]
 mod tests;

@@ -314,3 +314,57 @@ fn equality(rt: HostRuntime) {
     other.write(63, 1);
     assert!(rt; one != other);
 }
+
+// Passes so many ticks, as far as they are quiet.
+fn pass(clock: &mut Clock, ticks: u32) {
+    clock.pass(ticks.min(clock.quiet()));
+}
+
+// How many ticks pass before the second's end, also with SET and with the greatest unit. The ticks of
+// a divider that is held are all quiet.
+#[test]
+fn quiet_seconds(rt: HostRuntime) {
+    let mut clock = clock_at(BCD_24, [0x55, 0, 0, 1, 1, 1, 1]);
+    assert_eq!(rt; clock.quiet(), 8191);
+    clock.tick();
+    assert_eq!(rt; clock.quiet(), 8190);
+    pass(&mut clock, 8190);
+    assert_eq!(rt; clock.quiet(), 0);
+    assert_eq!(rt; clock.read(REGISTER_A), 0xA0);
+    assert_eq!(rt; clock.read(SECONDS), 0x55);
+    clock.tick();
+    assert_eq!(rt; clock.read(SECONDS), 0x56);
+    assert_eq!(rt; clock.quiet(), 8191);
+    clock.write(REGISTER_B, SET | BCD_24);
+    assert_eq!(rt; clock.quiet(), 8191);
+    clock.write(REGISTER_A, 0);
+    assert_eq!(rt; clock.quiet(), 0xFFFF_FFFF);
+    pass(&mut clock, 0xFFFF_FFFF);
+    clock.write(REGISTER_A, 0x20);
+    assert_eq!(rt; clock.quiet(), 8191);
+    let slow = Clock::new([0, 0, 0, 0, 0, 0, 1, 1, 1, 0, 0x20, 6], 65_535);
+    assert_eq!(rt; slow.quiet(), 536_862_719);
+}
+
+// How many ticks pass before PF is set, with a unit of 3 ticks: by the rate, a period is 96 ticks,
+// 192, 3 or up to 12,288. Where PF is set already the second's end comes next.
+#[test]
+fn quiet_periods(rt: HostRuntime) {
+    let mut clock = Clock::new([0, 0, 0, 0, 0, 0, 1, 1, 1, 0, 0x20, 0x42], 3);
+    for (rate, quiet) in [(0, 24_575), (1, 95), (2, 191), (3, 2), (4, 5), (15, 12_287)] {
+        clock.write(REGISTER_A, 0x20 + rate);
+        assert_eq!(rt; clock.quiet(), quiet, "rate {rate}");
+    }
+    pass(&mut clock, 200);
+    assert_eq!(rt; clock.quiet(), 12_087);
+    clock.write(REGISTER_A, 0x21);
+    assert_eq!(rt; clock.quiet(), 87);
+    pass(&mut clock, 87);
+    assert!(rt; !clock.line());
+    assert_eq!(rt; clock.quiet(), 0);
+    clock.tick();
+    assert!(rt; clock.line());
+    assert_eq!(rt; clock.quiet(), 24_287);
+    assert_eq!(rt; clock.read(REGISTER_C), IRQF | PF);
+    assert_eq!(rt; clock.quiet(), 95);
+}

@@ -27,7 +27,7 @@ macro_rules! by_value {
     };
 }
 
-#[inline]
+#[inline(always)]
 fn special(bits: u32) -> Option<u8>
     ensures row { result ≡ picked special_rows bits }
     ensures within { IfSome result (λ number. number < length instructions) }
@@ -35,7 +35,7 @@ fn special(bits: u32) -> Option<u8>
     rows!(special by_value (bits))
 }
 
-#[inline]
+#[inline(always)]
 fn regimm(bits: u32) -> Option<u8>
     ensures row { result ≡ picked regimm_rows bits }
     ensures within { IfSome result (λ number. number < length instructions) }
@@ -43,7 +43,7 @@ fn regimm(bits: u32) -> Option<u8>
     rows!(regimm by_value (bits))
 }
 
-#[inline]
+#[inline(always)]
 fn cop0(bits: u32) -> Option<u8>
     ensures row { result ≡ picked cop0_rows bits }
     ensures within { IfSome result (λ number. number < length instructions) }
@@ -51,7 +51,7 @@ fn cop0(bits: u32) -> Option<u8>
     rows!(cop0 by_value (bits))
 }
 
-#[inline]
+#[inline(always)]
 fn other(bits: u32) -> Option<u8>
     ensures row { result ≡ picked other_rows bits }
     ensures within { IfSome result (λ number. number < length instructions) }
@@ -60,7 +60,7 @@ fn other(bits: u32) -> Option<u8>
 }
 
 // The number of the only row that a word may match.
-#[inline]
+#[inline(always)]
 fn candidate(word: u32) -> Option<u8>
     ensures row { result ≡ candidate_of word }
     ensures within { IfSome result (λ number. number < length instructions) }
@@ -89,7 +89,7 @@ macro_rules! if_matches {
 }
 
 // What a word says as an instruction of a row, if it matches it.
-#[inline]
+#[inline(always)]
 fn read_by(number: u8, word: u32) -> Option<Insn>
     requires { number < length instructions }
     ensures { result ≡ said_at word number }
@@ -98,7 +98,7 @@ fn read_by(number: u8, word: u32) -> Option<Insn>
 }
 
 /// The instruction that a word says: its row in the table and its operands, or `None` exactly where it has no row.
-#[inline]
+#[inline(always)]
 #[tactic(auto, using(crate::proofs::Jumps::jumped))]
 pub fn decode(word: u32) -> Option<Insn>
     ensures { result ≡ operation_of word }

@@ -24,7 +24,7 @@ macro_rules! by_number {
 }
 
 /// What an instruction does with the values that it reads, by its row in the table.
-#[inline]
+#[inline(always)]
 pub fn effect(insn: &Insn, operands: Operands) -> Effect
     ensures effect { result ≡ effect_of insn.now operands }
     ensures within { NamesRegisters result }

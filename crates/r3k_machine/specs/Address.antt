@@ -6,8 +6,8 @@ use Rattle.cop0.specs.Registers.{Registers}
 use Rattle.cop0.specs.Changes.{with_ts}
 use Rattle.cop0.specs.Status.{in_user_mode}
 use Rattle.tlb64.specs.Entries.{process_of}
+use Rattle.std.specs.Option.{option_map}
 use Rattle.tlb64.specs.Lookup.{lookup_of}
-use Rattle.tlb64.specs.declared.entry.Entry.{Entry}
 use Rattle.tlb64.specs.declared.entry.Found.{Found}
 use Rattle.r3k_machine.specs.declared.address.Physical.{Physical}
 use Rattle.r3k_machine.specs.declared.address.Segment.{Segment}
@@ -42,18 +42,18 @@ miss Fetch address refill = TlbLoad address refill
 miss Load address refill = TlbLoad address refill
 miss Store address refill = TlbStore address refill
 
--- whether an entry lets an access of its page through: a store wants it dirty
-abbrev pub lets_through : Use → Entry → Bool
-lets_through Fetch entry = true
-lets_through Load entry = true
-lets_through Store entry = has entry.lo DIRTY
+-- whether an entry, by its EntryLo, lets an access of its page through: a store wants it dirty
+abbrev pub lets_through : Use → ℕ → Bool
+lets_through Fetch lo = true
+lets_through Load lo = true
+lets_through Store lo = has lo DIRTY
 
--- what the entry of its page makes of an address: it must be valid, and the physical address is its frame with the offset in the page
-abbrev pub answer_of_entry : Use → ℕ → Entry → Result Physical Exception
-answer_of_entry access address entry =
-    if not (has entry.lo VALID) then Err (miss access address false)
-    else (if lets_through access entry
-    then Ok (record { address = merged OFFSET entry.lo address; cacheable = not (has entry.lo UNCACHED) })
+-- what EntryLo of its page makes of an address: it must be valid, and the physical address is its frame with the offset in the page
+abbrev pub answer_of_entry : Use → (address lo : ℕ) → Result Physical Exception
+answer_of_entry access address lo =
+    if not (has lo VALID) then Err (miss access address false)
+    else (if lets_through access lo
+    then Ok (record { address = merged OFFSET lo address; cacheable = not (has lo UNCACHED) })
     else Err (Modification address))
 
 -- What an address means: a physical address and whether it is cacheable, or an exception; and whether several entries match.
@@ -66,12 +66,15 @@ abbrev pub several_of : Option Found → Bool
 several_of None = false
 several_of (Some found) = found.several
 
-abbrev pub answer_of_found : Use → ℕ → Option Found → Result Physical Exception
-answer_of_found access address None = Err (miss access address (nat_lt address KSEG0))
-answer_of_found access address (Some found) = answer_of_entry access address found.entry
+abbrev pub low_of : Option Found → Option ℕ
+low_of found = option_map (λ found. found.entry.lo) found
+
+abbrev pub answer_of_low : Use → ℕ → Option ℕ → Result Physical Exception
+answer_of_low access address None = Err (miss access address (nat_lt address KSEG0))
+answer_of_low access address (Some lo) = answer_of_entry access address lo
 
 abbrev pub meaning_of_found : Use → ℕ → Option Found → Meaning
-meaning_of_found access address found = record { several = several_of found; answer = answer_of_found access address found }
+meaning_of_found access address found = record { several = several_of found; answer = answer_of_low access address (low_of found) }
 
 -- the lookup of an address for the process that EntryHi names
 abbrev pub found_for : Core → ℕ → Option Found

@@ -67,17 +67,13 @@ exc_of core exception = record {
 -- The processor after an exception of the instruction at its PC: the instruction writes nothing, the pending load lands,
 -- and the handler comes next.
 abbrev pub entered : Core → Exception → Core
-entered core exception = record {
+entered core exception = record core {
   registers = landed core.registers core.load;
-  hi = core.hi;
-  lo = core.lo;
   pc = control.vector_of core.cop0.status (is_refill exception);
   next_pc = sum_of (control.vector_of core.cop0.status (is_refill exception)) 4;
   delay = false;
   load = None;
   cop0 = control.entered core.cop0 (exc_of core exception);
-  entries = core.entries;
-  caches = core.caches;
 }
 
 -- the exceptions that an instruction makes by itself

@@ -6,6 +6,11 @@ pub use Rattle.cop0.specs.Registers
 pub use Rattle.cop0.specs.Exception
 pub use Rattle.cop0.specs.Changes
 pub use Rattle.dcache.specs.Arrays
+pub use Rattle.kn02_bus.specs.Region
+pub use Rattle.kn02_bus.specs.State as Bus
+pub use Rattle.kn02_bus.specs.Lines
+pub use Rattle.kn02_bus.specs.Access as BusAccess
+pub use Rattle.kn02_bus.specs.Tick
 pub use Rattle.tlb64.specs.Entries
 pub use Rattle.tlb64.specs.Lookup
 pub use Rattle.r3k_word.specs.Word
@@ -20,8 +25,10 @@ pub mod Address
 pub mod Translation
 pub mod Isolated
 pub mod Exceptions
+pub mod Devices
 pub mod LoadStore
 pub mod Reset
 pub mod Step
+pub mod Told
 pub mod Run
 pub mod Same

@@ -1,5 +1,6 @@
--- Reset (own): PC and next PC stand at the start of ROM in kseg1, and the control registers are those at reset. RAM and ROM
--- hold the words that the image sets. All else, the translation entries and the slots of the isolated cache too, is 0 or empty.
+-- Reset (own): PC and next PC stand at the start of ROM in kseg1, and the control registers and devices are those at reset, with
+-- the image's byte time, unit and clock registers. RAM and ROM hold the words that the image sets. All else, the translation
+-- entries and the slots of the isolated cache too, is 0 or empty.
 use Rattle.std.specs.Prelude.{ℕ, ◌+◌, List, replicate, false, None, map, unwrap_or}
 use Rattle.std.specs.List.{range_with_len}
 use Rattle.std.specs.FinMap.{get}
@@ -8,12 +9,13 @@ use Rattle.r3k_image.specs.Boot.{Boot}
 use Rattle.cop0.specs.Registers.{reset_registers}
 use Rattle.tlb64.specs.Entries.{reset_entries}
 use Rattle.dcache.specs.Arrays.{reset_arrays}
+use Rattle.kn02_bus.specs.State.{reset_bus}
 use Rattle.r3k_machine.specs.Core.{Core}
 use Rattle.r3k_machine.specs.declared.state.TheConstants.{RESET_PC}
 use Rattle.r3k_machine.specs.State.{State}
 
-abbrev pub reset_core : Core
-reset_core = record {
+abbrev pub reset_core : Boot → Core
+reset_core image = record {
   registers = replicate 32 0;
   hi = 0;
   lo = 0;
@@ -24,6 +26,7 @@ reset_core = record {
   cop0 = reset_registers;
   entries = reset_entries;
   caches = reset_arrays;
+  bus = reset_bus image.byte_time image.clock_start image.unit;
 }
 
 -- the word at a place at reset
@@ -35,4 +38,4 @@ abbrev pub reset_words : ℕ → Boot → List ℕ
 reset_words pages image = map (reset_word pages image) (range_with_len 0 (word_count_of pages))
 
 abbrev pub reset : ℕ → Boot → State
-reset pages image = record { core = reset_core; words = reset_words pages image }
+reset pages image = record { core = reset_core image; words = reset_words pages image }

@@ -41,7 +41,7 @@ byte_on line (Some sent) = if sent.line == line then Some sent.byte else None
 abbrev pub console_of : ℕ → List Done → List ℕ
 console_of line steps = filter_map (λ done. byte_on line done.sent) steps
 
--- the place of the last step that stored into a word, with a change or without
+-- whether a step stored into a word, as its place in a list of one
 abbrev pub stores_into : ℕ → Option ℕ → Option ℕ
 stores_into address None = None
 stores_into address (Some stored) = if stored == address then Some 0 else None
@@ -51,6 +51,7 @@ abbrev pub later : ℕ → Option ℕ → Option ℕ → Option ℕ
 later count None earlier = earlier
 later count (Some place) earlier = Some (count + place)
 
+-- the place of the last step that stored into a word, with a change or without
 abbrev pub last_writer : ℕ → List Done → Option ℕ
 last_writer address [] = None
 last_writer address (done ∷ steps) = later 1 (last_writer address steps) (stores_into address done.stored)

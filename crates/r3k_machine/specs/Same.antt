@@ -1,4 +1,4 @@
--- Equality of two processors (own): all that they hold is equal.
+-- Equality of two cores (own): all that they hold is equal.
 use Rattle.std.specs.Prelude.{◌≡◌, Bool, ◌&&◌, nat_eq, Decides, Option, Some, None, true, false}
 use Rattle.std.specs.Bool.{beq}
 use Rattle.std.specs.Cmp.Lexicographic.{pointwise, pointwise_decides}
@@ -7,6 +7,7 @@ use Rattle.std.proofs.Common.{rules}
 use Rattle.cop0.specs.Same as control
 use Rattle.tlb64.specs.Same as entries
 use Rattle.dcache.specs.Same as caches
+use Rattle.kn02_bus.specs.Same as bus
 use Rattle.r3k_machine.specs.LoadSlot.{DelayedLoad}
 use Rattle.r3k_machine.specs.Core.{Core}
 
@@ -20,7 +21,7 @@ abbrev pub is_same : Core → Core → Bool
 is_same a b =
     pointwise nat_eq a.registers b.registers && nat_eq a.hi b.hi && nat_eq a.lo b.lo && nat_eq a.pc b.pc
     && nat_eq a.next_pc b.next_pc && beq a.delay b.delay && is_same_load a.load b.load && control.is_same a.cop0 b.cop0
-    && entries.is_same a.entries b.entries && caches.is_same a.caches b.caches
+    && entries.is_same a.entries b.entries && bus.is_same a.bus b.bus && caches.is_same a.caches b.caches
 
 is_same_load_decides : (a b : Option DelayedLoad) → Decides (is_same_load a b) (a ≡ b)
 is_same_load_decides None None = search rules
@@ -35,4 +36,5 @@ is_same_decides a b =
     let cop0 = control.is_same_decides a.cop0 b.cop0 in
     let entries = entries.is_same_decides a.entries b.entries in
     let caches = caches.is_same_decides a.caches b.caches in
-    search (rules, registers, load, cop0, entries, caches)
+    let bus = bus.is_same_decides a.bus b.bus in
+    search (rules, registers, load, cop0, entries, caches, bus)

@@ -17,7 +17,12 @@ use Rattle.r3k_exec.specs.declared.operands.Operands.{Operands}
 use Rattle.r3k_machine.specs.declared.exception.Exception.{Exception}
 use Rattle.r3k_machine.specs.declared.exception.Exception.TheVariants.{Interrupt, CoprocessorUnusable}
 use Rattle.r3k_machine.specs.declared.load_store.Loaded.{Loaded}
+use Rattle.r3k_machine.specs.declared.load_store.Stored.{Stored}
 use Rattle.r3k_machine.specs.declared.load_store.Word.{Word}
+use Rattle.std.specs.List.{fold}
+use Rattle.kn02_bus.specs.Tick as bus
+use Rattle.kn02_bus.specs.State.{BusState}
+use Rattle.kn02_bus.specs.Lines.{lines_of}
 use Rattle.r3k_machine.specs.Core.{Core}
 use Rattle.r3k_machine.specs.declared.step.Done.{Done}
 use Rattle.r3k_machine.specs.LoadSlot.{DelayedLoad}
@@ -33,7 +38,8 @@ pub record Outcome : Type 0 where
   pub state : State
   pub done : Done
 
--- what it tells: it at most fetched, or it loaded too, from a page or from none, or stored, into a word of RAM or into none
+-- what it tells: it at most fetched, or it loaded too, from a page or from none, or stored, into a word of RAM or into none, and
+-- perhaps sent a byte
 abbrev pub fetching : Option ℕ → Done
 fetching page = record { sent = None; stored = None; touched = page ∷ None ∷ [] }
 
@@ -44,20 +50,24 @@ abbrev pub page_stored : Option ℕ → Option ℕ
 page_stored None = None
 page_stored (Some address) = Some (address / PAGE_BYTES)
 
-abbrev pub storing : ℕ → Option ℕ → Done
-storing page address = record { sent = None; stored = address; touched = Some page ∷ page_stored address ∷ [] }
+abbrev pub storing : ℕ → Stored → Done
+storing page stored = record { sent = stored.sent; stored = stored.address; touched = Some page ∷ page_stored stored.address ∷ [] }
 
--- 1. The log's bytes reach the serial part, in the order of the log. There is none yet: they are ignored.
-abbrev pub arrived : List TimedByte → Core → Core
-arrived events core = core
+-- 1. The log's bytes reach the serial part, in the order of the log.
+abbrev pub received : List TimedByte → BusState → BusState
+received events devices = fold (λ devices event. bus.arrived devices event.line event.byte) devices events
 
--- 2. Clock and serial part advance by one tick. There are none yet.
-abbrev pub ticked : Core → Core
-ticked core = core
+unfoldable pub arrived : List TimedByte → Core → Core
+arrived events core = record core { bus = received events core.bus }
 
--- 3. Cause takes the interrupt lines of the board and of the clock, which nothing raises yet.
-abbrev pub sampled : Core → Core
-sampled core = record core { cop0 = control.sampled core.cop0 false false }
+-- 2. Clock and serial part advance by one tick.
+unfoldable pub ticked : Core → Core
+ticked core = record core { bus = bus.ticked core.bus }
+
+-- 3. Cause takes the interrupt lines of the board and of the clock.
+unfoldable pub sampled : Core → Core
+sampled core =
+    let lines = lines_of core.bus in record core { cop0 = control.sampled core.cop0 lines.board lines.clock }
 
 -- 4. An interrupt is taken,
 abbrev pub interrupted : Core → Core
@@ -126,11 +136,11 @@ completion_of_load s page kind number address (Ok w) = Ok (record {
 })
 
 -- a store, into a word of RAM or into none
-abbrev pub completion_of_store : State → ℕ → List ℕ → Result (Option ℕ) Exception → Completion
+abbrev pub completion_of_store : State → ℕ → List ℕ → Result Stored Exception → Completion
 completion_of_store s page words (Err exception) = Err (faulted s.core exception)
-completion_of_store s page words (Ok address) = Ok (record {
+completion_of_store s page words (Ok stored) = Ok (record {
   state = record { core = passed s.core; words = words };
-  done = storing page address;
+  done = storing page stored;
 })
 
 -- an instruction by its effect
@@ -144,9 +154,9 @@ completion_of_effect pages s page (JumpAndLink target number value) =
     completion_without_access s page (with_write (branched (passed s.core) target) number value)
 completion_of_effect pages s page (Trap trap) = Err (faulted s.core (exception_of trap))
 completion_of_effect pages s page (Load kind number address) =
-    completion_of_load (record { core = core_after_load s.core kind address; words = s.words }) page kind number address (loaded_from pages s.words s.core kind address)
+    completion_of_load (record { core = core_after_load pages s.core kind address; words = s.words }) page kind number address (loaded_from pages s.words s.core kind address)
 completion_of_effect pages s page (Store kind address value) =
-    completion_of_store (record { core = core_after_store s.core kind address value; words = s.words }) page (words_after s.words (stored_to pages s.core kind address) (stored kind (address % 4) value)) (stored_to pages s.core kind address)
+    completion_of_store (record { core = core_after_store pages s.core kind address value; words = s.words }) page (words_after s.words (stored_to pages s.core kind address value) (stored kind (address % 4) value)) (stored_to pages s.core kind address value)
 completion_of_effect pages s page (MoveFromControl number control) =
     completion_without_access s page (with_slot (passed s.core) number (register_of s.core.cop0 control))
 completion_of_effect pages s page (MoveToControl control value) =

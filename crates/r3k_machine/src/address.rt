@@ -1,15 +1,13 @@
 //! The meaning of an address.
 
 ghost use Rattle.std.specs.Prelude.{◌≡◌, true};
-ghost use Rattle.r3k_machine.specs.Address.{address_error, answer_of_entry, answer_of_found, found_for, lets_through, meaning, met, miss, segment_of, several_of, where_at, with_several};
-ghost use Rattle.tlb64.specs.Entries.{process_of};
+ghost use Rattle.r3k_machine.specs.Address.{address_error, answer_of_entry, answer_of_low, found_for, lets_through, low_of, meaning, met, miss, segment_of, several_of, where_at, with_several};
 
 use crate::exception::Exception;
 use crate::state::Core;
 use cop0::number::ENTRY_HI;
 use r3k_word::bits::merge;
 use r3k_word::field::field;
-use tlb64::{Entry, Found};
 
 /// The first address of kseg0, which is unmapped and cacheable. Below it lies kuseg, which is mapped.
 pub const KSEG0: u32 = 0x8000_0000;
@@ -96,42 +94,42 @@ impl Use {
         }
     }
 
-    // Whether an entry lets the access through.
+    // Whether an entry with this EntryLo lets the access through.
     #[inline(always)]
-    fn is_let_through(self, entry: Entry) -> bool
-        ensures { result ≡ lets_through self entry }
+    fn is_let_through(self, lo: u32) -> bool
+        ensures { result ≡ lets_through self lo }
     {
         match self {
             Use::Fetch | Use::Load => true,
-            Use::Store => entry.lo & DIRTY != 0,
+            Use::Store => lo & DIRTY != 0,
         }
     }
 }
 
-// What the entry of its page makes of an address.
+// What the entry of its page, which has this EntryLo, makes of an address.
 #[inline(always)]
-fn by_entry(access: Use, address: u32, entry: Entry) -> Result<Physical, Exception>
-    ensures { result ≡ answer_of_entry access address entry }
+fn by_entry(access: Use, address: u32, lo: u32) -> Result<Physical, Exception>
+    ensures { result ≡ answer_of_entry access address lo }
 {
-    if entry.lo & VALID == 0 {
+    if lo & VALID == 0 {
         return Err(access.miss(address, false));
     }
-    if !access.is_let_through(entry) {
+    if !access.is_let_through(lo) {
         return Err(Exception::Modification(address));
     }
     Ok(Physical {
-        address: merge(OFFSET, entry.lo, address),
-        cacheable: entry.lo & UNCACHED == 0,
+        address: merge(OFFSET, lo, address),
+        cacheable: lo & UNCACHED == 0,
     })
 }
 
-// What a lookup makes of an address.
+// What a lookup makes of an address, by EntryLo of what it found.
 #[inline(always)]
-fn by_found(access: Use, address: u32, found: Option<Found>) -> Result<Physical, Exception>
-    ensures { result ≡ answer_of_found access address found }
+fn by_low(access: Use, address: u32, low: Option<u32>) -> Result<Physical, Exception>
+    ensures { result ≡ answer_of_low access address low }
 {
-    match found {
-        Some(found) => by_entry(access, address, found.entry),
+    match low {
+        Some(lo) => by_entry(access, address, lo),
         None => Err(access.miss(address, address < KSEG0)),
     }
 }
@@ -154,28 +152,42 @@ impl Core {
         Segment::Mapped
     }
 
-    // The process that EntryHi names.
-    #[inline(always)]
-    fn process(&self) -> u32
-        ensures { result ≡ process_of self.now.cop0.entry_hi }
-    {
-        field::<11, 6>(self.cop0().read(ENTRY_HI))
-    }
-
-    // What a mapped address means. TS is set where several entries match.
-    #[inline(always)]
-    fn mapped(&mut self, access: Use, address: u32) -> Result<Physical, Exception>
-        ensures answer { result ≡ answer_of_found access address (found_for self.old address) }
+    // EntryLo of the entry of a mapped address, if there is one. TS is set where several match.
+    #[inline(never)]
+    fn looked_up(&mut self, access: Use, address: u32) -> Option<u32>
+        ensures low { result ≡ low_of (found_for self.old address) }
         ensures core { self.new ≡ with_several self.old (several_of (found_for self.old address)) }
     {
-        let pid = self.process();
-        let found = self.tlb.translate(access == Use::Fetch, address, pid);
-        if let Some(found) = found
-            && found.several
-        {
+        let hi = self.processor.cop0.read(ENTRY_HI);
+        let found = self.tlb.translate(access == Use::Fetch, address, hi)?;
+        if found.several {
             self.processor.cop0.set_ts();
         }
-        by_found(access, address, found)
+        Some(found.entry.lo)
+    }
+
+    // The same, without a search where the page was looked up before. It is one number, so that a step that needs no search
+    // pays little for the call.
+    #[inline(always)]
+    fn entry_low(&mut self, access: Use, address: u32) -> Option<u32>
+        ensures low { result ≡ low_of (found_for self.old address) }
+        ensures core { self.new ≡ with_several self.old (several_of (found_for self.old address)) }
+    {
+        let hi = self.processor.cop0.read(ENTRY_HI);
+        match self.tlb.kept(access == Use::Fetch, address, hi) {
+            Some(lo) => Some(lo),
+            None => self.looked_up(access, address),
+        }
+    }
+
+    // What a mapped address means.
+    #[inline(always)]
+    fn mapped(&mut self, access: Use, address: u32) -> Result<Physical, Exception>
+        ensures answer { result ≡ answer_of_low access address (low_of (found_for self.old address)) }
+        ensures core { self.new ≡ with_several self.old (several_of (found_for self.old address)) }
+    {
+        let low = self.entry_low(access, address);
+        by_low(access, address, low)
     }
 
     /// The physical address that an address means, or its exception.
@@ -206,8 +218,9 @@ impl Core {
             Segment::Forbidden => Err(Use::Load.address_error(address)),
             Segment::Unmapped(physical) => Ok(physical),
             Segment::Mapped => {
-                let found = self.tlb.lookup(address, self.process());
-                by_found(Use::Load, address, found)
+                let process = field::<11, 6>(self.cop0().read(ENTRY_HI));
+                let found = self.tlb.lookup(address, process);
+                by_low(Use::Load, address, found.map(|found| found.entry.lo))
             }
         }
     }

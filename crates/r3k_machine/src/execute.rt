@@ -1,12 +1,13 @@
 //! What an instruction does to the machine.
 
-ghost use Rattle.std.specs.Prelude.{◌≡◌, ◌<◌};
+ghost use Rattle.std.specs.Prelude.{◌≡◌, ◌<◌, IfOk};
 ghost use Rattle.cop0.specs.Changes as control;
 ghost use Rattle.cop0.specs.Registers.{written};
 ghost use Rattle.r3k_exec.specs.Effects.{NamesRegisters};
 ghost use Rattle.r3k_machine.specs.Exceptions.{is_unusable};
 ghost use Rattle.r3k_machine.specs.State.{with_register};
 ghost use Rattle.r3k_machine.specs.Step.{IsCompletion, branched, completion_of_word, operands_of, passed, completion_of_effect, slot_after_load};
+ghost use Rattle.r3k_machine.specs.Told.{IsPage, IsTold};
 
 use crate::exception::Exception;
 use crate::load_store::{Word, load, store};
@@ -129,10 +130,12 @@ fn perform_effect<M: Mem>(
     page: u32,
     effect: Effect,
 ) -> Result<Done, Exception>
-    requires { NamesRegisters effect }
+    requires registers { NamesRegisters effect }
+    requires page { IsPage (M.ram memory.old) page }
     ensures completes { IsCompletion result
         (record { core = core.old; words = M.words memory.old }) (record { core = core.new; words = M.words memory.new })
         (completion_of_effect (M.ram memory.old) (record { core = core.old; words = M.words memory.old }) page effect) }
+    ensures told { IfOk result (IsTold (M.ram memory.old) (M.words memory.old) (M.words memory.new)) }
     ensures same { M.ram memory.new ≡ M.ram memory.old }
 {
     match effect {
@@ -227,9 +230,11 @@ pub(crate) fn execute_word<M: Mem>(
     memory: &mut M,
     fetched: Word,
 ) -> Result<Done, Exception>
+    requires { IsPage (M.ram memory.old) fetched.page }
     ensures completes { IsCompletion result
         (record { core = core.old; words = M.words memory.old }) (record { core = core.new; words = M.words memory.new })
         (completion_of_word (M.ram memory.old) (record { core = core.old; words = M.words memory.old }) fetched) }
+    ensures told { IfOk result (IsTold (M.ram memory.old) (M.words memory.old) (M.words memory.new)) }
     ensures same { M.ram memory.new ≡ M.ram memory.old }
 {
     if core.is_unusable(fetched.word) {

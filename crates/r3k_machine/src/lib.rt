@@ -1,7 +1,8 @@
-//! The processor and its memory: state, the meaning of an address, exceptions, one step, and the run.
+//! The machine: state, the meaning of an address, loads and stores, exceptions, one step, and the run.
 #![tactic(auto)]
 
 mod address;
+mod devices;
 mod exception;
 mod execute;
 mod flat;

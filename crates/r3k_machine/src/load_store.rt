@@ -1,14 +1,18 @@
 //! Fetching, loading and storing.
 
-ghost use Rattle.std.specs.Prelude.{◌≡◌, ◌%◌};
+ghost use Rattle.std.specs.Prelude.{◌≡◌, ◌*◌, ◌/◌, ◌%◌, IfOk, IfSome};
 ghost use Rattle.r3k_exec.specs.Access.{stored};
 ghost use Rattle.r3k_machine.specs.Address.{met};
-ghost use Rattle.r3k_machine.specs.LoadStore.{core_after_load, core_after_store, fetched, lane_mask, loaded_from, meaning_of_fetch, ram_word, stored_to, word_at, words_after, words_with};
+ghost use Rattle.kn02_bus.specs.Region.{region_of};
+ghost use Rattle.r3k_word.specs.Layout.{place_of_word};
+ghost use Rattle.r3k_machine.specs.LoadStore.{after_load_over_bus, after_store_over_bus, core_after_load, core_after_store, fetched, lane_mask, loaded_from, loaded_over_bus, meaning_of_fetch, ram_word, stored_over_bus, stored_to, word_at, words_after, words_with};
+ghost use Rattle.r3k_machine.specs.Told.{DifferAt, IsPage, IsRamWord, IsSent};
 
 use crate::address::{Physical, Segment, Use};
 use crate::exception::Exception;
 use crate::memory::Mem;
 use crate::state::Core;
+use dz_serial::Sent;
 use r3k_exec::{Covered, LoadKind, StoreKind};
 use r3k_word::bits::merge;
 use r3k_word::layout::{PAGE_BYTES, page_of, place_of};
@@ -20,17 +24,25 @@ pub(crate) struct Word {
     pub(crate) page: u32,
 }
 
-/// A word that was loaded, and its page, unless it comes from the isolated cache.
+/// A word that was loaded, and its page, unless it comes from a device or the isolated cache.
 #[derive(Clone, Copy)]
 pub(crate) struct Loaded {
     pub(crate) word: u32,
     pub(crate) page: Option<u32>,
 }
 
+/// What a store did: the address of the word of RAM that it went into, and the byte that the serial part sent for it.
+#[derive(Clone, Copy)]
+pub(crate) struct Stored {
+    pub(crate) address: Option<u32>,
+    pub(crate) sent: Option<Sent>,
+}
+
 // The word of RAM or ROM that a physical address lies in.
 #[inline]
 fn word_at<M: Mem>(memory: &M, physical: u32) -> Option<Word>
-    ensures { result ≡ word_at (M.ram memory.now) (M.words memory.now) physical }
+    ensures word { result ≡ word_at (M.ram memory.now) (M.words memory.now) physical }
+    ensures page { IfSome result (λ w. IsPage (M.ram memory.now) w.page) }
 {
     let place = place_of(memory.ram_pages(), physical / 4 * 4)?;
     Some(Word {
@@ -50,12 +62,13 @@ fn lane_mask(lanes: u8) -> u32
         + u32::from(lanes / 8 % 2) * 0xFF00_0000
 }
 
-// Stores into the word of RAM that a physical address lies in, and gives the address of that word. A store to anything
-// else has no effect.
+// Stores into the word of RAM that a physical address lies in, and gives the address of that word, if there is one.
 #[inline]
 fn put<M: Mem>(memory: &mut M, physical: u32, covered: Covered) -> Option<u32>
     ensures address { result ≡ ram_word (M.ram memory.old) physical }
     ensures words { M.words memory.new ≡ words_with (M.words memory.old) (ram_word (M.ram memory.old) physical) covered }
+    ensures within { IfSome result (IsRamWord (M.ram memory.old)) }
+    ensures differ { DifferAt result (M.words memory.old) (M.words memory.new) }
     ensures same { M.ram memory.new ≡ M.ram memory.old }
 {
     if physical / PAGE_BYTES >= memory.ram_pages() {
@@ -72,6 +85,7 @@ fn put<M: Mem>(memory: &mut M, physical: u32, covered: Covered) -> Option<u32>
 #[inline]
 pub(crate) fn fetch<M: Mem>(core: &mut Core, memory: &M) -> Result<Word, Exception>
     ensures word { result ≡ fetched (M.ram memory.now) (M.words memory.now) core.old }
+    ensures page { IfOk result (λ w. IsPage (M.ram memory.now) w.page) }
     ensures core { core.new ≡ met core.old (meaning_of_fetch core.old) }
 {
     let address = core.pc();
@@ -81,6 +95,28 @@ pub(crate) fn fetch<M: Mem>(core: &mut Core, memory: &M) -> Result<Word, Excepti
         _ => core.physical(Use::Fetch, aligned, address)?.address,
     };
     word_at(memory, physical).ok_or(Exception::BusErrorFetch)
+}
+
+// Loads over the bus: the word of RAM or ROM that a physical address lies in, or else that of a device.
+#[inline]
+fn load_over_bus<M: Mem>(core: &mut Core, memory: &M, physical: u32) -> Result<Loaded, Exception>
+    ensures word { result ≡ loaded_over_bus (M.words memory.now) core.old (region_of (M.ram memory.now) physical)
+        (place_of_word (M.ram memory.now) (physical / 4 * 4)) }
+    ensures page { IfOk result (λ loaded. IfSome loaded.page (IsPage (M.ram memory.now))) }
+    ensures core { core.new ≡ after_load_over_bus core.old (region_of (M.ram memory.now) physical)
+        (place_of_word (M.ram memory.now) (physical / 4 * 4)) }
+{
+    let pages = memory.ram_pages();
+    if let Some(place) = place_of(pages, physical / 4 * 4) {
+        return Ok(Loaded {
+            word: memory.word(place),
+            page: Some(page_of(place) as u32),
+        });
+    }
+    match core.load_device(physical, pages) {
+        Some(word) => Ok(Loaded { word, page: None }),
+        None => Err(Exception::BusErrorLoad),
+    }
 }
 
 /// Loads the word that the address lies in.
@@ -93,7 +129,8 @@ pub(crate) fn load<M: Mem>(
     address: u32,
 ) -> Result<Loaded, Exception>
     ensures word { result ≡ loaded_from (M.ram memory.now) (M.words memory.now) core.old kind address }
-    ensures core { core.new ≡ core_after_load core.old kind address }
+    ensures page { IfOk result (λ loaded. IfSome loaded.page (IsPage (M.ram memory.now))) }
+    ensures core { core.new ≡ core_after_load (M.ram memory.now) core.old kind address }
 {
     let aligned = kind.is_aligned(address);
     let physical = match core.segment(aligned, address) {
@@ -106,17 +143,40 @@ pub(crate) fn load<M: Mem>(
             page: None,
         });
     }
-    let Some(w) = word_at(memory, physical.address) else {
-        return Err(Exception::BusErrorLoad);
-    };
-    Ok(Loaded {
-        word: w.word,
-        page: Some(w.page),
-    })
+    load_over_bus(core, memory, physical.address)
 }
 
-/// Stores a register's value, or the part of it that the kind says, and gives the address of the word of RAM that it went
-/// into.
+// Stores over the bus: into the word of RAM that a physical address lies in, or else to a device.
+#[inline]
+fn store_over_bus<M: Mem>(
+    core: &mut Core,
+    memory: &mut M,
+    physical: u32,
+    covered: Covered,
+) -> Stored
+    ensures stored { result ≡ stored_over_bus core.old (region_of (M.ram memory.old) physical) covered
+        (ram_word (M.ram memory.old) physical) }
+    ensures core { core.new ≡ after_store_over_bus core.old (region_of (M.ram memory.old) physical) covered
+        (ram_word (M.ram memory.old) physical) }
+    ensures words { M.words memory.new ≡ words_with (M.words memory.old) (ram_word (M.ram memory.old) physical) covered }
+    ensures within { IfSome result.address (IsRamWord (M.ram memory.old)) }
+    ensures differ { DifferAt result.address (M.words memory.old) (M.words memory.new) }
+    ensures sent { IsSent result.sent }
+    ensures same { M.ram memory.new ≡ M.ram memory.old }
+{
+    match put(memory, physical, covered) {
+        Some(address) => Stored {
+            address: Some(address),
+            sent: None,
+        },
+        None => Stored {
+            address: None,
+            sent: core.store_device(physical, memory.ram_pages(), covered),
+        },
+    }
+}
+
+/// Stores a register's value, or the part of it that the kind says.
 #[tactic(auto, unfolding(crate::specs::Address::meaning))]
 #[inline]
 pub(crate) fn store<M: Mem>(
@@ -125,11 +185,14 @@ pub(crate) fn store<M: Mem>(
     kind: StoreKind,
     address: u32,
     value: u32,
-) -> Result<Option<u32>, Exception>
-    ensures address { result ≡ stored_to (M.ram memory.old) core.old kind address }
-    ensures core { core.new ≡ core_after_store core.old kind address value }
+) -> Result<Stored, Exception>
+    ensures stored { result ≡ stored_to (M.ram memory.old) core.old kind address value }
+    ensures core { core.new ≡ core_after_store (M.ram memory.old) core.old kind address value }
     ensures words { M.words memory.new ≡ words_after (M.words memory.old)
-        (stored_to (M.ram memory.old) core.old kind address) (stored kind (address % 4) value) }
+        (stored_to (M.ram memory.old) core.old kind address value) (stored kind (address % 4) value) }
+    ensures within { IfOk result (λ stored. IfSome stored.address (IsRamWord (M.ram memory.old))) }
+    ensures differ { IfOk result (λ stored. DifferAt stored.address (M.words memory.old) (M.words memory.new)) }
+    ensures sent { IfOk result (λ stored. IsSent stored.sent) }
     ensures same { M.ram memory.new ≡ M.ram memory.old }
 {
     let aligned = kind.is_aligned(address);
@@ -139,7 +202,10 @@ pub(crate) fn store<M: Mem>(
     };
     if core.is_isolated(physical) {
         core.store_isolated(kind, physical.address, value);
-        return Ok(None);
+        return Ok(Stored {
+            address: None,
+            sent: None,
+        });
     }
-    Ok(put(memory, physical.address, kind.stored(address, value)))
+    Ok(store_over_bus(core, memory, physical.address, kind.stored(address, value)))
 }

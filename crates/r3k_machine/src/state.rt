@@ -1,4 +1,4 @@
-//! The state of the processor: all but the words of RAM and ROM.
+//! The state of the machine: all but the words of RAM and ROM.
 
 ghost use Rattle.std.specs.Prelude.{◌≡◌, ◌<◌, IfOk, slice_index_or};
 ghost use Rattle.tlb64.specs.Entries.{empty_entry};
@@ -7,6 +7,7 @@ ghost use Rattle.r3k_machine.specs.Reset.{reset_core};
 
 use cop0::Cop0;
 use dcache::Caches;
+use kn02_bus::Bus;
 use r3k_image::Image;
 use std::alloc::{AllocError, Global};
 use std::marker::Model;
@@ -75,14 +76,15 @@ pub(crate) struct Processor {
     pub(crate) cop0: Cop0,
 }
 
-/// The processor: registers (r0 holds 0), HI, LO, PC, next PC, delay mark, load slot, control registers, translation entries and
-/// the arrays of the isolated cache.
+/// All but RAM and ROM: registers (r0 holds 0), HI, LO, PC, next PC, delay mark, load slot, control registers, translation
+/// entries, the arrays of the isolated cache, and the devices on the bus.
 #[derive(Debug, Drop)]
 pub struct Core {
     pub(crate) processor: Processor,
     pub(crate) tlb: Tlb,
     // On the heap, and never copied but by `copy`.
     pub(crate) caches: Caches,
+    pub(crate) bus: Bus,
 }
 
 impl Model for Core {
@@ -101,6 +103,7 @@ impl Model for Core {
       cop0 = c.processor.cop0;
       entries = c.tlb;
       caches = c.caches;
+      bus = c.bus;
     } };
 
     ghost invariant = { λ c. HoldsZero c.processor.registers };
@@ -110,9 +113,10 @@ impl Model for Core {
 pub const RESET_PC: u32 = 0xBFC0_0000;
 
 impl Core {
-    /// The processor at reset. The image's words are those of a memory beside it. All memory is taken here.
-    pub fn reset(alloc: Global, _image: &Image) -> Result<Core, AllocError>
-        ensures { IfOk result (λ core. core ≡ reset_core) }
+    /// The core at reset, with the image's byte time, unit and clock. The image's words are those of a memory beside it. All
+    /// memory is taken here.
+    pub fn reset(alloc: Global, image: &Image) -> Result<Core, AllocError>
+        ensures { IfOk result (λ core. core ≡ reset_core image.now) }
     {
         Ok(Core {
             processor: Processor {
@@ -127,29 +131,38 @@ impl Core {
             },
             tlb: Tlb::new(),
             caches: Caches::new(alloc)?,
+            bus: Bus::new(
+                u32::from(image.byte_time()),
+                image.clock_start(),
+                u32::from(image.unit()),
+            ),
         })
     }
 
-    /// Another processor that holds the same.
+    /// Another core that holds the same.
     pub fn copy(&self, alloc: Global) -> Result<Core, AllocError>
         ensures { IfOk result (λ copy. copy ≡ self.now) }
     {
         let mut tlb = Tlb::new();
         tlb.assign(&self.tlb);
+        let mut bus = Bus::new(1, [0; 12], 1);
+        bus.assign(&self.bus);
         Ok(Core {
             processor: self.processor,
             tlb,
             caches: self.caches.copy(alloc)?,
+            bus,
         })
     }
 
-    /// Makes the processor hold what another does. It takes no memory.
+    /// Makes the core hold what another does. It takes no memory.
     pub fn assign(&mut self, other: &Core)
         ensures { self.new ≡ other.now }
     {
         self.processor = other.processor;
         self.tlb.assign(&other.tlb);
         self.caches.assign(&other.caches);
+        self.bus.assign(&other.bus);
     }
 
     /// The registers. r0 holds 0.
@@ -228,7 +241,7 @@ impl PartialEq for Core {
 
     ghost laws = { partial_equiv_from_equiv (decided is_same is_same_decides) };
 
-    /// Whether all that both processors hold is equal.
+    /// Whether all that both cores hold is equal.
     fn eq(&self, other: &Core) -> bool
         ensures value { result ≡ is_same self.now other.now }
         ensures equal { IsTrue result ↔ (self.now ≡ other.now) }
@@ -243,6 +256,7 @@ impl PartialEq for Core {
             && a.load == b.load
             && a.cop0 == b.cop0
             && self.tlb == other.tlb
+            && self.bus == other.bus
             && self.caches == other.caches
     }
 }

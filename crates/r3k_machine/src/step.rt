@@ -1,15 +1,17 @@
 //! One step, in its written order.
 
 ghost use Rattle.std.specs.Prelude.{◌≡◌, None};
-ghost use Rattle.r3k_machine.specs.Step.{arrived, fallen, fetching, outcome_of_instruction, interrupted, outcome_of_interrupt_or_instruction, loading, next, sampled, storing, ticked, told};
+ghost use Rattle.r3k_machine.specs.Step.{arrived, fallen, fetching, outcome_of_instruction, interrupted, outcome_of_interrupt_or_instruction, loading, next, received, sampled, storing, ticked, told};
+ghost use Rattle.r3k_machine.specs.Told.{IsTold};
 
 use crate::exception::Exception;
 use crate::execute::execute_word;
-use crate::load_store::fetch;
+use crate::load_store::{Stored, fetch};
 use crate::memory::Mem;
 use crate::state::Core;
 use dz_serial::Sent;
 use input_log::Event;
+use kn02_bus::Bus;
 use r3k_word::layout::PAGE_BYTES;
 
 /// What a step tells: the byte that it sent, the physical address of the word of RAM that it stored into, and the pages
@@ -46,38 +48,61 @@ impl Done {
         }
     }
 
-    // A step that fetched and stored, into a word of RAM if there was one.
+    // A step that fetched and stored.
     #[inline]
-    pub(crate) fn storing(page: u32, stored: Option<u32>) -> Done
+    pub(crate) fn storing(page: u32, stored: Stored) -> Done
         ensures { result ≡ storing page stored }
     {
         Done {
-            sent: None,
-            stored,
-            touched: [Some(page), stored.map(|address| address / PAGE_BYTES)],
+            sent: stored.sent,
+            stored: stored.address,
+            touched: [
+                Some(page),
+                stored.address.map(|address| address / PAGE_BYTES),
+            ],
         }
     }
 }
 
-impl Core {
-    // The log's bytes reach the serial part. There is none yet, and so they are ignored, as by a receiver that is off.
-    #[inline]
-    fn arrive(&mut self, _events: &[Event])
-        ensures { self.new ≡ arrived _events.now self.old }
-    {}
+// The log's bytes reach the devices.
+#[inline(never)]
+fn receive(bus: &mut Bus, events: &[Event])
+    ensures { bus.new ≡ received events.now bus.old }
+{
+    for event in events {
+        bus.receive(event.line, event.byte);
+    }
+}
 
-    // Clock and serial part advance. There are none yet.
+impl Core {
+    // The log's bytes reach the serial part.
     #[inline]
+    #[tactic(auto, unfolding(crate::specs::Step::arrived))]
+    fn arrive(&mut self, events: &[Event])
+        ensures { self.new ≡ arrived events.now self.old }
+    {
+        if !events.is_empty() {
+            receive(&mut self.bus, events);
+        }
+    }
+
+    // Clock and serial part advance.
+    #[inline]
+    #[tactic(auto, unfolding(crate::specs::Step::ticked))]
     fn tick(&mut self)
         ensures { self.new ≡ ticked self.old }
-    {}
+    {
+        self.bus.tick();
+    }
 
-    // Cause takes the interrupt lines. There is nothing yet that raises one.
+    // Cause takes the interrupt lines.
     #[inline]
+    #[tactic(auto, unfolding(crate::specs::Step::sampled))]
     fn sample(&mut self)
         ensures { self.new ≡ sampled self.old }
     {
-        self.processor.cop0.sample(false, false);
+        let lines = self.bus.lines();
+        self.processor.cop0.sample(lines.board, lines.clock);
     }
 
     // Takes the interrupt in place of the instruction at the PC.
@@ -105,6 +130,7 @@ fn run_instruction<M: Mem>(core: &mut Core, memory: &mut M) -> Done
     ensures state { record { core = core.new; words = M.words memory.new }
         ≡ (outcome_of_instruction (M.ram memory.old) (record { core = core.old; words = M.words memory.old })).state }
     ensures told { result ≡ (outcome_of_instruction (M.ram memory.old) (record { core = core.old; words = M.words memory.old })).done }
+    ensures within { IsTold (M.ram memory.old) (M.words memory.old) (M.words memory.new) result }
     ensures same { M.ram memory.new ≡ M.ram memory.old }
 {
     let fetched = match fetch(core, memory) {
@@ -130,6 +156,7 @@ fn interrupt_or_run<M: Mem>(core: &mut Core, memory: &mut M) -> Done
         ≡ (outcome_of_interrupt_or_instruction (M.ram memory.old) (record { core = core.old; words = M.words memory.old })).state }
     ensures told { result
         ≡ (outcome_of_interrupt_or_instruction (M.ram memory.old) (record { core = core.old; words = M.words memory.old })).done }
+    ensures within { IsTold (M.ram memory.old) (M.words memory.old) (M.words memory.new) result }
     ensures same { M.ram memory.new ≡ M.ram memory.old }
 {
     if core.cop0().wanted() {
@@ -147,6 +174,8 @@ pub fn step<M: Mem>(core: &mut Core, memory: &mut M, events: &[Event]) -> Done
     ensures state { record { core = core.new; words = M.words memory.new }
         ≡ next (M.ram memory.old) events.now (record { core = core.old; words = M.words memory.old }) }
     ensures told { result ≡ told (M.ram memory.old) events.now (record { core = core.old; words = M.words memory.old }) }
+    // Pages and words are those of the machine, and no word but the one that it stored into differs.
+    ensures within { IsTold (M.ram memory.old) (M.words memory.old) (M.words memory.new) result }
     ensures same { M.ram memory.new ≡ M.ram memory.old }
 {
     core.arrive(events);

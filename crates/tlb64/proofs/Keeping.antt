@@ -1,5 +1,6 @@
 -- What is kept of lookups, after a lookup and after a write.
-use Rattle.std.proofs.Common.{◌≡◌, ℕ, ◌<◌, List, length, replicate, get_or, sym, ap, ◌∙◌}
+use Rattle.std.proofs.Common.{◌≡◌, ℕ, zero, suc, ◌+◌, ◌*◌, ◌/◌, ◌%◌, ◌<◌, List, length, replicate, get_or, sym, ap, arith, false, refl, ◌∙◌}
+use Rattle.std.proofs.lemmas.Nat.{div-mul-add, mod-mul-add, mod_below}
 use Rattle.std.specs.Prelude.{Bool, nat_eq, nat_lt, ◌&&◌, ◌||◌, position, count_by, slice_index_or, Option, Some, None, slice_set}
 use Rattle.std.specs.Option.{option_map}
 use Rattle.r3k_word.specs.Word.{has}
@@ -11,13 +12,29 @@ use Rattle.tlb64.specs.declared.entry.TheConstants.{GLOBAL}
 use Rattle.tlb64.specs.declared.kept.Kept.{Kept}
 use Rattle.tlb64.specs.Entries.{page_of, process_of, empty_entry}
 use Rattle.tlb64.specs.Lookup.{lookup_of}
-use Rattle.tlb64.specs.Kept.{IsOf, AreOf}
+use Rattle.tlb64.specs.Kept.{tag_of, IsOf, AreOf}
 
--- nothing is kept at reset and after a write
-pub none_kept : (entries : List Entry) → AreOf entries (replicate 16 None)
+-- a process is below 64
+process-below : (hi : ℕ) → process_of hi < 4096
+process-below hi = let small : process_of hi < 64 = mod_below (hi / 64) 64 (omega arith) in omega (arith, small)
+
+-- a tag tells the page and the process
+tag-page : (a b p q : ℕ) → p < 4096 → q < 4096 → a * 4096 + p ≡ b * 4096 + q → a ≡ b
+tag-page a b p q small also same = sym (div-mul-add a 4096 p small) ∙ ap (λ (n : ℕ). n / 4096) same ∙ div-mul-add b 4096 q also
+
+tag-process : (a b p q : ℕ) → p < 4096 → q < 4096 → a * 4096 + p ≡ b * 4096 + q → p ≡ q
+tag-process a b p q small also same = sym (mod-mul-add a 4096 p small) ∙ ap (λ (n : ℕ). n % 4096) same ∙ mod-mul-add b 4096 q also
+
+-- no lookup has the tag of what is kept at reset and after a write
+tag-apart : (page process : ℕ) → process < 64 → 4095 ≡ page * 4096 + process → ⊥
+tag-apart zero process small same = omega (arith, small, same)
+tag-apart (suc page) process small same = omega (arith, small, same)
+
+pub none_kept : (entries : List Entry) → AreOf entries (replicate 16 (record { tag = 4095; lo = 0 }))
 none_kept entries = record {
-  count = length-replicate {A = Option Kept} 16 None;
-  each = All-replicate (IsOf entries) 16 None tt;
+  count = length-replicate {A = Kept} 16 (record { tag = 4095; lo = 0 });
+  each = All-replicate (IsOf entries) 16 (record { tag = 4095; lo = 0 })
+      (λ address hi same. absurd (tag-apart (page_of address) (process_of hi) (mod_below (hi / 64) 64 (omega arith)) same));
 }
 
 -- the lookup of an address is that of its page
@@ -33,20 +50,25 @@ lookup_of_page entries pid page =
       several = nat_lt 1 (count_by (matches_page page pid) entries);
     }) (position (matches_page page pid) entries)
 
-same_page : (entries : List Entry) (a b pid : ℕ) → page_of a ≡ page_of b → lookup_of entries b pid ≡ lookup_of entries a pid
-same_page entries a b pid same = ap (lookup_of_page entries pid) (sym same)
+same_lookup : (entries : List Entry) (a b p q : ℕ) → page_of a ≡ page_of b → p ≡ q → lookup_of entries b q ≡ lookup_of entries a p
+same_lookup entries a b p q page process = rw (← process) (ap (lookup_of_page entries p) (sym page))
 
--- a lookup that was made is kept
-pub one_more : (entries : List Entry) (kept : List (Option Kept)) (slot address pid : ℕ) (found : Found)
-    → AreOf entries kept → lookup_of entries address pid ≡ Some found
-    → AreOf entries (slice_set kept slot (Some (record { page = page_of address; pid = pid; found = found })))
-one_more entries kept slot address pid found are is = record {
+-- a lookup that found one entry alone is kept
+pub one_more : (entries : List Entry) (kept : List Kept) (slot address hi : ℕ) (found : Found)
+    → AreOf entries kept → lookup_of entries address (process_of hi) ≡ Some found → found.several ≡ false
+    → AreOf entries (slice_set kept slot (record { tag = tag_of address hi; lo = found.entry.lo }))
+one_more entries kept slot address hi found are is sole = record {
   count = length-set kept slot _ ∙ are.count;
   each = All-set (IsOf entries) kept slot _
-      (λ other same. same_page entries address other pid same ∙ is) are.each;
+      (λ other new same. record {
+        found = found;
+        is = same_lookup entries address other (process_of hi) (process_of new) (tag-page _ _ _ _ (process-below hi) (process-below new) same) (tag-process _ _ _ _ (process-below hi) (process-below new) same) ∙ is;
+        low = refl;
+        sole = sole;
+      }) are.each;
 }
 
 -- and is found again
-pub kept_at : (entries : List Entry) (kept : List (Option Kept)) (slot : ℕ) (d : Option Kept) → AreOf entries kept → slot < length kept
+pub kept_at : (entries : List Entry) (kept : List Kept) (slot : ℕ) (d : Kept) → AreOf entries kept → slot < length kept
     → IsOf entries (get_or kept slot d)
 kept_at entries kept slot d are within = All-get_or (IsOf entries) kept slot d within are.each

@@ -1,22 +1,28 @@
 -- Lookups that are kept (own), so that a page that was looked up before takes no search: each is what the lookup says.
-use Rattle.std.specs.Prelude.{◌≡◌, ℕ, Bool, nat_eq, ◌&&◌, List, length, Option, Some, None}
+use Rattle.std.specs.Prelude.{◌≡◌, ℕ, ◌+◌, ◌*◌, false, List, length, Some}
 use Rattle.std.specs.List.{All}
 use Rattle.tlb64.specs.declared.entry.Entry.{Entry}
+use Rattle.tlb64.specs.declared.entry.Found.{Found}
 use Rattle.tlb64.specs.declared.kept.Kept.{Kept}
 use Rattle.tlb64.specs.declared.kept.TheConstants.{KEPT}
-use Rattle.tlb64.specs.Entries.{page_of}
+use Rattle.tlb64.specs.Entries.{page_of, process_of}
 use Rattle.tlb64.specs.Lookup.{lookup_of}
 
--- a lookup is that of an address and a process
-abbrev pub is_of : Kept → ℕ → ℕ → Bool
-is_of kept address pid = nat_eq kept.page (page_of address) && nat_eq kept.pid pid
+-- the page of an address and the process of EntryHi as one number
+abbrev pub tag_of : ℕ → ℕ → ℕ
+tag_of address hi = page_of address * 4096 + process_of hi
 
--- what is kept, if anything is, is what the lookup says of each address of the page
-abbrev pub IsOf : List Entry → Option Kept → Type 0
-IsOf entries None = Unit {0}
-IsOf entries (Some kept) =
-    (address : ℕ) → kept.page ≡ page_of address → lookup_of entries address kept.pid ≡ Some kept.found
+-- one entry alone is for an address and the process of EntryHi, and this is its EntryLo
+pub record IsSole (entries : List Entry) (address hi lo : ℕ) : Type 0 where
+  pub found : Found
+  pub is : lookup_of entries address (process_of hi) ≡ Some found
+  pub low : found.entry.lo ≡ lo
+  pub sole : found.several ≡ false
 
-pub record AreOf (entries : List Entry) (kept : List (Option Kept)) : Type 0 where
+-- what is kept is what the lookup says of each address and process of the tag
+abbrev pub IsOf : List Entry → Kept → Type 0
+IsOf entries kept = (address hi : ℕ) → kept.tag ≡ tag_of address hi → IsSole entries address hi kept.lo
+
+pub record AreOf (entries : List Entry) (kept : List Kept) : Type 0 where
   pub count : length kept ≡ KEPT
   pub each : All (IsOf entries) kept

@@ -1,30 +1,29 @@
 //! Lookups that are kept, so that an access to a page that was looked up before searches nothing.
 
 ghost use Rattle.std.specs.Prelude.{◌≡◌, ◌<◌};
-ghost use Rattle.tlb64.specs.Kept.{is_of};
+ghost use Rattle.tlb64.specs.Kept.{tag_of};
 
-use crate::entry::Found;
 use r3k_word::field::field;
 
-/// A lookup that found an entry: the page and the process that were looked up, and what was found.
+/// A lookup that found one entry alone: the tag of the page and the process that were looked up, and EntryLo.
 #[derive(Clone, Copy, Debug)]
 pub(crate) struct Kept {
-    pub page: u32,
-    pub pid: u32,
-    pub found: Found,
+    pub tag: u32,
+    pub lo: u32,
 }
 
 /// The lookups that are kept: those of data, and behind them those of fetches.
 pub(crate) const KEPT: usize = 16;
 
-impl Kept {
-    /// Whether it is the lookup of this address and process.
-    #[inline(always)]
-    pub fn is_of(&self, address: u32, pid: u32) -> bool
-        ensures { result ≡ is_of self.now address pid }
-    {
-        self.page == field::<31, 12>(address) && self.pid == pid
-    }
+/// Nothing is kept: no lookup has this tag.
+pub(crate) const NOTHING: Kept = Kept { tag: 0xFFF, lo: 0 };
+
+/// The page of an address and the process of EntryHi as one number.
+#[inline(always)]
+pub(crate) fn tag(address: u32, hi: u32) -> u32
+    ensures { result ≡ tag_of address hi }
+{
+    field::<31, 12>(address) * 4096 + field::<11, 6>(hi)
 }
 
 /// Where the lookup of an address is kept.

@@ -40,11 +40,14 @@ fn translation_lookup(rt: HostRuntime) {
     };
     assert_eq!(rt; tlb.lookup(0x3FFF, 0), Some(several));
     assert_eq!(rt; tlb.probe(0x3000), Some(several));
-    // What is kept tells the same, until an entry changes, and of its process alone.
+    // What several entries match is never kept; what one matches is, of its process and for its use alone.
     for is_fetch in [false, true, false, true] {
-        assert_eq!(rt; tlb.translate(is_fetch, 0x3004, 0), Some(several));
-        assert_eq!(rt; tlb.translate(is_fetch, 0x3008, 1), Some(found));
-        assert_eq!(rt; tlb.translate(is_fetch, 0xB000, 0), None);
+        assert_eq!(rt; tlb.translate(is_fetch, 0x3004, 0x0000), Some(several));
+        assert_eq!(rt; tlb.kept(is_fetch, 0x3004, 0x0000), None);
+        assert_eq!(rt; tlb.translate(is_fetch, 0x3008, 0x0040), Some(found));
+        assert_eq!(rt; tlb.kept(is_fetch, 0x3FFC, 0x0040), Some(0x7300));
+        assert_eq!(rt; tlb.kept(is_fetch, 0x3FFC, 0x0080), None);
+        assert_eq!(rt; tlb.translate(is_fetch, 0xB000, 0x0000), None);
     }
     // Process 1 has the global entry alone, and the next page has none.
     assert_eq!(rt; tlb.probe(0x3040), Some(found));
@@ -52,7 +55,8 @@ fn translation_lookup(rt: HostRuntime) {
     assert_eq!(rt; tlb.read(5), global);
     assert_eq!(rt; tlb.read(9), other);
     tlb.write(5, other);
-    assert_eq!(rt; tlb.translate(true, 0x3004, 1), None);
+    assert_eq!(rt; tlb.kept(true, 0x3004, 0x0040), None);
+    assert_eq!(rt; tlb.translate(true, 0x3004, 0x0040), None);
 }
 
 // At reset all entries are of page 0 and process 0, and none is global.

@@ -1,11 +1,12 @@
 //! The 64 entries: reading, writing and looking up.
 
 ghost use Rattle.std.specs.Prelude.{◌≡◌, ◌<◌, IfSome, slice_index_or, slice_set};
-ghost use Rattle.tlb64.specs.Entries.{empty_entry, reset_entries};
+ghost use Rattle.tlb64.specs.Entries.{empty_entry, process_of, reset_entries};
+ghost use Rattle.tlb64.specs.Kept.{IsSole};
 ghost use Rattle.tlb64.specs.Lookup.{lookup_of, probe_of};
 
 use crate::entry::{Entry, Found};
-use crate::kept::{KEPT, Kept, slot};
+use crate::kept::{KEPT, Kept, NOTHING, slot, tag};
 use crate::sets::{lowest_match, set_of};
 use r3k_word::field::field;
 use std::marker::Model;
@@ -17,7 +18,7 @@ pub struct Tlb {
     // Of each set, the bits of its entries' places.
     sets: [u64; 64],
     // Lookups of before, until an entry changes.
-    kept: [Option<Kept>; KEPT],
+    kept: [Kept; KEPT],
 }
 
 impl Model for Tlb {
@@ -43,7 +44,7 @@ impl Tlb {
         Tlb {
             entries: [Entry { hi: 0, lo: 0 }; 64],
             sets,
-            kept: [None; KEPT],
+            kept: [NOTHING; KEPT],
         }
     }
 
@@ -63,32 +64,36 @@ impl Tlb {
         })
     }
 
-    /// The same lookup, for a fetch or for data. That of a page which was looked up before, by this process and since an
-    /// entry was written, takes no search.
-    #[inline(always)]
-    pub fn translate(&mut self, is_fetch: bool, address: u32, pid: u32) -> Option<Found>
-        ensures found { result ≡ lookup_of self.old address pid }
+    /// The same lookup, for the process of a value of EntryHi. What it finds is kept, for fetches or for data, if it is one
+    /// entry alone.
+    #[inline]
+    pub fn translate(&mut self, is_fetch: bool, address: u32, hi: u32) -> Option<Found>
+        ensures found { result ≡ lookup_of self.old address (process_of hi) }
         ensures same { self.new ≡ self.old }
     {
-        let kept = self.kept[slot(is_fetch, address)];
-        if let Some(kept) = kept
-            && kept.is_of(address, pid)
-        {
-            return Some(kept.found);
+        let found = self.lookup(address, field::<11, 6>(hi))?;
+        if !found.several {
+            let tag = tag(address, hi);
+            self.kept[slot(is_fetch, address)] = Kept {
+                tag,
+                lo: found.entry.lo,
+            };
         }
-        self.search(is_fetch, address, pid)
+        Some(found)
     }
 
-    // Looks an address up, and keeps what is found.
+    /// EntryLo of the one entry that is for an address and the process of a value of EntryHi, where `translate` kept it since
+    /// an entry was written. It searches nothing.
     #[inline(always)]
-    fn search(&mut self, is_fetch: bool, address: u32, pid: u32) -> Option<Found>
-        ensures found { result ≡ lookup_of self.old address pid }
-        ensures same { self.new ≡ self.old }
+    pub fn kept(&self, is_fetch: bool, address: u32, hi: u32) -> Option<u32>
+        ensures { IfSome result (λ lo. IsSole self.now address hi lo) }
     {
-        let found = self.lookup(address, pid)?;
-        let page = field::<31, 12>(address);
-        self.kept[slot(is_fetch, address)] = Some(Kept { page, pid, found });
-        Some(found)
+        let kept = self.kept[slot(is_fetch, address)];
+        if kept.tag == tag(address, hi) {
+            Some(kept.lo)
+        } else {
+            None
+        }
     }
 
     /// The lookup for the page and the process of a value of EntryHi.
@@ -120,7 +125,7 @@ impl Tlb {
         self.sets[set_of(self.entries[place].hi)] &= !bit;
         self.sets[set_of(entry.hi)] |= bit;
         self.entries[place] = entry;
-        self.kept = [None; KEPT];
+        self.kept = [NOTHING; KEPT];
     }
 
     /// Makes the entries those of another.

@@ -1,4 +1,4 @@
--- The line's two options as clap's rules, and one use of them.
+-- The line's three options as clap's rules, and one use of them.
 use Rattle.std.proofs.Common.{◌≡◌, ◌⊎◌, ◌∙◌, ap, refl, sym, inl, inr, Bool, true, false, List, [], ◌∷◌, Option, Some, None, codes, bytes_eq}
 use Rattle.std.proofs.lemmas.Slice.Eq.{bytes_eq-Decides}
 use Rattle.clap.specs.Words.{Kinds, Row, Rule, Text, first_of}
@@ -32,6 +32,13 @@ size_filled = record (option_rule (codes "size")) {
   range = Some (record { start_inclusive = 1; end_inclusive = 1 });
 }
 
+abbrev pub log_filled : Rule
+log_filled = record (option_rule (codes "log")) {
+  action = Some Set;
+  parser = Some vp.String;
+  range = Some (record { start_inclusive = 1; end_inclusive = 1 });
+}
+
 abbrev pub help_filled : Rule
 help_filled = record help_rule {
   parser = Some vp.String;
@@ -39,7 +46,7 @@ help_filled = record help_rule {
 }
 
 abbrev pub rules : List Rule
-rules = kind_filled ∷ size_filled ∷ help_filled ∷ []
+rules = kind_filled ∷ size_filled ∷ log_filled ∷ help_filled ∷ []
 
 abbrev pub shape : Shape
 shape = record (new_shape (codes "r3kwb")) {
@@ -52,28 +59,37 @@ shape_is : (built command_line).top ≡ shape
 unfolding clap_on_literals
 shape_is = refl
 
--- the two options: the kind, and the size
-abbrev pub name_of : Bool → Text
-name_of true = codes "kind"
-name_of false = codes "size"
+-- the three options: the kind, the size, and the log's size
+pub data Choice : Type 0 where
+  OfKind : Choice
+  OfSize : Choice
+  OfLog : Choice
 
-abbrev pub filled : Bool → Rule
-filled true = kind_filled
-filled false = size_filled
+abbrev pub name_of : Choice → Text
+name_of OfKind = codes "kind"
+name_of OfSize = codes "size"
+name_of OfLog = codes "log"
+
+abbrev pub filled : Choice → Rule
+filled OfKind = kind_filled
+filled OfSize = size_filled
+filled OfLog = log_filled
 
 -- a long name is an option's, or help's, or none
 abbrev pub IsLong : Text → Type 0
-IsLong n = ((b : Bool) × (n ≡ name_of b) × (arg_by_long rules n ≡ Some (filled b)))
+IsLong n = ((b : Choice) × (n ≡ name_of b) × (arg_by_long rules n ≡ Some (filled b)))
     ⊎ ((arg_by_long rules n ≡ Some help_filled) ⊎ (arg_by_long rules n ≡ None))
 
 pub by_long : (n : Text) → IsLong n
-by_long n = go (bytes_eq (codes "kind") n) refl (bytes_eq (codes "size") n) refl (bytes_eq (codes "help") n) refl
+by_long n = go (bytes_eq (codes "kind") n) refl (bytes_eq (codes "size") n) refl (bytes_eq (codes "log") n) refl (bytes_eq (codes "help") n) refl
   where
-    go : (k : Bool) → bytes_eq (codes "kind") n ≡ k → (s : Bool) → bytes_eq (codes "size") n ≡ s → (h : Bool) → bytes_eq (codes "help") n ≡ h → IsLong n
-    go true ek s es h eh = inl (true, sym ((bytes_eq-Decides (codes "kind") n).0 ek), rw ek refl)
-    go false ek true es h eh = inl (false, sym ((bytes_eq-Decides (codes "size") n).0 es), rw (ek, es) refl)
-    go false ek false es true eh = inr (inl (rw (ek, es, eh) refl))
-    go false ek false es false eh = inr (inr (rw (ek, es, eh) refl))
+    go : (k : Bool) → bytes_eq (codes "kind") n ≡ k → (s : Bool) → bytes_eq (codes "size") n ≡ s → (l : Bool) → bytes_eq (codes "log") n ≡ l
+        → (h : Bool) → bytes_eq (codes "help") n ≡ h → IsLong n
+    go true ek s es l el h eh = inl (OfKind, sym ((bytes_eq-Decides (codes "kind") n).0 ek), rw ek refl)
+    go false ek true es l el h eh = inl (OfSize, sym ((bytes_eq-Decides (codes "size") n).0 es), rw (ek, es) refl)
+    go false ek false es true el h eh = inl (OfLog, sym ((bytes_eq-Decides (codes "log") n).0 el), rw (ek, es, el) refl)
+    go false ek false es false el true eh = inr (inl (rw (ek, es, el, eh) refl))
+    go false ek false es false el false eh = inr (inr (rw (ek, es, el, eh) refl))
 
 same_bytes : (t : Text) → bytes_eq t t ≡ true
 same_bytes t = (bytes_eq-Decides t t).1 refl
@@ -148,28 +164,38 @@ walk-parts w word rest f = or_else-nil (turn_fault shape [] w word) (walk_fault 
 -- ---- one use of an option
 
 -- a use with one value comes first
-pub use-once : (b : Bool) (x : Text) (rows : List Row) → use_fault false (filled b) (x ∷ []) rows ≡ [] → has_row (name_of b) rows ≡ false
-use-once true x rows e = go (has_row (codes "kind") rows) refl
+pub use-once : (b : Choice) (x : Text) (rows : List Row) → use_fault false (filled b) (x ∷ []) rows ≡ [] → has_row (name_of b) rows ≡ false
+use-once OfKind x rows e = go (has_row (codes "kind") rows) refl
   where
     go : (d : Bool) → has_row (codes "kind") rows ≡ d → has_row (codes "kind") rows ≡ false
     go true h =
         let bad : ◌≡◌ {A = Kinds} (ArgumentConflict ∷ []) [] = rw h at e in
         cc
     go false h = h
-use-once false x rows e = go (has_row (codes "size") rows) refl
+use-once OfSize x rows e = go (has_row (codes "size") rows) refl
   where
     go : (d : Bool) → has_row (codes "size") rows ≡ d → has_row (codes "size") rows ≡ false
     go true h =
         let bad : ◌≡◌ {A = Kinds} (ArgumentConflict ∷ []) [] = rw h at e in
         cc
     go false h = h
+use-once OfLog x rows e = go (has_row (codes "log") rows) refl
+  where
+    go : (d : Bool) → has_row (codes "log") rows ≡ d → has_row (codes "log") rows ≡ false
+    go true h =
+        let bad : ◌≡◌ {A = Kinds} (ArgumentConflict ∷ []) [] = rw h at e in
+        cc
+    go false h = h
 
 -- and no use is without one
-pub use-none : (b : Bool) (rows : List Row) → settle_fault rules false (hold rows (Some (name_of b, []))) ≡ [] → ⊥
-use-none true rows e =
+pub use-none : (b : Choice) (rows : List Row) → settle_fault rules false (hold rows (Some (name_of b, []))) ≡ [] → ⊥
+use-none OfKind rows e =
     let bad : ◌≡◌ {A = Kinds} (InvalidValue ∷ []) [] = e in
     cc
-use-none false rows e =
+use-none OfSize rows e =
+    let bad : ◌≡◌ {A = Kinds} (InvalidValue ∷ []) [] = e in
+    cc
+use-none OfLog rows e =
     let bad : ◌≡◌ {A = Kinds} (InvalidValue ∷ []) [] = e in
     cc
 
@@ -186,21 +212,36 @@ without-none id (r ∷ rs) none = go (bytes_eq r.id id) refl (λ h. without-none
         let rest : has_row id rs ≡ false = rw e at none in
         rw e (ap (λ xs. r ∷ xs) (rec rest))
 
-used-is : (b : Bool) (x : Text) (rows : List Row) → has_row (name_of b) rows ≡ false
+used-is : (b : Choice) (x : Text) (rows : List Row) → has_row (name_of b) rows ≡ false
     → used (filled b) (x ∷ []) rows ≡ with_values (name_of b) AsWritten CommandLine (x ∷ []) rows
-used-is true x rows none = ap (with_values (codes "kind") AsWritten CommandLine (x ∷ [])) (without-none (codes "kind") rows none)
-used-is false x rows none = ap (with_values (codes "size") AsWritten CommandLine (x ∷ [])) (without-none (codes "size") rows none)
+used-is OfKind x rows none = ap (with_values (codes "kind") AsWritten CommandLine (x ∷ [])) (without-none (codes "kind") rows none)
+used-is OfSize x rows none = ap (with_values (codes "size") AsWritten CommandLine (x ∷ [])) (without-none (codes "size") rows none)
+used-is OfLog x rows none = ap (with_values (codes "log") AsWritten CommandLine (x ∷ [])) (without-none (codes "log") rows none)
 
--- the first value of either option after a use of one
-abbrev pub after_use : Bool → Bool → Text → Option Text → Option Text
-after_use true true x before = Some x
-after_use true false x before = before
-after_use false true x before = before
-after_use false false x before = Some x
+-- the first value of an option after a use of one
+abbrev pub after_use : Choice → Choice → Text → Option Text → Option Text
+after_use OfKind OfKind x before = Some x
+after_use OfSize OfSize x before = Some x
+after_use OfLog OfLog x before = Some x
+after_use b which x before = before
 
-pub first-used : (b which : Bool) (x : Text) (rows : List Row) → has_row (name_of b) rows ≡ false
+used_other : (b which : Choice) (x : Text) (rows : List Row) → bytes_eq (name_of b) (name_of which) ≡ false → has_row (name_of b) rows ≡ false
+    → first_of (name_of which) (used (filled b) (x ∷ []) rows) ≡ first_of (name_of which) rows
+used_other b which x rows apart none =
+    rw (used-is b x rows none) (first-with_values_other (name_of b) (name_of which) AsWritten CommandLine (x ∷ []) rows apart)
+
+used_same : (b : Choice) (x : Text) (rows : List Row) → has_row (name_of b) rows ≡ false
+    → first_of (name_of b) (used (filled b) (x ∷ []) rows) ≡ Some x
+used_same b x rows none = rw (used-is b x rows none) (first-with_values (name_of b) x AsWritten CommandLine rows none)
+
+pub first-used : (b which : Choice) (x : Text) (rows : List Row) → has_row (name_of b) rows ≡ false
     → first_of (name_of which) (used (filled b) (x ∷ []) rows) ≡ after_use b which x (first_of (name_of which) rows)
-first-used true true x rows none = rw (used-is true x rows none) (first-with_values (codes "kind") x AsWritten CommandLine rows none)
-first-used true false x rows none = rw (used-is true x rows none) (first-with_values_other (codes "kind") (codes "size") AsWritten CommandLine (x ∷ []) rows refl)
-first-used false true x rows none = rw (used-is false x rows none) (first-with_values_other (codes "size") (codes "kind") AsWritten CommandLine (x ∷ []) rows refl)
-first-used false false x rows none = rw (used-is false x rows none) (first-with_values (codes "size") x AsWritten CommandLine rows none)
+first-used OfKind OfKind x rows none = used_same OfKind x rows none
+first-used OfKind OfSize x rows none = used_other OfKind OfSize x rows refl none
+first-used OfKind OfLog x rows none = used_other OfKind OfLog x rows refl none
+first-used OfSize OfKind x rows none = used_other OfSize OfKind x rows refl none
+first-used OfSize OfSize x rows none = used_same OfSize x rows none
+first-used OfSize OfLog x rows none = used_other OfSize OfLog x rows refl none
+first-used OfLog OfKind x rows none = used_other OfLog OfKind x rows refl none
+first-used OfLog OfSize x rows none = used_other OfLog OfSize x rows refl none
+first-used OfLog OfLog x rows none = used_same OfLog x rows none

@@ -10,7 +10,7 @@ use Rattle.clap.specs.Walk.{arg_by_short, bundle, has_row, plain, reacted, Held,
 use Rattle.clap.specs.Faults.{long_fault, option_fault, react_fault, short_fault, bundle_fault, flags_fault, settle_fault, turn_fault, use_fault}
 use Rattle.clap.specs.Kinds.{or_else}
 use Rattle.clap.specs.declared.error.kind.ErrorKind.TheVariants.{DisplayHelp, TooManyValues, UnknownArgument}
-use Rattle.wb_options.proofs.ClapRules.{kind_filled, size_filled, help_filled, rules, shape, name_of, filled, IsLong, by_long, or_else-nil, hold, at, use-once, use-none}
+use Rattle.wb_options.proofs.ClapRules.{Choice, OfKind, OfSize, OfLog, kind_filled, size_filled, log_filled, help_filled, rules, shape, name_of, filled, IsLong, by_long, or_else-nil, hold, at, use-once, use-none}
 
 -- ---- one word
 
@@ -35,11 +35,12 @@ turn-plain h word d l s e =
     let bad : ◌≡◌ {A = Kinds} (UnknownArgument ∷ []) [] = rw (d, l, s) at e in
     cc
 
-wait-plain : (rows : List Row) (b : Bool) (word : Text) → bytes_eq word (45 ∷ 45 ∷ []) ≡ false → long_of word ≡ None → short_of word ≡ None
+wait-plain : (rows : List Row) (b : Choice) (word : Text) → bytes_eq word (45 ∷ 45 ∷ []) ≡ false → long_of word ≡ None → short_of word ≡ None
     → walked rules [] (at (hold rows (Some (name_of b, []))) (option (name_of b)) false) word ≡ at (hold rows (Some (name_of b, word ∷ []))) idle false
 unfolding walked
-wait-plain rows true word d l s = rw (d, l, s) refl
-wait-plain rows false word d l s = rw (d, l, s) refl
+wait-plain rows OfKind word d l s = rw (d, l, s) refl
+wait-plain rows OfSize word d l s = rw (d, l, s) refl
+wait-plain rows OfLog word d l s = rw (d, l, s) refl
 
 -- a short flag is refused: there is none but the one for help
 no_short : (c : ℕ) (rest : Text) (h : Held) (next : Held → Kinds) → short_fault rules false (arg_by_short rules c) rest h next ≡ [] → ⊥
@@ -81,16 +82,17 @@ no_name v h e =
     let bad : ◌≡◌ {A = Kinds} (UnknownArgument ∷ []) [] = e in
     cc
 
-option-found : (b : Bool) (v : Option Text) (h : Held) → long_fault rules false (Some (filled b)) v h ≡ option_fault rules false (filled b) v h
-option-found true v h = refl
-option-found false v h = refl
+option-found : (b : Choice) (v : Option Text) (h : Held) → long_fault rules false (Some (filled b)) v h ≡ option_fault rules false (filled b) v h
+option-found OfKind v h = refl
+option-found OfSize v h = refl
+option-found OfLog v h = refl
 
 -- the rows once what waits is used
 abbrev pub settled_held : List Row → Option (Text × List Text) → List Row
 settled_held rows pending = (settled rules (hold rows pending)).rows
 
 -- the walk after a word of the option
-abbrev pub NextIs : List Row → Option (Text × List Text) → Text → Bool → Option Text → Type 0
+abbrev pub NextIs : List Row → Option (Text × List Text) → Text → Choice → Option Text → Type 0
 NextIs rows pending word b (Some x) =
     (has_row (name_of b) (settled_held rows pending) ≡ false)
     × (walked rules [] (at (hold rows pending) idle false) word
@@ -102,22 +104,26 @@ NextIs rows pending word b None =
 -- a word that passes where no value is awaited: `--`, or one of an option
 abbrev pub IdleStep : List Row → Option (Text × List Text) → Text → Type 0
 IdleStep rows pending word = (word ≡ 45 ∷ 45 ∷ [])
-    ⊎ ((b : Bool) × (v : Option Text) × (long_of word ≡ Some (name_of b, v))
+    ⊎ ((b : Choice) × (v : Option Text) × (long_of word ≡ Some (name_of b, v))
     × (settle_fault rules false (hold rows pending) ≡ []) × NextIs rows pending word b v)
 
-idle-option : (rows : List Row) (pending : Option (Text × List Text)) (word : Text) (b : Bool) (n : Text) (v : Option Text)
+idle-option : (rows : List Row) (pending : Option (Text × List Text)) (word : Text) (b : Choice) (n : Text) (v : Option Text)
     → bytes_eq word (45 ∷ 45 ∷ []) ≡ false → long_of word ≡ Some (n, v) → n ≡ name_of b → arg_by_long rules n ≡ Some (filled b)
     → option_fault rules false (filled b) v (hold rows pending) ≡ []
     → (settle_fault rules false (hold rows pending) ≡ []) × NextIs rows pending word b v
 unfolding walked
-idle-option rows pending word true n (Some x) d l is found e =
+idle-option rows pending word OfKind n (Some x) d l is found e =
     let f = or_else-nil (settle_fault rules false (hold rows pending)) (use_fault false kind_filled (x ∷ []) (settled_held rows pending)) e in
-    (f.0, (use-once true x (settled_held rows pending) f.1, rw (d, l, found) refl))
-idle-option rows pending word false n (Some x) d l is found e =
+    (f.0, (use-once OfKind x (settled_held rows pending) f.1, rw (d, l, found) refl))
+idle-option rows pending word OfSize n (Some x) d l is found e =
     let f = or_else-nil (settle_fault rules false (hold rows pending)) (use_fault false size_filled (x ∷ []) (settled_held rows pending)) e in
-    (f.0, (use-once false x (settled_held rows pending) f.1, rw (d, l, found) refl))
-idle-option rows pending word true n None d l is found e = (e, rw (d, l, found) refl)
-idle-option rows pending word false n None d l is found e = (e, rw (d, l, found) refl)
+    (f.0, (use-once OfSize x (settled_held rows pending) f.1, rw (d, l, found) refl))
+idle-option rows pending word OfLog n (Some x) d l is found e =
+    let f = or_else-nil (settle_fault rules false (hold rows pending)) (use_fault false log_filled (x ∷ []) (settled_held rows pending)) e in
+    (f.0, (use-once OfLog x (settled_held rows pending) f.1, rw (d, l, found) refl))
+idle-option rows pending word OfKind n None d l is found e = (e, rw (d, l, found) refl)
+idle-option rows pending word OfSize n None d l is found e = (e, rw (d, l, found) refl)
+idle-option rows pending word OfLog n None d l is found e = (e, rw (d, l, found) refl)
 
 -- a word of a bundle is refused, where no value is awaited
 bundle-idle : (rows : List Row) (pending : Option (Text × List Text)) (word flags : Text) → bytes_eq word (45 ∷ 45 ∷ []) ≡ false → long_of word ≡ None
@@ -156,26 +162,27 @@ idle-step rows pending word e = go (bytes_eq word (45 ∷ 45 ∷ [])) refl (long
     go false d None l None f = absurd (turn-plain (hold rows pending) word d l f e)
 
 -- a word that passes where an option awaits its value: `--`, or the value
-abbrev pub WaitStep : List Row → Bool → Text → Type 0
+abbrev pub WaitStep : List Row → Choice → Text → Type 0
 WaitStep rows b word = (word ≡ 45 ∷ 45 ∷ [])
     ⊎ ((long_of word ≡ None) × (walked rules [] (at (hold rows (Some (name_of b, []))) (option (name_of b)) false) word
     ≡ at (hold rows (Some (name_of b, word ∷ []))) idle false))
 
-wait-short : (rows : List Row) (b : Bool) (word flags : Text) → bytes_eq word (45 ∷ 45 ∷ []) ≡ false → long_of word ≡ None → short_of word ≡ Some flags
+wait-short : (rows : List Row) (b : Choice) (word flags : Text) → bytes_eq word (45 ∷ 45 ∷ []) ≡ false → long_of word ≡ None → short_of word ≡ Some flags
     → slice_get (chars flags) 0 ≡ None
     → walked rules [] (at (hold rows (Some (name_of b, []))) (option (name_of b)) false) word ≡ at (hold rows (Some (name_of b, word ∷ []))) idle false
 unfolding walked
-wait-short rows true word flags d l s none = rw (d, l, s, bundle_plain rows (Some (codes "kind", [])) flags none) refl
-wait-short rows false word flags d l s none = rw (d, l, s, bundle_plain rows (Some (codes "size", [])) flags none) refl
+wait-short rows OfKind word flags d l s none = rw (d, l, s, bundle_plain rows (Some (codes "kind", [])) flags none) refl
+wait-short rows OfSize word flags d l s none = rw (d, l, s, bundle_plain rows (Some (codes "size", [])) flags none) refl
+wait-short rows OfLog word flags d l s none = rw (d, l, s, bundle_plain rows (Some (codes "log", [])) flags none) refl
 
-pub wait-step : (rows : List Row) (b : Bool) (word : Text) → turn_fault shape [] (at (hold rows (Some (name_of b, []))) (option (name_of b)) false) word ≡ []
+pub wait-step : (rows : List Row) (b : Choice) (word : Text) → turn_fault shape [] (at (hold rows (Some (name_of b, []))) (option (name_of b)) false) word ≡ []
     → WaitStep rows b word
 wait-step rows b word e = go (bytes_eq word (45 ∷ 45 ∷ [])) refl (long_of word) refl (short_of word) refl
   where
     h : Held
     h = hold rows (Some (name_of b, []))
 
-    opened : (c : Bool) (v : Option Text) → option_fault rules false (filled c) v (hold rows (Some (name_of b, []))) ≡ [] → ⊥
+    opened : (c : Choice) (v : Option Text) → option_fault rules false (filled c) v (hold rows (Some (name_of b, []))) ≡ [] → ⊥
     opened c (Some x) f = use-none b rows (or_else-nil (settle_fault rules false (hold rows (Some (name_of b, [])))) _ f).0
     opened c None f = use-none b rows f
 

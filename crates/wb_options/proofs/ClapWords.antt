@@ -9,7 +9,7 @@ use Rattle.clap.specs.Walk.{finished, nothing_held, rows_after, walk, with_defau
 use Rattle.clap.specs.Faults.{built_fault, level_fault, settle_fault, turn_fault, walk_fault}
 use Rattle.clap.proofs.OnLiterals.{clap_on_literals}
 use Rattle.wb_options.specs.Options.{command_line, faults_of, value_at, value_in}
-use Rattle.wb_options.proofs.ClapRules.{kind_filled, size_filled, help_filled, rules, shape, name_of, filled, no_first, or_else-nil, hold, at, walk-parts, use-once, use-none, first-used}
+use Rattle.wb_options.proofs.ClapRules.{Choice, OfKind, OfSize, OfLog, kind_filled, size_filled, log_filled, help_filled, rules, shape, name_of, filled, no_first, or_else-nil, hold, at, walk-parts, use-once, use-none, first-used}
 use Rattle.wb_options.proofs.ClapSteps.{turn-trailing, turn-dashes, wait-dashes, settled_held, IdleStep, idle-step, WaitStep, wait-step}
 
 -- ---- all words
@@ -28,7 +28,7 @@ abbrev pub end_of_walk : Walk → List Text → Held
 end_of_walk w words = (fold (walked rules []) w words).held
 
 -- words that pass give an option the value that stands in them
-abbrev pub Reads : Bool → List Text → Type 0
+abbrev pub Reads : Choice → List Text → Type 0
 Reads which words = (rows : List Row) (pending : Option (Text × List Text))
     → walk_fault shape [] (at (hold rows pending) idle false) words ≡ []
     → settle_fault rules false (end_of_walk (at (hold rows pending) idle false) words) ≡ []
@@ -37,32 +37,39 @@ Reads which words = (rows : List Row) (pending : Option (Text × List Text))
     ≡ or_first (first_of (name_of which) (settled_held rows pending)) (value_in (name_of which) words))
 
 -- and so where the option b awaits its value
-abbrev pub Awaits : Bool → List Text → Type 0
-Awaits which words = (rows : List Row) (b : Bool)
+abbrev pub Awaits : Choice → List Text → Type 0
+Awaits which words = (rows : List Row) (b : Choice)
     → walk_fault shape [] (at (hold rows (Some (name_of b, []))) (option (name_of b)) false) words ≡ []
     → settle_fault rules false (end_of_walk (at (hold rows (Some (name_of b, []))) (option (name_of b)) false) words) ≡ []
     → first_of (name_of which) (settled rules (end_of_walk (at (hold rows (Some (name_of b, []))) (option (name_of b)) false) words)).rows
     ≡ or_first (first_of (name_of which) rows) (value_at (name_of which) (Some (name_of b, None)) (slice_get words 0) (value_in (name_of which) words))
 
 -- a use of an option, before the later words
-chosen : (b which : Bool) (x : Text) (v next later : Option Text) (rows : List Row) → option_map_or (λ value. Some value) v next ≡ Some x → has_row (name_of b) rows ≡ false
+chosen : (b which : Choice) (x : Text) (v next later : Option Text) (rows : List Row) → option_map_or (λ value. Some value) v next ≡ Some x → has_row (name_of b) rows ≡ false
     → or_first (first_of (name_of which) (used (filled b) (x ∷ []) rows)) later
     ≡ or_first (first_of (name_of which) rows) (value_at (name_of which) (Some (name_of b, v)) next later)
-chosen true true x v next later rows is none = rw (first-used true true x rows none, no_first (codes "kind") rows none, is) refl
-chosen true false x v next later rows is none = rw (first-used true false x rows none) refl
-chosen false true x v next later rows is none = rw (first-used false true x rows none) refl
-chosen false false x v next later rows is none = rw (first-used false false x rows none, no_first (codes "size") rows none, is) refl
+chosen OfKind OfKind x v next later rows is none = rw (first-used OfKind OfKind x rows none, no_first (codes "kind") rows none, is) refl
+chosen OfKind OfSize x v next later rows is none = rw (first-used OfKind OfSize x rows none) refl
+chosen OfKind OfLog x v next later rows is none = rw (first-used OfKind OfLog x rows none) refl
+chosen OfSize OfKind x v next later rows is none = rw (first-used OfSize OfKind x rows none) refl
+chosen OfSize OfSize x v next later rows is none = rw (first-used OfSize OfSize x rows none, no_first (codes "size") rows none, is) refl
+chosen OfSize OfLog x v next later rows is none = rw (first-used OfSize OfLog x rows none) refl
+chosen OfLog OfKind x v next later rows is none = rw (first-used OfLog OfKind x rows none) refl
+chosen OfLog OfSize x v next later rows is none = rw (first-used OfLog OfSize x rows none) refl
+chosen OfLog OfLog x v next later rows is none = rw (first-used OfLog OfLog x rows none, no_first (codes "log") rows none, is) refl
 
-await-nil : (which : Bool) → Awaits which []
+await-nil : (which : Choice) → Awaits which []
 await-nil which rows b f s = absurd (use-none b rows s)
 
-settle-one : (b : Bool) (x : Text) (rows : List Row) → settle_fault rules false (hold rows (Some (name_of b, x ∷ []))) ≡ [] → has_row (name_of b) rows ≡ false
-settle-one true x rows e = use-once true x rows e
-settle-one false x rows e = use-once false x rows e
+settle-one : (b : Choice) (x : Text) (rows : List Row) → settle_fault rules false (hold rows (Some (name_of b, x ∷ []))) ≡ [] → has_row (name_of b) rows ≡ false
+settle-one OfKind x rows e = use-once OfKind x rows e
+settle-one OfSize x rows e = use-once OfSize x rows e
+settle-one OfLog x rows e = use-once OfLog x rows e
 
-settled-one : (b : Bool) (x : Text) (rows : List Row) → settled_held rows (Some (name_of b, x ∷ [])) ≡ used (filled b) (x ∷ []) rows
-settled-one true x rows = refl
-settled-one false x rows = refl
+settled-one : (b : Choice) (x : Text) (rows : List Row) → settled_held rows (Some (name_of b, x ∷ [])) ≡ used (filled b) (x ∷ []) rows
+settled-one OfKind x rows = refl
+settled-one OfSize x rows = refl
+settled-one OfLog x rows = refl
 
 -- behind `--` there are no more words
 trailing-ends : (h : Held) (waiting : Waiting) (rest : List Text) → walk_fault shape [] (at h waiting true) rest ≡ [] → rest ≡ []
@@ -70,7 +77,7 @@ trailing-ends h waiting [] f = refl
 trailing-ends h waiting (word ∷ rest) f =
     absurd (turn-trailing h waiting word (walk-parts (at h waiting true) word rest f).0)
 
-await-more : (which : Bool) (word : Text) (rest : List Text) → Reads which rest → Awaits which (word ∷ rest)
+await-more : (which : Choice) (word : Text) (rest : List Text) → Reads which rest → Awaits which (word ∷ rest)
 await-more which word rest reads rows b f s = go (wait-step rows b word parts.0)
   where
     w : Walk
@@ -103,7 +110,7 @@ await-more which word rest reads rows b f s = go (wait-step rows b word parts.0)
         let given = ap (λ later. or_first (first_of (name_of which) rows) (value_at (name_of which) (Some (name_of b, None)) (Some word) later)) (sym later_is) in
         subst read_at (sym next) (read.1 ∙ (used_is ∙ (chosen_is ∙ given)))
 
-read-more : (which : Bool) (word : Text) (rest : List Text) → Reads which rest → Awaits which rest → Reads which (word ∷ rest)
+read-more : (which : Choice) (word : Text) (rest : List Text) → Reads which rest → Awaits which rest → Reads which (word ∷ rest)
 read-more which word rest reads awaits rows pending f s = go (idle-step rows pending word parts.0)
   where
     w : Walk
@@ -120,7 +127,7 @@ read-more which word rest reads awaits rows pending f s = go (idle-step rows pen
         × (first_of (name_of which) (settled rules (end_of_walk v rest)).rows
         ≡ or_first (first_of (name_of which) (settled_held rows pending)) (value_in (name_of which) (word ∷ rest)))
 
-    value_is : (b : Bool) (v : Option Text) → long_of word ≡ Some (name_of b, v)
+    value_is : (b : Choice) (v : Option Text) → long_of word ≡ Some (name_of b, v)
         → value_in (name_of which) (word ∷ rest) ≡ value_at (name_of which) (Some (name_of b, v)) (slice_get rest 0) (value_in (name_of which) rest)
     value_is b v l = ap (λ o. value_at (name_of which) o (slice_get rest 0) (value_in (name_of which) rest)) l
 
@@ -147,7 +154,7 @@ read-more which word rest reads awaits rows pending f s = go (idle-step rows pen
         let given = ap (or_first (first_of (name_of which) R)) (sym (value_is b None l)) in
         subst read_at (sym next) (left, read ∙ given)
 
-read-all : (which : Bool) (words : List Text) → Reads which words
+read-all : (which : Choice) (words : List Text) → Reads which words
 read-all which [] rows pending f s = (s, or_first-none (first_of (name_of which) (settled_held rows pending)))
 read-all which (word ∷ []) rows pending f s = read-more which word [] (read-all which []) (await-nil which) rows pending f s
 read-all which (word ∷ next ∷ rest) rows pending f s =
@@ -170,11 +177,12 @@ with_default-none rows a none = go (has_row a.id rows) refl
 finished-is : (h : Held) → finished rules h ≡ (settled rules h).rows
 finished-is h =
     let rows = (settled rules h).rows in
-    ap (λ rs. with_default (with_default rs size_filled) help_filled) (with_default-none rows kind_filled refl)
-    ∙ (ap (λ rs. with_default rs help_filled) (with_default-none rows size_filled refl) ∙ with_default-none rows help_filled refl)
+    ap (λ rs. with_default (with_default (with_default rs size_filled) log_filled) help_filled) (with_default-none rows kind_filled refl)
+    ∙ (ap (λ rs. with_default (with_default rs log_filled) help_filled) (with_default-none rows size_filled refl)
+    ∙ (ap (λ rs. with_default rs help_filled) (with_default-none rows log_filled refl) ∙ with_default-none rows help_filled refl))
 
 -- good words give an option the value that stands in them
-pub value-in_words : (which : Bool) (words : List Text) → faults_of words ≡ []
+pub value-in_words : (which : Choice) (words : List Text) → faults_of words ≡ []
     → first_of (name_of which) (matches_of command_line words) ≡ value_in (name_of which) (drop 1 words)
 value-in_words which words good =
     let ws : List Text = drop 1 words in

@@ -1,18 +1,18 @@
 -- From what clap says of a parse to what the line says.
-use Rattle.std.proofs.Common.{◌≡◌, ◌⊎◌, ◌∙◌, ap, refl, subst, sym, inl, inr, ℕ, Bool, true, List, [], drop}
+use Rattle.std.proofs.Common.{◌≡◌, ◌⊎◌, ◌∙◌, ap, refl, subst, sym, inl, inr, ℕ, true, List, [], drop}
 use Rattle.clap.specs.Words.{App, HasKind, HasMatchesOf, IsAmong, Text, fault_of, first_of, first_value, found_of, is_simple, is_simple_and_free}
 use Rattle.clap.specs.declared.error.Error.{Error}
 use Rattle.clap.specs.declared.error.kind.ErrorKind.{ErrorKind}
 use Rattle.clap.specs.declared.error.kind.ErrorKind.TheVariants.{DisplayHelp, InvalidValue, OutOfMemory}
 use Rattle.clap.specs.declared.parser.matches.ArgMatches.{ArgMatches}
-use Rattle.wb_options.proofs.ClapRules.{name_of}
+use Rattle.wb_options.proofs.ClapRules.{Choice, name_of}
 use Rattle.wb_options.proofs.ClapWords.{value-in_words}
 use Rattle.clap.proofs.OnLiterals.{clap_on_literals}
 use Rattle.clap.proofs.WalkLemmas.{first_value-rows}
 use Rattle.wb_options.specs.Options.{IsFaultOf, IsLine, IsLineFault, command_line, faults_of, value_in}
 use Rattle.wb_options.specs.declared.arguments.Kind.{Kind}
 use Rattle.wb_options.specs.declared.fault.RunFault.{RunFault}
-use Rattle.wb_options.specs.declared.fault.RunFault.TheVariants.{Memory, BadImage, BadSource, ReadFault, WriteFault, Usage, Help}
+use Rattle.wb_options.specs.declared.fault.RunFault.TheVariants.{Memory, BadImage, BadLog, BadSource, ReadFault, WriteFault, Usage, Help}
 
 line_is_simple : is_simple command_line ≡ true
 unfolding clap_on_literals
@@ -35,7 +35,7 @@ has_fault a words e is h =
     subst (λ b. HasKind (fault_of b words) e) is (h (ap is_simple_and_free is ∙ line_is_free))
 
 -- the first value of an option is the one that the words give
-pub value_is : (a : App) (words : List Text) (m : ArgMatches) (which : Bool) → a ≡ command_line
+pub value_is : (a : App) (words : List Text) (m : ArgMatches) (which : Choice) → a ≡ command_line
     → HasMatchesOf a words m → faults_of words ≡ []
     → first_value (found_of m) (name_of which) ≡ value_in (name_of which) (drop 1 words)
 value_is a words m which is h good =
@@ -48,6 +48,7 @@ pub fault_is : (words : List Text) (kind : ErrorKind) (fault : RunFault) → IsF
     → (kind ≡ OutOfMemory) ⊎ IsAmong kind (faults_of words) → IsLineFault words fault
 fault_is words kind Memory is among = tt
 fault_is words kind (BadImage k) is among = absurd is
+fault_is words kind (BadLog k) is among = absurd is
 fault_is words kind (BadSource line k) is among = absurd is
 fault_is words kind ReadFault is among = absurd is
 fault_is words kind WriteFault is among = absurd is
@@ -60,9 +61,10 @@ fault_is words kind (Help text) is (inr among) = subst (λ k. IsAmong k (faults_
 
 -- a value that clap takes and the option doesn't
 pub wrong_is : (words : List Text) (fault : RunFault) → IsFaultOf InvalidValue fault → faults_of words ≡ []
-    → ((kind : Kind) (size : ℕ) → ¬ IsLine words kind size) → IsLineFault words fault
+    → ((kind : Kind) (size log_size : ℕ) → ¬ IsLine words kind size log_size) → IsLineFault words fault
 wrong_is words Memory is good none = tt
 wrong_is words (BadImage k) is good none = absurd is
+wrong_is words (BadLog k) is good none = absurd is
 wrong_is words (BadSource line k) is good none = absurd is
 wrong_is words ReadFault is good none = absurd is
 wrong_is words WriteFault is good none = absurd is

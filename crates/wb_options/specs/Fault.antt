@@ -7,12 +7,16 @@ use Rattle.r3k_image.specs.declared.fault.ImageKind.TheVariants.{ClockStart, Seg
 use Rattle.r3k_image.specs.declared.fault.ImageKind.TheVariants.{RawSize, Pages}
 use Rattle.r3k_image.specs.declared.fault.ImageFault.{ImageFault}
 use Rattle.r3k_image.specs.declared.fault.ImageFault.TheVariants.{Memory as ImageMemory, Bad}
+use Rattle.input_log.specs.declared.fault.LogKind.{LogKind}
+use Rattle.input_log.specs.declared.fault.LogKind.TheVariants.{Magic as LogMagic, Count, Time, Line, Short as LogShort, Extra as LogExtra}
+use Rattle.input_log.specs.declared.fault.LogFault.{LogFault}
+use Rattle.input_log.specs.declared.fault.LogFault.TheVariants.{Memory as LogMemory, Bad as BadBytes}
 use Rattle.asm_line.specs.declared.kind.AsmKind.{AsmKind}
 use Rattle.asm_line.specs.declared.kind.AsmKind.TheVariants.{Name, Syntax as SyntaxKind, Number, Twice, Place, Overlap, Label, Reach}
 use Rattle.r3k_asm.specs.declared.fault.AsmFault.{AsmFault}
 use Rattle.r3k_asm.specs.declared.fault.AsmFault.TheVariants.{Memory as SourceMemory, Bad as BadLine}
 use Rattle.wb_options.specs.declared.fault.RunFault.{RunFault}
-use Rattle.wb_options.specs.declared.fault.RunFault.TheVariants.{Memory, BadImage, BadSource, ReadFault}
+use Rattle.wb_options.specs.declared.fault.RunFault.TheVariants.{Memory, BadImage, BadLog, BadSource, ReadFault}
 use Rattle.wb_options.specs.declared.fault.RunFault.TheVariants.{WriteFault, Usage, Help}
 
 -- the name of an image's fault kind
@@ -26,6 +30,15 @@ kind_name Short = codes "Short"
 kind_name Extra = codes "Extra"
 kind_name RawSize = codes "RawSize"
 kind_name Pages = codes "Pages"
+
+-- the name of a log's fault kind
+abbrev pub log_kind_name : LogKind → List ℕ
+log_kind_name LogMagic = codes "Magic"
+log_kind_name Count = codes "Count"
+log_kind_name Time = codes "Time"
+log_kind_name Line = codes "Line"
+log_kind_name LogShort = codes "Short"
+log_kind_name LogExtra = codes "Extra"
 
 -- the name of a source's fault kind
 abbrev pub source_kind_name : AsmKind → List ℕ
@@ -43,6 +56,11 @@ abbrev pub run_fault_of : ImageFault → RunFault
 run_fault_of ImageMemory = Memory
 run_fault_of (Bad kind) = BadImage kind
 
+-- the fault of a run for that of a log
+abbrev pub run_fault_of_log : LogFault → RunFault
+run_fault_of_log LogMemory = Memory
+run_fault_of_log (BadBytes kind) = BadLog kind
+
 -- the fault of a run for that of a source
 abbrev pub run_fault_of_source : AsmFault → RunFault
 run_fault_of_source SourceMemory = Memory
@@ -52,6 +70,7 @@ run_fault_of_source (BadLine line kind) = BadSource line kind
 abbrev pub fault_name : RunFault → List ℕ
 fault_name Memory = codes "1 Memory"
 fault_name (BadImage kind) = codes "9 BadImage " ++ kind_name kind
+fault_name (BadLog kind) = codes "10 BadLog " ++ log_kind_name kind
 fault_name (BadSource line kind) = codes "13 BadSource " ++ decimal line ++ codes " " ++ source_kind_name kind
 fault_name ReadFault = codes "11 ReadFault"
 fault_name WriteFault = codes "12 WriteFault"
@@ -72,6 +91,7 @@ line_of fault = codes "r3kwb: error " ++ fault_name fault ++ 10 ∷ []
 abbrev pub fault_status : RunFault → ℕ
 fault_status (Help text) = 0
 fault_status (BadImage kind) = 1
+fault_status (BadLog kind) = 1
 fault_status (BadSource line kind) = 1
 fault_status (Usage text) = 2
 fault_status ReadFault = 3

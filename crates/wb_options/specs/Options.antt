@@ -1,5 +1,5 @@
--- The program's line (own): `r3kwb [--kind rom|image|source] [--size N]`. How words are read as options is
--- clap's, whose definitions say it of this command.
+-- The program's line (own): `r3kwb [--kind rom|image|source] [--size N] [--log N]`. How words are read as
+-- options is clap's, whose definitions say it of this command.
 use Rattle.std.specs.Prelude.{◌≡◌, ◌≢◌, ◌⊎◌, ◌≤◌, ⊤, ℕ, List, [], ◌∷◌, Option, Some, None}
 use Rattle.std.specs.Prelude.{if◌then◌else◌, bytes_eq, codes, drop, slice_get}
 use Rattle.std.specs.Option.{option_map_or}
@@ -18,11 +18,11 @@ use Rattle.wb_options.specs.declared.arguments.Kind.TheVariants.{Rom, Image, Sou
 abbrev pub option_rule : Text → Rule
 option_rule name = record (new_rule name) { long = Some name; value_names = 1 }
 
--- the command, with its two options; clap adds `--help` and `-h`
+-- the command, with its three options; clap adds `--help` and `-h`
 abbrev pub command_line : App
 command_line =
-    with_rule (with_rule (new_app (codes "r3kwb")) (option_rule (codes "kind")))
-    (option_rule (codes "size"))
+    with_rule (with_rule (with_rule (new_app (codes "r3kwb")) (option_rule (codes "kind")))
+    (option_rule (codes "size"))) (option_rule (codes "log"))
 
 -- what is wrong with the words, the first of which names the program; a call for help counts
 abbrev pub faults_of : List Text → Kinds
@@ -58,18 +58,20 @@ abbrev pub IsSize : Option Text → ℕ → Type 0
 IsSize None size = size ≡ 0
 IsSize (Some text) size = IsNumeral 10 text × (digits_value 10 text ≡ size)
 
--- the words are good, and give this kind and this size
-pub record IsLine (words : List Text) (kind : Kind) (size : ℕ) : Type 0 where
+-- the words are good, and give this kind, this size and this size of the log
+pub record IsLine (words : List Text) (kind : Kind) (size log_size : ℕ) : Type 0 where
   pub good : faults_of words ≡ []
   pub kind_is : IsKind (value_in (codes "kind") (drop 1 words)) kind
   pub size_is : IsSize (value_in (codes "size") (drop 1 words)) size
   pub in_range : size ≤ 67108864
+  pub log_size_is : IsSize (value_in (codes "log") (drop 1 words)) log_size
+  pub log_in_range : log_size ≤ 67108864
 
 -- the words have a fault that is no call for help, or a value that is no kind or no size
 abbrev pub IsWrongLine : List Text → Type 0
 IsWrongLine words =
     ((fault : ErrorKind) × IsAmong fault (faults_of words) × (fault ≢ DisplayHelp))
-    ⊎ ((faults_of words ≡ []) × ((kind : Kind) (size : ℕ) → ¬ IsLine words kind size))
+    ⊎ ((faults_of words ≡ []) × ((kind : Kind) (size log_size : ℕ) → ¬ IsLine words kind size log_size))
 
 -- the fault tells what is wrong with the words
 abbrev pub IsLineFault : List Text → RunFault → Type 0

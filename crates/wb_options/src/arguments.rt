@@ -12,7 +12,7 @@ pub enum Kind {
     Source,
 }
 
-/// The greatest `--size`.
+/// The greatest `--size` and `--log`.
 pub const MAX_SIZE: u32 = 67_108_864;
 
 /// What the program's line asks for.
@@ -22,5 +22,8 @@ pub struct Options {
     pub kind: Kind,
     /// How many bytes of the input that takes.
     pub size: u32,
+    /// How many bytes behind them the log takes. No byte is the empty log.
+    pub log_size: u32,
     ghost in_range: { size ≤ 67108864 },
+    ghost log_in_range: { log_size ≤ 67108864 },
 }

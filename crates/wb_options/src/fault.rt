@@ -2,10 +2,12 @@
 ghost use Rattle.std.specs.Prelude.{◌≡◌, ◌+◌, ◌≤◌, ◌++◌, length};
 ghost use Rattle.arrayvec.specs.ArrayVec.{array_vec_len};
 ghost use Rattle.wb_options.specs.declared.fault.RunFault.TheVariants.{Memory};
-ghost use Rattle.wb_options.specs.Fault.{IsNumbered, kind_name, source_kind_name, line_of, run_fault_of, run_fault_of_source, status_of};
+ghost use Rattle.wb_options.specs.Fault.{IsNumbered, kind_name, log_kind_name, source_kind_name, line_of};
+ghost use Rattle.wb_options.specs.Fault.{run_fault_of, run_fault_of_log, run_fault_of_source, status_of};
 
 use arrayvec::ArrayVec;
 use asm_line::kind::AsmKind;
+use input_log::{LogFault, LogKind};
 use r3k_asm::AsmFault;
 use r3k_image::{ImageFault, ImageKind};
 use std::alloc::{AllocError, AllocFailed};
@@ -21,6 +23,9 @@ pub enum RunFault {
     /// The bytes are no image, or the image does not fit the machine.
     #[error("bad image: {0}")]
     BadImage(ImageKind),
+    /// The bytes are no log.
+    #[error("bad log: {0}")]
+    BadLog(LogKind),
     /// The bytes are no source: the line that is wrong, from 1, and how.
     #[error("bad source: line {line}: {kind}")]
     BadSource { line: u64, kind: AsmKind },
@@ -65,6 +70,17 @@ impl From<ImageFault> for RunFault {
     }
 }
 
+impl From<LogFault> for RunFault {
+    ghost from_gives = { λ fault result. result ≡ run_fault_of_log fault };
+
+    fn from(fault: LogFault) -> RunFault {
+        match fault {
+            LogFault::Memory => RunFault::Memory,
+            LogFault::Bad(kind) => RunFault::BadLog(kind),
+        }
+    }
+}
+
 impl From<AsmFault> for RunFault {
     ghost from_gives = { λ fault result. result ≡ run_fault_of_source fault };
 
@@ -77,13 +93,13 @@ impl From<AsmFault> for RunFault {
 }
 
 /// The program's exit status: 0 where all went well and where help was asked for, 1 for a bad
-/// image or source, 2 for a wrong line, 3 for a failed read or write, 4 for want of memory.
+/// image, log or source, 2 for a wrong line, 3 for a failed read or write, 4 for want of memory.
 pub fn status(outcome: &Result<(), RunFault>) -> u8
     ensures { result ≡ status_of outcome.now }
 {
     match outcome {
         Ok(()) | Err(RunFault::Help(_)) => 0,
-        Err(RunFault::BadImage(_) | RunFault::BadSource { .. }) => 1,
+        Err(RunFault::BadImage(_) | RunFault::BadLog(_) | RunFault::BadSource { .. }) => 1,
         Err(RunFault::Usage(_)) => 2,
         Err(RunFault::ReadFault | RunFault::WriteFault) => 3,
         Err(RunFault::Memory) => 4,
@@ -102,6 +118,10 @@ pub fn fault_line(fault: &RunFault) -> ArrayVec<u8, 64>
         RunFault::BadImage(kind) => {
             append(&mut line, b"9 BadImage ");
             append(&mut line, name_of(*kind));
+        }
+        RunFault::BadLog(kind) => {
+            append(&mut line, b"10 BadLog ");
+            append(&mut line, log_name_of(*kind));
         }
         RunFault::BadSource { line: number, kind } => {
             append(&mut line, b"13 BadSource ");
@@ -139,6 +159,20 @@ fn name_of(kind: ImageKind) -> &'static [u8]
         ImageKind::Extra => b"Extra",
         ImageKind::RawSize => b"RawSize",
         ImageKind::Pages => b"Pages",
+    }
+}
+
+fn log_name_of(kind: LogKind) -> &'static [u8]
+    ensures name { result.now ≡ log_kind_name kind }
+    ensures short { length result.now ≤ 5 }
+{
+    match kind {
+        LogKind::Magic => b"Magic",
+        LogKind::Count => b"Count",
+        LogKind::Time => b"Time",
+        LogKind::Line => b"Line",
+        LogKind::Short => b"Short",
+        LogKind::Extra => b"Extra",
     }
 }
 

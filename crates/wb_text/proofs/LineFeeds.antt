@@ -1,10 +1,11 @@
 -- Replies end with a line feed.
-use Rattle.std.proofs.Common.{ℕ, zero, suc, ◌+◌, ◌*◌, ◌%◌, ◌^◌, ◌<◌, Bool, true, false, length, slice_index, arith, List, [], ◌∷◌, ◌++◌, refl, subst, sym, ap, ◌∙◌, append_assoc, codes}
+use Rattle.std.proofs.Common.{ℕ, zero, suc, ◌+◌, ◌*◌, ◌%◌, ◌^◌, ◌<◌, Bool, true, false, length, slice_index, arith, List, [], ◌∷◌, ◌++◌, refl, subst, sym, ap, ◌∙◌, append_assoc, append-nil, codes}
 use Rattle.std.specs.Fmt.{decimal}
+use Rattle.input_log.specs.Event.{TimedByte}
 use Rattle.wb_text.specs.Text.{line}
-use Rattle.wb_text.specs.Reply.{EndsWithLineFeed, HasText, text_of, state_text, row_text, rows_text, refusal_text, value_text, control_text, entry_text, where_text, memory_text, words_text}
+use Rattle.wb_text.specs.Reply.{EndsWithLineFeed, HasText, text_of, state_text, row_text, rows_text, refusal_text, value_text, control_text, entry_text, where_text, memory_text, words_text, console_text, event_text, events_text}
 use Rattle.wb_text.specs.declared.reply.Reply.{Reply}
-use Rattle.wb_text.specs.declared.reply.Reply.TheVariants.{Position, Registers, Register, Control, Entry, Where, Memory, Instructions, Nothing, Fault}
+use Rattle.wb_text.specs.declared.reply.Reply.TheVariants.{Position, Registers, Register, Control, Entry, Where, Memory, Instructions, Console, Log, Nothing, Fault}
 use Rattle.wb_text.proofs.Rows.{rows_text-more}
 
 -- what stands before a line changes nothing at its end
@@ -23,6 +24,13 @@ words_end instruction address words (suc place) some =
     let last : List ℕ = memory_text instruction ((address + 4 * place) % 2 ^ 32) (slice_index words place) in
     behind (words_text instruction address words place) (line last) (last, refl)
 
+-- behind a line, events end with a line feed, or there are none
+log_ends : (front : List ℕ) (number : ℕ) (events : List TimedByte) → EndsWithLineFeed (line front ++ events_text number events)
+unfolding events_text
+log_ends front number [] = (front, append-nil (line front))
+log_ends front number (event ∷ events) =
+    behind (line front) (events_text number (event ∷ events)) (log_ends (event_text number event) ((number + 1) % 2 ^ 64) events)
+
 pub ends_with_line_feed : (reply : Reply) → HasText reply → EndsWithLineFeed (text_of reply)
 ends_with_line_feed (Position position) some = (codes "pos " ++ decimal position, refl)
 ends_with_line_feed (Registers r) some = behind (line (state_text r)) (rows_text r.registers 8) (rows_end r.registers 7)
@@ -32,5 +40,7 @@ ends_with_line_feed (Entry number hi lo) some = (entry_text number hi lo, refl)
 ends_with_line_feed (Where place) some = (where_text place, refl)
 ends_with_line_feed (Memory w) some = words_end false w.address w.words.items (length w.words.items) some
 ends_with_line_feed (Instructions w) some = words_end true w.address w.words.items (length w.words.items) some
+ends_with_line_feed (Console number total bytes) some = (console_text number total bytes.items, refl)
+ends_with_line_feed (Log total first events) some = log_ends (codes "log " ++ decimal total) first events.items
 ends_with_line_feed Nothing some = absurd some
 ends_with_line_feed (Fault fault) some = (refusal_text fault, refl)

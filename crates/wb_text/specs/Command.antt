@@ -5,7 +5,7 @@ use Rattle.std.specs.Str.Lines.{strip_carriage_return}
 use Rattle.wb_text.specs.Number.{number_of, number_within}
 use Rattle.wb_text.specs.Words.{words_of, begins_comment}
 use Rattle.wb_text.specs.declared.command.Command.{Command}
-use Rattle.wb_text.specs.declared.command.Command.TheVariants.{Pos, Goto, Step, Back, Regs, Reg, Cp0, Tlb, Where, Mem, Dis, Quit}
+use Rattle.wb_text.specs.declared.command.Command.TheVariants.{Pos, Goto, Step, Back, Regs, Reg, Cp0, Tlb, Where, Mem, Dis, Console, Log, Quit}
 use Rattle.wb_text.specs.declared.fault.Fault.{Fault}
 use Rattle.wb_text.specs.declared.fault.Fault.TheVariants.{Syntax}
 
@@ -14,12 +14,17 @@ abbrev pub first_of : Fault → Fault → Fault
 first_of Syntax other = Syntax
 first_of fault other = other
 
+-- what two parts of a line say, unless one is refused
+abbrev pub both_of : {A B : Type 0} → Result A Fault → Result B Fault → Result (A × B) Fault
+both_of (Ok first) (Ok other) = Ok (first, other)
+both_of (Ok first) (Err fault) = Err fault
+both_of (Err fault) (Ok other) = Err fault
+both_of (Err fault) (Err other) = Err (first_of fault other)
+
 -- a number in front of numbers
-abbrev pub in_front : Result ℕ Fault → Result (List ℕ) Fault → Result (List ℕ) Fault
-in_front (Ok number) (Ok numbers) = Ok (number ∷ numbers)
-in_front (Ok number) (Err fault) = Err fault
-in_front (Err fault) (Ok numbers) = Err fault
-in_front (Err fault) (Err other) = Err (first_of fault other)
+abbrev pub in_front : Result (ℕ × List ℕ) Fault → Result (List ℕ) Fault
+in_front (Ok parts) = Ok (parts.0 ∷ parts.1)
+in_front (Err fault) = Err fault
 
 -- The numbers of a command that allows each a range, from a least to a greatest one. Another number of words is Syntax.
 abbrev pub numbers_of : List (ℕ × ℕ) → List (List ℕ) → Result (List ℕ) Fault
@@ -27,9 +32,10 @@ numbers_of [] [] = Ok []
 numbers_of [] (word ∷ words) = Err Syntax
 numbers_of (range ∷ ranges) [] = Err Syntax
 numbers_of (range ∷ ranges) (word ∷ words) =
-    in_front (number_within range.0 range.1 (number_of word)) (numbers_of ranges words)
+    in_front (both_of (number_within range.0 range.1 (number_of word)) (numbers_of ranges words))
 
--- the ranges of numbers: of any, of a register, of a translation entry, of an address, and of how many words a reply shows
+-- the ranges of numbers: of any, of a register, of a translation entry, of an address, of a line of the serial part, and
+-- of how many words, bytes and events a reply shows
 abbrev pub any_number : ℕ × ℕ
 any_number = (0, 2 ^ 64 - 1)
 
@@ -42,8 +48,17 @@ entry_number = (0, 63)
 abbrev pub address : ℕ × ℕ
 address = (0, 2 ^ 32 - 1)
 
+abbrev pub line_number : ℕ × ℕ
+line_number = (0, 3)
+
 abbrev pub word_count : ℕ × ℕ
 word_count = (1, 32)
+
+abbrev pub byte_count : ℕ × ℕ
+byte_count = (1, 256)
+
+abbrev pub event_count : ℕ × ℕ
+event_count = (1, 32)
 
 -- the command that its numbers make
 abbrev pub made_by : (List ℕ → Command) → Result (List ℕ) Fault → Result Command Fault
@@ -72,8 +87,13 @@ command_named name words =
     made_by (λ numbers. Mem (slice_index numbers 0) (slice_index numbers 1)) (numbers_of (address ∷ word_count ∷ []) words)
     else (if bytes_eq name (codes "dis") then
     made_by (λ numbers. Dis (slice_index numbers 0) (slice_index numbers 1)) (numbers_of (address ∷ word_count ∷ []) words)
+    else (if bytes_eq name (codes "console") then
+    made_by (λ numbers. Console (slice_index numbers 0) (slice_index numbers 1) (slice_index numbers 2))
+    (numbers_of (line_number ∷ any_number ∷ byte_count ∷ []) words)
+    else (if bytes_eq name (codes "log") then
+    made_by (λ numbers. Log (slice_index numbers 0) (slice_index numbers 1)) (numbers_of (any_number ∷ event_count ∷ []) words)
     else (if bytes_eq name (codes "quit") then made_by (λ _. Quit) (numbers_of [] words)
-    else Err Syntax)))))))))))
+    else Err Syntax)))))))))))))
 
 -- what a line with a command says
 abbrev pub some_command : Result Command Fault → Result (Option Command) Fault

@@ -1,8 +1,9 @@
 -- The replies of a script and their text (own).
-use Rattle.std.specs.Prelude.{◌≡◌, ℕ, zero, suc, ◌+◌, ◌*◌, ◌%◌, ◌^◌, ◌<◌, List, [], ◌++◌, length, Bool, true, false, Option, Some, None, codes, slice_index}
+use Rattle.std.specs.Prelude.{◌≡◌, ℕ, zero, suc, ◌+◌, ◌*◌, ◌%◌, ◌^◌, ◌<◌, List, [], ◌∷◌, ◌++◌, length, flat_map, Bool, true, false, Option, Some, None, codes, slice_index}
 use Rattle.std.specs.Fmt.{decimal}
 use Rattle.r3k_disasm.specs.Instruction.{text_of as instruction_text}
-use Rattle.wb_text.specs.Text.{word_text, register_text, line}
+use Rattle.input_log.specs.Event.{TimedByte}
+use Rattle.wb_text.specs.Text.{word_text, byte_text, register_text, line}
 use Rattle.wb_text.specs.declared.reply.ControlRegisters.{ControlRegisters}
 use Rattle.wb_text.specs.declared.fault.Fault.{Fault}
 use Rattle.wb_text.specs.declared.fault.Fault.TheVariants.{Memory as OutOfMemory, Syntax, Range, NoEvent, Unaligned, NotMemory, TooFar, NotFound}
@@ -12,7 +13,7 @@ use Rattle.wb_text.specs.declared.memory.Words.{Words}
 use Rattle.wb_text.specs.declared.reply.Where.{Where}
 use Rattle.wb_text.specs.declared.reply.Where.TheVariants.{Cached, Uncached, AddressError, Refill, Miss}
 use Rattle.wb_text.specs.declared.reply.Reply.{Reply}
-use Rattle.wb_text.specs.declared.reply.Reply.TheVariants.{Position, Registers, Register, Control, Entry, Where as Place, Memory, Instructions, Nothing, Fault as Refused}
+use Rattle.wb_text.specs.declared.reply.Reply.TheVariants.{Position, Registers, Register, Control, Entry, Where as Place, Memory, Instructions, Console, Log, Nothing, Fault as Refused}
 
 -- a refusal by its number and name
 abbrev pub refusal_text : Fault → List ℕ
@@ -96,6 +97,30 @@ words_text instruction address words (suc place) =
 abbrev pub all_words_text : Bool → Words → List ℕ
 all_words_text instruction w = words_text instruction w.address w.words.items (length w.words.items)
 
+-- bytes, or that there is none
+unfoldable pub bytes_text : List ℕ → List ℕ
+bytes_text [] = codes "none"
+bytes_text (byte ∷ bytes) = flat_map byte_text (byte ∷ bytes)
+
+-- a line of the serial part, how many bytes were sent on it, and those that are shown
+abbrev pub console_text : (number total : ℕ) → List ℕ → List ℕ
+console_text number total bytes =
+    codes "console " ++ decimal number ++ codes " " ++ decimal total ++ codes " " ++ bytes_text bytes
+
+-- what the line of an event says: its number, its time, its line and its byte
+unfoldable pub event_text : ℕ → TimedByte → List ℕ
+event_text number event =
+    decimal number ++ codes " " ++ decimal event.time ++ codes " " ++ decimal event.line ++ codes " 0x" ++ byte_text event.byte
+
+-- the lines of events, whose numbers go on from one
+unfoldable pub events_text : ℕ → List TimedByte → List ℕ
+events_text number [] = []
+events_text number (event ∷ events) = line (event_text number event) ++ events_text ((number + 1) % 2 ^ 64) events
+
+-- how many events the log has, and those that are shown
+abbrev pub log_text : (total first : ℕ) → List TimedByte → List ℕ
+log_text total first events = line (codes "log " ++ decimal total) ++ events_text first events
+
 -- the text of a reply
 abbrev pub text_of : Reply → List ℕ
 text_of (Position position) = line (codes "pos " ++ decimal position)
@@ -106,6 +131,8 @@ text_of (Entry number hi lo) = line (entry_text number hi lo)
 text_of (Place place) = line (where_text place)
 text_of (Memory w) = all_words_text false w
 text_of (Instructions w) = all_words_text true w
+text_of (Console number total bytes) = line (console_text number total bytes.items)
+text_of (Log total first events) = log_text total first events.items
 text_of Nothing = []
 text_of (Refused fault) = line (refusal_text fault)
 

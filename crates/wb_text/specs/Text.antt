@@ -1,5 +1,5 @@
--- How replies print numbers (own): a word as 0x and eight lower-case hexadecimal digits, other
--- numbers in decimal.
+-- How replies print numbers (own): a word as 0x and eight lower-case hexadecimal digits, a byte as
+-- two, other numbers in decimal.
 use Rattle.std.specs.Prelude.{ℕ, ◌/◌, ◌%◌, ◌^◌, List, [], ◌∷◌, ◌++◌, map, codes, false}
 use Rattle.std.specs.Fmt.{decimal, digit_glyph}
 
@@ -10,6 +10,10 @@ hexadecimal_digit word place = digit_glyph false (word / 16 ^ place % 16)
 -- a word
 unfoldable pub word_text : ℕ → List ℕ
 word_text word = codes "0x" ++ map (hexadecimal_digit word) (7 ∷ 6 ∷ 5 ∷ 4 ∷ 3 ∷ 2 ∷ 1 ∷ 0 ∷ [])
+
+-- a byte
+unfoldable pub byte_text : ℕ → List ℕ
+byte_text byte = map (hexadecimal_digit byte) (1 ∷ 0 ∷ [])
 
 -- a register by its number
 abbrev pub register_text : ℕ → List ℕ

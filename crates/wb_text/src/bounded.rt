@@ -17,8 +17,20 @@ pub type EntryNumber = Bounded<0, 63>;
 /// An address.
 pub type Address = Bounded<0, 0xffff_ffff>;
 
+/// The number of a line of the serial part.
+pub type LineNumber = Bounded<0, 3>;
+
 /// How many words a reply shows.
 pub type WordCount = Bounded<1, 32>;
+
+/// How many bytes a reply shows at most.
+pub type ByteCount = Bounded<1, 256>;
+
+/// How many events a reply shows at most.
+pub type EventCount = Bounded<1, 32>;
+
+/// A number that is no larger than a word of 64 bits, and has no other limit.
+pub type AnyNumber = Bounded<0, { u64::MAX }>;
 
 impl<const LEAST: u64, const MOST: u64> Model for Bounded<LEAST, MOST> {
     ghost use Rattle.std.specs.Prelude.{ℕ, ◌≤◌};

@@ -3,9 +3,12 @@
 ghost use Rattle.std.specs.Prelude.{◌≡◌, ◌<◌, MatchResult, Ok, Err, ℕ, List, [], ◌∷◌, length};
 ghost use Rattle.wb_text.specs.Words.{words_of};
 ghost use Rattle.wb_text.specs.Number.{number_of, number_within};
-ghost use Rattle.wb_text.specs.Command.{command_of, command_of_words, command_named, first_of, numbers_of};
+ghost use Rattle.wb_text.specs.Command.{command_of, command_of_words, command_named, first_of, both_of, numbers_of};
 
-use crate::bounded::{Address, Bounded, EntryNumber, RegisterNumber, WordCount};
+use crate::bounded::{
+    Address, AnyNumber, Bounded, ByteCount, EntryNumber, EventCount, LineNumber, RegisterNumber,
+    WordCount,
+};
 use crate::fault::Fault;
 use crate::number::number;
 use crate::words::first_word;
@@ -32,9 +35,26 @@ pub enum Command {
     /// Shows where an address leads.
     Where(Address),
     /// Shows words of memory.
-    Mem { address: Address, count: WordCount },
+    Mem {
+        address: Address,
+        count: WordCount,
+    },
     /// Shows words of memory as instructions.
-    Dis { address: Address, count: WordCount },
+    Dis {
+        address: Address,
+        count: WordCount,
+    },
+    /// Shows bytes that were sent on a line, from one on.
+    Console {
+        line: LineNumber,
+        from: u64,
+        count: ByteCount,
+    },
+    /// Shows events of the log, from one on.
+    Log {
+        from: u64,
+        count: EventCount,
+    },
     /// Ends the script.
     Quit,
 }
@@ -77,13 +97,13 @@ fn command_by_name(name: &[u8], rest: &[u8]) -> Result<Command, Fault>
         no_number(rest)?;
         Ok(Command::Pos)
     } else if name == b"goto".as_slice() {
-        let position = one_number::<0, { u64::MAX }>(rest)?;
+        let position: AnyNumber = one_number(rest)?;
         Ok(Command::Goto(position.get()))
     } else if name == b"step".as_slice() {
-        let count = one_number::<0, { u64::MAX }>(rest)?;
+        let count: AnyNumber = one_number(rest)?;
         Ok(Command::Step(count.get()))
     } else if name == b"back".as_slice() {
-        let count = one_number::<0, { u64::MAX }>(rest)?;
+        let count: AnyNumber = one_number(rest)?;
         Ok(Command::Back(count.get()))
     } else if name == b"regs".as_slice() {
         no_number(rest)?;
@@ -103,6 +123,19 @@ fn command_by_name(name: &[u8], rest: &[u8]) -> Result<Command, Fault>
     } else if name == b"dis".as_slice() {
         let (address, count) = two_numbers(rest)?;
         Ok(Command::Dis { address, count })
+    } else if name == b"console".as_slice() {
+        let (line, from, count): (_, AnyNumber, _) = three_numbers(rest)?;
+        Ok(Command::Console {
+            line,
+            from: from.get(),
+            count,
+        })
+    } else if name == b"log".as_slice() {
+        let (from, count): (AnyNumber, _) = two_numbers(rest)?;
+        Ok(Command::Log {
+            from: from.get(),
+            count,
+        })
     } else if name == b"quit".as_slice() {
         no_number(rest)?;
         Ok(Command::Quit)
@@ -144,8 +177,43 @@ fn two_numbers<const LEAST: u64, const MOST: u64, const NEXT_LEAST: u64, const N
     let Some((word, after)) = first_word(rest) else {
         return Err(Fault::Syntax);
     };
-    match (bounded_number(word), one_number(after)) {
-        (Ok(number), Ok(next)) => Ok((number, next)),
+    both(bounded_number(word), one_number(after))
+}
+
+// The numbers of a command that takes three.
+fn three_numbers<
+    const LEAST: u64,
+    const MOST: u64,
+    const NEXT_LEAST: u64,
+    const NEXT_MOST: u64,
+    const LAST_LEAST: u64,
+    const LAST_MOST: u64,
+>(
+    rest: &[u8],
+) -> Result<
+    (
+        Bounded<LEAST, MOST>,
+        Bounded<NEXT_LEAST, NEXT_MOST>,
+        Bounded<LAST_LEAST, LAST_MOST>,
+    ),
+    Fault,
+>
+    ensures { let numbers = numbers_of ((LEAST, MOST) ∷ (NEXT_LEAST, NEXT_MOST) ∷ (LAST_LEAST, LAST_MOST) ∷ []) (words_of rest.now) in
+        MatchResult result (λ three. numbers ≡ Ok (three.0 ∷ three.1 ∷ three.2 ∷ [])) (λ fault. numbers ≡ Err fault) }
+{
+    let Some((word, after)) = first_word(rest) else {
+        return Err(Fault::Syntax);
+    };
+    let (number, (next, last)) = both(bounded_number(word), two_numbers(after))?;
+    Ok((number, next, last))
+}
+
+// What two parts of a line say, unless one is refused.
+fn both<A: Drop, B: Drop>(first: Result<A, Fault>, other: Result<B, Fault>) -> Result<(A, B), Fault>
+    ensures { result ≡ both_of first other }
+{
+    match (first, other) {
+        (Ok(first), Ok(other)) => Ok((first, other)),
         (Ok(_), Err(fault)) => Err(fault),
         (Err(fault), Ok(_)) => Err(fault),
         (Err(fault), Err(other)) => Err(first_refusal(fault, other)),

@@ -10,7 +10,9 @@ pub mod reply;
 mod text;
 mod words;
 
-pub use bounded::{Address, Bounded, EntryNumber, RegisterNumber, WordCount};
+pub use bounded::{
+    Address, Bounded, ByteCount, EntryNumber, EventCount, LineNumber, RegisterNumber, WordCount,
+};
 pub use command::{Command, parse_line};
 pub use fault::Fault;
 pub use memory::Words;

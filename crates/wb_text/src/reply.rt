@@ -5,12 +5,14 @@ ghost use Rattle.arrayvec.specs.ArrayVec.{array_vec_len};
 ghost use Rattle.wb_text.specs.Text.{line, word_text};
 ghost use Rattle.wb_text.specs.Reply.{text_of, EndsWithLineFeed, HasText, refusal_text, flag_text, value_text, load_text};
 ghost use Rattle.wb_text.specs.Reply.{state_text, row_text, rows_text, control_text, where_text, memory_text, all_words_text};
+ghost use Rattle.wb_text.specs.Reply.{bytes_text, console_text, event_text, events_text, log_text};
 
-use crate::bounded::{EntryNumber, RegisterNumber};
+use crate::bounded::{EntryNumber, LineNumber, RegisterNumber};
 use crate::fault::Fault;
 use crate::memory::Words;
-use crate::text::{Text, push_decimal, push_text, push_word};
+use crate::text::{Text, push_byte, push_decimal, push_text, push_word};
 use arrayvec::ArrayVec;
+use input_log::Event;
 
 /// A load that has not landed: its register and the value.
 #[derive(Clone, Copy, Debug, PartialEq, Eq)]
@@ -89,6 +91,19 @@ pub enum Reply {
     Memory(Words),
     /// Words of memory with their texts as instructions, of `dis`.
     Instructions(Words),
+    /// How many bytes were sent on a line, and some of them, of `console`.
+    Console {
+        line: LineNumber,
+        total: u64,
+        bytes: ArrayVec<u8, 256>,
+    },
+    /// How many events the log has, and some of them, of which `first` is the first one's number,
+    /// of `log`.
+    Log {
+        total: u64,
+        first: u64,
+        events: ArrayVec<Event, 32>,
+    },
     /// No text, of `quit`.
     Nothing,
     /// A refusal.
@@ -125,6 +140,14 @@ pub fn reply_text(reply: &Reply) -> ArrayVec<u8, 4096>
         Reply::Where(place) => push_where(&mut text, *place),
         Reply::Memory(words) => push_words(&mut text, words, false),
         Reply::Instructions(words) => push_words(&mut text, words, true),
+        Reply::Console { line, total, bytes } => {
+            push_console(&mut text, line.get(), *total, bytes);
+        }
+        Reply::Log {
+            total,
+            first,
+            events,
+        } => push_log(&mut text, *total, *first, events),
         Reply::Nothing => {}
         Reply::Fault(fault) => {
             push_text(&mut text, refusal(*fault));
@@ -305,6 +328,69 @@ fn push_memory(text: &mut Text, address: u32, word: u32, instruction: bool)
         push_text(text, b" ");
         push_text(text, r3k_disasm::text(address, word).as_bytes());
     }
+    push_text(text, b"\n");
+}
+
+// Appends the reply that tells how many bytes were sent on a line of the serial part, with some of them.
+fn push_console(text: &mut Text, number: u64, total: u64, bytes: &[u8])
+    requires few { length bytes.now ≤ 256 }
+    requires room { array_vec_len text.old ≤ 1000 }
+    ensures { text.new.items ≡ text.old.items ++ line (console_text number total bytes.now) }
+{
+    push_text(text, b"console ");
+    push_decimal(text, number);
+    push_text(text, b" ");
+    push_decimal(text, total);
+    push_text(text, b" ");
+    push_bytes(text, bytes);
+    push_text(text, b"\n");
+}
+
+// Appends bytes, or that there is none.
+fn push_bytes(text: &mut Text, bytes: &[u8])
+    requires few { length bytes.now ≤ 256 }
+    requires room { array_vec_len text.old ≤ 3000 }
+    ensures items { text.new.items ≡ text.old.items ++ bytes_text bytes.now }
+    ensures room { array_vec_len text.new ≤ array_vec_len text.old + 520 }
+{
+    if bytes.is_empty() {
+        push_text(text, b"none");
+        return;
+    }
+    for byte in bytes {
+        push_byte(text, *byte);
+    }
+}
+
+// Appends the line that tells how many events the log has, and the lines of some of them.
+fn push_log(text: &mut Text, total: u64, first: u64, events: &[Event])
+    requires few { length events.now ≤ 32 }
+    requires room { array_vec_len text.old ≤ 1000 }
+    ensures { text.new.items ≡ text.old.items ++ log_text total first events.now }
+{
+    push_text(text, b"log ");
+    push_decimal(text, total);
+    push_text(text, b"\n");
+    let mut number = first;
+    for event in events {
+        push_event(text, number, *event);
+        number = number.wrapping_add(1);
+    }
+}
+
+// Appends the line of an event of the log.
+fn push_event(text: &mut Text, number: u64, event: Event)
+    requires { array_vec_len text.old ≤ 4000 }
+    ensures items { text.new.items ≡ text.old.items ++ line (event_text number event) }
+    ensures room { array_vec_len text.new ≤ array_vec_len text.old + 68 }
+{
+    push_decimal(text, number);
+    push_text(text, b" ");
+    push_decimal(text, event.time);
+    push_text(text, b" ");
+    push_decimal(text, u64::from(event.line));
+    push_text(text, b" 0x");
+    push_byte(text, event.byte);
     push_text(text, b"\n");
 }
 

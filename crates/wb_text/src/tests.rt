@@ -1,6 +1,7 @@
 //! Lines and replies, by example.
 use super::*;
 use arrayvec::ArrayVec;
+use input_log::Event;
 use std::process::Abort;
 use std::test::Fail;
 
@@ -92,6 +93,68 @@ fn queries_of_memory(rt: HostRuntime) -> Result<(), Fail> {
     says(&rt, b"dis x 33", Err(Fault::Syntax));
     says(&rt, b"dis 0 1 1", Err(Fault::Syntax));
     Ok(())
+}
+
+#[test]
+fn queries_of_lines_and_log(rt: HostRuntime) -> Result<(), Fail> {
+    let line = LineNumber::new(3).ok_or("3")?;
+    let count = ByteCount::new(256).ok_or("256")?;
+    says(
+        &rt,
+        b"console 3 18446744073709551615 256",
+        Ok(Some(Command::Console {
+            line,
+            from: u64::MAX,
+            count,
+        })),
+    );
+    let line = LineNumber::new(0).ok_or("0")?;
+    let count = ByteCount::new(1).ok_or("1")?;
+    says(
+        &rt,
+        b"console 0 0x10 1",
+        Ok(Some(Command::Console {
+            line,
+            from: 16,
+            count,
+        })),
+    );
+    let count = EventCount::new(32).ok_or("32")?;
+    says(&rt, b"log 7 32", Ok(Some(Command::Log { from: 7, count })));
+    let count = EventCount::new(1).ok_or("1")?;
+    says(
+        &rt,
+        b"log 18446744073709551615 1",
+        Ok(Some(Command::Log {
+            from: u64::MAX,
+            count,
+        })),
+    );
+    Ok(())
+}
+
+#[test]
+fn refusals_of_lines_and_log(rt: HostRuntime) {
+    for (line, fault) in [
+        (b"console 4 0 8".as_slice(), Fault::Range),
+        (b"console 0 0 0", Fault::Range),
+        (b"console 0 0 257", Fault::Range),
+        (b"console 0 18446744073709551616 8", Fault::Range),
+        (b"console 4 0 x", Fault::Syntax),
+        (b"console 4 x 8", Fault::Syntax),
+        (b"console x 0 257", Fault::Syntax),
+        (b"console 4 0", Fault::Syntax),
+        (b"console 4 0 8 0", Fault::Syntax),
+        (b"log 0 0", Fault::Range),
+        (b"log 0 33", Fault::Range),
+        (b"log 18446744073709551616 1", Fault::Range),
+        (b"log x 33", Fault::Syntax),
+        (b"log 18446744073709551616 x", Fault::Syntax),
+        (b"log 18446744073709551616", Fault::Syntax),
+        (b"log 0 33 1", Fault::Syntax),
+    ] {
+        says(&rt, line, Err(fault));
+    }
 }
 
 #[test]
@@ -275,6 +338,73 @@ fn words_of_memory(rt: HostRuntime) -> Result<(), Fail> {
         b"0x1fc01010 0x04e10004 bgez r7, 0x1fc01024\n",
     );
     Ok(())
+}
+
+#[test]
+fn bytes_of_a_line(rt: HostRuntime) -> Result<(), Fail> {
+    let line = LineNumber::new(2).ok_or("2")?;
+    let total = u64::MAX;
+    let bytes = ArrayVec::new();
+    shows(
+        &rt,
+        &Reply::Console { line, total, bytes },
+        b"console 2 18446744073709551615 none\n",
+    );
+    let total = 5;
+    let mut bytes = ArrayVec::new();
+    bytes.push(0x41);
+    bytes.push(0x09);
+    bytes.push(0xef);
+    shows(
+        &rt,
+        &Reply::Console { line, total, bytes },
+        b"console 2 5 4109ef\n",
+    );
+    let total = 300;
+    let bytes = ArrayVec::from([0xa5; 256]);
+    let text = reply_text(&Reply::Console { line, total, bytes });
+    assert!(rt; text.as_slice().starts_with(b"console 2 300 a5a5a5"));
+    assert!(rt; text.as_slice().ends_with(b"a5\n"));
+    assert_eq!(rt; text.len(), 527);
+    Ok(())
+}
+
+#[test]
+fn events_of_the_log(rt: HostRuntime) {
+    let event = Event {
+        time: 70,
+        line: 0,
+        byte: 0x41,
+    };
+    let last = Event {
+        time: 4_294_967_294,
+        line: 3,
+        byte: 0x0a,
+    };
+    let empty = Reply::Log {
+        total: 0,
+        first: u64::MAX,
+        events: ArrayVec::new(),
+    };
+    shows(&rt, &empty, b"log 0\n");
+    let mut events = ArrayVec::new();
+    events.push(event);
+    events.push(last);
+    let two = Reply::Log {
+        total: 9,
+        first: 7,
+        events,
+    };
+    shows(&rt, &two, b"log 9\n7 70 0 0x41\n8 4294967294 3 0x0a\n");
+    let text = reply_text(&Reply::Log {
+        total: 1_048_576,
+        first: u64::MAX - 15,
+        events: ArrayVec::from([last; 32]),
+    });
+    let first_lines = b"log 1048576\n18446744073709551600 4294967294 3 0x0a\n";
+    assert!(rt; text.as_slice().starts_with(first_lines));
+    let last_lines = b"\n14 4294967294 3 0x0a\n15 4294967294 3 0x0a\n";
+    assert!(rt; text.as_slice().ends_with(last_lines));
 }
 
 #[test]

@@ -3,7 +3,7 @@
 ghost use Rattle.std.specs.Prelude.{◌≡◌, ◌+◌, ◌%◌, ◌≤◌, ◌<◌, ◌++◌, length, false};
 ghost use Rattle.std.specs.Fmt.{decimal, digit_glyph};
 ghost use Rattle.arrayvec.specs.ArrayVec.{array_vec_len};
-ghost use Rattle.wb_text.specs.Text.{word_text};
+ghost use Rattle.wb_text.specs.Text.{word_text, byte_text};
 
 use arrayvec::ArrayVec;
 
@@ -59,6 +59,19 @@ pub fn push_word(text: &mut Text, word: u32)
         hexadecimal_digit(word >> 8),
         hexadecimal_digit(word >> 4),
         hexadecimal_digit(word),
+    ];
+    push_text(text, &digits);
+}
+
+/// Appends a byte: two hexadecimal digits.
+pub fn push_byte(text: &mut Text, byte: u8)
+    requires { array_vec_len text.old + 2 ≤ 4096 }
+    ensures items { text.new.items ≡ text.old.items ++ byte_text byte }
+    ensures len { array_vec_len text.new ≡ array_vec_len text.old + 2 }
+{
+    let digits = [
+        hexadecimal_digit(u32::from(byte >> 4)),
+        hexadecimal_digit(u32::from(byte)),
     ];
     push_text(text, &digits);
 }

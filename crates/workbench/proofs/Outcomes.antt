@@ -4,11 +4,10 @@ use Rattle.std.proofs.lemmas.List.{append-nil}
 use Rattle.wb_io.specs.Calls.{Call, bytes_moved}
 use Rattle.input_log.specs.Event.{TimedByte}
 use Rattle.r3k_image.specs.Boot.{Boot, FitsRam}
-use Rattle.wb_options.specs.declared.arguments.Kind.{Kind}
 use Rattle.wb_options.specs.declared.fault.RunFault.{RunFault}
-use Rattle.wb_options.specs.declared.fault.RunFault.TheVariants.{Memory, BadImage, BadSource, ReadFault, WriteFault, Usage, Help}
+use Rattle.wb_options.specs.declared.fault.RunFault.TheVariants.{Memory, BadImage, BadLog, BadSource, ReadFault, WriteFault, Usage, Help}
 use Rattle.workbench.specs.Runs.{Runs, ScriptRuns}
-use Rattle.workbench.specs.Serve.{AsksFor, IsFrontFault, ReadsAll, Refuses, Serves, ServesScript, image_of}
+use Rattle.workbench.specs.Serve.{AsksFor, Front, IsFrontFault, IsJudgement, Makes, ReadsAll, Refuses, Serves, ServesScript, image_in, log_in, size_of}
 use Rattle.workbench.specs.Session.{IsNewFault, Triple}
 
 -- a session that there is not
@@ -16,6 +15,7 @@ pub no_session : (T : Type 0) (pages most : ℕ) (image : Boot) (log : List Time
 no_session T pages most image log Memory h = (refl, refl)
 no_session T pages most image log (BadImage kind) h = (h.0, h.1, (refl, refl))
 no_session T pages most image log (BadSource line kind) h = absurd h
+no_session T pages most image log (BadLog kind) h = absurd h
 no_session T pages most image log ReadFault h = absurd h
 no_session T pages most image log WriteFault h = absurd h
 no_session T pages most image log (Usage text) h = absurd h
@@ -29,42 +29,71 @@ session_runs pages most image log s (Err WriteFault) reads writes f e h = (f, su
 session_runs pages most image log s (Err Memory) reads writes f e h = absurd h
 session_runs pages most image log s (Err (BadImage kind)) reads writes f e h = absurd h
 session_runs pages most image log s (Err (BadSource line kind)) reads writes f e h = absurd h
+session_runs pages most image log s (Err (BadLog kind)) reads writes f e h = absurd h
 session_runs pages most image log s (Err (Usage text)) reads writes f e h = absurd h
 session_runs pages most image log s (Err (Help text)) reads writes f e h = absurd h
 
 -- a fault of the bytes before a script
-pub front_fault_serves : (T : Type 0) (pages : ℕ) (kind : Kind) (size : ℕ) (fault : RunFault) (reads : List Call) → IsFrontFault size reads fault → Serves {T = T} pages kind size (Err fault) reads []
-front_fault_serves T pages kind size Memory reads h = (h, refl)
-front_fault_serves T pages kind size ReadFault reads h = inl (h, refl)
-front_fault_serves T pages kind size (BadImage why) reads h = absurd h
-front_fault_serves T pages kind size (BadSource line why) reads h = absurd h
-front_fault_serves T pages kind size WriteFault reads h = absurd h
-front_fault_serves T pages kind size (Usage text) reads h = absurd h
-front_fault_serves T pages kind size (Help text) reads h = absurd h
+pub front_fault_serves : (T : Type 0) (pages : ℕ) (front : Front) (fault : RunFault) (reads : List Call) → IsFrontFault (size_of front) reads fault → Serves {T = T} pages front (Err fault) reads []
+front_fault_serves T pages front Memory reads h = (h, refl)
+front_fault_serves T pages front ReadFault reads h = inl (h, refl)
+front_fault_serves T pages front (BadImage why) reads h = absurd h
+front_fault_serves T pages front (BadLog why) reads h = absurd h
+front_fault_serves T pages front (BadSource line why) reads h = absurd h
+front_fault_serves T pages front WriteFault reads h = absurd h
+front_fault_serves T pages front (Usage text) reads h = absurd h
+front_fault_serves T pages front (Help text) reads h = absurd h
 
--- a run behind the bytes of an image
-pub run_serves : {T : Type 0} (pages most : ℕ) (kind : Kind) (size : ℕ) (image : Boot) (log : List TimedByte) (r : Result T RunFault) (front reads writes : List Call) → ReadsAll size front → image_of kind (bytes_moved front) ≡ Ok image → log ≡ [] → most ≡ 1048576 - length front → Runs pages most image log r reads writes → Serves pages kind size r (front ++ reads) writes
-run_serves pages most kind size image log r front reads writes f m l e h = by_result r (subst (λ (z : List TimedByte). Runs pages most image z r reads writes) l h)
+-- an image that could not be made
+pub no_image_serves : (T : Type 0) (pages : ℕ) (front : Front) (fault : RunFault) (reads : List Call) → ReadsAll (size_of front) reads → IsJudgement fault
+    → Makes {A = Boot} (Err fault) (image_in front (bytes_moved reads)) → Serves {T = T} pages front (Err fault) reads []
+no_image_serves T pages front Memory reads all j h = (all.0, refl)
+no_image_serves T pages front (BadImage why) reads all j h = (all, inl h, refl)
+no_image_serves T pages front (BadLog why) reads all j h = (all, inl h, refl)
+no_image_serves T pages front (BadSource line why) reads all j h = (all, inl h, refl)
+no_image_serves T pages front ReadFault reads all j h = absurd j
+no_image_serves T pages front WriteFault reads all j h = absurd j
+no_image_serves T pages front (Usage text) reads all j h = absurd j
+no_image_serves T pages front (Help text) reads all j h = absurd j
+
+-- a log that could not be made, behind an image
+pub no_log_serves : (T : Type 0) (pages : ℕ) (front : Front) (fault : RunFault) (reads : List Call) → ReadsAll (size_of front) reads → IsJudgement fault
+    → (image : Boot) → image_in front (bytes_moved reads) ≡ Ok image
+    → Makes {A = List TimedByte} (Err fault) (log_in front (bytes_moved reads)) → Serves {T = T} pages front (Err fault) reads []
+no_log_serves T pages front Memory reads all j image made h = (all.0, refl)
+no_log_serves T pages front (BadImage why) reads all j image made h = (all, inr (inl (image, made, h)), refl)
+no_log_serves T pages front (BadLog why) reads all j image made h = (all, inr (inl (image, made, h)), refl)
+no_log_serves T pages front (BadSource line why) reads all j image made h = (all, inr (inl (image, made, h)), refl)
+no_log_serves T pages front ReadFault reads all j image made h = absurd j
+no_log_serves T pages front WriteFault reads all j image made h = absurd j
+no_log_serves T pages front (Usage text) reads all j image made h = absurd j
+no_log_serves T pages front (Help text) reads all j image made h = absurd j
+
+-- a run behind the bytes of an image and a log
+pub run_serves : {T : Type 0} (pages most : ℕ) (front : Front) (image : Boot) (log : List TimedByte) (r : Result T RunFault) (before reads writes : List Call) → ReadsAll (size_of front) before → image_in front (bytes_moved before) ≡ Ok image → log_in front (bytes_moved before) ≡ Ok log → most ≡ 1048576 - length before → Runs pages most image log r reads writes → Serves pages front r (before ++ reads) writes
+run_serves pages most front image log r before reads writes f m l e h = by_result r h
   where
-    script : {U : Type 0} (r : Result U RunFault) → FitsRam pages image → ScriptRuns pages most (record { image = image; log = []; position = 0 }) r reads writes → ServesScript pages kind size r (front ++ reads) writes
+    script : {U : Type 0} (r : Result U RunFault) → FitsRam pages image → ScriptRuns pages most (record { image = image; log = log; position = 0 }) r reads writes → ServesScript pages front r (before ++ reads) writes
     script r fits runs = record {
-      front = front;
+      before = before;
       script = reads;
       image = image;
+      log = log;
       reads_are = refl;
       read = f;
-      good = (m, fits);
-      runs = subst (λ (n : ℕ). ScriptRuns pages n (record { image = image; log = []; position = 0 }) r reads writes) e runs;
+      good = record { image_is = m; log_is = l; fits = fits };
+      runs = subst (λ (n : ℕ). ScriptRuns pages n (record { image = image; log = log; position = 0 }) r reads writes) e runs;
     }
 
-    by_result : {U : Type 0} (r : Result U RunFault) → Runs pages most image [] r reads writes → Serves pages kind size r (front ++ reads) writes
+    by_result : {U : Type 0} (r : Result U RunFault) → Runs pages most image log r reads writes → Serves pages front r (before ++ reads) writes
     by_result (Ok done) h = script (Ok done) h.0 h.1
     by_result (Err WriteFault) h = script (Err WriteFault) h.0 h.1
     by_result (Err ReadFault) h = inr (script {U = Unit {0}} (Err ReadFault) h.0 h.1)
-    by_result (Err Memory) h = (subst (λ (z : List Call). AsksFor size z) (sym (ap (λ (z : List Call). front ++ z) h.0 ∙ append-nil front)) f.0, h.1)
+    by_result (Err Memory) h = (subst (λ (z : List Call). AsksFor (size_of front) z) (sym (ap (λ (z : List Call). before ++ z) h.0 ∙ append-nil before)) f.0, h.1)
     by_result (Err (BadImage why)) h =
-        subst (λ (z : List Call). Refuses pages kind size (BadImage why) z writes) (sym (ap (λ (z : List Call). front ++ z) h.2.0 ∙ append-nil front))
-        (f, inr (ap (λ k. BadImage k) h.0, (image, m, h.1)), h.2.1)
+        subst (λ (z : List Call). Refuses pages front (BadImage why) z writes) (sym (ap (λ (z : List Call). before ++ z) h.2.0 ∙ append-nil before))
+        (f, inr (inr (image, log, m, l, h.1, ap (λ k. BadImage k) h.0)), h.2.1)
+    by_result (Err (BadLog why)) h = absurd h.1
     by_result (Err (BadSource line why)) h = absurd h.1
     by_result (Err (Usage text)) h = absurd h.1
     by_result (Err (Help text)) h = absurd h.1

@@ -3,7 +3,7 @@ use Rattle.std.proofs.Common.{◌≡◌, inl, inr, ℕ, List, [], Some, Result, 
 use Rattle.wb_io.specs.Calls.{Call, TakesAll, TakesFront}
 use Rattle.wb_options.specs.Fault.{IsNumbered, line_of}
 use Rattle.wb_options.specs.declared.fault.RunFault.{RunFault}
-use Rattle.wb_options.specs.declared.fault.RunFault.TheVariants.{Memory, BadImage, BadSource, ReadFault, WriteFault, Usage, Help}
+use Rattle.wb_options.specs.declared.fault.RunFault.TheVariants.{Memory, BadImage, BadLog, BadSource, ReadFault, WriteFault, Usage, Help}
 use Rattle.workbench.specs.Program.{Tells, error_text, help_text}
 
 -- a text that was written
@@ -21,6 +21,7 @@ fault_told r fault told e n h = subst (λ (z : Result (Unit {0}) RunFault). Tell
     by_fault : (fault : RunFault) → IsNumbered fault → Tells (Some (line_of fault)) told → TellsBoth (Err fault) [] told
     by_fault Memory n h = (refl, h)
     by_fault (BadImage kind) n h = (refl, h)
+    by_fault (BadLog kind) n h = (refl, h)
     by_fault (BadSource line kind) n h = (refl, h)
     by_fault ReadFault n h = (refl, h)
     by_fault WriteFault n h = (refl, h)

@@ -9,6 +9,7 @@ pub use Rattle.wb_options.specs.Options
 pub mod LineBuffer
 pub mod Sizes
 pub mod Memory
+pub mod Console
 pub mod Session
 pub mod Script
 pub mod Taking

@@ -1,5 +1,7 @@
--- The program's run on its input (own): the bytes of an image, and then a script.
-use Rattle.std.specs.Prelude.{◌≡◌, ◌⊎◌, ℕ, ◌-◌, ◌<◌, min, List, [], ◌∷◌, ◌++◌, length, Result, Ok, Err}
+-- The program's run on its input (own): the bytes of an image and of a log, and then a script.
+use Rattle.std.specs.Prelude.{◌≡◌, ◌⊎◌, ℕ, ◌+◌, ◌-◌, ◌<◌, min, List, [], ◌∷◌, ◌++◌, length, take, drop, Result, Ok, Err}
+use Rattle.input_log.specs.Event.{TimedByte}
+use Rattle.input_log.specs.Reading.{log_at}
 use Rattle.wb_io.specs.Calls.{Call, Fails, MovesNone, MovesSome, bytes_moved, bytes_of}
 use Rattle.r3k_image.specs.Boot.{Boot, FitsRam}
 use Rattle.r3k_image.specs.Reading.{image_at, raw_rom_at}
@@ -9,12 +11,12 @@ use Rattle.wb_options.specs.declared.arguments.Kind.{Kind}
 use Rattle.wb_options.specs.declared.arguments.Kind.TheVariants.{Rom, Image, Source}
 use Rattle.wb_options.specs.Fault.{run_fault_of_source}
 use Rattle.wb_options.specs.declared.fault.RunFault.{RunFault}
-use Rattle.wb_options.specs.declared.fault.RunFault.TheVariants.{Memory, BadImage, BadSource, ReadFault}
+use Rattle.wb_options.specs.declared.fault.RunFault.TheVariants.{Memory, BadImage, BadLog, BadSource, ReadFault}
 use Rattle.workbench.specs.Runs.{ScriptRuns}
 
 -- the answer of a reading with its fault told as one of a run
-abbrev pub with_fault : {E : Type 0} → (E → RunFault) → Result Boot E → Result Boot RunFault
-with_fault told (Ok image) = Ok image
+abbrev pub with_fault : {A E : Type 0} → (E → RunFault) → Result A E → Result A RunFault
+with_fault told (Ok made) = Ok made
 with_fault told (Err fault) = Err (told fault)
 
 -- the image that bytes of a kind make, or why they make none
@@ -23,21 +25,44 @@ image_of Rom bytes = with_fault (λ kind. BadImage kind) (raw_rom_at bytes)
 image_of Image bytes = with_fault (λ kind. BadImage kind) (image_at bytes)
 image_of Source bytes = with_fault run_fault_of_source (source_image bytes)
 
--- a call's answer where the image is to be this one, or none for this reason: it may lack the memory for it
-abbrev pub Makes : Result Boot RunFault → Result Boot RunFault → Type 0
-Makes (Ok image) answer = answer ≡ Ok image
+-- the log that bytes spell, or why they spell none; no byte at all is the empty log
+abbrev pub log_of : List ℕ → Result (List TimedByte) RunFault
+log_of [] = Ok []
+log_of (byte ∷ bytes) = with_fault (λ kind. BadLog kind) (log_at (byte ∷ bytes))
+
+-- a call's answer where this is to be made, or nothing for this reason: it may lack the memory for it
+abbrev pub Makes : {A : Type 0} → Result A RunFault → Result A RunFault → Type 0
+Makes (Ok made) answer = answer ≡ Ok made
 Makes (Err Memory) answer = Unit {0}
 Makes (Err fault) answer = answer ≡ Err fault
 
--- bytes of a kind make this image, and it fits a machine with so many pages of RAM
-abbrev pub IsGoodImage : ℕ → Kind → List ℕ → Boot → Type 0
-IsGoodImage pages kind bytes image = (image_of kind bytes ≡ Ok image) × FitsRam pages image
+-- what the program's line says of the bytes before the script: a kind, and how many are those of the image and of the log
+pub record Front : Type 0 where
+  pub kind : Kind
+  pub size : ℕ
+  pub log_size : ℕ
 
--- bytes of a kind make no image, or none that fits a machine with so many pages of RAM, and this is why
-abbrev pub IsBadImage : ℕ → Kind → List ℕ → RunFault → Type 0
-IsBadImage pages kind bytes fault =
-    (image_of kind bytes ≡ Err fault)
-    ⊎ ((fault ≡ BadImage Pages) × ((image : Boot) × (image_of kind bytes ≡ Ok image) × ¬ FitsRam pages image))
+abbrev pub size_of : Front → ℕ
+size_of front = front.size + front.log_size
+
+abbrev pub image_in : Front → List ℕ → Result Boot RunFault
+image_in front bytes = image_of front.kind (take front.size bytes)
+
+abbrev pub log_in : Front → List ℕ → Result (List TimedByte) RunFault
+log_in front bytes = log_of (drop front.size bytes)
+
+-- these bytes make this image and this log, and the image fits a machine with so many pages of RAM
+pub record IsGood (pages : ℕ) (front : Front) (bytes : List ℕ) (image : Boot) (log : List TimedByte) : Type 0 where
+  pub image_is : image_in front bytes ≡ Ok image
+  pub log_is : log_in front bytes ≡ Ok log
+  pub fits : FitsRam pages image
+
+-- They make no image; or an image, and no log; or both, and the image does not fit. The first of these is told.
+abbrev pub IsBad : ℕ → Front → List ℕ → RunFault → Type 0
+IsBad pages front bytes fault =
+    (image_in front bytes ≡ Err fault)
+    ⊎ (((image : Boot) × (image_in front bytes ≡ Ok image) × (log_in front bytes ≡ Err fault))
+    ⊎ ((image : Boot) × (log : List TimedByte) × (image_in front bytes ≡ Ok image) × (log_in front bytes ≡ Ok log) × ¬ FitsRam pages image × (fault ≡ BadImage Pages)))
 
 -- reads of so many bytes: each asked for what was missing, or for a piece of 4096, and gave some
 abbrev pub AsksFor : ℕ → List Call → Type 0
@@ -63,29 +88,39 @@ abbrev pub IsCutWithin : ℕ → List Call → Type 0
 IsCutWithin size reads =
     EndsWithin size reads ⊎ (AsksFor size reads × (length (bytes_moved reads) < size) × (length reads ≡ 1048576))
 
--- The image was read and found good, and what followed was run as a script from position 0 with the empty log. All reads
--- together are at most 2^20.
-pub record ServesScript {T : Type 0} (pages : ℕ) (kind : Kind) (size : ℕ) (result : Result T RunFault) (reads writes : List Call) : Type 0 where
-  pub front : List Call
+-- Image and log were read and found good, and what followed was run as a script from position 0. All reads together are at
+-- most 2^20.
+pub record ServesScript {T : Type 0} (pages : ℕ) (front : Front) (result : Result T RunFault) (reads writes : List Call) : Type 0 where
+  pub before : List Call
   pub script : List Call
   pub image : Boot
-  pub reads_are : reads ≡ front ++ script
-  pub read : ReadsAll size front
-  pub good : IsGoodImage pages kind (bytes_moved front) image
-  pub runs : ScriptRuns pages (1048576 - length front) (record { image = image; log = []; position = 0 }) result script writes
+  pub log : List TimedByte
+  pub reads_are : reads ≡ before ++ script
+  pub read : ReadsAll (size_of front) before
+  pub good : IsGood pages front (bytes_moved before) image log
+  pub runs : ScriptRuns pages (1048576 - length before) (record { image = image; log = log; position = 0 }) result script writes
 
--- The image was read and refused, and this is why. Nothing is written.
-abbrev pub Refuses : ℕ → Kind → ℕ → RunFault → (reads writes : List Call) → Type 0
-Refuses pages kind size fault reads writes = ReadsAll size reads × IsBadImage pages kind (bytes_moved reads) fault × (writes ≡ [])
+-- Image and log were read and refused, and this is why. Nothing is written.
+abbrev pub Refuses : ℕ → Front → RunFault → (reads writes : List Call) → Type 0
+Refuses pages front fault reads writes = ReadsAll (size_of front) reads × IsBad pages front (bytes_moved reads) fault × (writes ≡ [])
 
--- How the program's run goes, by its result. Nothing is written before the image is read and found good.
-abbrev pub Serves : {T : Type 0} → ℕ → Kind → ℕ → Result T RunFault → (reads writes : List Call) → Type 0
-Serves pages kind size (Err Memory) reads writes = AsksFor size reads × (writes ≡ [])
-Serves pages kind size (Err (BadImage why)) reads writes = Refuses pages kind size (BadImage why) reads writes
-Serves pages kind size (Err (BadSource line why)) reads writes = Refuses pages kind size (BadSource line why) reads writes
-Serves pages kind size (Err ReadFault) reads writes =
-    (IsCutWithin size reads × (writes ≡ [])) ⊎ ServesScript {T = Unit {0}} pages kind size (Err ReadFault) reads writes
-Serves pages kind size result reads writes = ServesScript pages kind size result reads writes
+-- How the program's run goes, by its result. Nothing is written before image and log are read and found good.
+abbrev pub Serves : {T : Type 0} → ℕ → Front → Result T RunFault → (reads writes : List Call) → Type 0
+Serves pages front (Err Memory) reads writes = AsksFor (size_of front) reads × (writes ≡ [])
+Serves pages front (Err (BadImage why)) reads writes = Refuses pages front (BadImage why) reads writes
+Serves pages front (Err (BadLog why)) reads writes = Refuses pages front (BadLog why) reads writes
+Serves pages front (Err (BadSource line why)) reads writes = Refuses pages front (BadSource line why) reads writes
+Serves pages front (Err ReadFault) reads writes =
+    (IsCutWithin (size_of front) reads × (writes ≡ [])) ⊎ ServesScript {T = Unit {0}} pages front (Err ReadFault) reads writes
+Serves pages front result reads writes = ServesScript pages front result reads writes
+
+-- why image or log could not be made
+abbrev pub IsJudgement : RunFault → Type 0
+IsJudgement Memory = Unit {0}
+IsJudgement (BadImage why) = Unit {0}
+IsJudgement (BadLog why) = Unit {0}
+IsJudgement (BadSource line why) = Unit {0}
+IsJudgement fault = ⊥
 
 -- why the bytes before a script could not be read
 abbrev pub IsFrontFault : ℕ → List Call → RunFault → Type 0

@@ -1,5 +1,5 @@
 -- A session (own): an image, a log and a position, and the answer to each command.
-use Rattle.std.specs.Prelude.{◌≡◌, ◌⊎◌, ℕ, ◌+◌, ◌-◌, ◌≤◌, Bool, true, false, List, map, Option, Some, None, Result, Ok, Err, if◌then◌else◌, nat_le, refl, slice_index, slice_index_or}
+use Rattle.std.specs.Prelude.{◌≡◌, ◌⊎◌, ℕ, ◌+◌, ◌-◌, ◌≤◌, Bool, true, false, List, length, map, Option, Some, None, Result, Ok, Err, if◌then◌else◌, nat_le, refl, slice_index, slice_index_or}
 use Rattle.std.specs.Coded.{Coded, code_by, coded×, coded_ℕ, coded_list}
 use Rattle.cop0.specs.Registers.{Registers as ControlState, register_of}
 use Rattle.input_log.specs.Event.{TimedByte}
@@ -10,13 +10,13 @@ use Rattle.r3k_machine.specs.Address.{where_at}
 use Rattle.r3k_machine.specs.LoadSlot.{DelayedLoad}
 use Rattle.r3k_machine.specs.declared.address.Where.{Where as MachineWhere}
 use Rattle.r3k_machine.specs.declared.address.Where.TheVariants as machine_where
-use Rattle.r3k_machine.specs.Run.{state_at}
+use Rattle.r3k_machine.specs.Run.{console_of, state_at, trace_at}
 use Rattle.tlb64.specs.Entries.{empty_entry}
 use Rattle.tlb64.specs.declared.entry.Entry.{Entry}
 use Rattle.wb_options.specs.declared.fault.RunFault.{RunFault}
 use Rattle.wb_options.specs.declared.fault.RunFault.TheVariants.{Memory as OutOfMemory, BadImage}
 use Rattle.wb_text.specs.declared.command.Command.{Command}
-use Rattle.wb_text.specs.declared.command.Command.TheVariants.{Pos, Goto, Step, Back, Regs, Reg, Cp0, Tlb, Where as WhereIs, Mem, Dis, Quit}
+use Rattle.wb_text.specs.declared.command.Command.TheVariants.{Pos, Goto, Step, Back, Regs, Reg, Cp0, Tlb, Where as WhereIs, Mem, Dis, Console, Log, Quit}
 use Rattle.wb_text.specs.declared.fault.Fault.{Fault}
 use Rattle.wb_text.specs.declared.fault.Fault.TheVariants.{Memory, NotFound, TooFar}
 use Rattle.wb_text.specs.declared.memory.Words.{Words}
@@ -26,7 +26,8 @@ use Rattle.wb_text.specs.declared.reply.Registers.{Registers as AllRegisters}
 use Rattle.wb_text.specs.declared.reply.Where.{Where}
 use Rattle.wb_text.specs.declared.reply.Where.TheVariants.{Cached, Uncached, AddressError, Refill, Miss}
 use Rattle.wb_text.specs.declared.reply.Reply.{Reply}
-use Rattle.wb_text.specs.declared.reply.Reply.TheVariants.{Position, Registers, Register, Control, Entry as EntryReply, Where as Place, Memory as MemoryReply, Instructions, Nothing, Fault as Refused}
+use Rattle.wb_text.specs.declared.reply.Reply.TheVariants.{Position, Registers, Register, Control, Entry as EntryReply, Where as Place, Memory as MemoryReply, Instructions, Console as ConsoleReply, Log as LogReply, Nothing, Fault as Refused}
+use Rattle.workbench.specs.Console.{part_of}
 use Rattle.workbench.specs.Memory.{places_of}
 use Rattle.workbench.specs.Sizes.{AreSizes}
 
@@ -139,6 +140,13 @@ words_of pages s address (Err fault) = Err fault
 abbrev pub words_shown : ℕ → Triple → (address count : ℕ) → Result Words Fault
 words_shown pages s address count = words_of pages s address (places_of pages address count)
 
+-- what `console` shows of the bytes that were sent, and `log` of the log: how many there are, and a part of them
+abbrev pub console_shown : (line from count : ℕ) → List ℕ → Reply
+console_shown line from count bytes = ConsoleReply line (length bytes) (record { items = part_of from count bytes })
+
+abbrev pub log_shown : (from count : ℕ) → List TimedByte → Reply
+log_shown from count log = LogReply (length log) from (record { items = part_of from count log })
+
 -- the answer that shows words
 abbrev pub answer_with : Triple → (Words → Reply) → Result Words Fault → Answer
 answer_with s show (Ok words) = answer s (show words)
@@ -157,6 +165,8 @@ plain pages s (Tlb number) = answer s (shown_entry number (slice_index_or (core_
 plain pages s (WhereIs address) = answer s (Place (shown_place (where_at (core_of pages s) address)))
 plain pages s (Mem address count) = answer_with s (λ words. MemoryReply words) (words_shown pages s address count)
 plain pages s (Dis address count) = answer_with s (λ words. Instructions words) (words_shown pages s address count)
+plain pages s (Console line from count) = answer s (console_shown line from count (console_of line (trace_at pages s.image s.log s.position)))
+plain pages s (Log from count) = answer s (log_shown from count s.log)
 plain pages s Quit = answer s Nothing
 
 -- the commands that may be refused for memory
@@ -172,6 +182,8 @@ takes_memory (Tlb number) = true
 takes_memory (WhereIs address) = true
 takes_memory (Mem address count) = true
 takes_memory (Dis address count) = true
+takes_memory (Console line from count) = true
+takes_memory (Log from count) = false
 takes_memory Quit = false
 
 -- the refusals that come before that for memory: 2 to 7

@@ -1,13 +1,15 @@
 // The machine run from reset over a flat memory, once for each query.
 
-ghost use Rattle.std.specs.Prelude.{◌≡◌, ◌+◌, ◌*◌, ◌^◌, ◌<◌, ◌≤◌, All, Ok, Err, IfOk, IfSome, MatchResult, length, map, slice_index};
+ghost use Rattle.std.specs.Prelude.{◌≡◌, ℕ, List, ◌+◌, ◌-◌, ◌*◌, ◌^◌, ◌<◌, ◌≤◌, All, Ok, Err, IfOk, IfSome, MatchResult, length, map, slice_index};
 ghost use Rattle.r3k_word.specs.Layout.{place_of_word, word_count_of};
 ghost use Rattle.r3k_word.specs.declared.layout.TheConstants.{MAX_RAM_PAGES};
-ghost use Rattle.r3k_machine.specs.Run.{state_at};
+ghost use Rattle.r3k_machine.specs.Run.{byte_on, console_of, state_at, trace_at};
+ghost use Rattle.workbench.specs.Console.{Shows, with_byte};
 ghost use Rattle.workbench.specs.Memory.{places_of};
 
 use arrayvec::ArrayVec;
-use input_log::Log;
+use dz_serial::Sent;
+use input_log::{Cursor, Log};
 use r3k_image::Image;
 use r3k_machine::step::step;
 use r3k_machine::{Core, FlatMemory, Mem};
@@ -35,10 +37,77 @@ pub(crate) fn machine_at<const PAGES: u32>(
 {
     let mut memory = FlatMemory::<PAGES>::boot(alloc, image)?;
     let mut core = Core::reset(alloc, image)?;
+    let mut events = Cursor::new(log.window(0, position));
     for time in 0..position {
-        let _done = step(&mut core, &mut memory, log.window(time, time + 1));
+        let _done = step(&mut core, &mut memory, events.next(time));
     }
     Ok(Machine { core, memory })
+}
+
+/// What is shown of a console: how many bytes it has, and those from a place on.
+#[derive(Drop)]
+pub(crate) struct Shown {
+    pub(crate) total: u64,
+    pub(crate) bytes: ArrayVec<u8, 256>,
+}
+
+/// The bytes that the run of an image and a log sends on a line before a position: how many there are, and those from a place
+/// on, at most `count` of them.
+pub(crate) fn console_at<const PAGES: u32>(
+    alloc: Global,
+    image: &Image,
+    log: &Log,
+    position: u64,
+    line: u8,
+    from: u64,
+    count: usize,
+) -> Result<Shown, AllocError>
+    requires pages { PAGES ≤ MAX_RAM_PAGES }
+    requires count { count ≤ 256 }
+    ensures { IfOk result (Shows from count (console_of line (trace_at PAGES image.now log.now position))) }
+{
+    let mut memory = FlatMemory::<PAGES>::boot(alloc, image)?;
+    let mut core = Core::reset(alloc, image)?;
+    let mut events = Cursor::new(log.window(0, position));
+    let mut shown = Shown {
+        total: 0,
+        bytes: ArrayVec::new(),
+    };
+    for time in 0..position {
+        let done = step(&mut core, &mut memory, events.next(time));
+        shown.take(byte_on(line, done.sent), from, count);
+    }
+    Ok(shown)
+}
+
+// The byte that a step sent on a line, if it did.
+fn byte_on(line: u8, sent: Option<Sent>) -> Option<u8>
+    ensures { result ≡ byte_on line sent }
+{
+    match sent {
+        Some(sent) if sent.line == line => Some(sent.byte),
+        _ => None,
+    }
+}
+
+impl Shown {
+    // Takes the next byte of the console, if there is one.
+    #[tactic(auto, using(crate::proofs::Consoles::part_more, crate::proofs::Consoles::part_enough, crate::proofs::Consoles::part_before))]
+    fn take(&mut self, byte: Option<u8>, from: u64, count: usize)
+        requires room { self.old.total < 2 ^ 64 - 1 }
+        requires count { count ≤ 256 }
+        ensures shows { (console : List ℕ) → Shows from count console self.old →
+            Shows from count (with_byte console byte) self.new }
+        ensures one_more { self.new.total ≤ self.old.total + 1 }
+    {
+        let Some(byte) = byte else {
+            return;
+        };
+        if self.total >= from && self.bytes.len() < count {
+            self.bytes.push(byte);
+        }
+        self.total += 1;
+    }
 }
 
 /// The places of words from an address on, or why they are not all words of RAM or ROM.

@@ -1,22 +1,22 @@
-//! The program on its input: an image, and then a script.
-ghost use Rattle.std.specs.Prelude.{◌≡◌, ◌+◌, ◌≤◌, List, MatchResult, length};
+//! The program on its input: an image and a log, and then a script.
+ghost use Rattle.std.specs.Prelude.{◌≡◌, ◌+◌, ◌≤◌, IfErr, List, MatchResult, length};
 ghost use Rattle.wb_io.specs.Calls.{Call, Reads, Writes, bytes_moved};
-ghost use Rattle.workbench.specs.Serve.{IsFrontFault, Makes, ReadsAll, Serves, image_of};
+ghost use Rattle.workbench.specs.Serve.{IsFrontFault, IsJudgement, Makes, ReadsAll, Serves, image_of, log_of};
 ghost use Rattle.workbench.specs.Sizes.{AreSizes};
 
 use crate::script::{MAX_READS, run_with};
-use input_log::Log;
+use input_log::{Log, read_log};
 use r3k_asm::assemble;
 use r3k_image::{Image, raw_rom, read_image};
 use std::alloc::Global;
 use wb_io::{PIECE_BYTES, Sink, Source};
 use wb_options::{Kind, Options, RunFault};
 
-/// Reads as many bytes as the options say, makes the image of their kind, and runs the script that follows on a machine
-/// with that image and the empty log. All reads together are at most 2^20.
+/// Reads as many bytes as the options say, makes the image of their kind and the log, and runs the script that follows on a
+/// machine with that image and that log. All reads together are at most 2^20.
 ///
-/// Input that ends within the image is a read fault. Nothing is written until the image is read and found good, and to fit
-/// the machine.
+/// Input that ends within image or log is a read fault. Both are read before they are judged: the image first, then the log,
+/// and last whether the image fits the machine. Nothing is written until they are found good.
 pub fn serve<const PAGES: u32, const SPAN: u32, R: Source, W: Sink>(
     alloc: Global,
     options: Options,
@@ -28,24 +28,23 @@ pub fn serve<const PAGES: u32, const SPAN: u32, R: Source, W: Sink>(
         × Reads (R.reads reader.old) (R.reads reader.new) (R.left reader.old) (R.left reader.new) reads
         × Writes (W.writes writer.old) (W.writes writer.new) (W.written writer.old) (W.written writer.new) writes
         × (length reads ≤ 1048576)
-        × Serves PAGES options.kind options.size result reads writes }
+        × Serves PAGES (record { kind = options.kind; size = options.size; log_size = options.log_size }) result reads writes }
 {
-    let front = match read_front(alloc, options.size as usize, reader) {
+    let size = options.size as usize;
+    let front = match read_front(alloc, size + options.log_size as usize, reader) {
         Err(fault) => return Err(fault),
         Ok(front) => front,
     };
-    let image = match image_of(alloc, options.kind, &front.bytes) {
+    let (image, log) = front.bytes.split_at(size);
+    let image = match image_of(alloc, options.kind, image) {
         Err(fault) => return Err(fault),
         Ok(image) => image,
     };
-    run_with::<PAGES, SPAN, R, W>(
-        alloc,
-        image,
-        Log::new(alloc),
-        reader,
-        writer,
-        front.reads_left,
-    )
+    let log = match log_of(alloc, log) {
+        Err(fault) => return Err(fault),
+        Ok(log) => log,
+    };
+    run_with::<PAGES, SPAN, R, W>(alloc, image, log, reader, writer, front.reads_left)
 }
 
 // The bytes before the script, and how many reads are left.
@@ -89,11 +88,23 @@ fn read_front<R: Source>(alloc: Global, size: usize, reader: &mut R) -> Result<F
 
 // The image that bytes of a kind make.
 fn image_of(alloc: Global, kind: Kind, bytes: &[u8]) -> Result<Image, RunFault>
-    ensures { Makes result (image_of kind bytes.now) }
+    ensures made { Makes result (image_of kind bytes.now) }
+    ensures judged { IfErr result IsJudgement }
 {
     match kind {
         Kind::Rom => Ok(raw_rom(alloc, bytes)?),
         Kind::Image => Ok(read_image(alloc, bytes)?),
         Kind::Source => Ok(assemble(alloc, bytes)?),
     }
+}
+
+// The log that bytes spell: none at all is the empty log.
+fn log_of(alloc: Global, bytes: &[u8]) -> Result<Log, RunFault>
+    ensures made { Makes result (log_of bytes.now) }
+    ensures judged { IfErr result IsJudgement }
+{
+    if bytes.is_empty() {
+        return Ok(Log::new(alloc));
+    }
+    Ok(read_log(alloc, bytes)?)
 }

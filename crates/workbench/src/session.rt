@@ -1,18 +1,20 @@
 //! A session: an image, a log and a position, and the answer to each command.
 
-ghost use Rattle.std.specs.Prelude.{◌≡◌, ◌⊎◌, Err, IsOk, MatchResult};
+ghost use Rattle.std.specs.Prelude.{◌≡◌, ◌≤◌, ◌⊎◌, Err, IsOk, MatchResult};
 ghost use Rattle.r3k_image.specs.Boot.{FitsRam};
-ghost use Rattle.workbench.specs.Session.{Answers, IsNewFault, answer, moved, shown, shown_control, shown_entry, shown_place, words_shown};
+ghost use Rattle.workbench.specs.Console.{part_of};
+ghost use Rattle.workbench.specs.Session.{Answers, IsNewFault, answer, log_shown, moved, shown, shown_control, shown_entry, shown_place, words_shown};
 ghost use Rattle.workbench.specs.Memory.{places_of};
 ghost use Rattle.wb_text.specs.declared.fault.Fault.TheVariants.{Memory};
 ghost use Rattle.workbench.specs.Sizes.{AreSizes};
 
-use crate::query::{machine_at, places_from, words_at};
+use crate::query::{console_at, machine_at, places_from, words_at};
+use arrayvec::ArrayVec;
 use cop0::Cop0;
 use cop0::number::{
     BAD_VADDR, CAUSE, CONTEXT, ENTRY_HI, ENTRY_LO, EPC, INDEX, PRID, RANDOM, STATUS,
 };
-use input_log::Log;
+use input_log::{Event, Log};
 use r3k_image::{Image, ImageKind};
 use r3k_machine::{self as machine, Core};
 use std::alloc::Global;
@@ -20,8 +22,8 @@ use std::marker::Model;
 use tlb64::Entry;
 use wb_options::RunFault;
 use wb_text::{
-    Address, Command, ControlRegisters, EntryNumber, Fault, Load, RegisterNumber, Registers, Reply,
-    Where, WordCount, Words,
+    Address, ByteCount, Command, ControlRegisters, EntryNumber, EventCount, Fault, LineNumber,
+    Load, RegisterNumber, Registers, Reply, Where, WordCount, Words,
 };
 
 /// The greatest position.
@@ -90,6 +92,8 @@ impl<const PAGES: u32, const SPAN: u32> Session<PAGES, SPAN> {
                 Ok(words) => Reply::Instructions(words),
                 Err(fault) => Reply::Fault(fault),
             },
+            Command::Console { line, from, count } => self.console(line, from, count),
+            Command::Log { from, count } => self.events(from, count),
             Command::Quit => Reply::Nothing,
         }
     }
@@ -180,6 +184,42 @@ impl<const PAGES: u32, const SPAN: u32> Session<PAGES, SPAN> {
         }
     }
 
+    // Shows bytes that were sent on a line.
+    fn console(&self, line: LineNumber, from: u64, count: ByteCount) -> Reply
+        ensures { Answers PAGES self.now (Command.Console line from count) self.now result }
+    {
+        let number = line.get() as u8;
+        let count = count.get() as usize;
+        match console_at::<PAGES>(
+            self.alloc,
+            &self.image,
+            &self.log,
+            self.position,
+            number,
+            from,
+            count,
+        ) {
+            Ok(shown) => Reply::Console {
+                line,
+                total: shown.total,
+                bytes: shown.bytes,
+            },
+            Err(_) => Reply::Fault(Fault::Memory),
+        }
+    }
+
+    // Shows events of the log.
+    fn events(&self, from: u64, count: EventCount) -> Reply
+        ensures { result ≡ log_shown from count self.now.log }
+    {
+        let events = self.log.events();
+        Reply::Log {
+            total: events.len() as u64,
+            first: from,
+            events: events_from(events, from, count.get() as usize),
+        }
+    }
+
     // The words of memory from an address on.
     fn words(&self, address: Address, count: WordCount) -> Result<Words, Fault>
         ensures { (result ≡ words_shown PAGES self.now address count)
@@ -195,6 +235,18 @@ impl<const PAGES: u32, const SPAN: u32> Session<PAGES, SPAN> {
             words: words_at(&machine.memory, places.as_slice()),
         })
     }
+}
+
+// The events from a place on, at most `count`.
+fn events_from(events: &[Event], from: u64, count: usize) -> ArrayVec<Event, 32>
+    requires { count ≤ 32 }
+    ensures { result.items ≡ part_of from count events.now }
+{
+    let rest = events.get(from as usize..).unwrap_or(&[]);
+    let mut shown = ArrayVec::new();
+    // There is room for all of them.
+    let _copied = shown.try_extend_from_slice(rest.get(..count).unwrap_or(rest));
+    shown
 }
 
 // What `regs` shows of a processor.

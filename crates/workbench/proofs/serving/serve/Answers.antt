@@ -1,25 +1,74 @@
-use Rattle.std.proofs.Common.{[], ◌++◌, ◌≡◌, List, ℕ, Ok, subst, arith, length-append}
+use Rattle.std.proofs.Common.{[], ◌++◌, ◌≡◌, List, ℕ, Ok, Err, take, drop, ap, subst, arith, length-append, ◌∙◌}
+use Rattle.r3k_image.specs.Boot.{Boot}
+use Rattle.input_log.specs.Event.{TimedByte}
 use Rattle.wb_io.proofs.CallLemmas.{Reads-trans, Writes-nil}
-use Rattle.workbench.specs.Serve.{image_of}
-use Rattle.workbench.proofs.Outcomes.{front_fault_serves, run_serves}
+use Rattle.workbench.specs.Serve.{Front, Makes, image_of, log_of}
+use Rattle.workbench.proofs.Outcomes.{front_fault_serves, no_image_serves, no_log_serves, run_serves}
 use Rattle.workbench.proofs.serving.serve.Goals as goal
 
 pub returns-in-Err : goal.returns-in-Err
 returns-in-Err g c =
+    let front : Front = record { kind = c.args.options.kind; size = c.args.options.size; log_size = c.args.options.log_size } in
     let h = c.in-Err.ensures in
-    (h.0, [], h.1, Writes-nil (g.W.Sink.writes c.args.writer.now) (g.W.Sink.written c.args.writer.now), h.2, front_fault_serves (Unit {0}) g.row.PAGES c.args.options.kind c.args.options.size c.in-Err.fault h.0 h.3)
+    (h.0, [], h.1, Writes-nil (g.W.Sink.writes c.args.writer.now) (g.W.Sink.written c.args.writer.now), h.2, front_fault_serves (Unit {0}) g.row.PAGES front c.in-Err.fault h.0 h.3)
+
+pub returns-in-Err-image_of : goal.returns-in-Err-image_of
+returns-in-Err-image_of g c =
+    let front : Front = record { kind = c.args.options.kind; size = c.args.options.size; log_size = c.args.options.log_size } in
+    let f = c.in-Ok.ensures in
+    let bytes = c.split_at.ensures.front ∙ ap (λ (z : List ℕ). take c.args.options.size z) (c.deref.ensures.value ∙ f.3.1) in
+    let fault = c.in-Err-image_of.fault in
+    let none = c.in-Err-image_of.ensures {u = tt} in (
+      f.0,
+      [],
+      f.1,
+      Writes-nil (g.W.Sink.writes c.args.writer.now) (g.W.Sink.written c.args.writer.now),
+      f.2,
+      no_image_serves (Unit {0}) g.row.PAGES front fault f.0 f.3.0 none.judged
+          (subst (λ (z : List ℕ). Makes {A = Boot} (Err fault) (image_of c.args.options.kind z)) bytes none.made),
+    )
+
+pub returns-in-Err-log_of : goal.returns-in-Err-log_of
+returns-in-Err-log_of g c =
+    let front : Front = record { kind = c.args.options.kind; size = c.args.options.size; log_size = c.args.options.log_size } in
+    let f = c.in-Ok.ensures in
+    let all = c.deref.ensures.value ∙ f.3.1 in
+    let bytes = c.split_at.ensures.front ∙ ap (λ (z : List ℕ). take c.args.options.size z) all in
+    let rest = c.split_at.ensures.back ∙ ap (λ (z : List ℕ). drop c.args.options.size z) all in
+    let image = c.in-Ok-image_of.image in
+    let fault = c.in-Err-log_of.fault in
+    let made = c.in-Ok-image_of.ensures {u = tt} in
+    let none = c.in-Err-log_of.ensures {u = tt} in (
+      f.0,
+      [],
+      f.1,
+      Writes-nil (g.W.Sink.writes c.args.writer.now) (g.W.Sink.written c.args.writer.now),
+      f.2,
+      no_log_serves (Unit {0}) g.row.PAGES front fault f.0 f.3.0 none.judged image
+          (subst (λ (z : List ℕ). image_of c.args.options.kind z ≡ Ok image) bytes made.made)
+          (subst (λ (z : List ℕ). Makes {A = List TimedByte} (Err fault) (log_of z)) rest none.made),
+    )
 
 pub returns : goal.returns
 returns g c =
+    let front : Front = record { kind = c.args.options.kind; size = c.args.options.size; log_size = c.args.options.log_size } in
     let f = c.in-Ok.ensures in
     let h = c.run_with.ensures in
     let more = length-append f.0 h.0 in
-    let made : image_of c.args.options.kind c.in-Ok.front.bytes.items ≡ Ok c.in-Ok-image_of.image = subst (λ (z : List ℕ). image_of c.args.options.kind z ≡ Ok c.in-Ok-image_of.image) c.deref.ensures.value c.in-Ok-image_of.ensures in (
+    let all = c.deref.ensures.value ∙ f.3.1 in
+    let bytes = c.split_at.ensures.front ∙ ap (λ (z : List ℕ). take c.args.options.size z) all in
+    let rest = c.split_at.ensures.back ∙ ap (λ (z : List ℕ). drop c.args.options.size z) all in
+    let image = c.in-Ok-image_of.image in
+    let log = c.in-Ok-log_of.log in
+    let made = c.in-Ok-image_of.ensures {u = tt} in
+    let logged = c.in-Ok-log_of.ensures {u = tt} in (
       f.0 ++ h.0,
       h.1,
       Reads-trans _ _ _ _ _ _ f.0 h.0 f.1 h.2,
       h.3,
       omega (arith, more, f.3.2, h.4),
-      run_serves g.row.PAGES c.in-Ok.front.reads_left c.args.options.kind c.args.options.size c.in-Ok-image_of.image c.new.result c.run_with.result f.0 h.0 h.1 f.3.0
-          (subst (λ (z : List ℕ). image_of c.args.options.kind z ≡ Ok c.in-Ok-image_of.image) f.3.1 made) c.new.ensures (omega (arith, f.3.2)) h.5,
+      run_serves g.row.PAGES c.in-Ok.front.reads_left front image log c.run_with.result f.0 h.0 h.1 f.3.0
+          (subst (λ (z : List ℕ). image_of c.args.options.kind z ≡ Ok image) bytes made.made)
+          (subst (λ (z : List ℕ). log_of z ≡ Ok log) rest logged.made)
+          (omega (arith, f.3.2)) h.5,
     )

@@ -3,7 +3,7 @@ use Rattle.std.proofs.Common.{◌≡◌, ◌%◌, ◌≤◌, true, subst, sym, �
 use Rattle.mc146818.specs.Divider.{next_count}
 use Rattle.mc146818.specs.Clock.{ClockState, runs}
 use Rattle.mc146818.specs.contracts.clock.Clock.{the_view}
-use Rattle.mc146818.proofs.Quiet.{quiet_tick}
+use Rattle.mc146818.proofs.WithinUnit.{quiet_tick}
 use Rattle.mc146818.proofs.clock.Clock.tick.Goals as goal
 
 pub returns-else-advance : goal.returns-else-advance

@@ -1,0 +1,73 @@
+-- What is so of both parts is so of the bus.
+use Rattle.std.proofs.Common.{◌≡◌, ℕ, ◌+◌, ◌*◌, ◌≤◌, sym, ap, arith, ◌∙◌}
+use Rattle.std.specs.Prelude.{if◌then◌else◌, min}
+use Rattle.r3k_word.specs.Word.{has}
+use Rattle.dz_serial.specs.Serial.{Serial}
+use Rattle.dz_serial.specs.Quiet as serial_quiet
+use Rattle.dz_serial.specs.Reads.{word_read}
+use Rattle.mc146818.specs.Quiet as clock_quiet
+use Rattle.kn02_bus.specs.declared.csr.TheConstants.{SERIAL_LINE, ENABLE}
+use Rattle.kn02_bus.specs.declared.region.Device.TheVariants as device
+use Rattle.kn02_bus.specs.State.{BusState}
+use Rattle.kn02_bus.specs.Lines.{lines_of}
+use Rattle.kn02_bus.specs.Access.{after_load, csr_of}
+use Rattle.kn02_bus.specs.Tick.{arrived}
+use Rattle.kn02_bus.specs.Quiet.{quiet_of}
+use Rattle.kn02_bus.proofs.Quiet.{after_parts}
+use Rattle.kn02_bus.proofs.Unseen.{arrived_is_quiet, passed_arrived, read_is_quiet, passed_read, word_of_passed}
+use Rattle.kn02_bus.proofs.laws.quiet_laws.Goals as goal
+
+pub returns-clause-passes : goal.returns-clause-passes
+returns-clause-passes c = λ bus n h.
+    let serial : n ≤ serial_quiet.quiet_of bus.serial = omega arith in
+    let clock : n ≤ clock_quiet.quiet_of bus.clock = omega arith in
+    after_parts n bus ∙ (λ i. record bus {
+      serial = c.quiet_laws.ensures.passes bus.serial n serial i;
+      clock = c.quiet_laws-2.ensures.passes bus.clock n clock i;
+    })
+
+pub returns-clause-lines : goal.returns-clause-lines
+returns-clause-lines c = λ bus n h.
+    let serial : n ≤ serial_quiet.quiet_of bus.serial = omega arith in
+    let clock : n ≤ clock_quiet.quiet_of bus.clock = omega arith in
+    ap lines_of (after_parts n bus) ∙ (λ i. record {
+      board = has bus.enables (if c.quiet_laws.ensures.line bus.serial n serial i then SERIAL_LINE else 0);
+      clock = c.quiet_laws-2.ensures.line bus.clock n clock i;
+    })
+
+pub returns-clause-csr : goal.returns-clause-csr
+returns-clause-csr c = λ bus n h.
+    let serial : n ≤ serial_quiet.quiet_of bus.serial = omega arith in
+    ap csr_of (after_parts n bus)
+    ∙ (λ i. bus.enables * ENABLE + (if c.quiet_laws.ensures.line bus.serial n serial i then SERIAL_LINE else 0))
+
+pub returns-clause-quiet_arrival : goal.returns-clause-quiet_arrival
+returns-clause-quiet_arrival c = λ bus line byte.
+    ap (λ (n : ℕ). min n (clock_quiet.quiet_of bus.clock)) (arrived_is_quiet bus.serial line byte)
+
+pub returns-clause-arrival : goal.returns-clause-arrival
+returns-clause-arrival c = λ bus n line byte h.
+    let still : quiet_of (arrived bus line byte) ≡ quiet_of bus = returns-clause-quiet_arrival c bus line byte in
+    let within : n ≤ quiet_of (arrived bus line byte) = omega arith in
+    let with_serial = λ (s : Serial). let b : BusState = record { serial = s; clock = clock_quiet.passed n bus.clock; enables = bus.enables } in b in
+    returns-clause-passes c (arrived bus line byte) n within
+    ∙ (ap with_serial (passed_arrived n bus.serial line byte)
+    ∙ ap (λ (b : BusState). arrived b line byte) (sym (returns-clause-passes c bus n h)))
+
+pub returns-clause-word : goal.returns-clause-word
+returns-clause-word c = λ bus n offset h.
+    ap (λ (b : BusState). word_read b.serial offset) (returns-clause-passes c bus n h) ∙ word_of_passed n bus.serial offset
+
+pub returns-clause-quiet_read : goal.returns-clause-quiet_read
+returns-clause-quiet_read c = λ bus offset.
+    ap (λ (n : ℕ). min n (clock_quiet.quiet_of bus.clock)) (read_is_quiet bus.serial offset)
+
+pub returns-clause-read : goal.returns-clause-read
+returns-clause-read c = λ bus n offset h.
+    let read = device.Serial offset in
+    let still : quiet_of (after_load bus read) ≡ quiet_of bus = returns-clause-quiet_read c bus offset in
+    let within : n ≤ quiet_of (after_load bus read) = omega arith in
+    let with_serial = λ (s : Serial). let b : BusState = record { serial = s; clock = clock_quiet.passed n bus.clock; enables = bus.enables } in b in
+    returns-clause-passes c (after_load bus read) n within
+    ∙ (ap with_serial (passed_read n bus.serial offset)
+    ∙ ap (λ (b : BusState). after_load b read) (sym (returns-clause-passes c bus n h)))

@@ -1,0 +1,8 @@
+pub mod Region
+pub mod State
+pub mod Lines
+pub mod Access
+pub mod Tick
+pub mod Quiet
+pub mod Plan
+pub mod Same

@@ -1,0 +1,103 @@
+//! The bus: the devices, and what they tell the processor.
+
+ghost use Rattle.std.specs.Prelude.{◌≡◌, ◌≤◌, ◌<◌, ◌%◌, slice_index};
+ghost use Rattle.kn02_bus.specs.State.{reset_bus};
+ghost use Rattle.kn02_bus.specs.Tick.{arrived, ticked};
+
+use crate::laws::quiet_laws;
+use crate::parts::Parts;
+use crate::plan::Plan;
+use std::marker::Model;
+
+/// The devices of the board, and the enables of its interrupt lines. It takes no memory beyond its
+/// own.
+#[derive(Drop)]
+pub struct Bus {
+    /// The parts as they were when the quiet ticks began.
+    pub(crate) parts: Parts,
+    pub(crate) plan: Plan,
+}
+
+impl Model for Bus {
+    ghost use Rattle.std.specs.Prelude.{◌-◌};
+    ghost use Rattle.kn02_bus.specs.State.{BusState};
+    ghost use Rattle.kn02_bus.specs.Quiet.{after};
+    ghost use Rattle.kn02_bus.specs.Plan.{IsPlanFor};
+
+    ghost Value = { BusState };
+
+    ghost view = { λ b. after (b.plan.planned - b.plan.left) b.parts };
+
+    ghost invariant = { λ b. IsPlanFor b.parts b.plan };
+}
+
+/// The interrupt lines to the processor.
+#[derive(Clone, Copy, Debug, PartialEq, Eq)]
+pub struct Lines {
+    /// A line of the board and its enable are both 1.
+    pub board: bool,
+    /// The line of the clock.
+    pub clock: bool,
+}
+
+impl Bus {
+    /// The bus at reset. A line of the serial part sends a byte in `byte_time` ticks, and a second has
+    /// 8192 times `unit` ticks; both are 1 to 65,535. The clock's registers 0 to 11 are those of
+    /// `start`, of which bit 7 of A and bit 0 of B are 0.
+    #[tactic(auto, using(crate::proofs::Quiet::owes_nothing))]
+    pub fn new(byte_time: u32, start: [u8; 12], unit: u32) -> Bus
+        requires byte_time_above { 1 ≤ byte_time }
+        requires byte_time_within { byte_time ≤ 65535 }
+        requires unit_above { 1 ≤ unit }
+        requires unit_within { unit ≤ 65535 }
+        requires register_a { slice_index start 10 < 128 }
+        requires register_b { slice_index start 11 % 2 ≡ 0 }
+        ensures { result ≡ reset_bus byte_time start unit }
+    {
+        let parts = Parts::new(byte_time, start, unit);
+        let plan = Plan::of(&parts);
+        Bus { parts, plan }
+    }
+
+    /// Makes the bus equal to another one.
+    pub fn assign(&mut self, other: &Bus)
+        ensures { self.new ≡ other.now }
+    {
+        self.parts.assign(&other.parts);
+        self.plan = other.plan;
+    }
+
+    /// A byte arrives at a line of the serial part, which is at most 3.
+    pub fn receive(&mut self, line: u8, byte: u8)
+        requires { line ≤ 3 }
+        ensures { self.new ≡ arrived self.old line byte }
+    {
+        quiet_laws();
+        self.parts.receive(line, byte);
+        self.plan.lines = self.parts.lines();
+    }
+
+    /// Clock and serial part advance by a tick.
+    #[inline]
+    #[tactic(auto, using(crate::proofs::Quiet::owes_one_more))]
+    pub fn tick(&mut self)
+        ensures { self.new ≡ ticked self.old }
+    {
+        if self.plan.left != 0 {
+            self.plan.left -= 1;
+        } else {
+            self.end_quiet_ticks();
+        }
+    }
+
+    // The tick behind the quiet ones.
+    #[cold]
+    #[tactic(auto, using(crate::proofs::Quiet::owes_nothing))]
+    fn end_quiet_ticks(&mut self)
+        ensures { self.new ≡ ticked self.old }
+    {
+        self.parts.pass(self.plan.owed());
+        self.parts.tick();
+        self.plan = Plan::of(&self.parts);
+    }
+}

@@ -1,0 +1,48 @@
+//! Laws of the physical map and of quiet ticks: nothing runs here.
+
+ghost use Rattle.std.specs.Prelude.{◌≡◌, ℕ, ◌+◌, ◌-◌, ◌*◌, ◌/◌, ◌≤◌, Some, None};
+ghost use Rattle.r3k_word.specs.Layout.{place_of_word};
+ghost use Rattle.kn02_bus.specs.Region.{region_of};
+ghost use Rattle.kn02_bus.specs.declared.region.Region.TheVariants as region;
+ghost use Rattle.kn02_bus.specs.declared.region.Device.TheVariants as device;
+ghost use Rattle.kn02_bus.specs.State.{BusState};
+ghost use Rattle.kn02_bus.specs.Lines.{lines_of};
+ghost use Rattle.kn02_bus.specs.Access.{csr_of, loaded, after_load};
+ghost use Rattle.kn02_bus.specs.Tick.{arrived};
+ghost use Rattle.kn02_bus.specs.Quiet.{after, passed, quiet_of};
+
+use crate::region::Device;
+use r3k_word::layout::{PAGE_WORDS, ROM_START};
+
+/// RAM and ROM are where the words of memory stand, and where devices are or nothing there is none.
+pub fn region_laws()
+    ensures ram { (pages address : ℕ) → region_of pages address ≡ region.Ram →
+        place_of_word pages (address / 4 * 4) ≡ Some (address / 4) }
+    ensures rom { (pages address : ℕ) → region_of pages address ≡ region.Rom →
+        place_of_word pages (address / 4 * 4) ≡ Some (pages * PAGE_WORDS + (address - ROM_START) / 4) }
+    ensures device { (pages address : ℕ) (device : Device) → region_of pages address ≡ region.Device device →
+        place_of_word pages (address / 4 * 4) ≡ None }
+    ensures unassigned { (pages address : ℕ) → region_of pages address ≡ region.Unassigned →
+        place_of_word pages (address / 4 * 4) ≡ None }
+{}
+
+/// In quiet ticks the parts do nothing but count. The interrupt lines and CSR stay as they are, and a
+/// byte that arrives and a read of the serial part neither see those ticks nor end them.
+pub fn quiet_laws()
+    ensures passes { (bus : BusState) (n : ℕ) → n ≤ quiet_of bus → after n bus ≡ passed n bus }
+    ensures lines { (bus : BusState) (n : ℕ) → n ≤ quiet_of bus → lines_of (after n bus) ≡ lines_of bus }
+    ensures csr { (bus : BusState) (n : ℕ) → n ≤ quiet_of bus → csr_of (after n bus) ≡ csr_of bus }
+    ensures arrival { (bus : BusState) (n line byte : ℕ) → n ≤ quiet_of bus →
+        after n (arrived bus line byte) ≡ arrived (after n bus) line byte }
+    ensures quiet_arrival { (bus : BusState) (line byte : ℕ) →
+        quiet_of (arrived bus line byte) ≡ quiet_of bus }
+    ensures word { (bus : BusState) (n offset : ℕ) → n ≤ quiet_of bus →
+        loaded (after n bus) (device.Serial offset) ≡ loaded bus (device.Serial offset) }
+    ensures read { (bus : BusState) (n offset : ℕ) → n ≤ quiet_of bus →
+        after n (after_load bus (device.Serial offset)) ≡ after_load (after n bus) (device.Serial offset) }
+    ensures quiet_read { (bus : BusState) (offset : ℕ) →
+        quiet_of (after_load bus (device.Serial offset)) ≡ quiet_of bus }
+{
+    dz_serial::quiet_laws();
+    mc146818::quiet_laws();
+}

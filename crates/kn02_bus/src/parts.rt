@@ -1,0 +1,117 @@
+//! The devices, as they stand.
+
+ghost use Rattle.std.specs.Prelude.{◌≡◌, ◌≤◌, ◌<◌, ◌%◌, slice_index};
+ghost use Rattle.kn02_bus.specs.State.{reset_bus};
+ghost use Rattle.kn02_bus.specs.Tick.{arrived, ticked};
+ghost use Rattle.kn02_bus.specs.Quiet.{quiet_of, after};
+
+use crate::laws::quiet_laws;
+use dz_serial::Dz;
+use mc146818::Clock;
+use std::marker::Model;
+
+/// The serial part, the clock, and the enables of the board's interrupt lines.
+#[derive(Drop)]
+pub(crate) struct Parts {
+    pub(crate) serial: Dz,
+    pub(crate) clock: Clock,
+    /// Bit k lets line k of the board raise its interrupt.
+    pub(crate) enables: u8,
+}
+
+impl Model for Parts {
+    ghost use Rattle.kn02_bus.specs.State.{BusState};
+
+    ghost Value = { BusState };
+
+    ghost view = { λ b. record { serial = b.serial; clock = b.clock; enables = b.enables } };
+}
+
+impl PartialEq for Parts {
+    ghost use Rattle.std.specs.Prelude.{◌≡◌, ◌↔◌, IsTrue};
+    ghost use Rattle.std.specs.Cmp.{decided, partial_equiv_from_equiv};
+    ghost use Rattle.kn02_bus.specs.Same.{is_same, is_same_decides};
+
+    ghost eq = { is_same };
+
+    ghost laws = { partial_equiv_from_equiv (decided is_same is_same_decides) };
+
+    /// Whether all that both hold is equal.
+    #[tactic(auto, unfolding(crate::specs::Same::is_same))]
+    fn eq(&self, other: &Parts) -> bool
+        ensures value { result ≡ is_same self.now other.now }
+        ensures equal { IsTrue result ↔ (self.now ≡ other.now) }
+    {
+        self.serial == other.serial && self.clock == other.clock && self.enables == other.enables
+    }
+}
+
+impl Parts {
+    /// The parts at reset.
+    pub(crate) fn new(byte_time: u32, start: [u8; 12], unit: u32) -> Parts
+        requires byte_time_above { 1 ≤ byte_time }
+        requires byte_time_within { byte_time ≤ 65535 }
+        requires unit_above { 1 ≤ unit }
+        requires unit_within { unit ≤ 65535 }
+        requires register_a { slice_index start 10 < 128 }
+        requires register_b { slice_index start 11 % 2 ≡ 0 }
+        ensures { result ≡ reset_bus byte_time start unit }
+    {
+        Parts {
+            serial: Dz::new(byte_time),
+            clock: Clock::new(start, unit),
+            enables: 0,
+        }
+    }
+
+    /// Makes the parts equal to others.
+    pub(crate) fn assign(&mut self, other: &Parts)
+        ensures { self.new ≡ other.now }
+    {
+        self.serial.assign(&other.serial);
+        self.clock.assign(&other.clock);
+        self.enables = other.enables;
+    }
+
+    /// The same parts once more.
+    pub(crate) fn copy(&self) -> Parts
+        ensures { result ≡ self.now }
+    {
+        let mut copy = Parts::new(1, [0; 12], 1);
+        copy.assign(self);
+        copy
+    }
+
+    /// A byte arrives at a line of the serial part, which is at most 3.
+    pub(crate) fn receive(&mut self, line: u8, byte: u8)
+        requires { line ≤ 3 }
+        ensures { self.new ≡ arrived self.old line byte }
+    {
+        self.serial.receive(line, byte);
+    }
+
+    /// Clock and serial part advance by a tick.
+    pub(crate) fn tick(&mut self)
+        ensures { self.new ≡ ticked self.old }
+    {
+        self.clock.tick();
+        self.serial.tick();
+    }
+
+    /// How many ticks from now only count.
+    pub(crate) fn quiet(&self) -> u32
+        ensures { result ≡ quiet_of self.now }
+    {
+        self.serial.quiet().min(self.clock.quiet())
+    }
+
+    /// So many ticks pass at once, all of them quiet.
+    pub(crate) fn pass(&mut self, ticks: u32)
+        requires { ticks ≤ quiet_of self.old }
+        ensures { self.new ≡ after ticks self.old }
+    {
+        quiet_laws();
+        self.serial.pass(ticks);
+        self.clock.pass(ticks);
+    }
+}

@@ -1,0 +1,32 @@
+-- Quiet ticks (own): those that only count, which many at once can pass.
+use Rattle.std.specs.Prelude.{ℕ, ◌+◌, ◌-◌, ◌%◌, ◌==◌, min, Option, Some, None, if◌then◌else◌}
+use Rattle.r3k_word.specs.Word.{has}
+use Rattle.mc146818.specs.declared.registers.TheConstants.{PF}
+use Rattle.mc146818.specs.declared.quiet.TheConstants.{FOREVER}
+use Rattle.mc146818.specs.Divider.{second_of, period_of}
+use Rattle.mc146818.specs.Clock.{ClockState, runs, rate}
+
+-- the clock after so many ticks that only count: its divider moves on by as many, where it runs
+abbrev pub passed : ℕ → ClockState → ClockState
+passed n clock = record clock { divider = if runs clock then clock.divider + n else clock.divider }
+
+-- how many ticks pass before the one that ends the second
+abbrev pub quiet_second : (unit count : ℕ) → ℕ
+quiet_second unit count = second_of unit - 1 - count
+
+-- how many ticks pass before the one that ends a period
+abbrev pub quiet_period : Option ℕ → (count : ℕ) → ℕ
+quiet_period None count = FOREVER
+quiet_period (Some period) count = period - 1 - count % period
+
+-- how many ticks pass before the one that sets PF: never, where it is set already
+abbrev pub quiet_flag : ClockState → ℕ
+quiet_flag clock =
+    if has clock.flags PF then FOREVER else quiet_period (period_of clock.unit (rate clock)) clock.divider
+
+-- How many ticks from now only count: those before the next one that ends the second, whatever SET
+-- is, or sets PF. A divider that does not run stays 0; the next tick clears one that is not.
+unfoldable pub quiet_of : ClockState → ℕ
+quiet_of clock =
+    if runs clock then min (quiet_second clock.unit clock.divider) (quiet_flag clock)
+    else (if clock.divider == 0 then FOREVER else 0)
