@@ -1,15 +1,19 @@
 //! A fast interpreter of the same processor, in ordinary Rust, to compare the proved program's speed with: one
 //! `match` over opcode and function, and memory in one vector.
 //!
-//! It has all instructions, and keeps what it last looked up in the translation entries. There are no devices and no
-//! isolated cache.
+//! It has all instructions, and keeps what it last looked up in the translation entries. There is no isolated cache, and
+//! no byte arrives at the serial lines.
 //!
 //! `fast ROM STEPS` runs so many steps from reset and writes what the commands `goto STEPS` and `regs` reply. How
 //! fast it was goes to standard error.
 
+mod devices;
+
 use std::error::Error;
 use std::time::Instant;
 use std::{env, fs};
+
+use devices::{Devices, LINES};
 
 const RAM_WORDS: usize = 2048 * 1024;
 const ROM_WORDS: usize = 64 * 1024;
@@ -133,6 +137,10 @@ struct Machine {
     kept: [Kept; 16],
     /// RAM, then ROM.
     words: Vec<u32>,
+    devices: Devices,
+    /// The ticks so far, and the one in which the devices are looked at next.
+    tick: u64,
+    due: u64,
 }
 
 /// An instruction's fields.
@@ -181,7 +189,7 @@ fn place(physical: u32) -> Option<usize> {
         return Some(word);
     }
     let word = word.wrapping_sub((ROM / 4) as usize);
-    (word < ROM_WORDS).then_some(RAM_WORDS + word)
+    (word < ROM_WORDS).then(|| RAM_WORDS + word)
 }
 
 impl Machine {
@@ -196,6 +204,7 @@ impl Machine {
         control[RANDOM] = 63 << 8;
         control[STATUS] = BEV;
         control[PRID] = 0x220;
+        let devices = Devices::new();
         Machine {
             registers: [0; 32],
             hi: 0,
@@ -208,10 +217,17 @@ impl Machine {
             entries: [(0, 0); 64],
             kept: [NOTHING; 16],
             words,
+            due: devices.due(0),
+            devices,
+            tick: 0,
         }
     }
 
     fn step(&mut self) {
+        self.tick += 1;
+        if self.tick == self.due {
+            self.sample();
+        }
         let (pc, delay) = (self.pc, self.delay);
         let status = self.control[STATUS];
         let ran = if status & ENABLE != 0 && status & self.control[CAUSE] & INTERRUPTS != 0 {
@@ -227,6 +243,13 @@ impl Machine {
         if *random < 8 << 8 {
             *random = 63 << 8;
         }
+    }
+
+    /// Brings the lines of the devices into Cause.
+    #[cold]
+    fn sample(&mut self) {
+        self.control[CAUSE] = self.control[CAUSE] & !LINES | self.devices.sample(self.tick);
+        self.due = self.devices.due(self.tick);
     }
 
     #[cold]
@@ -328,26 +351,46 @@ impl Machine {
         }
     }
 
+    #[inline]
+    fn fetch(&mut self, address: u32) -> Result<u32, Exception> {
+        let physical = self.physical(address, 3, Use::Fetch)?;
+        place(physical).map(|place| self.words[place]).ok_or(Exception::of(BUS_ERROR_FETCH))
+    }
+
     /// The aligned word at an address.
     #[inline]
-    fn read(&mut self, address: u32, low: u32, access: Use, bus_error: Exception) -> Result<u32, Exception> {
-        let physical = self.physical(address, low, access)?;
-        place(physical).map(|place| self.words[place]).ok_or(bus_error)
-    }
-
-    #[inline]
     fn load(&mut self, address: u32, low: u32) -> Result<u32, Exception> {
-        self.read(address, low, Use::Load, Exception::of(BUS_ERROR_LOAD))
+        let physical = self.physical(address, low, Use::Load)?;
+        match place(physical) {
+            Some(place) => Ok(self.words[place]),
+            None => self.load_device(physical),
+        }
     }
 
-    /// Stores the bytes of a mask. What is not RAM drops them.
+    #[inline(never)]
+    fn load_device(&mut self, physical: u32) -> Result<u32, Exception> {
+        let (word, clears) = self.devices.load(physical, self.tick).ok_or(Exception::of(BUS_ERROR_LOAD))?;
+        if clears {
+            self.due = self.tick + 1;
+        }
+        Ok(word)
+    }
+
+    /// Stores the bytes of a mask. What is neither RAM nor a device drops them.
     #[inline]
     fn store(&mut self, address: u32, low: u32, value: u32, mask: u32) -> Result<(), Exception> {
         let physical = self.physical(address, low, Use::Store)?;
-        if let Some(word) = self.words[..RAM_WORDS].get_mut((physical / 4) as usize) {
-            *word = *word & !mask | value & mask;
+        match self.words[..RAM_WORDS].get_mut((physical / 4) as usize) {
+            Some(word) => *word = *word & !mask | value & mask,
+            None => self.store_device(physical, value, mask),
         }
         Ok(())
+    }
+
+    #[inline(never)]
+    fn store_device(&mut self, physical: u32, value: u32, mask: u32) {
+        self.devices.store(physical, value, mask, self.tick);
+        self.due = self.tick + 1;
     }
 
     /// Writes a register. r0 stays 0.
@@ -382,7 +425,7 @@ impl Machine {
 
     /// Runs the instruction at `pc`.
     fn instruct(&mut self, pc: u32) -> Result<(), Exception> {
-        let w = Word(self.read(pc, 3, Use::Fetch, Exception::of(BUS_ERROR_FETCH))?);
+        let w = Word(self.fetch(pc)?);
         let (s, t) = (self.registers[w.rs()], self.registers[w.rt()]);
         let (signed_s, signed_t) = (s as i32, t as i32);
 

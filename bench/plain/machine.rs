@@ -12,7 +12,7 @@ const ROM_WORDS: usize = 64 * 1024;
 
 pub const KSEG0: u32 = 0x8000_0000;
 const KSEG1: u32 = 0xA000_0000;
-const KSEG2: u32 = 0xC000_0000;
+pub const KSEG2: u32 = 0xC000_0000;
 
 /// The parts that the machine has.
 #[derive(Clone, Copy, Debug, PartialEq)]
@@ -117,6 +117,13 @@ impl Machine {
     /// The word of RAM or ROM at a physical address.
     pub fn word(&self, physical: u32) -> u32 {
         self.words[self.place(physical).expect("an address of memory")]
+    }
+
+    /// The same state with another's memory.
+    #[cfg(test)]
+    pub fn with_words_of(mut self, other: &Machine) -> Machine {
+        self.words.clone_from(&other.words);
+        self
     }
 
     #[inline]

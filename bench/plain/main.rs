@@ -3,12 +3,15 @@
 //! `plain [--kind rom|image] [--size N] [--log N] [--pages N] [--without PART,..]` reads what the proved program reads,
 //! and writes what it writes. The parts are `translation`, `caches` and `devices`. Each query runs from reset, by the
 //! simplest means.
-//! `plain --random image|log|script --seed N [--without PART,..] [--asks COMMAND,..]` writes a random one instead.
+//! `plain --random image|reader|log|script --seed N [--without PART,..] [--asks COMMAND,..]` writes a random one instead:
+//! an image of many instructions, one that reads what arrives, a log, or a script of these commands. `plain --random edits
+//! --seed N`, with the words and the input of a run, writes a script of edits for it.
 
 mod bus;
 mod caches;
 mod clock;
 mod control;
+mod edits;
 mod image;
 mod instruct;
 mod log;
@@ -124,10 +127,11 @@ fn main() -> io::Result<ExitCode> {
             return Ok(ExitCode::from(2));
         }
     };
-    if let Some(kind) = &options.random {
+    if let Some(kind) = options.random.as_deref().filter(|&kind| kind != "edits") {
         let commands: Vec<&str> = options.asks.split(',').collect();
-        let made = match kind.as_str() {
+        let made = match kind {
             "image" => random::image(options.seed, options.parts).write(),
+            "reader" => edits::reader(options.seed).write(),
             "log" => random::log(options.seed).write(),
             _ => random::script(options.seed, &commands).into_bytes(),
         };
@@ -138,7 +142,11 @@ fn main() -> io::Result<ExitCode> {
     io::stdin().read_to_end(&mut input)?;
     match begin(&options, &input) {
         Ok((mut session, script)) => {
-            io::stdout().write_all(replies(&mut session, script).as_bytes())?;
+            let made = match options.random {
+                Some(_) => edits::script(options.seed, session),
+                None => replies(&mut session, script),
+            };
+            io::stdout().write_all(made.as_bytes())?;
             Ok(ExitCode::SUCCESS)
         }
         Err(Fault(number, name)) => {

@@ -9,10 +9,10 @@ use crate::machine::Parts;
 use crate::table::{ROWS, Shape};
 
 /// A generator of random numbers (splitmix64).
-struct Random(u64);
+pub struct Random(pub u64);
 
 impl Random {
-    fn next(&mut self) -> u32 {
+    pub fn next(&mut self) -> u32 {
         self.0 = self.0.wrapping_add(0x9E37_79B9_7F4A_7C15);
         let mut mixed = self.0;
         mixed = (mixed ^ mixed >> 30).wrapping_mul(0xBF58_476D_1CE4_E5B9);
@@ -20,12 +20,12 @@ impl Random {
         ((mixed ^ mixed >> 31) >> 32) as u32
     }
 
-    fn below(&mut self, bound: u32) -> u32 {
+    pub fn below(&mut self, bound: u32) -> u32 {
         self.next() % bound
     }
 
     /// True one time in so many.
-    fn one_in(&mut self, count: u32) -> bool {
+    pub fn one_in(&mut self, count: u32) -> bool {
         self.below(count) == 0
     }
 
@@ -33,7 +33,7 @@ impl Random {
         &choices[self.below(choices.len() as u32) as usize]
     }
 
-    fn pick<T: Copy>(&mut self, choices: &[T]) -> T {
+    pub fn pick<T: Copy>(&mut self, choices: &[T]) -> T {
         *self.pick_ref(choices)
     }
 }
@@ -53,16 +53,16 @@ const CONTROL_STATUS: u32 = 12;
 const CAUSE: u32 = 13;
 const EPC: u32 = 14;
 
-const NOP: u32 = 0;
+pub const NOP: u32 = 0;
 const TLBWI: u32 = 0x4200_0002;
 const TLBWR: u32 = 0x4200_0006;
 const RFE: u32 = 0x4200_0010;
 
 // Where parts of an image stand, as physical addresses.
 const SETUP: u32 = ROM + 0x200;
-const ROM_BODY: u32 = ROM + 0x1000;
+pub const ROM_BODY: u32 = ROM + 0x1000;
 const RAM_BODY: u32 = 0x1000;
-const DATA: u32 = 0x2000;
+pub const DATA: u32 = 0x2000;
 const BODY_WORDS: u32 = 320;
 
 /// Pages of kuseg and kseg2 that the code likes to use.
@@ -92,13 +92,13 @@ fn jr(register: u32) -> u32 {
 }
 
 /// Code in the making.
-struct Code<'a> {
-    random: &'a mut Random,
-    words: Vec<u32>,
+pub struct Code<'a> {
+    pub random: &'a mut Random,
+    pub words: Vec<u32>,
 }
 
 impl Code<'_> {
-    fn set(&mut self, register: u32, value: u32) {
+    pub fn set(&mut self, register: u32, value: u32) {
         self.words.extend([lui(register, value), ori(register, value)]);
     }
 
@@ -108,7 +108,7 @@ impl Code<'_> {
     }
 
     /// Stores a word to an address.
-    fn store(&mut self, address: u32, value: u32) {
+    pub fn store(&mut self, address: u32, value: u32) {
         self.set(1, address & 0xFFFF_0000);
         self.set(2, value);
         self.words.push(0xAC22_0000 | address & 0xFFFF);
@@ -373,7 +373,7 @@ pub fn log(seed: u64) -> Log {
     log
 }
 
-/// A script of this seed, with these commands.
+/// A script of this seed, with these commands, which change nothing but the position.
 pub fn script(seed: u64, commands: &[&str]) -> String {
     let mut random = Random(seed ^ 0x5555_5555_5555_5555);
     let mut script = String::new();
@@ -383,22 +383,15 @@ pub fn script(seed: u64, commands: &[&str]) -> String {
             let address = random.pick(&[0, DATA, DATA, RAM_BODY, ROM_BODY]) + 4 * random.below(16);
             let line = random.below(4);
             let words = match *name {
-                "step" | "back" | "del" => random.below(20).to_string(),
+                "step" | "back" => random.below(20).to_string(),
                 "reg" => random.below(32).to_string(),
                 "tlb" => random.below(64).to_string(),
                 "where" => {
                     format!("{:#x}", (random.pick(&MAPPED) + random.pick(&[0, 3])) ^ random.pick(&[0, 0x8000_0000]))
                 }
                 "mem" | "dis" => format!("{address:#x} 16"),
-                "writer" => format!("{address:#x}"),
-                "patch" => format!("{address:#x} {:#x}", random.next()),
-                "visit" => format!("{:#x} 50", 0xA000_0000 + ROM_BODY + 4 * random.below(64)),
                 "console" => format!("{line} {} 256", random.below(3)),
-                "find" => format!("{line} {}", random.below(4)),
                 "log" => "0 32".into(),
-                "add" => format!("{} {line} {}", random.below(3000), random.below(256)),
-                "set" => format!("{} {}", random.below(20), random.below(256)),
-                "move" => format!("{} {}", random.below(20), random.below(3000)),
                 _ => String::new(),
             };
             script += &format!("{name} {words}\n");

@@ -22,7 +22,7 @@ impl Session {
     }
 
     /// The machine at a position. `watch` is told the number of each step on the way, what it told, and the machine behind it.
-    fn run(&self, position: u64, mut watch: impl FnMut(u64, Done, &Machine)) -> Machine {
+    pub fn run(&self, position: u64, mut watch: impl FnMut(u64, Done, &Machine)) -> Machine {
         let mut machine = Machine::new(&self.image, self.parts);
         let mut events = &self.log.events[..];
         for time in 0..position {

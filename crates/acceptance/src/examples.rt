@@ -20,7 +20,151 @@ fn holds(
     Ok(())
 }
 
+const DRIVER: &[u8; 4014] = b"\
+    # A driver by interrupts: what arrives at a serial line is sent back on the same line, from a ring of 16 bytes in RAM, and each\n\
+    # update of the clock is noted. The main loop counts its turns.\n\
+    #\n\
+    # 0x1000  seconds, minutes, hours as the clock had them at its last update, and the count: four words\n\
+    # 0x1100  the rings of lines 0 to 3, 32 bytes each: 16 bytes, the number of bytes put in so far, and of those taken out\n\
+    #\n\
+    # r20 to r22 have the serial part, the clock and 0x1000 in kseg1, and r16 the count. r8 to r13 and r26 are the handler's.\n\
+    \x20       .bytetime 200\n\
+    \x20       .unit 1\n\
+    \x20       .clock 0x58 0 0x59 0 0x23 0 7 0x31 0x12 0x99 0x20 0x02\n\
+    \n\
+    \x20       lui r20, 0xbfe0\n\
+    \x20       lui r21, 0xbfe8\n\
+    \x20       lui r22, 0xa000\n\
+    \x20       ori r22, r22, 0x1000\n\
+    \x20       addiu r8, r0, 0x1000            # the receiver of line 0\n\
+    \x20       addiu r9, r0, 0x1004\n\
+    lines:\n\
+    \x20       sw r8, 8(r20)                   # LPR\n\
+    \x20       addiu r8, r8, 1\n\
+    \x20       bne r8, r9, lines\n\
+    \x20       sll r0, r0, 0\n\
+    \x20       addiu r8, r0, 0x4060\n\
+    \x20       sw r8, 0(r20)                   # CSR: TIE, RIE and MSE; no line is enabled yet\n\
+    \x20       lui r8, 0x0080\n\
+    \x20       lui r9, 0xbff0\n\
+    \x20       sw r8, 0(r9)                    # the board's CSR: the serial part's line\n\
+    \x20       addiu r8, r0, 0x0012\n\
+    \x20       sw r8, 44(r21)                  # B: UIE, BCD, 24 hours\n\
+    \x20       lui r8, 0x0040\n\
+    \x20       ori r8, r8, 0x0c01\n\
+    \x20       mtc0 r8, c12                    # Status: BEV, both interrupt lines, IEc\n\
+    loop:\n\
+    \x20       addiu r16, r16, 1\n\
+    \x20       j loop\n\
+    \x20       sw r16, 12(r22)                 # in the jump's delay slot\n\
+    \n\
+    # The general vector, with BEV 1.\n\
+    \x20       .org 0x1fc00180\n\
+    \x20       mfc0 r8, c13                    # Cause\n\
+    \x20       sll r0, r0, 0                   # in the load's delay slot\n\
+    \x20       andi r8, r8, 0x0800\n\
+    \x20       beq r8, r0, receive             # not the clock\n\
+    \x20       sll r0, r0, 0\n\
+    \x20       lw r8, 48(r21)                  # C: the clock's line goes down\n\
+    \x20       lw r9, 0(r21)                   # seconds\n\
+    \x20       lw r10, 8(r21)                  # minutes\n\
+    \x20       lw r11, 16(r21)                 # hours\n\
+    \x20       sw r9, 0(r22)\n\
+    \x20       sw r10, 4(r22)\n\
+    \x20       sw r11, 8(r22)\n\
+    \n\
+    # All bytes that are there go into the rings, and their lines may send. A byte for a full ring is dropped.\n\
+    receive:\n\
+    \x20       lw r8, 8(r20)                   # RBUF\n\
+    \x20       sll r0, r0, 0\n\
+    \x20       sll r9, r8, 16\n\
+    \x20       bgez r9, send                   # DVAL is bit 15\n\
+    \x20       srl r9, r8, 8\n\
+    \x20       andi r9, r9, 3                  # the line\n\
+    \x20       sll r10, r9, 5\n\
+    \x20       addu r10, r10, r22              # its ring is 0x100 behind\n\
+    \x20       lw r11, 0x110(r10)              # put in\n\
+    \x20       lw r12, 0x114(r10)              # taken out\n\
+    \x20       andi r13, r11, 15\n\
+    \x20       subu r12, r11, r12\n\
+    \x20       sltiu r12, r12, 16\n\
+    \x20       beq r12, r0, receive\n\
+    \x20       addu r13, r13, r10\n\
+    \x20       sb r8, 0x100(r13)\n\
+    \x20       addiu r11, r11, 1\n\
+    \x20       sw r11, 0x110(r10)\n\
+    \x20       lw r11, 16(r20)                 # TCR\n\
+    \x20       addiu r12, r0, 1\n\
+    \x20       sllv r12, r12, r9\n\
+    \x20       or r11, r11, r12\n\
+    \x20       j receive\n\
+    \x20       sw r11, 16(r20)\n\
+    \n\
+    # If a line waits for a byte it gets one. Once its ring is empty it may not send.\n\
+    send:\n\
+    \x20       lw r8, 0(r20)                   # CSR\n\
+    \x20       sll r0, r0, 0\n\
+    \x20       sll r9, r8, 16\n\
+    \x20       bgez r9, done                   # TRDY is bit 15\n\
+    \x20       srl r9, r8, 8\n\
+    \x20       andi r9, r9, 3                  # TLINE\n\
+    \x20       sll r10, r9, 5\n\
+    \x20       addu r10, r10, r22\n\
+    \x20       lw r12, 0x114(r10)              # taken out\n\
+    \x20       lw r11, 0x110(r10)              # put in\n\
+    \x20       andi r13, r12, 15\n\
+    \x20       addu r13, r13, r10\n\
+    \x20       lbu r8, 0x100(r13)\n\
+    \x20       addiu r12, r12, 1\n\
+    \x20       sw r8, 24(r20)                  # TDR\n\
+    \x20       bne r11, r12, done\n\
+    \x20       sw r12, 0x114(r10)\n\
+    \x20       lw r11, 16(r20)                 # TCR\n\
+    \x20       addiu r12, r0, 1\n\
+    \x20       sllv r12, r12, r9\n\
+    \x20       nor r12, r12, r0\n\
+    \x20       and r11, r11, r12\n\
+    \x20       sw r11, 16(r20)\n\
+    done:\n\
+    \x20       mfc0 r26, c14                   # EPC\n\
+    \x20       sll r0, r0, 0\n\
+    \x20       jr r26\n\
+    \x20       rfe                             # in the jump's delay slot\n";
+
 const ECHO: &[u8; 1130] = b"\
+    # Echoes what arrives at serial line 0, by polling. What RBUF gave last stands in word 0x100, and word 0x104 is written where a\n\
+    # byte was there.\n\
+    \x20       lui r1, 0xbfe0                  # the serial part, in kseg1\n\
+    \x20       lui r8, 0xa000                  # RAM, in kseg1\n\
+    \x20       addiu r4, r0, 0x1000\n\
+    \x20       sw r4, 8(r1)                    # LPR: the receiver of line 0 is on\n\
+    \x20       addiu r5, r0, 0x0001\n\
+    \x20       sw r5, 16(r1)                   # TCR: line 0 may send\n\
+    \x20       addiu r5, r0, 0x0020\n\
+    \x20       j loop\n\
+    \x20       sw r5, 0(r1)                    # CSR: MSE, in the jump's delay slot\n\
+    \n\
+    # A turn takes 11 steps, with a byte and without.\n\
+    \x20       .org 0x1fc01000\n\
+    loop:\n\
+    \x20       lw r6, 8(r1)                    # RBUF\n\
+    \x20       sll r0, r0, 0                   # in the load's delay slot\n\
+    \x20       sw r6, 0x100(r8)\n\
+    \x20       sll r7, r6, 16\n\
+    \x20       bgez r7, none                   # DVAL is bit 15\n\
+    \x20       sll r0, r0, 0\n\
+    \x20       sw r0, 0x104(r8)\n\
+    \x20       j next\n\
+    \x20       sw r6, 24(r1)                   # TDR: the byte goes out\n\
+    none:\n\
+    \x20       sll r0, r0, 0\n\
+    \x20       sll r0, r0, 0\n\
+    \x20       sll r0, r0, 0\n\
+    next:\n\
+    \x20       j loop\n\
+    \x20       sll r0, r0, 0\n";
+
+const EDITS: &[u8; 1130] = b"\
     # Echoes what arrives at serial line 0, by polling. What RBUF gave last stands in word 0x100, and word 0x104 is written where a\n\
     # byte was there.\n\
     \x20       lui r1, 0xbfe0                  # the serial part, in kseg1\n\
@@ -660,6 +804,145 @@ const USER_MODE: &[u8; 2195] = b"\
     \x20       jr r10\n\
     \x20       rfe                             # in the jump's delay slot: user mode\n";
 
+/// The example `driver`.
+#[test]
+fn driver(rt: HostRuntime) -> Result<(), Fail> {
+    let alloc = rt.alloc();
+    holds(
+        &rt,
+        alloc,
+        "source",
+        DRIVER,
+        b"\
+        \x52\x33\x4b\x4c\x4f\x47\x31\x0a\x1a\x00\x00\x00\x64\x00\x00\x00\
+        \x00\x48\x64\x00\x00\x00\x00\x69\x64\x00\x00\x00\x00\x21\x78\x00\
+        \x00\x00\x01\x61\x78\x00\x00\x00\x02\x62\x78\x00\x00\x00\x03\x63\
+        \x88\x13\x00\x00\x02\x41\x88\x13\x00\x00\x02\x42\x88\x13\x00\x00\
+        \x02\x43\x88\x13\x00\x00\x02\x44\x88\x13\x00\x00\x02\x45\x88\x13\
+        \x00\x00\x02\x46\x88\x13\x00\x00\x02\x47\x88\x13\x00\x00\x02\x48\
+        \x88\x13\x00\x00\x02\x49\x88\x13\x00\x00\x02\x4a\x88\x13\x00\x00\
+        \x02\x4b\x88\x13\x00\x00\x02\x4c\x88\x13\x00\x00\x02\x4d\x88\x13\
+        \x00\x00\x02\x4e\x88\x13\x00\x00\x02\x4f\x88\x13\x00\x00\x02\x50\
+        \x88\x13\x00\x00\x02\x51\x88\x13\x00\x00\x02\x52\xff\x1f\x00\x00\
+        \x03\x5a\xe0\x2e\x00\x00\x01\xff",
+        b"\
+        log 0 8\n\
+        # Three bytes for line 0 arrive in step 100; in step 120 one for each other line.\n\
+        goto 100\n\
+        cp0\n\
+        step 1\n\
+        cp0\n\
+        goto 269\n\
+        console 0 0 8\n\
+        step 1\n\
+        console 0 0 8\n\
+        goto 301\n\
+        console 1 0 8\n\
+        step 1\n\
+        console 1 0 8\n\
+        goto 494\n\
+        console 0 0 8\n\
+        step 1\n\
+        console 0 0 8\n\
+        goto 720\n\
+        console 0 0 8\n\
+        console 2 0 8\n\
+        console 3 0 8\n\
+        # The first update of the clock, together with a byte.\n\
+        goto 8191\n\
+        mem 0x1000 3\n\
+        step 1\n\
+        cp0\n\
+        step 12\n\
+        mem 0x1000 3\n\
+        goto 8247\n\
+        console 3 0 8\n\
+        step 1\n\
+        console 3 0 8\n\
+        # The last of the bytes of step 5000 for line 2.\n\
+        goto 8814\n\
+        console 2 15 8\n\
+        step 1\n\
+        console 2 15 8\n\
+        mem 0x1140 6\n\
+        # The second update, at midnight.\n\
+        goto 16384\n\
+        cp0\n\
+        step 12\n\
+        mem 0x1000 4\n\
+        console 0 0 32\n\
+        console 1 0 32\n\
+        console 2 0 32\n\
+        console 3 0 32\n",
+        b"\
+        log 26\n\
+        0 100 0 0x48\n\
+        1 100 0 0x69\n\
+        2 100 0 0x21\n\
+        3 120 1 0x61\n\
+        4 120 2 0x62\n\
+        5 120 3 0x63\n\
+        6 5000 2 0x41\n\
+        7 5000 2 0x42\n\
+        pos 100\n\
+        index 0x00000000 random 0x00001300 entrylo 0x00000000 context 0x00000000 badvaddr 0x00000000 entryhi 0x00000000 status 0x00400c01 cause 0x00000000 epc 0x00000000 prid 0x00000220\n\
+        pos 101\n\
+        index 0x00000000 random 0x00001200 entrylo 0x00000000 context 0x00000000 badvaddr 0x00000000 entryhi 0x00000000 status 0x00400c04 cause 0x80000400 epc 0xbfc00054 prid 0x00000220\n\
+        pos 269\n\
+        console 0 0 none\n\
+        pos 270\n\
+        console 0 1 48\n\
+        pos 301\n\
+        console 1 0 none\n\
+        pos 302\n\
+        console 1 1 61\n\
+        pos 494\n\
+        console 0 1 48\n\
+        pos 495\n\
+        console 0 2 4869\n\
+        pos 720\n\
+        console 0 3 486921\n\
+        console 2 1 62\n\
+        console 3 1 63\n\
+        pos 8191\n\
+        0x00001000 0x00000000\n\
+        0x00001004 0x00000000\n\
+        0x00001008 0x00000000\n\
+        pos 8192\n\
+        index 0x00000000 random 0x00002f00 entrylo 0x00000000 context 0x00000000 badvaddr 0x00000000 entryhi 0x00000000 status 0x00400c04 cause 0x00000c00 epc 0xbfc00054 prid 0x00000220\n\
+        pos 8204\n\
+        0x00001000 0x00000059\n\
+        0x00001004 0x00000059\n\
+        0x00001008 0x00000023\n\
+        pos 8247\n\
+        console 3 1 63\n\
+        pos 8248\n\
+        console 3 2 635a\n\
+        pos 8814\n\
+        console 2 16 4f\n\
+        pos 8815\n\
+        console 2 17 4f50\n\
+        0x00001140 0x43424150\n\
+        0x00001144 0x47464544\n\
+        0x00001148 0x4b4a4948\n\
+        0x0000114c 0x4f4e4d4c\n\
+        0x00001150 0x00000011\n\
+        0x00001154 0x00000010\n\
+        pos 16384\n\
+        index 0x00000000 random 0x00001f00 entrylo 0x00000000 context 0x00000000 badvaddr 0x00000000 entryhi 0x00000000 status 0x00400c04 cause 0x00000800 epc 0xbfc00054 prid 0x00000220\n\
+        pos 16396\n\
+        0x00001000 0x00000000\n\
+        0x00001004 0x00000000\n\
+        0x00001008 0x00000000\n\
+        0x0000100c 0x0000136a\n\
+        console 0 3 486921\n\
+        console 1 2 61ff\n\
+        console 2 17 624142434445464748494a4b4c4d4e4f50\n\
+        console 3 2 635a\n",
+    )?;
+    Ok(())
+}
+
 /// The example `echo`.
 #[test]
 fn echo(rt: HostRuntime) -> Result<(), Fail> {
@@ -692,6 +975,48 @@ fn echo(rt: HostRuntime) -> Result<(), Fail> {
         pos 256\n\
         console 0 2 4142\n\
         console 0 2 42\n",
+    )?;
+    Ok(())
+}
+
+/// The example `edits`.
+#[test]
+fn edits(rt: HostRuntime) -> Result<(), Fail> {
+    let alloc = rt.alloc();
+    holds(
+        &rt,
+        alloc,
+        "source",
+        EDITS,
+        b"",
+        b"\
+        goto 256\n\
+        writer 0x104\n\
+        console 0 0 8\n\
+        add 70 0 0x41\n\
+        writer 0x104\n\
+        find 0 0\n\
+        console 0 0 8\n\
+        patch 0x1fc01014 0x24c60001\n\
+        console 0 0 8\n\
+        set 0 0x50\n\
+        console 0 0 8\n\
+        del 0\n\
+        writer 0x104\n",
+        b"\
+        pos 256\n\
+        writer never\n\
+        console 0 0 none\n\
+        event 0\n\
+        writer 81\n\
+        find 83\n\
+        console 0 1 41\n\
+        ok\n\
+        console 0 1 42\n\
+        event 0\n\
+        console 0 1 51\n\
+        log 0\n\
+        writer never\n",
     )?;
     Ok(())
 }
@@ -901,6 +1226,25 @@ fn using(rt: HostRuntime) -> Result<(), Fail> {
         &rt,
         alloc,
         "source",
+        ECHO,
+        b"",
+        b"\
+        visit 0xbfc01000 9\n\
+        visit 0xbfc01000 10\n\
+        visit 0xbfc01000 11\n\
+        visit 0xbfc01002 1\n\
+        visit 0 0\n",
+        b"\
+        pos 9\n\
+        error 8 NotFound\n\
+        pos 20\n\
+        error 5 Unaligned\n\
+        error 3 Range\n",
+    )?;
+    holds(
+        &rt,
+        alloc,
+        "source",
         LOAD_SLOT,
         b"",
         b"\
@@ -1055,6 +1399,56 @@ fn using(rt: HostRuntime) -> Result<(), Fail> {
         \x52\x33\x4b\x4c\x4f\x47\x31\x0a\x02\x00\x00\x00\x46\x00\x00\x00\
         \x00\x41\xc8\x00\x00\x00\x00\x42",
         b"\
+        goto 256\n\
+        find 0 0\n\
+        find 0 1\n\
+        find 0 2\n\
+        goto 83\n\
+        find 0 0\n\
+        find 4 0\n",
+        b"\
+        pos 256\n\
+        find 83\n\
+        find 215\n\
+        error 8 NotFound\n\
+        pos 83\n\
+        error 8 NotFound\n\
+        error 3 Range\n",
+    )?;
+    holds(
+        &rt,
+        alloc,
+        "source",
+        ECHO,
+        b"\
+        \x52\x33\x4b\x4c\x4f\x47\x31\x0a\x02\x00\x00\x00\x46\x00\x00\x00\
+        \x00\x41\xc8\x00\x00\x00\x00\x42",
+        b"\
+        goto 256\n\
+        writer 0x100\n\
+        writer 0x104\n\
+        writer 0x200\n\
+        writer 0x1fc00000\n\
+        writer 0x101\n\
+        writer 0x1fe00000\n",
+        b"\
+        pos 256\n\
+        writer 253\n\
+        writer 213\n\
+        writer never\n\
+        writer image\n\
+        error 5 Unaligned\n\
+        error 6 NotMemory\n",
+    )?;
+    holds(
+        &rt,
+        alloc,
+        "source",
+        ECHO,
+        b"\
+        \x52\x33\x4b\x4c\x4f\x47\x31\x0a\x02\x00\x00\x00\x46\x00\x00\x00\
+        \x00\x41\xc8\x00\x00\x00\x00\x42",
+        b"\
         log 0 32\n\
         log 2 1\n\
         log 0 33\n",
@@ -1064,6 +1458,132 @@ fn using(rt: HostRuntime) -> Result<(), Fail> {
         1 200 0 0x42\n\
         log 2\n\
         error 3 Range\n",
+    )?;
+    holds(
+        &rt,
+        alloc,
+        "source",
+        ECHO,
+        b"",
+        b"\
+        goto 256\n\
+        writer 0x104\n\
+        add 70 0 0x41\n\
+        writer 0x104\n\
+        console 0 0 8\n\
+        add 200 0 0x42\n\
+        console 0 0 8\n\
+        add 4294967295 0 1\n",
+        b"\
+        pos 256\n\
+        writer never\n\
+        event 0\n\
+        writer 81\n\
+        console 0 1 41\n\
+        event 1\n\
+        console 0 2 4142\n\
+        error 3 Range\n",
+    )?;
+    holds(
+        &rt,
+        alloc,
+        "source",
+        ECHO,
+        b"\
+        \x52\x33\x4b\x4c\x4f\x47\x31\x0a\x02\x00\x00\x00\x46\x00\x00\x00\
+        \x00\x41\xc8\x00\x00\x00\x00\x42",
+        b"\
+        goto 256\n\
+        writer 0x104\n\
+        del 1\n\
+        writer 0x104\n\
+        del 1\n",
+        b"\
+        pos 256\n\
+        writer 213\n\
+        log 1\n\
+        writer 81\n\
+        error 4 NoEvent\n",
+    )?;
+    holds(
+        &rt,
+        alloc,
+        "source",
+        ECHO,
+        b"\
+        \x52\x33\x4b\x4c\x4f\x47\x31\x0a\x02\x00\x00\x00\x46\x00\x00\x00\
+        \x00\x41\xc8\x00\x00\x00\x00\x42",
+        b"\
+        goto 256\n\
+        console 0 0 8\n\
+        set 1 0x43\n\
+        console 0 0 8\n\
+        set 2 256\n\
+        set 2 255\n",
+        b"\
+        pos 256\n\
+        console 0 2 4142\n\
+        event 1\n\
+        console 0 2 4143\n\
+        error 3 Range\n\
+        error 4 NoEvent\n",
+    )?;
+    holds(
+        &rt,
+        alloc,
+        "source",
+        LOAD_SLOT,
+        b"",
+        b"\
+        add 5 0 1\n\
+        add 5 0 2\n\
+        add 4 0 3\n\
+        move 1 5\n\
+        log 0 8\n\
+        move 0 4294967295\n\
+        move 3 5\n",
+        b"\
+        event 0\n\
+        event 1\n\
+        event 0\n\
+        event 2\n\
+        log 3\n\
+        0 4 0 0x03\n\
+        1 5 0 0x02\n\
+        2 5 0 0x01\n\
+        error 3 Range\n\
+        error 4 NoEvent\n",
+    )?;
+    holds(
+        &rt,
+        alloc,
+        "source",
+        ECHO,
+        b"",
+        b"\
+        patch 0x100 0x1234\n\
+        goto 11\n\
+        mem 0x100 1\n\
+        writer 0x100\n\
+        step 1\n\
+        mem 0x100 1\n\
+        writer 0x100\n\
+        patch 0x1fc00010 0x24050011\n\
+        mem 0x1fc00010 1\n\
+        patch 0x1fe00000 0\n\
+        patch 0x102 0\n",
+        b"\
+        ok\n\
+        pos 11\n\
+        0x00000100 0x00001234\n\
+        writer image\n\
+        pos 12\n\
+        0x00000100 0x00000000\n\
+        writer 11\n\
+        ok\n\
+        0x1fc00010 0x24050011\n\
+        error 6 NotMemory\n\
+        error 5 Unaligned\n",
     )?;
     holds(
         &rt,

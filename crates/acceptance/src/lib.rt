@@ -10,6 +10,8 @@ mod commands;
 #[cfg(test)]
 mod devices;
 #[cfg(test)]
+mod edits;
+#[cfg(test)]
 mod effects;
 #[cfg(test)]
 mod encodings;
@@ -19,6 +21,8 @@ mod examples;
 mod exceptions;
 #[cfg(test)]
 mod images;
+#[cfg(test)]
+mod interrupts;
 #[cfg(test)]
 mod isolated;
 #[cfg(test)]
@@ -30,9 +34,15 @@ mod programs;
 #[cfg(test)]
 mod readers;
 #[cfg(test)]
+mod register_stores;
+#[cfg(test)]
+mod registers;
+#[cfg(test)]
 mod scripts;
 #[cfg(test)]
 mod served;
+#[cfg(test)]
+mod silo;
 #[cfg(test)]
 mod steps;
 #[cfg(test)]

@@ -9,8 +9,8 @@ const ONE: [u8; 18] = [
     0x52, 0x33, 0x4b, 0x4c, 0x4f, 0x47, 0x31, 0x0a, 1, 0, 0, 0, 70, 0, 0, 0, 0, 0x41,
 ];
 
-// Runs a source, a log and a script, on a machine with 16 pages.
-fn run(alloc: Global, source: &str, log: &[u8], script: &str) -> Result<Served, Fail> {
+/// Runs a source, a log and a script, on a machine with 16 pages.
+pub fn run(alloc: Global, source: &str, log: &[u8], script: &str) -> Result<Served, Fail> {
     let mut input = Vec::from_slice(alloc, source.as_bytes())?;
     input.extend_from_slice(log)?;
     input.extend_from_slice(script.as_bytes())?;

@@ -1,6 +1,6 @@
 //! A run of the program over memory.
 ghost use Rattle.std.specs.Prelude.{◌<◌};
-ghost use Rattle.workbench.specs.Sizes.{AreSizes};
+ghost use Rattle.timeline.specs.Sizes.{AreSizes};
 
 use std::alloc::{AllocError, Global};
 use workbench::{Plan, r3kwb};

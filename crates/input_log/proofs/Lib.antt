@@ -3,3 +3,5 @@ pub mod Window
 pub mod Loop
 pub mod Fields
 pub mod Logs
+pub mod Editing
+pub mod Edited

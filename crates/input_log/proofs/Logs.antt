@@ -19,16 +19,16 @@ use Rattle.input_log.proofs.Fields.{AreBytes, bind_ok, passes, ok_is, Takes, Tak
 
 -- ---- events behind one of the time last
 
-record IsEvent (e : TimedByte) : Type 0 where
+pub record IsEvent (e : TimedByte) : Type 0 where
   pub line : LineExists e
   pub byte : HoldsByte e
   pub time : IsInTime e
 
-abbrev AreEvents : ℕ → List TimedByte → Type 0
+abbrev pub AreEvents : ℕ → List TimedByte → Type 0
 AreEvents last [] = Unit {0}
 AreEvents last (e ∷ es) = (last ≤ e.time) × IsEvent e × AreEvents e.time es
 
-at_least : (last : ℕ) (es : List TimedByte) → AreEvents last es → (k : ℕ) (d : TimedByte) → k < length es → last ≤ (get_or es k d).time
+pub at_least : (last : ℕ) (es : List TimedByte) → AreEvents last es → (k : ℕ) (d : TimedByte) → k < length es → last ≤ (get_or es k d).time
 at_least last [] are k d lt = absurd (omega arith)
 at_least last (e ∷ es) are zero d lt = are.0
 at_least last (e ∷ es) are (suc k) d lt =
@@ -54,7 +54,7 @@ in_time : (last : ℕ) (es : List TimedByte) → AreEvents last es → All IsInT
 in_time last [] are = All-nil IsInTime
 in_time last (e ∷ es) are = All-cons IsInTime e es are.1.time (in_time e.time es are.2)
 
-log_from_events : (es : List TimedByte) → length es ≤ MAX_EVENTS → AreEvents 0 es → IsLog es
+pub log_from_events : (es : List TimedByte) → length es ≤ MAX_EVENTS → AreEvents 0 es → IsLog es
 log_from_events es few are = record { in_order = in_order 0 es are; few = few; lines_exist = lines 0 es are; hold_bytes = hold_bytes 0 es are; in_time = in_time 0 es are }
 
 events_from_parts : (last : ℕ) (es : List TimedByte) → ((d : TimedByte) → 0 < length es → last ≤ (get_or es 0 d).time) → AreInOrder es → All LineExists es → All HoldsByte es → All IsInTime es → AreEvents last es
@@ -66,7 +66,7 @@ events_from_parts last (e ∷ es) first order line byte time = (
       (All-tail LineExists e es line) (All-tail HoldsByte e es byte) (All-tail IsInTime e es time),
 )
 
-events_from_log : (es : List TimedByte) → IsLog es → AreEvents 0 es
+pub events_from_log : (es : List TimedByte) → IsLog es → AreEvents 0 es
 events_from_log es log = events_from_parts 0 es (λ d some. omega arith) log.in_order log.lines_exist log.hold_bytes log.in_time
 
 -- ---- what is read is spelled so

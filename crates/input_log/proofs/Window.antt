@@ -21,7 +21,7 @@ at_rest : {X : Type 0} (xs : List X) (i k : ℕ) (d : X) → i ≤ k
     → get_or (drop i xs) (k - i) d ≡ get_or xs k d
 at_rest xs i k d low = get_or-drop i xs (k - i) d ∙ ap (λ n. get_or xs n d) (omega arith)
 
-and-false : (a b : Bool) → b ≡ false → (a && b) ≡ false
+pub and-false : (a b : Bool) → b ≡ false → (a && b) ≡ false
 and-false true b h = h
 and-false false b h = refl
 
@@ -69,7 +69,7 @@ are_within from to log =
 pub in_order : (from to : ℕ) (log : List TimedByte) → AreInOrder log → AreInOrder (window_of from to log)
 in_order from to log order = IsNonDecreasingBy-filter (λ e. e.time) (λ e. leb from e.time && ltb e.time to) log order
 
-length-filter-le : {X : Type 0} (p : X → Bool) (xs : List X) → length (filter p xs) ≤ length xs
+pub length-filter-le : {X : Type 0} (p : X → Bool) (xs : List X) → length (filter p xs) ≤ length xs
 length-filter-le p xs = omega (arith, length-filter p xs, count_by-le-length p xs)
 
 pub is_log : (from to : ℕ) (log : List TimedByte) → IsLog log → IsLog (window_of from to log)
@@ -87,7 +87,7 @@ is_log from to log good =
 ends_before : (time : ℕ) → Ends (λ e. ltb e.time time)
 ends_before time x y le h = le-ltb y.time time (omega (arith, ltb-false x.time time h))
 
-ends_after : (time : ℕ) → Ends (λ e. leb e.time time)
+pub ends_after : (time : ℕ) → Ends (λ e. leb e.time time)
 ends_after time x y le h = lt-leb y.time time (omega (arith, leb-false x.time time h))
 
 pub split : (from middle to : ℕ) (log : List TimedByte) → AreInOrder log → from ≤ middle → middle ≤ to → window_of from middle log ++ window_of middle to log ≡ window_of from to log

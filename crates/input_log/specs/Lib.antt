@@ -1,4 +1,5 @@
 pub mod Event
 pub mod Log
+pub mod Edits
 pub mod Spelling
 pub mod Reading

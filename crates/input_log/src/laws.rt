@@ -1,13 +1,15 @@
 //! Laws of logs: nothing runs here.
 
-ghost use Rattle.std.specs.Prelude.{◌≡◌, ◌+◌, ◌^◌, ◌<◌, ◌≤◌, ◌++◌, ℕ, List, Ok, slice_index};
-ghost use Rattle.input_log.specs.Event.{TimedByte};
+ghost use Rattle.std.specs.Prelude.{◌≡◌, ◌+◌, ◌^◌, ◌<◌, ◌≤◌, ◌++◌, ℕ, List, Some, Ok, slice_index, slice_get};
+ghost use Rattle.input_log.specs.Event.{TimedByte, HoldsByte};
+ghost use Rattle.input_log.specs.Edits.{IsOutside, adding, deleting, setting, moving};
 ghost use Rattle.input_log.specs.Log.{AreInOrder, AreWithin, IsLog, window_of, later_than};
 ghost use Rattle.input_log.specs.Spelling.{spelling};
 ghost use Rattle.input_log.specs.Reading.{log_at};
 
 /// What is written is read again, what is read is a log, and a log has one spelling. A window within a window is the
-/// window of the log, two that meet make one, and a window of a log is a log.
+/// window of the log, two that meet make one, and a window of a log is a log. So is an edited log, and its windows without
+/// the times of the edit are as before.
 pub fn log_laws()
     ensures read { (log : List TimedByte) → IsLog log → log_at (spelling log) ≡ Ok log }
     ensures spelled { (bytes : List ℕ) (log : List TimedByte) → ((i : ℕ) → slice_index bytes i < 2 ^ 8) →
@@ -23,4 +25,25 @@ pub fn log_laws()
         window_of from middle log ++ window_of middle to log ≡ window_of from to log }
     ensures later { (time from to : ℕ) (log : List TimedByte) → from ≤ time + 1 →
         later_than time (window_of from to log) ≡ window_of (time + 1) to log }
+    ensures log_added { (event : TimedByte) (log new : List TimedByte) → IsLog log → HoldsByte event →
+        adding event log ≡ Ok new → IsLog new }
+    ensures log_deleted { (place : ℕ) (log new : List TimedByte) → IsLog log →
+        deleting place log ≡ Ok new → IsLog new }
+    ensures log_set { (place byte : ℕ) (log new : List TimedByte) → IsLog log → byte < 2 ^ 8 →
+        setting place byte log ≡ Ok new → IsLog new }
+    ensures log_moved { (place time : ℕ) (log new : List TimedByte) → IsLog log →
+        moving place time log ≡ Ok new → IsLog new }
+    ensures window_added { (event : TimedByte) (from to : ℕ) (log new : List TimedByte) → AreInOrder log →
+        adding event log ≡ Ok new → IsOutside event.time from to →
+        window_of from to new ≡ window_of from to log }
+    ensures window_deleted { (place from to : ℕ) (event : TimedByte) (log new : List TimedByte) →
+        slice_get log place ≡ Some event → deleting place log ≡ Ok new → IsOutside event.time from to →
+        window_of from to new ≡ window_of from to log }
+    ensures window_set { (place byte from to : ℕ) (event : TimedByte) (log new : List TimedByte) →
+        slice_get log place ≡ Some event → setting place byte log ≡ Ok new → IsOutside event.time from to →
+        window_of from to new ≡ window_of from to log }
+    ensures window_moved { (place time from to : ℕ) (event : TimedByte) (log new : List TimedByte) → IsLog log →
+        slice_get log place ≡ Some event → moving place time log ≡ Ok new →
+        IsOutside event.time from to → IsOutside time from to →
+        window_of from to new ≡ window_of from to log }
 {}

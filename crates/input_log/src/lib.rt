@@ -2,6 +2,7 @@
 #![tactic(auto)]
 
 mod cursor;
+mod edits;
 mod event;
 mod fault;
 mod format;

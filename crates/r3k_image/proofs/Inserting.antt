@@ -23,7 +23,7 @@ insert_is_put (e ∷ es) k v =
       | Greater ↦ ap (λ (xs : List (ℕ × ℕ)). e ∷ xs) (insert_is_put es k v)
     ]
 
-at_order : (e : ℕ × ℕ) (es : List (ℕ × ℕ)) (k v : ℕ) (o : Ordering) → o ≡ nat_cmp k e.0
+pub at_order : (e : ℕ × ℕ) (es : List (ℕ × ℕ)) (k v : ℕ) (o : Ordering) → o ≡ nat_cmp k e.0
     → put nat_cmp k v (e ∷ es) ≡ by_order o ((k, v) ∷ e ∷ es) ((e.0, v) ∷ es) (e ∷ put nat_cmp k v es)
 at_order e es k v o is = ap (λ (r : Ordering). by_order r ((k, v) ∷ e ∷ es) ((e.0, v) ∷ es) (e ∷ put nat_cmp k v es)) (sym is)
 
@@ -56,6 +56,9 @@ inserted es k v p h =
     ∙ insert_is_put es k v
     ∙ ap (put nat_cmp k v) (sym (entries_of_words 0 es h))
     ∙ sym (entries-insert nat_cmp_total (from_entries es) k v))
+
+pub put_in_map : (es : List (ℕ × ℕ)) (k v : ℕ) → IsPlaced 0 k v → AreEntries 0 es → from_entries {R = nat_cmp} (put nat_cmp k v es) ≡ map.insert (from_entries es) k v
+put_in_map es k v p h = ap from_entries (sym (insert_is_put es k v)) ∙ inserted es k v p h
 
 lookup_is_find : (q : ℕ) (es : List (ℕ × ℕ)) → lookup (is_at (nat_cmp q)) es ≡ find nat_cmp q es
 lookup_is_find q [] = refl

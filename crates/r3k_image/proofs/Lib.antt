@@ -12,3 +12,5 @@ pub mod LongestRuns
 pub mod SetWords
 pub mod Pushing
 pub mod Inserting
+pub mod Patching
+pub mod Patched

@@ -66,7 +66,7 @@ runs_of-words_in (s ∷ ss) h = first_run s.address s.words (words_in ss) ss (ru
 
 -- ---- words behind others
 
-entries_from-append : (a : ℕ) (ws vs : List ℕ) → entries_from a (ws ++ vs) ≡ entries_from a ws ++ entries_from (end_of a (length ws)) vs
+pub entries_from-append : (a : ℕ) (ws vs : List ℕ) → entries_from a (ws ++ vs) ≡ entries_from a ws ++ entries_from (end_of a (length ws)) vs
 entries_from-append a [] vs = ap (λ (n : ℕ). entries_from n vs) (let e : a ≡ end_of a 0 = omega arith in e)
 entries_from-append a (w ∷ ws) vs =
     let same : end_of (a + 4) (length ws) ≡ end_of a (length (w ∷ ws)) = omega arith in

@@ -51,7 +51,7 @@ entries_of_segments start (s ∷ ss) h =
 
 -- ---- from words to runs
 
-stands : (start a n : ℕ) → Stand start a n → IsTrue (may_stand start a n)
+pub stands : (start a n : ℕ) → Stand start a n → IsTrue (may_stand start a n)
 stands start a n p =
     let front = and_from _ _ (and_from _ _ (eq-eqb (a % 4) 0 p.aligned) (lt-ltb 0 n p.some)) (le-leb start a p.after) in
     elim p.inside [
@@ -68,7 +68,7 @@ one_word w fits = λ k d h. elim (cases_eq k 0) [ inl e ↦ rw e fits | inr n �
 more_words : (w : ℕ) (ws : List ℕ) → w < 2 ^ 32 → AreWords ws → AreWords (w ∷ ws)
 more_words w ws fits h = All-cons (λ v. v < 2 ^ 32) w ws fits h
 
-alone : (start a w : ℕ) (ss : List WordsAt) → IsPlaced start a w → AreSegments (a + 4) ss → AreSegments start (at a (w ∷ []) ∷ ss)
+pub alone : (start a w : ℕ) (ss : List WordsAt) → IsPlaced start a w → AreSegments (a + 4) ss → AreSegments start (at a (w ∷ []) ∷ ss)
 alone start a w ss p h =
     let good : Stand start a 1 = record {
       aligned = p.aligned;

@@ -4,3 +4,4 @@ pub mod Segments
 pub mod Spelling
 pub mod Reading
 pub mod Writing
+pub mod Patch

@@ -6,6 +6,7 @@ mod constants;
 mod fault;
 mod header;
 mod image;
+mod patch;
 mod reading;
 mod rom;
 mod runs;

@@ -1,6 +1,7 @@
 //! Segments of an image: words at consecutive addresses.
 
-ghost use Rattle.std.specs.Prelude.{◌≡◌, option_map, option_copied};
+ghost use Rattle.std.specs.Prelude.{◌≡◌, ◌<◌, ◌≤◌, length, option_map, option_copied};
+ghost use Rattle.std.specs.List.Sorted.{IsPartitionPoint};
 ghost use Rattle.r3k_image.specs.Segments.{views, view, AreSegments, last_at};
 
 /// Words at consecutive physical addresses.
@@ -26,11 +27,20 @@ impl Segment {
     }
 }
 
-/// The last segment that begins at or below an address, found by halving.
+/// How many segments begin at or below an address: the first ones, found by halving.
+pub fn count_up_to(segments: &[Segment], address: u32) -> usize
+    requires { AreSegments 0 (views segments.now) }
+    ensures parted { IsPartitionPoint (λ s. s.address ≤ address) (λ s. address < s.address)
+        segments.now result }
+    ensures bound { result ≤ length segments.now }
+{
+    segments.partition_point(|segment| segment.address <= address)
+}
+
+/// The last segment that begins at or below an address.
 pub fn last_segment_at(segments: &[Segment], address: u32) -> Option<&Segment>
     requires { AreSegments 0 (views segments.now) }
     ensures { option_map (λ s. view s.now) result ≡ last_at address (views segments.now) }
 {
-    let count = segments.partition_point(|segment| segment.address <= address);
-    segments[..count].last()
+    segments[..count_up_to(segments, address)].last()
 }

@@ -1,8 +1,11 @@
 //! The image format, written.
 
-ghost use Rattle.std.specs.Prelude.{◌≡◌, ◌++◌, flat_map, length, Ok, IfOk, OnOk};
+ghost use Rattle.std.specs.Prelude.{◌≡◌, ◌<◌, ◌≤◌, ◌^◌, ◌++◌, ℕ, flat_map, length, Ok, IsSome, IfOk, OnOk};
 ghost use Rattle.r3k_word.specs.Word.{bytes_of};
-ghost use Rattle.r3k_image.specs.Boot.{Boot, IsBoot};
+ghost use Rattle.r3k_word.specs.Layout.{place_of_word};
+ghost use Rattle.r3k_word.specs.declared.layout.TheConstants.{MAX_RAM_PAGES};
+ghost use Rattle.r3k_image.specs.Boot.{Boot, IsBoot, FitsRam};
+ghost use Rattle.r3k_image.specs.Patch.{patched, patching};
 ghost use Rattle.r3k_image.specs.Segments.{views, AreSegments};
 ghost use Rattle.r3k_image.specs.Spelling.{segment};
 ghost use Rattle.r3k_image.specs.Reading.{image_at};
@@ -61,9 +64,17 @@ pub fn write_image(alloc: Global, image: &Image) -> Result<Vec<u8>, AllocError>
     Ok(bytes)
 }
 
-/// What is written is read again. What is written are the longest runs of the set words.
+/// What is written is read again. What is written are the longest runs of the set words. A patch of a word that has a place
+/// is taken, and leaves an image that fits where it did.
 pub fn image_laws()
     ensures read { (boot : Boot) → IsBoot boot → image_at (bytes_of_image boot) ≡ Ok boot }
     ensures longest { (boot : Boot) → AreLongest (runs_in boot) }
     ensures words { (boot : Boot) → words_in (runs_in boot) ≡ map.entries boot.words }
+    ensures patched { (address word : ℕ) (boot : Boot) → IsBoot boot → IsSome (place_of_word MAX_RAM_PAGES address) →
+        word < 2 ^ 32 → IsBoot (patched address word boot) }
+    ensures fits { (pages address word : ℕ) (boot : Boot) → IsSome (place_of_word pages address) →
+        FitsRam pages boot → FitsRam pages (patched address word boot) }
+    ensures taken { (pages address word : ℕ) (boot : Boot) → pages ≤ MAX_RAM_PAGES →
+        IsSome (place_of_word pages address) →
+        patching MAX_RAM_PAGES address word boot ≡ Ok (patched address word boot) }
 {}

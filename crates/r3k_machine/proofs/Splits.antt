@@ -2,12 +2,13 @@
 use Rattle.std.proofs.Common.{◌≡◌, ℕ, zero, suc, ◌+◌, List, [], ◌∷◌, ◌++◌, length, Option, Some, None, refl, sym, ap, ◌∙◌, append_assoc, add-zero, add-one, arith, length-append}
 use Rattle.std.proofs.Math.Path.{ap₂}
 use Rattle.std.proofs.lemmas.List.{append-nil}
+use Rattle.std.specs.List.{cons_option}
 use Rattle.std.proofs.lemmas.List.Elements.{filter_map-append}
 use Rattle.input_log.specs.Event.{TimedByte}
 use Rattle.r3k_machine.specs.declared.step.Done.{Done}
 use Rattle.r3k_machine.specs.State.{State}
 use Rattle.r3k_machine.specs.Step.{next, told}
-use Rattle.r3k_machine.specs.Run.{run, trace, arriving, console_of, byte_on, last_writer, later, stores_into}
+use Rattle.r3k_machine.specs.Run.{run, trace, arriving, console_of, byte_on, senders_of, with_sender, last_writer, later, stores_into}
 
 pub run_split : (pages : ℕ) (log : List TimedByte) (time : ℕ) (s : State) (m n : ℕ) → run pages log time s (m + n) ≡ run pages log (time + m) (run pages log time s m) n
 unfolding run
@@ -34,6 +35,31 @@ trace_count pages log time s (suc n) =
 
 pub console_split : (line : ℕ) (first rest : List Done) → console_of line (first ++ rest) ≡ console_of line first ++ console_of line rest
 console_split line first rest = filter_map-append (λ done. byte_on line done.sent) first rest
+
+-- a sender in front of two parts
+in_front : (step : ℕ) (byte : Option ℕ) (first rest : List ℕ) → with_sender step byte (first ++ rest) ≡ with_sender step byte first ++ rest
+in_front step None first rest = refl
+in_front step (Some byte) first rest = refl
+
+pub senders_split : (line time : ℕ) (first rest : List Done)
+    → senders_of line time (first ++ rest) ≡ senders_of line time first ++ senders_of line (time + length first) rest
+senders_split line time [] rest = ap (λ (t : ℕ). senders_of line t rest) (let e : time ≡ time + 0 = omega arith in e)
+senders_split line time (done ∷ steps) rest =
+    ap (with_sender time (byte_on line done.sent)) (senders_split line (suc time) steps rest)
+    ∙ (in_front time (byte_on line done.sent) (senders_of line (suc time) steps) (senders_of line (suc time + length steps) rest)
+    ∙ ap (λ (t : ℕ). with_sender time (byte_on line done.sent) (senders_of line (suc time) steps) ++ senders_of line t rest)
+    (let e : suc time + length steps ≡ time + suc (length steps) = omega arith in e))
+
+-- one for each byte
+as_many : (step : ℕ) (byte : Option ℕ) (senders bytes : List ℕ) → length senders ≡ length bytes
+    → length (with_sender step byte senders) ≡ length (cons_option byte bytes)
+as_many step None senders bytes same = same
+as_many step (Some byte) senders bytes same = ap suc same
+
+pub senders_count : (line time : ℕ) (steps : List Done) → length (senders_of line time steps) ≡ length (console_of line steps)
+senders_count line time [] = refl
+senders_count line time (done ∷ steps) =
+    as_many time (byte_on line done.sent) (senders_of line (suc time) steps) (console_of line steps) (senders_count line (suc time) steps)
 
 -- the last writer of two parts
 joined : (count : ℕ) (rest first here : Option ℕ) → later 1 (later count rest first) here ≡ later (suc count) rest (later 1 first here)

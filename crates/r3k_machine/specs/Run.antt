@@ -41,6 +41,16 @@ byte_on line (Some sent) = if sent.line == line then Some sent.byte else None
 abbrev pub console_of : ℕ → List Done → List ℕ
 console_of line steps = filter_map (λ done. byte_on line done.sent) steps
 
+-- a step, where it sent a byte, in front of later ones
+abbrev pub with_sender : (step : ℕ) → Option ℕ → (later : List ℕ) → List ℕ
+with_sender step None later = later
+with_sender step (Some byte) later = step ∷ later
+
+-- the steps that sent the bytes of the console of a line, where the first step has this number
+abbrev pub senders_of : (line first : ℕ) → List Done → List ℕ
+senders_of line first [] = []
+senders_of line first (done ∷ steps) = with_sender first (byte_on line done.sent) (senders_of line (suc first) steps)
+
 -- whether a step stored into a word, as its place in a list of one
 abbrev pub stores_into : ℕ → Option ℕ → Option ℕ
 stores_into address None = None
@@ -55,3 +65,10 @@ later count (Some place) earlier = Some (count + place)
 abbrev pub last_writer : ℕ → List Done → Option ℕ
 last_writer address [] = None
 last_writer address (done ∷ steps) = later 1 (last_writer address steps) (stores_into address done.stored)
+
+-- the least position after one, at most so many steps behind it, at which the PC holds an address
+unfoldable pub next_visit : ℕ → Boot → List TimedByte → (address position limit : ℕ) → Option ℕ
+next_visit pages image log address position zero = None
+next_visit pages image log address position (suc limit) =
+    if (state_at pages image log (suc position)).core.pc == address then Some (suc position)
+    else next_visit pages image log address (suc position) limit

@@ -4,9 +4,9 @@ ghost use Rattle.std.specs.Prelude.{◌≡◌, ℕ, ◌+◌, ◌++◌, List, len
 ghost use Rattle.input_log.specs.Event.{TimedByte};
 ghost use Rattle.r3k_machine.specs.declared.step.Done.{Done};
 ghost use Rattle.r3k_machine.specs.State.{State};
-ghost use Rattle.r3k_machine.specs.Run.{run, trace, console_of, last_writer, later};
+ghost use Rattle.r3k_machine.specs.Run.{run, trace, console_of, senders_of, last_writer, later};
 
-/// A run and its trace split at any point, and so do the console and the last writer.
+/// A run and its trace split at any point, and so do the console, the steps that sent its bytes, and the last writer.
 pub fn run_laws()
     ensures run { (pages : ℕ) (log : List TimedByte) (time : ℕ) (s : State) (m n : ℕ) →
         run pages log time s (m + n) ≡ run pages log (time + m) (run pages log time s m) n }
@@ -15,6 +15,9 @@ pub fn run_laws()
     ensures count { (pages : ℕ) (log : List TimedByte) (time : ℕ) (s : State) (n : ℕ) → length (trace pages log time s n) ≡ n }
     ensures console { (line : ℕ) (first rest : List Done) →
         console_of line (first ++ rest) ≡ console_of line first ++ console_of line rest }
+    ensures senders { (line time : ℕ) (first rest : List Done) →
+        senders_of line time (first ++ rest) ≡ senders_of line time first ++ senders_of line (time + length first) rest }
+    ensures sent { (line time : ℕ) (steps : List Done) → length (senders_of line time steps) ≡ length (console_of line steps) }
     ensures writer { (address : ℕ) (first rest : List Done) →
         last_writer address (first ++ rest) ≡ later (length first) (last_writer address rest) (last_writer address first) }
 {}

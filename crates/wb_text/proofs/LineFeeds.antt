@@ -3,9 +3,9 @@ use Rattle.std.proofs.Common.{ℕ, zero, suc, ◌+◌, ◌*◌, ◌%◌, ◌^◌
 use Rattle.std.specs.Fmt.{decimal}
 use Rattle.input_log.specs.Event.{TimedByte}
 use Rattle.wb_text.specs.Text.{line}
-use Rattle.wb_text.specs.Reply.{EndsWithLineFeed, HasText, text_of, state_text, row_text, rows_text, refusal_text, value_text, control_text, entry_text, where_text, memory_text, words_text, console_text, event_text, events_text}
+use Rattle.wb_text.specs.Reply.{EndsWithLineFeed, HasText, text_of, state_text, row_text, rows_text, refusal_text, value_text, control_text, entry_text, where_text, memory_text, words_text, console_text, writer_text, event_text, events_text}
 use Rattle.wb_text.specs.declared.reply.Reply.{Reply}
-use Rattle.wb_text.specs.declared.reply.Reply.TheVariants.{Position, Registers, Register, Control, Entry, Where, Memory, Instructions, Console, Log, Nothing, Fault}
+use Rattle.wb_text.specs.declared.reply.Reply.TheVariants.{Position, Registers, Register, Control, Entry, Where, Memory, Instructions, Console, Found, Writer, Log, Event, Left, Patched, Nothing, Fault}
 use Rattle.wb_text.proofs.Rows.{rows_text-more}
 
 -- what stands before a line changes nothing at its end
@@ -41,6 +41,11 @@ ends_with_line_feed (Where place) some = (where_text place, refl)
 ends_with_line_feed (Memory w) some = words_end false w.address w.words.items (length w.words.items) some
 ends_with_line_feed (Instructions w) some = words_end true w.address w.words.items (length w.words.items) some
 ends_with_line_feed (Console number total bytes) some = (console_text number total bytes.items, refl)
+ends_with_line_feed (Found step) some = (codes "find " ++ decimal step, refl)
+ends_with_line_feed (Writer writer) some = (writer_text writer, refl)
 ends_with_line_feed (Log total first events) some = log_ends (codes "log " ++ decimal total) first events.items
+ends_with_line_feed (Event number) some = (codes "event " ++ decimal number, refl)
+ends_with_line_feed (Left total) some = (codes "log " ++ decimal total, refl)
+ends_with_line_feed Patched some = (codes "ok", refl)
 ends_with_line_feed Nothing some = absurd some
 ends_with_line_feed (Fault fault) some = (refusal_text fault, refl)

@@ -4,8 +4,8 @@ use Rattle.std.specs.Option.{SomeIff, ok_or}
 use Rattle.std.proofs.Math.Bool.{and-false}
 use Rattle.std.proofs.lemmas.Bool.{and_parts, and_from, cases_Bool, ltb-false, leb-true, lt-leb, le-leb}
 use Rattle.wb_text.specs.Number.{number_in_range, number_within}
-use Rattle.wb_text.specs.declared.fault.Fault.{Fault}
-use Rattle.wb_text.specs.declared.fault.Fault.TheVariants.{Range}
+use Rattle.refusal.specs.declared.fault.Fault.{Fault}
+use Rattle.refusal.specs.declared.fault.Fault.TheVariants.{Range}
 
 abbrev judged : Bool → ℕ → Result ℕ Fault
 judged fits n = cond fits (Ok n) (Err Range)

@@ -5,9 +5,9 @@ use Rattle.std.specs.Str.Lines.{strip_carriage_return}
 use Rattle.wb_text.specs.Number.{number_of, number_within}
 use Rattle.wb_text.specs.Words.{words_of, begins_comment}
 use Rattle.wb_text.specs.declared.command.Command.{Command}
-use Rattle.wb_text.specs.declared.command.Command.TheVariants.{Pos, Goto, Step, Back, Regs, Reg, Cp0, Tlb, Where, Mem, Dis, Console, Log, Quit}
-use Rattle.wb_text.specs.declared.fault.Fault.{Fault}
-use Rattle.wb_text.specs.declared.fault.Fault.TheVariants.{Syntax}
+use Rattle.wb_text.specs.declared.command.Command.TheVariants.{Pos, Goto, Step, Back, Visit, Regs, Reg, Cp0, Tlb, Where, Mem, Dis, Console, Find, Writer, Log, Add, Del, Set, Move, Patch, Quit}
+use Rattle.refusal.specs.declared.fault.Fault.{Fault}
+use Rattle.refusal.specs.declared.fault.Fault.TheVariants.{Syntax}
 
 -- the refusal of two that comes first: Syntax comes before Range
 abbrev pub first_of : Fault → Fault → Fault
@@ -34,8 +34,8 @@ numbers_of (range ∷ ranges) [] = Err Syntax
 numbers_of (range ∷ ranges) (word ∷ words) =
     in_front (both_of (number_within range.0 range.1 (number_of word)) (numbers_of ranges words))
 
--- the ranges of numbers: of any, of a register, of a translation entry, of an address, of a line of the serial part, and
--- of how many words, bytes and events a reply shows
+-- the ranges of numbers: of any, of a register, of a translation entry, of an address, of a word, of a line of the serial
+-- part, of a byte, of an event's time, of how many words, bytes and events a reply shows, and of how many steps are searched
 abbrev pub any_number : ℕ × ℕ
 any_number = (0, 2 ^ 64 - 1)
 
@@ -48,8 +48,17 @@ entry_number = (0, 63)
 abbrev pub address : ℕ × ℕ
 address = (0, 2 ^ 32 - 1)
 
+abbrev pub word_value : ℕ × ℕ
+word_value = (0, 2 ^ 32 - 1)
+
 abbrev pub line_number : ℕ × ℕ
 line_number = (0, 3)
+
+abbrev pub byte_value : ℕ × ℕ
+byte_value = (0, 255)
+
+abbrev pub event_time : ℕ × ℕ
+event_time = (0, 2 ^ 32 - 2)
 
 abbrev pub word_count : ℕ × ℕ
 word_count = (1, 32)
@@ -60,10 +69,67 @@ byte_count = (1, 256)
 abbrev pub event_count : ℕ × ℕ
 event_count = (1, 32)
 
+abbrev pub step_count : ℕ × ℕ
+step_count = (1, 2 ^ 20)
+
 -- the command that its numbers make
 abbrev pub made_by : (List ℕ → Command) → Result (List ℕ) Fault → Result Command Fault
 made_by make (Ok numbers) = Ok (make numbers)
 made_by make (Err fault) = Err fault
+
+-- the edits of the log and the image
+abbrev pub edit_named : List ℕ → List (List ℕ) → Result Command Fault
+edit_named name words =
+    if bytes_eq name (codes "add") then
+    made_by (λ numbers. Add (slice_index numbers 0) (slice_index numbers 1) (slice_index numbers 2))
+    (numbers_of (event_time ∷ line_number ∷ byte_value ∷ []) words)
+    else (if bytes_eq name (codes "del") then
+    made_by (λ numbers. Del (slice_index numbers 0)) (numbers_of (any_number ∷ []) words)
+    else (if bytes_eq name (codes "set") then
+    made_by (λ numbers. Set (slice_index numbers 0) (slice_index numbers 1))
+    (numbers_of (any_number ∷ byte_value ∷ []) words)
+    else (if bytes_eq name (codes "move") then
+    made_by (λ numbers. Move (slice_index numbers 0) (slice_index numbers 1))
+    (numbers_of (any_number ∷ event_time ∷ []) words)
+    else (if bytes_eq name (codes "patch") then
+    made_by (λ numbers. Patch (slice_index numbers 0) (slice_index numbers 1))
+    (numbers_of (address ∷ word_value ∷ []) words)
+    else Err Syntax))))
+
+-- the queries of the steps before the position, and of the log
+abbrev pub history_query_named : List ℕ → List (List ℕ) → Result Command Fault
+history_query_named name words =
+    if bytes_eq name (codes "console") then
+    made_by (λ numbers. Console (slice_index numbers 0) (slice_index numbers 1) (slice_index numbers 2))
+    (numbers_of (line_number ∷ any_number ∷ byte_count ∷ []) words)
+    else (if bytes_eq name (codes "find") then
+    made_by (λ numbers. Find (slice_index numbers 0) (slice_index numbers 1))
+    (numbers_of (line_number ∷ any_number ∷ []) words)
+    else (if bytes_eq name (codes "writer") then
+    made_by (λ numbers. Writer (slice_index numbers 0)) (numbers_of (address ∷ []) words)
+    else (if bytes_eq name (codes "log") then
+    made_by (λ numbers. Log (slice_index numbers 0) (slice_index numbers 1))
+    (numbers_of (any_number ∷ event_count ∷ []) words)
+    else edit_named name words)))
+
+-- the queries of the state
+abbrev pub state_query_named : List ℕ → List (List ℕ) → Result Command Fault
+state_query_named name words =
+    if bytes_eq name (codes "regs") then made_by (λ _. Regs) (numbers_of [] words)
+    else (if bytes_eq name (codes "reg") then
+    made_by (λ numbers. Reg (slice_index numbers 0)) (numbers_of (register_number ∷ []) words)
+    else (if bytes_eq name (codes "cp0") then made_by (λ _. Cp0) (numbers_of [] words)
+    else (if bytes_eq name (codes "tlb") then
+    made_by (λ numbers. Tlb (slice_index numbers 0)) (numbers_of (entry_number ∷ []) words)
+    else (if bytes_eq name (codes "where") then
+    made_by (λ numbers. Where (slice_index numbers 0)) (numbers_of (address ∷ []) words)
+    else (if bytes_eq name (codes "mem") then
+    made_by (λ numbers. Mem (slice_index numbers 0) (slice_index numbers 1))
+    (numbers_of (address ∷ word_count ∷ []) words)
+    else (if bytes_eq name (codes "dis") then
+    made_by (λ numbers. Dis (slice_index numbers 0) (slice_index numbers 1))
+    (numbers_of (address ∷ word_count ∷ []) words)
+    else history_query_named name words))))))
 
 -- the command of a name and the words after it: another name is Syntax
 abbrev pub command_named : List ℕ → List (List ℕ) → Result Command Fault
@@ -75,25 +141,11 @@ command_named name words =
     made_by (λ numbers. Step (slice_index numbers 0)) (numbers_of (any_number ∷ []) words)
     else (if bytes_eq name (codes "back") then
     made_by (λ numbers. Back (slice_index numbers 0)) (numbers_of (any_number ∷ []) words)
-    else (if bytes_eq name (codes "regs") then made_by (λ _. Regs) (numbers_of [] words)
-    else (if bytes_eq name (codes "reg") then
-    made_by (λ numbers. Reg (slice_index numbers 0)) (numbers_of (register_number ∷ []) words)
-    else (if bytes_eq name (codes "cp0") then made_by (λ _. Cp0) (numbers_of [] words)
-    else (if bytes_eq name (codes "tlb") then
-    made_by (λ numbers. Tlb (slice_index numbers 0)) (numbers_of (entry_number ∷ []) words)
-    else (if bytes_eq name (codes "where") then
-    made_by (λ numbers. Where (slice_index numbers 0)) (numbers_of (address ∷ []) words)
-    else (if bytes_eq name (codes "mem") then
-    made_by (λ numbers. Mem (slice_index numbers 0) (slice_index numbers 1)) (numbers_of (address ∷ word_count ∷ []) words)
-    else (if bytes_eq name (codes "dis") then
-    made_by (λ numbers. Dis (slice_index numbers 0) (slice_index numbers 1)) (numbers_of (address ∷ word_count ∷ []) words)
-    else (if bytes_eq name (codes "console") then
-    made_by (λ numbers. Console (slice_index numbers 0) (slice_index numbers 1) (slice_index numbers 2))
-    (numbers_of (line_number ∷ any_number ∷ byte_count ∷ []) words)
-    else (if bytes_eq name (codes "log") then
-    made_by (λ numbers. Log (slice_index numbers 0) (slice_index numbers 1)) (numbers_of (any_number ∷ event_count ∷ []) words)
+    else (if bytes_eq name (codes "visit") then
+    made_by (λ numbers. Visit (slice_index numbers 0) (slice_index numbers 1))
+    (numbers_of (address ∷ step_count ∷ []) words)
     else (if bytes_eq name (codes "quit") then made_by (λ _. Quit) (numbers_of [] words)
-    else Err Syntax)))))))))))))
+    else state_query_named name words)))))
 
 -- what a line with a command says
 abbrev pub some_command : Result Command Fault → Result (Option Command) Fault

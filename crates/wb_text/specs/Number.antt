@@ -4,8 +4,8 @@ use Rattle.std.specs.Prelude.{ℕ, ◌^◌, List, Option, Some, None, Result, Ok
 use Rattle.std.specs.List.{list_all, starts_with}
 use Rattle.std.specs.Char.{is_digit}
 use Rattle.std.specs.Str.Parse.{digits_value}
-use Rattle.wb_text.specs.declared.fault.Fault.{Fault}
-use Rattle.wb_text.specs.declared.fault.Fault.TheVariants.{Syntax, Range}
+use Rattle.refusal.specs.declared.fault.Fault.{Fault}
+use Rattle.refusal.specs.declared.fault.Fault.TheVariants.{Syntax, Range}
 
 -- at least one digit, and all are digits of the base
 abbrev pub number_in : ℕ → List ℕ → Option ℕ

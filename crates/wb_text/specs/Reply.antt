@@ -5,15 +5,17 @@ use Rattle.r3k_disasm.specs.Instruction.{text_of as instruction_text}
 use Rattle.input_log.specs.Event.{TimedByte}
 use Rattle.wb_text.specs.Text.{word_text, byte_text, register_text, line}
 use Rattle.wb_text.specs.declared.reply.ControlRegisters.{ControlRegisters}
-use Rattle.wb_text.specs.declared.fault.Fault.{Fault}
-use Rattle.wb_text.specs.declared.fault.Fault.TheVariants.{Memory as OutOfMemory, Syntax, Range, NoEvent, Unaligned, NotMemory, TooFar, NotFound}
+use Rattle.refusal.specs.declared.fault.Fault.{Fault}
+use Rattle.refusal.specs.declared.fault.Fault.TheVariants.{Memory as OutOfMemory, Syntax, Range, NoEvent, Unaligned, NotMemory, TooFar, NotFound}
 use Rattle.wb_text.specs.declared.reply.Load.{Load}
 use Rattle.wb_text.specs.declared.reply.Registers.{Registers as AllRegisters}
 use Rattle.wb_text.specs.declared.memory.Words.{Words}
 use Rattle.wb_text.specs.declared.reply.Where.{Where}
 use Rattle.wb_text.specs.declared.reply.Where.TheVariants.{Cached, Uncached, AddressError, Refill, Miss}
+use Rattle.wb_text.specs.declared.reply.Writer.{Writer}
+use Rattle.wb_text.specs.declared.reply.Writer.TheVariants.{Step, Image, Never}
 use Rattle.wb_text.specs.declared.reply.Reply.{Reply}
-use Rattle.wb_text.specs.declared.reply.Reply.TheVariants.{Position, Registers, Register, Control, Entry, Where as Place, Memory, Instructions, Console, Log, Nothing, Fault as Refused}
+use Rattle.wb_text.specs.declared.reply.Reply.TheVariants.{Position, Registers, Register, Control, Entry, Where as Place, Memory, Instructions, Console, Found, Writer as Wrote, Log, Event, Left, Patched, Nothing, Fault as Refused}
 
 -- a refusal by its number and name
 abbrev pub refusal_text : Fault → List ℕ
@@ -107,6 +109,12 @@ abbrev pub console_text : (number total : ℕ) → List ℕ → List ℕ
 console_text number total bytes =
     codes "console " ++ decimal number ++ codes " " ++ decimal total ++ codes " " ++ bytes_text bytes
 
+-- the last writer of a word
+abbrev pub writer_text : Writer → List ℕ
+writer_text (Step step) = codes "writer " ++ decimal step
+writer_text Image = codes "writer image"
+writer_text Never = codes "writer never"
+
 -- what the line of an event says: its number, its time, its line and its byte
 unfoldable pub event_text : ℕ → TimedByte → List ℕ
 event_text number event =
@@ -132,7 +140,12 @@ text_of (Place place) = line (where_text place)
 text_of (Memory w) = all_words_text false w
 text_of (Instructions w) = all_words_text true w
 text_of (Console number total bytes) = line (console_text number total bytes.items)
+text_of (Found step) = line (codes "find " ++ decimal step)
+text_of (Wrote writer) = line (writer_text writer)
 text_of (Log total first events) = log_text total first events.items
+text_of (Event number) = line (codes "event " ++ decimal number)
+text_of (Left total) = line (codes "log " ++ decimal total)
+text_of Patched = line (codes "ok")
 text_of Nothing = []
 text_of (Refused fault) = line (refusal_text fault)
 

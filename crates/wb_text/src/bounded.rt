@@ -17,8 +17,17 @@ pub type EntryNumber = Bounded<0, 63>;
 /// An address.
 pub type Address = Bounded<0, 0xffff_ffff>;
 
+/// A word of memory.
+pub type WordValue = Bounded<0, 0xffff_ffff>;
+
 /// The number of a line of the serial part.
 pub type LineNumber = Bounded<0, 3>;
+
+/// A byte that arrives at a line.
+pub type ByteValue = Bounded<0, 255>;
+
+/// The step of an event of the log: one that begins at a position below the greatest.
+pub type EventTime = Bounded<0, 4_294_967_294>;
 
 /// How many words a reply shows.
 pub type WordCount = Bounded<1, 32>;
@@ -28,6 +37,9 @@ pub type ByteCount = Bounded<1, 256>;
 
 /// How many events a reply shows at most.
 pub type EventCount = Bounded<1, 32>;
+
+/// How many steps a search runs at most.
+pub type StepCount = Bounded<1, 1_048_576>;
 
 /// A number that is no larger than a word of 64 bits, and has no other limit.
 pub type AnyNumber = Bounded<0, { u64::MAX }>;

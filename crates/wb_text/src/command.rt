@@ -3,15 +3,16 @@
 ghost use Rattle.std.specs.Prelude.{◌≡◌, ◌<◌, MatchResult, Ok, Err, ℕ, List, [], ◌∷◌, length};
 ghost use Rattle.wb_text.specs.Words.{words_of};
 ghost use Rattle.wb_text.specs.Number.{number_of, number_within};
-ghost use Rattle.wb_text.specs.Command.{command_of, command_of_words, command_named, first_of, both_of, numbers_of};
+ghost use Rattle.wb_text.specs.Command.{command_of, command_of_words, first_of, both_of, numbers_of};
+ghost use Rattle.wb_text.specs.Command.{command_named, state_query_named, history_query_named, edit_named};
 
 use crate::bounded::{
-    Address, AnyNumber, Bounded, ByteCount, EntryNumber, EventCount, LineNumber, RegisterNumber,
-    WordCount,
+    Address, AnyNumber, Bounded, ByteCount, ByteValue, EntryNumber, EventCount, EventTime,
+    LineNumber, RegisterNumber, StepCount, WordCount, WordValue,
 };
-use crate::fault::Fault;
 use crate::number::number;
 use crate::words::first_word;
+use refusal::Fault;
 
 /// A command of a script.
 #[derive(Clone, Copy, Debug, PartialEq, Eq)]
@@ -24,6 +25,12 @@ pub enum Command {
     Step(u64),
     /// Moves back by so many steps.
     Back(u64),
+    /// Moves forward to the next position whose instruction stands at an address, by so many steps
+    /// at most.
+    Visit {
+        address: Address,
+        limit: StepCount,
+    },
     /// Shows the registers.
     Regs,
     /// Shows a register.
@@ -50,10 +57,40 @@ pub enum Command {
         from: u64,
         count: ByteCount,
     },
+    /// Tells the step that sent the byte at a place of a line.
+    Find {
+        line: LineNumber,
+        place: u64,
+    },
+    /// Tells the last writer of a word of memory.
+    Writer(Address),
     /// Shows events of the log, from one on.
     Log {
         from: u64,
         count: EventCount,
+    },
+    /// Puts an event into the log.
+    Add {
+        time: EventTime,
+        line: LineNumber,
+        byte: ByteValue,
+    },
+    /// Takes an event out of the log.
+    Del(u64),
+    /// Changes the byte of an event.
+    Set {
+        event: u64,
+        byte: ByteValue,
+    },
+    /// Changes the step of an event.
+    Move {
+        event: u64,
+        time: EventTime,
+    },
+    /// Sets a word of the image.
+    Patch {
+        address: Address,
+        word: WordValue,
     },
     /// Ends the script.
     Quit,
@@ -105,7 +142,22 @@ fn command_by_name(name: &[u8], rest: &[u8]) -> Result<Command, Fault>
     } else if name == b"back".as_slice() {
         let count: AnyNumber = one_number(rest)?;
         Ok(Command::Back(count.get()))
-    } else if name == b"regs".as_slice() {
+    } else if name == b"visit".as_slice() {
+        let (address, limit) = two_numbers(rest)?;
+        Ok(Command::Visit { address, limit })
+    } else if name == b"quit".as_slice() {
+        no_number(rest)?;
+        Ok(Command::Quit)
+    } else {
+        state_query_by_name(name, rest)
+    }
+}
+
+// The same of a name that neither moves nor ends the script.
+fn state_query_by_name(name: &[u8], rest: &[u8]) -> Result<Command, Fault>
+    ensures { result ≡ state_query_named name.now (words_of rest.now) }
+{
+    if name == b"regs".as_slice() {
         no_number(rest)?;
         Ok(Command::Regs)
     } else if name == b"reg".as_slice() {
@@ -123,22 +175,66 @@ fn command_by_name(name: &[u8], rest: &[u8]) -> Result<Command, Fault>
     } else if name == b"dis".as_slice() {
         let (address, count) = two_numbers(rest)?;
         Ok(Command::Dis { address, count })
-    } else if name == b"console".as_slice() {
+    } else {
+        history_query_by_name(name, rest)
+    }
+}
+
+// The same of a name that does not ask for the state either.
+fn history_query_by_name(name: &[u8], rest: &[u8]) -> Result<Command, Fault>
+    ensures { result ≡ history_query_named name.now (words_of rest.now) }
+{
+    if name == b"console".as_slice() {
         let (line, from, count): (_, AnyNumber, _) = three_numbers(rest)?;
         Ok(Command::Console {
             line,
             from: from.get(),
             count,
         })
+    } else if name == b"find".as_slice() {
+        let (line, place): (_, AnyNumber) = two_numbers(rest)?;
+        Ok(Command::Find {
+            line,
+            place: place.get(),
+        })
+    } else if name == b"writer".as_slice() {
+        Ok(Command::Writer(one_number(rest)?))
     } else if name == b"log".as_slice() {
         let (from, count): (AnyNumber, _) = two_numbers(rest)?;
         Ok(Command::Log {
             from: from.get(),
             count,
         })
-    } else if name == b"quit".as_slice() {
-        no_number(rest)?;
-        Ok(Command::Quit)
+    } else {
+        edit_by_name(name, rest)
+    }
+}
+
+// The same of a name that asks for nothing.
+fn edit_by_name(name: &[u8], rest: &[u8]) -> Result<Command, Fault>
+    ensures { result ≡ edit_named name.now (words_of rest.now) }
+{
+    if name == b"add".as_slice() {
+        let (time, line, byte) = three_numbers(rest)?;
+        Ok(Command::Add { time, line, byte })
+    } else if name == b"del".as_slice() {
+        let event: AnyNumber = one_number(rest)?;
+        Ok(Command::Del(event.get()))
+    } else if name == b"set".as_slice() {
+        let (event, byte): (AnyNumber, _) = two_numbers(rest)?;
+        Ok(Command::Set {
+            event: event.get(),
+            byte,
+        })
+    } else if name == b"move".as_slice() {
+        let (event, time): (AnyNumber, _) = two_numbers(rest)?;
+        Ok(Command::Move {
+            event: event.get(),
+            time,
+        })
+    } else if name == b"patch".as_slice() {
+        let (address, word) = two_numbers(rest)?;
+        Ok(Command::Patch { address, word })
     } else {
         Err(Fault::Syntax)
     }

@@ -3,7 +3,6 @@
 
 pub mod bounded;
 pub mod command;
-pub mod fault;
 pub mod memory;
 mod number;
 pub mod reply;
@@ -11,12 +10,12 @@ mod text;
 mod words;
 
 pub use bounded::{
-    Address, Bounded, ByteCount, EntryNumber, EventCount, LineNumber, RegisterNumber, WordCount,
+    Address, Bounded, ByteCount, ByteValue, EntryNumber, EventCount, EventTime, LineNumber,
+    RegisterNumber, StepCount, WordCount, WordValue,
 };
 pub use command::{Command, parse_line};
-pub use fault::Fault;
 pub use memory::Words;
-pub use reply::{ControlRegisters, Load, Registers, Reply, Where, reply_text};
+pub use reply::{ControlRegisters, Load, Registers, Reply, Where, Writer, reply_text};
 pub use text::decimal_digits;
 
 #[cfg(test)]

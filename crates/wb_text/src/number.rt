@@ -4,7 +4,7 @@ ghost use Rattle.std.specs.Prelude.{◌≡◌, ◌≤◌, ◌<◌, ◌+◌, ◌*
 ghost use Rattle.std.specs.Option.{SomeIff};
 ghost use Rattle.wb_text.specs.Number.{number_of, number_in, number_in_range};
 
-use crate::fault::Fault;
+use refusal::Fault;
 
 /// The number that a word is: Syntax where it is none, and Range where it is above 2^64 - 1.
 pub fn number(word: &[u8]) -> Result<u64, Fault>

@@ -2,17 +2,18 @@
 
 ghost use Rattle.std.specs.Prelude.{◌≡◌, ◌+◌, ◌≤◌, ◌++◌, length};
 ghost use Rattle.arrayvec.specs.ArrayVec.{array_vec_len};
+ghost use Rattle.std.specs.Fmt.{decimal};
 ghost use Rattle.wb_text.specs.Text.{line, word_text};
 ghost use Rattle.wb_text.specs.Reply.{text_of, EndsWithLineFeed, HasText, refusal_text, flag_text, value_text, load_text};
-ghost use Rattle.wb_text.specs.Reply.{state_text, row_text, rows_text, control_text, where_text, memory_text, all_words_text};
-ghost use Rattle.wb_text.specs.Reply.{bytes_text, console_text, event_text, events_text, log_text};
+ghost use Rattle.wb_text.specs.Reply.{state_text, row_text, rows_text, control_text, entry_text, where_text, memory_text, all_words_text};
+ghost use Rattle.wb_text.specs.Reply.{bytes_text, console_text, writer_text, event_text, events_text, log_text};
 
 use crate::bounded::{EntryNumber, LineNumber, RegisterNumber};
-use crate::fault::Fault;
 use crate::memory::Words;
 use crate::text::{Text, push_byte, push_decimal, push_text, push_word};
 use arrayvec::ArrayVec;
 use input_log::Event;
+use refusal::Fault;
 
 /// A load that has not landed: its register and the value.
 #[derive(Clone, Copy, Debug, PartialEq, Eq)]
@@ -65,10 +66,21 @@ pub enum Where {
     Miss,
 }
 
+/// What wrote a word of memory last.
+#[derive(Clone, Copy, Debug, PartialEq, Eq)]
+pub enum Writer {
+    /// A step.
+    Step(u64),
+    /// No step, but the image sets the word.
+    Image,
+    /// No step, and the image does not set the word.
+    Never,
+}
+
 /// The reply to a command.
 #[derive(Debug, Drop, PartialEq, Eq)]
 pub enum Reply {
-    /// The position, of `pos`, `goto`, `step` and `back`.
+    /// The position, of `pos`, `goto`, `step`, `back` and `visit`.
     Position(u64),
     /// The registers, of `regs`.
     Registers(Registers),
@@ -97,6 +109,10 @@ pub enum Reply {
         total: u64,
         bytes: ArrayVec<u8, 256>,
     },
+    /// The step that sent a byte, of `find`.
+    Found(u64),
+    /// The last writer of a word, of `writer`.
+    Writer(Writer),
     /// How many events the log has, and some of them, of which `first` is the first one's number,
     /// of `log`.
     Log {
@@ -104,6 +120,12 @@ pub enum Reply {
         first: u64,
         events: ArrayVec<Event, 32>,
     },
+    /// The number that an event has now, of `add`, `set` and `move`.
+    Event(u64),
+    /// How many events the log has left, of `del`.
+    Left(u64),
+    /// That a word was set, of `patch`.
+    Patched,
     /// No text, of `quit`.
     Nothing,
     /// A refusal.
@@ -116,11 +138,7 @@ pub fn reply_text(reply: &Reply) -> ArrayVec<u8, 4096>
 {
     let mut text = ArrayVec::new();
     match reply {
-        Reply::Position(position) => {
-            push_text(&mut text, b"pos ");
-            push_decimal(&mut text, *position);
-            push_text(&mut text, b"\n");
-        }
+        Reply::Position(position) => push_number(&mut text, b"pos ", *position),
         Reply::Registers(registers) => {
             push_state(&mut text, registers);
             push_rows(&mut text, &registers.registers);
@@ -130,24 +148,23 @@ pub fn reply_text(reply: &Reply) -> ArrayVec<u8, 4096>
             push_text(&mut text, b"\n");
         }
         Reply::Control(control) => push_control(&mut text, control),
-        Reply::Entry { number, hi, lo } => {
-            push_text(&mut text, b"tlb ");
-            push_decimal(&mut text, number.get());
-            push_field(&mut text, b" ", *hi);
-            push_field(&mut text, b" ", *lo);
-            push_text(&mut text, b"\n");
-        }
+        Reply::Entry { number, hi, lo } => push_entry(&mut text, number.get(), *hi, *lo),
         Reply::Where(place) => push_where(&mut text, *place),
         Reply::Memory(words) => push_words(&mut text, words, false),
         Reply::Instructions(words) => push_words(&mut text, words, true),
         Reply::Console { line, total, bytes } => {
             push_console(&mut text, line.get(), *total, bytes);
         }
+        Reply::Found(step) => push_number(&mut text, b"find ", *step),
+        Reply::Writer(writer) => push_writer(&mut text, *writer),
         Reply::Log {
             total,
             first,
             events,
         } => push_log(&mut text, *total, *first, events),
+        Reply::Event(number) => push_number(&mut text, b"event ", *number),
+        Reply::Left(total) => push_number(&mut text, b"log ", *total),
+        Reply::Patched => push_text(&mut text, b"ok\n"),
         Reply::Nothing => {}
         Reply::Fault(fault) => {
             push_text(&mut text, refusal(*fault));
@@ -172,6 +189,18 @@ fn refusal(fault: Fault) -> &'static [u8]
         Fault::TooFar => b"error 7 TooFar",
         Fault::NotFound => b"error 8 NotFound",
     }
+}
+
+// Appends the line of a name and a number.
+fn push_number(text: &mut Text, name: &[u8], number: u64)
+    requires short { length name.now ≤ 8 }
+    requires room { array_vec_len text.old ≤ 1000 }
+    ensures items { text.new.items ≡ text.old.items ++ line (name.now ++ decimal number) }
+    ensures room { array_vec_len text.new ≤ array_vec_len text.old + 29 }
+{
+    push_text(text, name);
+    push_decimal(text, number);
+    push_text(text, b"\n");
 }
 
 // Appends the line of what is not a register of the 32.
@@ -280,6 +309,18 @@ fn push_row(text: &mut Text, registers: &[u32; 32], first: usize)
     push_text(text, b"\n");
 }
 
+// Appends the line of a translation entry.
+fn push_entry(text: &mut Text, number: u64, hi: u32, lo: u32)
+    requires { array_vec_len text.old ≤ 1000 }
+    ensures { text.new.items ≡ text.old.items ++ line (entry_text number hi lo) }
+{
+    push_text(text, b"tlb ");
+    push_decimal(text, number);
+    push_field(text, b" ", hi);
+    push_field(text, b" ", lo);
+    push_text(text, b"\n");
+}
+
 // Appends the line that tells where an address leads.
 fn push_where(text: &mut Text, place: Where)
     requires { array_vec_len text.old ≤ 1000 }
@@ -362,15 +403,25 @@ fn push_bytes(text: &mut Text, bytes: &[u8])
     }
 }
 
+// Appends the line of the last writer of a word.
+fn push_writer(text: &mut Text, writer: Writer)
+    requires { array_vec_len text.old ≤ 1000 }
+    ensures { text.new.items ≡ text.old.items ++ line (writer_text writer) }
+{
+    match writer {
+        Writer::Step(step) => push_number(text, b"writer ", step),
+        Writer::Image => push_text(text, b"writer image\n"),
+        Writer::Never => push_text(text, b"writer never\n"),
+    }
+}
+
 // Appends the line that tells how many events the log has, and the lines of some of them.
 fn push_log(text: &mut Text, total: u64, first: u64, events: &[Event])
     requires few { length events.now ≤ 32 }
     requires room { array_vec_len text.old ≤ 1000 }
     ensures { text.new.items ≡ text.old.items ++ log_text total first events.now }
 {
-    push_text(text, b"log ");
-    push_decimal(text, total);
-    push_text(text, b"\n");
+    push_number(text, b"log ", total);
     let mut number = first;
     for event in events {
         push_event(text, number, *event);

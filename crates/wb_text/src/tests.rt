@@ -2,6 +2,7 @@
 use super::*;
 use arrayvec::ArrayVec;
 use input_log::Event;
+use refusal::Fault;
 use std::process::Abort;
 use std::test::Fail;
 
@@ -41,6 +42,37 @@ fn moves(rt: HostRuntime) {
     says(&rt, b"step -1", Err(Fault::Syntax));
     says(&rt, b"back 1 2", Err(Fault::Syntax));
     says(&rt, b"back 18446744073709551616", Err(Fault::Range));
+}
+
+#[test]
+fn visits(rt: HostRuntime) -> Result<(), Fail> {
+    let address = Address::new(0xbfc0_1000).ok_or("address")?;
+    let limit = StepCount::new(10).ok_or("10")?;
+    says(
+        &rt,
+        b"visit 0xbfc01000 10",
+        Ok(Some(Command::Visit { address, limit })),
+    );
+    let address = Address::new(0xffff_ffff).ok_or("last")?;
+    let limit = StepCount::new(1_048_576).ok_or("limit")?;
+    says(
+        &rt,
+        b"visit 4294967295 0x100000\r",
+        Ok(Some(Command::Visit { address, limit })),
+    );
+    for (line, fault) in [
+        (b"visit 0 0".as_slice(), Fault::Range),
+        (b"visit 0 1048577", Fault::Range),
+        (b"visit 0x100000000 1", Fault::Range),
+        (b"visit 0x100000000 x", Fault::Syntax),
+        (b"visit 0x100000000", Fault::Syntax),
+        (b"visit x 0", Fault::Syntax),
+        (b"visit", Fault::Syntax),
+        (b"visit 0 0 0", Fault::Syntax),
+    ] {
+        says(&rt, line, Err(fault));
+    }
+    Ok(())
 }
 
 #[test]
@@ -155,6 +187,162 @@ fn refusals_of_lines_and_log(rt: HostRuntime) {
     ] {
         says(&rt, line, Err(fault));
     }
+}
+
+#[test]
+fn queries_of_the_past(rt: HostRuntime) -> Result<(), Fail> {
+    let first = LineNumber::new(0).ok_or("0")?;
+    let last = LineNumber::new(3).ok_or("3")?;
+    let aligned = Address::new(0x1fc0_0000).ok_or("rom")?;
+    let highest = Address::new(0xffff_ffff).ok_or("highest")?;
+    for (line, command) in [
+        (
+            b"find 0 1".as_slice(),
+            Command::Find {
+                line: first,
+                place: 1,
+            },
+        ),
+        (
+            b"find 3 18446744073709551615",
+            Command::Find {
+                line: last,
+                place: u64::MAX,
+            },
+        ),
+        (b"writer 0x1fc00000", Command::Writer(aligned)),
+        (b"\twriter 4294967295 ", Command::Writer(highest)),
+    ] {
+        says(&rt, line, Ok(Some(command)));
+    }
+    Ok(())
+}
+
+#[test]
+fn refusals_of_the_past(rt: HostRuntime) {
+    for (line, fault) in [
+        (b"find 4 0".as_slice(), Fault::Range),
+        (b"find 0 18446744073709551616", Fault::Range),
+        (b"find 4 x", Fault::Syntax),
+        (b"find 4", Fault::Syntax),
+        (b"find x 18446744073709551616", Fault::Syntax),
+        (b"find 4 0 8", Fault::Syntax),
+        (b"writer 0x100000000", Fault::Range),
+        (b"writer 0x100000000 1", Fault::Syntax),
+        (b"writer", Fault::Syntax),
+        (b"writer r2", Fault::Syntax),
+    ] {
+        says(&rt, line, Err(fault));
+    }
+}
+
+#[test]
+fn edits_of_the_log(rt: HostRuntime) -> Result<(), Fail> {
+    let time = EventTime::new(70).ok_or("70")?;
+    let last_time = EventTime::new(4_294_967_294).ok_or("last time")?;
+    let line = LineNumber::new(0).ok_or("0")?;
+    let last_line = LineNumber::new(3).ok_or("3")?;
+    let byte = ByteValue::new(0x41).ok_or("0x41")?;
+    let last_byte = ByteValue::new(255).ok_or("255")?;
+    let most = u64::MAX;
+    for (said, command) in [
+        (
+            b"add 70 0 0x41".as_slice(),
+            Command::Add { time, line, byte },
+        ),
+        (
+            b"add 0xfffffffe 3 255",
+            Command::Add {
+                time: last_time,
+                line: last_line,
+                byte: last_byte,
+            },
+        ),
+        (b"del 1", Command::Del(1)),
+        (b"del 18446744073709551615", Command::Del(most)),
+        (b"set 2 0x41", Command::Set { event: 2, byte }),
+        (
+            b"set 18446744073709551615 0xff",
+            Command::Set {
+                event: most,
+                byte: last_byte,
+            },
+        ),
+        (b"move 1 70", Command::Move { event: 1, time }),
+        (
+            b"move 0xffffffffffffffff 4294967294",
+            Command::Move {
+                event: most,
+                time: last_time,
+            },
+        ),
+    ] {
+        says(&rt, said, Ok(Some(command)));
+    }
+    Ok(())
+}
+
+#[test]
+fn refusals_of_edits_of_the_log(rt: HostRuntime) {
+    for (line, fault) in [
+        (b"add 4294967295 0 1".as_slice(), Fault::Range),
+        (b"add 0 4 1", Fault::Range),
+        (b"add 0 0 256", Fault::Range),
+        (b"add 4294967295 4", Fault::Syntax),
+        (b"add 4294967295 x 1", Fault::Syntax),
+        (b"add 0 4 x", Fault::Syntax),
+        (b"add x 0 256", Fault::Syntax),
+        (b"add 0 0 1 1", Fault::Syntax),
+        (b"del 18446744073709551616", Fault::Range),
+        (b"del 18446744073709551616 1", Fault::Syntax),
+        (b"del", Fault::Syntax),
+        (b"del -1", Fault::Syntax),
+        (b"delete 1", Fault::Syntax),
+        (b"set 0 256", Fault::Range),
+        (b"set 18446744073709551616 0", Fault::Range),
+        (b"set 0 256 0", Fault::Syntax),
+        (b"set 18446744073709551616 x", Fault::Syntax),
+        (b"set x 256", Fault::Syntax),
+        (b"set 0", Fault::Syntax),
+        (b"move 0 4294967295", Fault::Range),
+        (b"move 18446744073709551616 0", Fault::Range),
+        (b"move 1", Fault::Syntax),
+        (b"move x 4294967295", Fault::Syntax),
+        (b"move 18446744073709551616 x", Fault::Syntax),
+        (b"move 0 0 0", Fault::Syntax),
+    ] {
+        says(&rt, line, Err(fault));
+    }
+}
+
+#[test]
+fn patches(rt: HostRuntime) -> Result<(), Fail> {
+    let address = Address::new(0x1fc0_0010).ok_or("address")?;
+    let word = WordValue::new(0x2405_0011).ok_or("word")?;
+    says(
+        &rt,
+        b"patch 0x1fc00010 0x24050011",
+        Ok(Some(Command::Patch { address, word })),
+    );
+    let address = Address::new(0xffff_ffff).ok_or("last address")?;
+    let word = WordValue::new(0xffff_ffff).ok_or("last word")?;
+    says(
+        &rt,
+        b"patch 4294967295 4294967295",
+        Ok(Some(Command::Patch { address, word })),
+    );
+    for (line, fault) in [
+        (b"patch 0x100000000 0".as_slice(), Fault::Range),
+        (b"patch 0x102 0x100000000", Fault::Range),
+        (b"patch 0x100000000", Fault::Syntax),
+        (b"patch 0x100000000 x", Fault::Syntax),
+        (b"patch x 0x100000000", Fault::Syntax),
+        (b"patch 0 0 0", Fault::Syntax),
+        (b"patch 0 -1", Fault::Syntax),
+    ] {
+        says(&rt, line, Err(fault));
+    }
+    Ok(())
 }
 
 #[test]
@@ -405,6 +593,34 @@ fn events_of_the_log(rt: HostRuntime) {
     assert!(rt; text.as_slice().starts_with(first_lines));
     let last_lines = b"\n14 4294967294 3 0x0a\n15 4294967294 3 0x0a\n";
     assert!(rt; text.as_slice().ends_with(last_lines));
+}
+
+#[test]
+fn replies_of_edits(rt: HostRuntime) {
+    shows(&rt, &Reply::Event(0), b"event 0\n");
+    shows(&rt, &Reply::Event(1_048_575), b"event 1048575\n");
+    shows(&rt, &Reply::Left(2), b"log 2\n");
+    let most = Reply::Left(u64::MAX);
+    shows(&rt, &most, b"log 18446744073709551615\n");
+    shows(&rt, &Reply::Patched, b"ok\n");
+}
+
+#[test]
+fn replies_of_the_past(rt: HostRuntime) {
+    let cases: [(Reply, &[u8]); 6] = [
+        (Reply::Writer(Writer::Step(0)), b"writer 0\n"),
+        (
+            Reply::Writer(Writer::Step(u64::MAX)),
+            b"writer 18446744073709551615\n",
+        ),
+        (Reply::Writer(Writer::Image), b"writer image\n"),
+        (Reply::Writer(Writer::Never), b"writer never\n"),
+        (Reply::Found(83), b"find 83\n"),
+        (Reply::Found(4294967294), b"find 4294967294\n"),
+    ];
+    for (reply, text) in cases {
+        shows(&rt, &reply, text);
+    }
 }
 
 #[test]

@@ -1,15 +1,14 @@
 pub use Rattle.r3k_image.specs.Boot
 pub use Rattle.input_log.specs.Event
-pub use Rattle.r3k_machine.specs.Run
+pub use Rattle.timeline.specs.History
+pub use Rattle.timeline.specs.Query
 pub use Rattle.wb_text.specs.Command
 pub use Rattle.wb_text.specs.Reply
 pub use Rattle.wb_io.specs.Calls
 pub use Rattle.wb_options.specs.Fault
 pub use Rattle.wb_options.specs.Options
 pub mod LineBuffer
-pub mod Sizes
 pub mod Memory
-pub mod Console
 pub mod Session
 pub mod Script
 pub mod Taking

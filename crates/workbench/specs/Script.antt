@@ -4,7 +4,7 @@ use Rattle.wb_text.specs.Command.{command_of}
 use Rattle.wb_text.specs.Reply.{text_of}
 use Rattle.wb_text.specs.declared.command.Command.{Command}
 use Rattle.wb_text.specs.declared.command.Command.TheVariants.{Quit}
-use Rattle.wb_text.specs.declared.fault.Fault.{Fault}
+use Rattle.refusal.specs.declared.fault.Fault.{Fault}
 use Rattle.wb_text.specs.declared.reply.Reply.{Reply}
 use Rattle.wb_text.specs.declared.reply.Reply.TheVariants.{Fault as Refused}
 use Rattle.workbench.specs.Session.{Triple, Answers}

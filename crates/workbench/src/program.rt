@@ -3,7 +3,7 @@ ghost use Rattle.std.specs.Prelude.{List, map};
 ghost use Rattle.std.specs.Option.{option_map};
 ghost use Rattle.wb_io.specs.Calls.{Call, Reads, Writes};
 ghost use Rattle.workbench.specs.Program.{Program, Serving, Tells, error_text, help_text};
-ghost use Rattle.workbench.specs.Sizes.{AreSizes};
+ghost use Rattle.timeline.specs.Sizes.{AreSizes};
 
 use crate::serving::serve;
 use std::alloc::Global;

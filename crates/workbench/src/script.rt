@@ -5,7 +5,7 @@ ghost use Rattle.wb_options.specs.declared.fault.RunFault.TheVariants.{WriteFaul
 ghost use Rattle.workbench.specs.LineBuffer.{HasNoFeed};
 ghost use Rattle.workbench.specs.Runs.{Runs, ScriptRuns, WritesText};
 ghost use Rattle.workbench.specs.Script.{is_quit, lines_of};
-ghost use Rattle.workbench.specs.Sizes.{AreSizes};
+ghost use Rattle.timeline.specs.Sizes.{AreSizes};
 ghost use Rattle.workbench.specs.Taking.{Answered, IsAnswer, Stops, Took, Unanswered};
 
 use crate::line_buffer::LineBuffer;

@@ -2,7 +2,7 @@
 ghost use Rattle.std.specs.Prelude.{◌≡◌, ◌+◌, ◌≤◌, IfErr, List, MatchResult, length};
 ghost use Rattle.wb_io.specs.Calls.{Call, Reads, Writes, bytes_moved};
 ghost use Rattle.workbench.specs.Serve.{IsFrontFault, IsJudgement, Makes, ReadsAll, Serves, image_of, log_of};
-ghost use Rattle.workbench.specs.Sizes.{AreSizes};
+ghost use Rattle.timeline.specs.Sizes.{AreSizes};
 
 use crate::script::{MAX_READS, run_with};
 use input_log::{Log, read_log};

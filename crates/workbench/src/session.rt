@@ -1,41 +1,31 @@
 //! A session: an image, a log and a position, and the answer to each command.
 
-ghost use Rattle.std.specs.Prelude.{◌≡◌, ◌≤◌, ◌⊎◌, Err, IsOk, MatchResult};
+ghost use Rattle.std.specs.Prelude.{◌≡◌, ◌⊎◌, Err, IsOk, MatchResult, Ok};
 ghost use Rattle.r3k_image.specs.Boot.{FitsRam};
-ghost use Rattle.workbench.specs.Console.{part_of};
-ghost use Rattle.workbench.specs.Session.{Answers, IsNewFault, answer, log_shown, moved, shown, shown_control, shown_entry, shown_place, words_shown};
-ghost use Rattle.workbench.specs.Memory.{places_of};
-ghost use Rattle.wb_text.specs.declared.fault.Fault.TheVariants.{Memory};
-ghost use Rattle.workbench.specs.Sizes.{AreSizes};
+ghost use Rattle.timeline.specs.Sizes.{AreSizes};
+ghost use Rattle.wb_text.specs.declared.command.Command.TheVariants as command;
+ghost use Rattle.workbench.specs.Session.{Answers, IsNewFault, answer, log_shown, moved};
 
-use crate::query::{console_at, machine_at, places_from, words_at};
-use arrayvec::ArrayVec;
-use cop0::Cop0;
-use cop0::number::{
-    BAD_VADDR, CAUSE, CONTEXT, ENTRY_HI, ENTRY_LO, EPC, INDEX, PRID, RANDOM, STATUS,
+use crate::showing::{
+    control_of, entry_shown, events_from, place_shown, registers_of, writer_shown,
 };
-use input_log::{Event, Log};
-use r3k_image::{Image, ImageKind};
-use r3k_machine::{self as machine, Core};
+use input_log::Log;
+use r3k_image::Image;
+use refusal::Fault;
 use std::alloc::Global;
 use std::marker::Model;
-use tlb64::Entry;
+use timeline::{MAX_POSITION, Timeline};
 use wb_options::RunFault;
 use wb_text::{
-    Address, ByteCount, Command, ControlRegisters, EntryNumber, EventCount, Fault, LineNumber,
-    Load, RegisterNumber, Registers, Reply, Where, WordCount, Words,
+    Address, ByteCount, ByteValue, Command, EntryNumber, EventCount, EventTime, LineNumber,
+    RegisterNumber, Reply, StepCount, WordValue,
 };
-
-/// The greatest position.
-pub const MAX_POSITION: u64 = 4_294_967_295;
 
 /// A session on a machine with `PAGES` pages of RAM. Runs will be kept in spans of `SPAN` steps.
 #[derive(Drop)]
 pub struct Session<const PAGES: u32, const SPAN: u32> {
-    alloc: Global,
-    image: Image,
-    log: Log,
-    position: u64,
+    pub(crate) timeline: Timeline<PAGES, SPAN>,
+    pub(crate) position: u64,
 }
 
 impl<const PAGES: u32, const SPAN: u32> Model for Session<PAGES, SPAN> {
@@ -45,9 +35,10 @@ impl<const PAGES: u32, const SPAN: u32> Model for Session<PAGES, SPAN> {
 
     ghost coded = { triple_code };
 
-    ghost view = { λ s. record { image = s.image; log = s.log; position = s.position } };
+    ghost view = { λ s. record { image = s.timeline.image; log = s.timeline.log; position = s.position } };
 
-    ghost invariant = { λ s. IsSession PAGES SPAN (record { image = s.image; log = s.log; position = s.position }) };
+    ghost invariant = { λ s. IsSession PAGES SPAN
+        (record { image = s.timeline.image; log = s.timeline.log; position = s.position }) };
 }
 
 impl<const PAGES: u32, const SPAN: u32> Session<PAGES, SPAN> {
@@ -59,13 +50,8 @@ impl<const PAGES: u32, const SPAN: u32> Session<PAGES, SPAN> {
             (λ s. FitsRam PAGES image × (s ≡ record { image = image; log = log; position = 0 }))
             (IsNewFault PAGES image) }
     {
-        if !image.fits(PAGES) {
-            return Err(RunFault::BadImage(ImageKind::Pages));
-        }
         Ok(Session {
-            alloc,
-            image,
-            log,
+            timeline: Timeline::new(alloc, image, log)?,
             position: 0,
         })
     }
@@ -79,6 +65,7 @@ impl<const PAGES: u32, const SPAN: u32> Session<PAGES, SPAN> {
             Command::Goto(position) => self.goto(position),
             Command::Step(count) => self.step(count),
             Command::Back(count) => self.back(count),
+            Command::Visit { address, limit } => self.visit(address, limit),
             Command::Regs => self.registers(),
             Command::Reg(number) => self.register(number),
             Command::Cp0 => self.control(),
@@ -93,7 +80,14 @@ impl<const PAGES: u32, const SPAN: u32> Session<PAGES, SPAN> {
                 Err(fault) => Reply::Fault(fault),
             },
             Command::Console { line, from, count } => self.console(line, from, count),
+            Command::Find { line, place } => self.find(line, place),
+            Command::Writer(address) => self.writer(address),
             Command::Log { from, count } => self.events(from, count),
+            Command::Add { time, line, byte } => self.add(time, line, byte),
+            Command::Del(event) => self.del(event),
+            Command::Set { event, byte } => self.set(event, byte),
+            Command::Move { event, time } => self.move_to(event, time),
+            Command::Patch { address, word } => self.patch(address, word),
             Command::Quit => Reply::Nothing,
         }
     }
@@ -111,7 +105,7 @@ impl<const PAGES: u32, const SPAN: u32> Session<PAGES, SPAN> {
 
     // Moves forward.
     fn step(&mut self, count: u64) -> Reply
-        ensures { Answers PAGES self.old (Command.Step count) self.new result }
+        ensures { Answers PAGES self.old (command.Step count) self.new result }
     {
         match self.position.checked_add(count) {
             Some(position) => self.goto(position),
@@ -121,7 +115,7 @@ impl<const PAGES: u32, const SPAN: u32> Session<PAGES, SPAN> {
 
     // Moves back.
     fn back(&mut self, count: u64) -> Reply
-        ensures { Answers PAGES self.old (Command.Back count) self.new result }
+        ensures { Answers PAGES self.old (command.Back count) self.new result }
     {
         match self.position.checked_sub(count) {
             Some(position) => self.goto(position),
@@ -129,82 +123,109 @@ impl<const PAGES: u32, const SPAN: u32> Session<PAGES, SPAN> {
         }
     }
 
-    // Shows the registers.
-    fn registers(&self) -> Reply
-        ensures { Answers PAGES self.now Command.Regs self.now result }
+    // Moves forward to the next position at which the PC holds an address.
+    fn visit(&mut self, address: Address, limit: StepCount) -> Reply
+        ensures { Answers PAGES self.old (command.Visit address limit) self.new result }
     {
-        match machine_at::<PAGES>(self.alloc, &self.image, &self.log, self.position) {
-            Ok(machine) => Reply::Registers(registers_of(&machine.core)),
-            Err(_) => Reply::Fault(Fault::Memory),
+        match self
+            .timeline
+            .next_pc(self.position, address.get() as u32, limit.get())
+        {
+            Ok(position) => {
+                self.position = position;
+                Reply::Position(position)
+            }
+            Err(fault) => Reply::Fault(fault),
+        }
+    }
+
+    // Shows the registers.
+    fn registers(&mut self) -> Reply
+        ensures { Answers PAGES self.old command.Regs self.new result }
+    {
+        match self.timeline.core_at(self.position) {
+            Ok(core) => Reply::Registers(registers_of(core.as_ref())),
+            Err(fault) => Reply::Fault(fault),
         }
     }
 
     // Shows a register.
-    fn register(&self, register: RegisterNumber) -> Reply
-        ensures { Answers PAGES self.now (Command.Reg register) self.now result }
+    fn register(&mut self, register: RegisterNumber) -> Reply
+        ensures { Answers PAGES self.old (command.Reg register) self.new result }
     {
-        match machine_at::<PAGES>(self.alloc, &self.image, &self.log, self.position) {
-            Ok(machine) => Reply::Register {
+        match self.timeline.core_at(self.position) {
+            Ok(core) => Reply::Register {
                 number: register,
-                value: machine.core.registers()[register.get() as usize],
+                value: core.registers()[register.get() as usize],
             },
-            Err(_) => Reply::Fault(Fault::Memory),
+            Err(fault) => Reply::Fault(fault),
         }
     }
 
     // Shows the control registers.
-    fn control(&self) -> Reply
-        ensures { Answers PAGES self.now Command.Cp0 self.now result }
+    fn control(&mut self) -> Reply
+        ensures { Answers PAGES self.old command.Cp0 self.new result }
     {
-        match machine_at::<PAGES>(self.alloc, &self.image, &self.log, self.position) {
-            Ok(machine) => Reply::Control(control_of(machine.core.cop0())),
-            Err(_) => Reply::Fault(Fault::Memory),
+        match self.timeline.core_at(self.position) {
+            Ok(core) => Reply::Control(control_of(core.cop0())),
+            Err(fault) => Reply::Fault(fault),
         }
     }
 
     // Shows a translation entry.
-    fn entry(&self, number: EntryNumber) -> Reply
-        ensures { Answers PAGES self.now (Command.Tlb number) self.now result }
+    fn entry(&mut self, number: EntryNumber) -> Reply
+        ensures { Answers PAGES self.old (command.Tlb number) self.new result }
     {
-        match machine_at::<PAGES>(self.alloc, &self.image, &self.log, self.position) {
-            Ok(machine) => entry_shown(number, machine.core.entry(number.get() as u32)),
-            Err(_) => Reply::Fault(Fault::Memory),
+        match self.timeline.core_at(self.position) {
+            Ok(core) => entry_shown(number, core.entry(number.get() as u32)),
+            Err(fault) => Reply::Fault(fault),
         }
     }
 
     // Shows where an address leads.
-    fn place(&self, address: Address) -> Reply
-        ensures { Answers PAGES self.now (Command.Where address) self.now result }
+    fn place(&mut self, address: Address) -> Reply
+        ensures { Answers PAGES self.old (command.Where address) self.new result }
     {
-        match machine_at::<PAGES>(self.alloc, &self.image, &self.log, self.position) {
-            Ok(machine) => {
-                Reply::Where(place_shown(machine.core.where_is(address.get() as u32)))
-            }
-            Err(_) => Reply::Fault(Fault::Memory),
+        match self.timeline.core_at(self.position) {
+            Ok(core) => Reply::Where(place_shown(core.where_is(address.get() as u32))),
+            Err(fault) => Reply::Fault(fault),
         }
     }
 
     // Shows bytes that were sent on a line.
-    fn console(&self, line: LineNumber, from: u64, count: ByteCount) -> Reply
-        ensures { Answers PAGES self.now (Command.Console line from count) self.now result }
+    fn console(&mut self, line: LineNumber, from: u64, count: ByteCount) -> Reply
+        ensures { Answers PAGES self.old (command.Console line from count) self.new result }
     {
         let number = line.get() as u8;
-        let count = count.get() as usize;
-        match console_at::<PAGES>(
-            self.alloc,
-            &self.image,
-            &self.log,
-            self.position,
-            number,
-            from,
-            count,
-        ) {
-            Ok(shown) => Reply::Console {
-                line,
-                total: shown.total,
-                bytes: shown.bytes,
-            },
-            Err(_) => Reply::Fault(Fault::Memory),
+        match self
+            .timeline
+            .console_at(self.position, number, from, count.get() as usize)
+        {
+            Ok((total, bytes)) => Reply::Console { line, total, bytes },
+            Err(fault) => Reply::Fault(fault),
+        }
+    }
+
+    // Tells the step that sent a byte.
+    fn find(&mut self, line: LineNumber, place: u64) -> Reply
+        ensures { Answers PAGES self.old (command.Find line place) self.new result }
+    {
+        match self
+            .timeline
+            .sent_at(self.position, line.get() as u8, place)
+        {
+            Ok(step) => Reply::Found(step),
+            Err(fault) => Reply::Fault(fault),
+        }
+    }
+
+    // Tells the last writer of a word.
+    fn writer(&mut self, address: Address) -> Reply
+        ensures { Answers PAGES self.old (command.Writer address) self.new result }
+    {
+        match self.timeline.writer_at(self.position, address.get() as u32) {
+            Ok(writer) => Reply::Writer(writer_shown(writer)),
+            Err(fault) => Reply::Fault(fault),
         }
     }
 
@@ -212,7 +233,7 @@ impl<const PAGES: u32, const SPAN: u32> Session<PAGES, SPAN> {
     fn events(&self, from: u64, count: EventCount) -> Reply
         ensures { result ≡ log_shown from count self.now.log }
     {
-        let events = self.log.events();
+        let events = self.timeline.log().events();
         Reply::Log {
             total: events.len() as u64,
             first: from,
@@ -220,91 +241,56 @@ impl<const PAGES: u32, const SPAN: u32> Session<PAGES, SPAN> {
         }
     }
 
-    // The words of memory from an address on.
-    fn words(&self, address: Address, count: WordCount) -> Result<Words, Fault>
-        ensures { (result ≡ words_shown PAGES self.now address count)
-            ⊎ ((result ≡ Err Memory) × IsOk (places_of PAGES address count)) }
+    // Adds an event.
+    fn add(&mut self, time: EventTime, line: LineNumber, byte: ByteValue) -> Reply
+        ensures { Answers PAGES self.old (command.Add time line byte) self.new result }
     {
-        let position = self.position;
-        let places = places_from::<PAGES>(address, count)?;
-        let Ok(machine) = machine_at::<PAGES>(self.alloc, &self.image, &self.log, position) else {
-            return Err(Fault::Memory);
-        };
-        Ok(Words {
-            address: address.get() as u32,
-            words: words_at(&machine.memory, places.as_slice()),
-        })
+        match self
+            .timeline
+            .add(time.get(), line.get() as u8, byte.get() as u8)
+        {
+            Ok(event) => Reply::Event(event as u64),
+            Err(fault) => Reply::Fault(fault),
+        }
     }
-}
 
-// The events from a place on, at most `count`.
-fn events_from(events: &[Event], from: u64, count: usize) -> ArrayVec<Event, 32>
-    requires { count ≤ 32 }
-    ensures { result.items ≡ part_of from count events.now }
-{
-    let rest = events.get(from as usize..).unwrap_or(&[]);
-    let mut shown = ArrayVec::new();
-    // There is room for all of them.
-    let _copied = shown.try_extend_from_slice(rest.get(..count).unwrap_or(rest));
-    shown
-}
-
-// What `regs` shows of a processor.
-fn registers_of(core: &Core) -> Registers
-    ensures { result ≡ shown core.now }
-{
-    Registers {
-        pc: core.pc(),
-        next_pc: core.next_pc(),
-        hi: core.hi(),
-        lo: core.lo(),
-        delay: core.delay(),
-        load: core.load().map(|load| Load {
-            register: load.register(),
-            value: load.value(),
-        }),
-        registers: *core.registers(),
+    // Deletes an event.
+    fn del(&mut self, event: u64) -> Reply
+        ensures { Answers PAGES self.old (command.Del event) self.new result }
+    {
+        match self.timeline.del(event) {
+            Ok(()) => Reply::Left(self.timeline.log().events().len() as u64),
+            Err(fault) => Reply::Fault(fault),
+        }
     }
-}
 
-// What `cp0` shows of the control registers.
-fn control_of(cop0: &Cop0) -> ControlRegisters
-    ensures { result ≡ shown_control cop0.now }
-{
-    ControlRegisters {
-        index: cop0.read(INDEX),
-        random: cop0.read(RANDOM),
-        entry_lo: cop0.read(ENTRY_LO),
-        context: cop0.read(CONTEXT),
-        bad_vaddr: cop0.read(BAD_VADDR),
-        entry_hi: cop0.read(ENTRY_HI),
-        status: cop0.read(STATUS),
-        cause: cop0.read(CAUSE),
-        epc: cop0.read(EPC),
-        prid: cop0.read(PRID),
+    // Gives an event another byte.
+    fn set(&mut self, event: u64, byte: ByteValue) -> Reply
+        ensures { Answers PAGES self.old (command.Set event byte) self.new result }
+    {
+        match self.timeline.set(event, byte.get() as u8) {
+            Ok(()) => Reply::Event(event),
+            Err(fault) => Reply::Fault(fault),
+        }
     }
-}
 
-// What `tlb` shows of a translation entry.
-fn entry_shown(number: EntryNumber, entry: Entry) -> Reply
-    ensures { result ≡ shown_entry number entry }
-{
-    Reply::Entry {
-        number,
-        hi: entry.hi,
-        lo: entry.lo,
+    // Moves an event to another time.
+    fn move_to(&mut self, event: u64, time: EventTime) -> Reply
+        ensures { Answers PAGES self.old (command.Move event time) self.new result }
+    {
+        match self.timeline.move_to(event, time.get()) {
+            Ok(event) => Reply::Event(event as u64),
+            Err(fault) => Reply::Fault(fault),
+        }
     }
-}
 
-// What `where` shows of an address.
-fn place_shown(place: machine::Where) -> Where
-    ensures { result ≡ shown_place place }
-{
-    match place {
-        machine::Where::Cached(physical) => Where::Cached(physical),
-        machine::Where::Uncached(physical) => Where::Uncached(physical),
-        machine::Where::Adel => Where::AddressError,
-        machine::Where::Refill => Where::Refill,
-        machine::Where::Tlbl => Where::Miss,
+    // Sets a word of the image.
+    fn patch(&mut self, address: Address, word: WordValue) -> Reply
+        ensures { Answers PAGES self.old (command.Patch address word) self.new result }
+    {
+        match self.timeline.patch(address.get() as u32, word.get() as u32) {
+            Ok(()) => Reply::Patched,
+            Err(fault) => Reply::Fault(fault),
+        }
     }
 }

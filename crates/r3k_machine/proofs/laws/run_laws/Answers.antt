@@ -1,4 +1,4 @@
-use Rattle.r3k_machine.proofs.Splits.{run_split, trace_split, trace_count, console_split, writer_split}
+use Rattle.r3k_machine.proofs.Splits.{run_split, trace_split, trace_count, console_split, senders_split, senders_count, writer_split}
 use Rattle.r3k_machine.proofs.laws.run_laws.Goals as goal
 
 pub returns-clause-run : goal.returns-clause-run
@@ -12,6 +12,12 @@ returns-clause-count c = trace_count
 
 pub returns-clause-console : goal.returns-clause-console
 returns-clause-console c = console_split
+
+pub returns-clause-senders : goal.returns-clause-senders
+returns-clause-senders c = senders_split
+
+pub returns-clause-sent : goal.returns-clause-sent
+returns-clause-sent c = senders_count
 
 pub returns-clause-writer : goal.returns-clause-writer
 returns-clause-writer c = writer_split

@@ -1,0 +1,233 @@
+//! More bytes than the silo holds, and the serial part through each segment: values by hand from the papers of the serial part
+//! and of the processor.
+use crate::machine::Machine;
+use cop0::number::{BAD_VADDR, CAUSE};
+use dz_serial::Sent;
+use input_log::Event;
+use std::test::Fail;
+
+const BYTE: Event = Event {
+    time: 0,
+    line: 0,
+    byte: 0x41,
+};
+
+// Turns on the receivers of lines 0 to 2, and the scanner.
+const LISTENS: [u32; 9] = [
+    0x3C01_BFE0, // lui r1, 0xbfe0
+    0x2404_1000, // addiu r4, r0, 0x1000
+    0xAC24_0008, // sw r4, 8(r1)
+    0x2404_1001,
+    0xAC24_0008,
+    0x2404_1002,
+    0xAC24_0008,
+    0x2405_0020, // addiu r5, r0, 0x20
+    0xAC25_0000, // sw r5, 0(r1)
+];
+
+// 70 bytes in one step: the silo keeps the first 64, and loses three of line 0 and three of line 1. Then the next byte that is
+// kept of each of these lines has OERR, once; a byte of line 2 has none. All steps from then on run lw r5, 8(r1), so that each
+// makes room for a byte of the next.
+#[test]
+fn burst(rt: HostRuntime) -> Result<(), Fail> {
+    let mut rom = [0x8C25_0008u32; 90];
+    rom[..9].copy_from_slice(&LISTENS);
+    let mut machine = Machine::boot(rt.alloc(), &rom)?;
+    machine.run(9);
+    let mut events = [BYTE; 70];
+    events[0] = Event { byte: 0x30, ..BYTE };
+    events[63] = Event { byte: 0x31, ..BYTE };
+    for at in 67..70 {
+        events[at] = Event { line: 1, ..BYTE };
+    }
+    let arrivals: [&[Event]; 6] = [
+        &events,
+        // The first has room, and the second has not.
+        &[Event { line: 2, ..BYTE }, BYTE],
+        &[Event { byte: 0x33, ..BYTE }],
+        &[Event {
+            line: 1,
+            byte: 0x34,
+            ..BYTE
+        }],
+        &[Event {
+            line: 1,
+            byte: 0x35,
+            ..BYTE
+        }],
+        &[Event { byte: 0x36, ..BYTE }],
+    ];
+    for (step, arriving) in arrivals.iter().enumerate() {
+        machine.receive(arriving);
+        let want = if step == 0 { 0x8030 } else { 0x8041 };
+        assert_eq!(rt; machine.register(5), want);
+    }
+    for _ in 6..63 {
+        machine.run(1);
+        assert_eq!(rt; machine.register(5), 0x8041);
+    }
+    for want in [0x8031, 0x8241, 0xC033, 0xC134, 0x8135, 0x8036, 0, 0] {
+        machine.run(1);
+        assert_eq!(rt; machine.register(5), want);
+    }
+    Ok(())
+}
+
+// 65 bytes, of which one is lost: once a store leaves MSE 0, the silo and the mark are gone. A store that covers bytes 1 to 3
+// alone leaves MSE and the silo.
+#[test]
+fn emptied_silo(rt: HostRuntime) -> Result<(), Fail> {
+    let source = "lui r1, 0xbfe0
+addiu r4, r0, 0x1000
+sw r4, 8(r1)
+addiu r5, r0, 0x20
+sw r5, 0(r1)
+swr r0, 1(r1)
+lw r6, 8(r1)
+sb r0, 0(r1)
+sb r5, 0(r1)
+lw r7, 8(r1)
+lw r8, 8(r1)
+";
+    let mut machine = Machine::boot_source(rt.alloc(), source)?;
+    machine.run(5);
+    machine.receive(&[BYTE; 65]);
+    machine.run(3);
+    machine.receive(&[BYTE]);
+    machine.run(1);
+    assert_eq!(rt; machine.register(6), 0x8041);
+    assert_eq!(rt; machine.register(7), 0x8041);
+    assert_eq!(rt; machine.register(8), 0);
+    Ok(())
+}
+
+// Entries for the page of the serial part: 0x2000, cacheable; 0x3000, uncached by N; 0xc0000000, cacheable; and 0x4000 without
+// D. r2, r3 and r4 are the low words with D, V and G; with N too; with V and G.
+const MAPS: &str = "lui r2, 0x1fe0
+ori r2, r2, 0x0700
+ori r3, r2, 0x0800
+lui r4, 0x1fe0
+ori r4, r4, 0x0300
+addiu r6, r0, 0x2000
+mtc0 r6, c10
+mtc0 r2, c2
+tlbwi
+addiu r7, r0, 0x3000
+mtc0 r7, c10
+mtc0 r3, c2
+addiu r5, r0, 0x0100
+mtc0 r5, c0
+tlbwi
+lui r8, 0xc000
+mtc0 r8, c10
+mtc0 r2, c2
+addiu r5, r0, 0x0200
+mtc0 r5, c0
+tlbwi
+addiu r9, r0, 0x4000
+mtc0 r9, c10
+mtc0 r4, c2
+addiu r5, r0, 0x0300
+mtc0 r5, c0
+tlbwi
+lui r10, 0x0041
+lui r11, 0x9fe0
+";
+
+// Loads through each of the three, and with IsC through the first two: the cacheable one goes to its slot, which is empty, and
+// takes no byte.
+#[test]
+fn mapped_reads(rt: HostRuntime) -> Result<(), Fail> {
+    let mut source = String::new(rt.alloc());
+    source.push_str(MAPS)?;
+    source.push_str(
+        "addiu r5, r0, 0x1000
+sw r5, 8(r7)
+addiu r5, r0, 0x20
+sw r5, 0(r7)
+lw r12, 8(r6)
+lbu r13, 8(r7)
+lhu r14, 8(r8)
+mtc0 r10, c12
+lw r15, 8(r6)
+lw r16, 8(r7)
+",
+    )?;
+    let mut machine = Machine::boot_source(rt.alloc(), source.as_str())?;
+    machine.run(33);
+    let second = Event { byte: 0x42, ..BYTE };
+    let third = Event { byte: 0x43, ..BYTE };
+    let fourth = Event { byte: 0x44, ..BYTE };
+    machine.receive(&[BYTE, second, third, fourth]);
+    machine.run(5);
+    assert_eq!(rt; machine.register(12), 0x8041);
+    assert_eq!(rt; machine.register(13), 0x42);
+    assert_eq!(rt; machine.register(14), 0x8043);
+    assert_eq!(rt; machine.register(15), 0);
+    assert_eq!(rt; machine.register(16), 0x8044);
+    Ok(())
+}
+
+// Line 1 may send. A store to TDR sends through 0x2000, 0x3000, 0xc0000000 and kseg0, each time as the byte time of 1 is over;
+// with IsC only the uncached one does, and through the entry without D it is Mod and sends nothing.
+#[test]
+fn mapped_stores(rt: HostRuntime) -> Result<(), Fail> {
+    let mut source = String::new(rt.alloc());
+    source.push_str(".bytetime 1\n")?;
+    source.push_str(MAPS)?;
+    source.push_str(
+        "addiu r5, r0, 2
+sw r5, 16(r7)
+addiu r5, r0, 0x20
+sw r5, 0(r7)
+sw r6, 24(r6)
+sw r7, 24(r7)
+sb r8, 24(r8)
+sh r11, 24(r11)
+mtc0 r10, c12
+sw r6, 24(r6)
+sw r11, 24(r11)
+sb r5, 24(r7)
+sw r5, 24(r9)
+",
+    )?;
+    let mut machine = Machine::boot_source(rt.alloc(), source.as_str())?;
+    machine.run(33);
+    let zero = Some(Sent { line: 1, byte: 0 });
+    let last = Some(Sent {
+        line: 1,
+        byte: 0x20,
+    });
+    for sent in [zero, zero, zero, zero, None, None, None, last, None] {
+        assert_eq!(rt; machine.step().sent, sent);
+    }
+    assert_eq!(rt; machine.core.cop0().read(CAUSE), 4);
+    assert_eq!(rt; machine.core.cop0().read(BAD_VADDR), 0x4018);
+    Ok(())
+}
+
+// A load of RBUF into r0 takes a byte, and a misaligned one takes none: it is AdEL.
+#[test]
+fn reads_without_a_value(rt: HostRuntime) -> Result<(), Fail> {
+    let source = "lui r1, 0xbfe0
+addiu r4, r0, 0x1000
+sw r4, 8(r1)
+addiu r5, r0, 0x20
+sw r5, 0(r1)
+lw r0, 8(r1)
+lw r6, 10(r1)
+.org 0x1fc00180
+lw r7, 8(r1)
+lw r8, 8(r1)
+";
+    let mut machine = Machine::boot_source(rt.alloc(), source)?;
+    machine.run(5);
+    machine.receive(&[BYTE, Event { byte: 0x42, ..BYTE }]);
+    machine.run(1);
+    assert_eq!(rt; machine.core.cop0().read(CAUSE), 0x10);
+    assert_eq!(rt; machine.core.cop0().read(BAD_VADDR), 0xBFE0_000A);
+    machine.run(2);
+    assert_eq!(rt; machine.register(7), 0x8042);
+    assert_eq!(rt; machine.register(8), 0);
+    Ok(())
+}

@@ -1,0 +1,28 @@
+use Rattle.std.proofs.Common.{◌≡◌, subst, sym, ap, ◌∙◌, arith, length, Ok}
+use Rattle.std.specs.List.{insert}
+use Rattle.input_log.specs.Event.{TimedByte}
+use Rattle.input_log.specs.Log.{IsLog}
+use Rattle.input_log.specs.Edits.{up_to, with_event, adding}
+use Rattle.input_log.proofs.Editing.{is_insert, log_with, added}
+use Rattle.input_log.proofs.log.Log.add.Goals as goal
+
+-- what the log is then
+made : (c : goal.Else-is_err) → c.insert.new.self.items ≡ with_event (record { time = c.args.time; line = c.args.line; byte = c.args.byte }) c.self.inside.events.items
+made c =
+    let event : TimedByte = record { time = c.args.time; line = c.args.line; byte = c.args.byte } in
+    let place : c.place_behind-place.result ≡ length (up_to c.args.time c.self.inside.events.items) =
+    c.place_behind-place.ensures.place ∙ ap (λ events. length (up_to c.args.time events)) c.deref.ensures.value in
+    rw (c.is_err.ensures.negation, c.if-is_err.false) at c.insert.ensures.items
+    ∙ ap (λ n. insert c.self.inside.events.items n event) place
+    ∙ sym (is_insert event c.self.inside.events.items c.self.invariant.in_order)
+
+pub invariant_of-self-2 : goal.invariant_of-self-2
+invariant_of-self-2 c =
+    let event : TimedByte = record { time = c.args.time; line = c.args.line; byte = c.args.byte } in
+    let few = c.if-len-ge-MAX_EVENTS.false in
+    subst IsLog (sym (made c)) (log_with event c.self.inside.events.items (record { line = omega arith; byte = omega arith; time = omega arith }) (omega arith) c.self.invariant)
+
+pub returns-clause-log : goal.returns-clause-log
+returns-clause-log c =
+    let event : TimedByte = record { time = c.args.time; line = c.args.line; byte = c.args.byte } in
+    ap (adding event) (sym c.self.view_is) ∙ added event c.self.inside.events.items (omega arith) (omega arith) (omega arith) ∙ ap (λ events. Ok events) (sym (made c))

@@ -1,0 +1,122 @@
+//! Edits of a log. A refused edit leaves the log as it was.
+
+ghost use Rattle.std.specs.Prelude.{◌≡◌, ◌<◌, ◌≤◌, length};
+ghost use Rattle.std.specs.List.{insert, remove};
+ghost use Rattle.input_log.specs.Edits.{up_to, without};
+ghost use Rattle.input_log.specs.Log.{AreInOrder};
+
+use crate::event::Event;
+use crate::limits::{MAX_EVENTS, MAX_TIME};
+use crate::log::Log;
+use refusal::Fault;
+
+impl Log {
+    ghost use Rattle.std.specs.Prelude.{◌≡◌, ◌<◌, ◌≤◌, length, IfOk, IfErr};
+    ghost use Rattle.refusal.specs.declared.fault.Fault.TheVariants.{NoEvent};
+    ghost use Rattle.refusal.specs.Given.{Changes, ChangesOrLacks};
+    ghost use Rattle.input_log.specs.Edits.{up_to, without, adding, deleting, setting, moving};
+
+    /// Adds an event behind all events of its time or an earlier one, and tells its number. Events are numbered from 0.
+    /// `Range` if the line is above 3, the time above 4,294,967,294, or the log full; else `Memory` if memory ran out.
+    pub fn add(&mut self, time: u64, line: u8, byte: u8) -> Result<usize, Fault>
+        ensures log { ChangesOrLacks (adding (record { time = time; line = line; byte = byte }) self.old)
+            self.old self.new result }
+        ensures place { IfOk result (λ place. place ≡ length (up_to time self.old)) }
+    {
+        if line > 3 || time > MAX_TIME || self.events.len() >= MAX_EVENTS {
+            return Err(Fault::Range);
+        }
+        let place = place_behind(&self.events, time);
+        let event = Event { time, line, byte };
+        if self.events.insert(place, event).is_err() {
+            return Err(Fault::Memory);
+        }
+        Ok(place)
+    }
+
+    /// Deletes the event of a number. `NoEvent` if there is none. It takes no memory.
+    pub fn del(&mut self, place: u64) -> Result<(), Fault>
+        ensures { Changes (deleting place self.old) self.old self.new result }
+    {
+        let index = self.index_of(place)?;
+        self.events.remove(index);
+        Ok(())
+    }
+
+    /// Gives the event of a number another byte. `NoEvent` if there is none. It takes no memory.
+    pub fn set(&mut self, place: u64, byte: u8) -> Result<(), Fault>
+        ensures { Changes (setting place byte self.old) self.old self.new result }
+    {
+        let index = self.index_of(place)?;
+        let event = self.events[index];
+        self.events[index] = Event { byte, ..event };
+        Ok(())
+    }
+
+    /// Moves the event of a number to another time, behind all other events of that time or an earlier one, and tells its
+    /// new number. `Range` if the time is above 4,294,967,294; else `NoEvent` if there is no such event. It takes no memory.
+    pub fn move_to(&mut self, place: u64, time: u64) -> Result<usize, Fault>
+        ensures log { Changes (moving place time self.old) self.old self.new result }
+        ensures place { IfOk result (λ to. to ≡ length (up_to time (without place self.old))) }
+    {
+        if time > MAX_TIME {
+            return Err(Fault::Range);
+        }
+        let from = self.index_of(place)?;
+        let to = place_of_moved(&self.events, from, time);
+        let event = self.events[from];
+        relocate(&mut self.events, from, to, Event { time, ..event });
+        Ok(to)
+    }
+
+    // Where the event of a number stands, if there is one.
+    fn index_of(&self, place: u64) -> Result<usize, Fault>
+        ensures found { IfOk result (λ index. (index ≡ place) × (index < length self.now)) }
+        ensures missing { IfErr result (λ fault. (fault ≡ NoEvent) × (length self.now ≤ place)) }
+    {
+        if place < self.events.len() as u64 {
+            Ok(place as usize)
+        } else {
+            Err(Fault::NoEvent)
+        }
+    }
+}
+
+// How many events are of this time or an earlier one, found by halving.
+fn place_behind(events: &[Event], time: u64) -> usize
+    requires { AreInOrder events.now }
+    ensures place { result ≡ length (up_to time events.now) }
+    ensures bound { result ≤ length events.now }
+{
+    events.partition_point(|event| event.time <= time)
+}
+
+// How many of the other events are of this time or an earlier one.
+fn place_of_moved(events: &[Event], from: usize, time: u64) -> usize
+    requires order { AreInOrder events.now }
+    requires from_in { from < length events.now }
+    ensures place { result ≡ length (up_to time (without from events.now)) }
+    ensures bound { result < length events.now }
+{
+    let behind = place_behind(events, time);
+    let event = events[from];
+    if event.time <= time {
+        behind - 1
+    } else {
+        behind
+    }
+}
+
+// Takes out the event of one place and puts another in at a place of what is left. What lies between moves by one.
+fn relocate(events: &mut Vec<Event>, from: usize, to: usize, event: Event)
+    requires from_in { from < length events.old.items }
+    requires to_in { to < length events.old.items }
+    ensures { events.new.items ≡ insert (remove events.old.items from) to event }
+{
+    if from < to {
+        events.copy_within(from + 1..to + 1, from);
+    } else {
+        events.copy_within(to..from, to + 1);
+    }
+    events[to] = event;
+}

@@ -1,0 +1,61 @@
+-- A part of a console, where the console has a byte more.
+use Rattle.std.proofs.Common.{◌≡◌, ℕ, zero, suc, ◌<◌, ◌≤◌, List, [], ◌∷◌, ◌++◌, length, take, refl, ap, arith, ◌∙◌}
+use Rattle.std.proofs.Common.{Option, Some, None}
+use Rattle.std.specs.List.{cons_option}
+use Rattle.std.proofs.lemmas.List.{append-nil}
+use Rattle.std.proofs.lemmas.List.Elements.{filter_map-append}
+use Rattle.r3k_machine.specs.declared.step.Done.{Done}
+use Rattle.r3k_machine.specs.Run.{byte_on, console_of}
+use Rattle.timeline.specs.Console.{part_of, with_byte}
+
+-- nothing is shown of a console without bytes
+pub part_nil : (from count : ℕ) → part_of {A = ℕ} from count [] ≡ []
+part_nil zero zero = refl
+part_nil zero (suc count) = refl
+part_nil (suc from) zero = refl
+part_nil (suc from) (suc count) = refl
+
+-- the console after one more step
+behind : (console : List ℕ) (byte : Option ℕ) → console ++ cons_option byte [] ≡ with_byte console byte
+behind console None = append-nil console
+behind console (Some byte) = refl
+
+pub console_more : (line : ℕ) (steps : List Done) (done : Done)
+    → console_of line (steps ++ done ∷ []) ≡ with_byte (console_of line steps) (byte_on line done.sent)
+console_more line steps done =
+    filter_map-append (λ done. byte_on line done.sent) steps (done ∷ []) ∙ behind (console_of line steps) (byte_on line done.sent)
+
+take-nil : (count : ℕ) → take {A = ℕ} count [] ≡ []
+take-nil zero = refl
+take-nil (suc count) = refl
+
+take-more : (count : ℕ) (xs : List ℕ) (b : ℕ) → length (take count xs) < count → take count (xs ++ b ∷ []) ≡ take count xs ++ b ∷ []
+take-more zero xs b h = absurd (omega (arith, h))
+take-more (suc count) [] b h = ap (λ (rest : List ℕ). b ∷ rest) (take-nil count)
+take-more (suc count) (x ∷ xs) b h = ap (λ (rest : List ℕ). x ∷ rest) (take-more count xs b (omega (arith, h)))
+
+take-enough : (count : ℕ) (xs : List ℕ) (b : ℕ) → count ≤ length (take count xs) → take count (xs ++ b ∷ []) ≡ take count xs
+take-enough zero xs b h = refl
+take-enough (suc count) [] b h = absurd (omega (arith, h))
+take-enough (suc count) (x ∷ xs) b h = ap (λ (rest : List ℕ). x ∷ rest) (take-enough count xs b (omega (arith, h)))
+
+-- it is asked for, and there are not enough yet
+pub part_more : (from count : ℕ) (xs : List ℕ) (b : ℕ) → from ≤ length xs → length (part_of from count xs) < count
+    → part_of from count (xs ++ b ∷ []) ≡ part_of from count xs ++ b ∷ []
+part_more zero count xs b asked h = take-more count xs b h
+part_more (suc from) count [] b asked h = absurd (omega (arith, asked))
+part_more (suc from) count (x ∷ xs) b asked h = part_more from count xs b (omega (arith, asked)) h
+
+-- there are enough
+pub part_enough : (from count : ℕ) (xs : List ℕ) (b : ℕ) → count ≤ length (part_of from count xs) → part_of from count (xs ++ b ∷ []) ≡ part_of from count xs
+part_enough zero count xs b h = take-enough count xs b h
+part_enough (suc from) zero [] b h = refl
+part_enough (suc from) (suc count) [] b h = absurd (omega (arith, h))
+part_enough (suc from) count (x ∷ xs) b h = part_enough from count xs b h
+
+-- it comes too early
+pub part_before : (from count : ℕ) (xs : List ℕ) (b : ℕ) → length xs < from → part_of from count (xs ++ b ∷ []) ≡ part_of from count xs
+part_before zero count xs b early = absurd (omega (arith, early))
+part_before (suc zero) count [] b early = refl
+part_before (suc (suc from)) count [] b early = refl
+part_before (suc from) count (x ∷ xs) b early = part_before from count xs b (omega (arith, early))

@@ -1,0 +1,6 @@
+mod Consoles
+mod Patches
+mod Runs
+mod Senders
+mod Visits
+mod Writers

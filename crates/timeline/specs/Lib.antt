@@ -1,0 +1,11 @@
+pub use Rattle.r3k_image.specs.Boot
+pub use Rattle.r3k_image.specs.Patch
+pub use Rattle.input_log.specs.Event
+pub use Rattle.input_log.specs.Edits
+pub use Rattle.r3k_machine.specs.Run
+pub use Rattle.refusal.specs.Given
+pub mod Sizes
+pub mod Console
+pub mod History
+pub mod Going
+pub mod Query

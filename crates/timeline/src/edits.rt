@@ -1,0 +1,66 @@
+//! Edits of the history. What is kept of its runs goes with an edit.
+
+ghost use Rattle.std.specs.Prelude.{◌≡◌, IfOk, length};
+ghost use Rattle.input_log.specs.Edits.{adding, deleting, moving, setting, up_to, without};
+ghost use Rattle.r3k_image.specs.Boot.{FitsRam};
+ghost use Rattle.r3k_image.specs.Patch.{patching};
+ghost use Rattle.refusal.specs.Given.{Changes, ChangesOrLacks};
+ghost use Rattle.timeline.specs.History.{with_image, with_log};
+
+use crate::queries::place_at;
+use crate::timeline::Timeline;
+use refusal::Fault;
+
+impl<const PAGES: u32, const SPAN: u32> Timeline<PAGES, SPAN> {
+    /// Adds an event after all events of its time or an earlier one, and gives its place in the log. A time or a line out of
+    /// its range, and a log that is full, are `Range`.
+    pub fn add(&mut self, time: u64, line: u8, byte: u8) -> Result<usize, Fault>
+        ensures log { ChangesOrLacks (with_log self.old (adding (record { time = time; line = line; byte = byte }) self.old.log)) self.old self.new result }
+        ensures place { IfOk result (λ place. place ≡ length (up_to time self.old.log)) }
+    {
+        let place = self.log.add(time, line, byte)?;
+        self.machine = None;
+        Ok(place)
+    }
+
+    /// Deletes an event by its place in the log.
+    pub fn del(&mut self, place: u64) -> Result<(), Fault>
+        ensures { Changes (with_log self.old (deleting place self.old.log)) self.old self.new result }
+    {
+        self.log.del(place)?;
+        self.machine = None;
+        Ok(())
+    }
+
+    /// Gives an event another byte.
+    pub fn set(&mut self, place: u64, byte: u8) -> Result<(), Fault>
+        ensures { Changes (with_log self.old (setting place byte self.old.log)) self.old self.new result }
+    {
+        self.log.set(place, byte)?;
+        self.machine = None;
+        Ok(())
+    }
+
+    /// Moves an event to another time, as if it was deleted and added again, and gives its new place in the log. A time out of
+    /// its range is `Range`.
+    pub fn move_to(&mut self, place: u64, time: u64) -> Result<usize, Fault>
+        ensures log { Changes (with_log self.old (moving place time self.old.log)) self.old self.new result }
+        ensures place { IfOk result (λ now. now ≡ length (up_to time (without place self.old.log))) }
+    {
+        let place = self.log.move_to(place, time)?;
+        self.machine = None;
+        Ok(place)
+    }
+
+    /// Sets a word of the image, by its physical address, also where its value stays the same.
+    pub fn patch(&mut self, address: u32, word: u32) -> Result<(), Fault>
+        ensures image { ChangesOrLacks (with_image self.old (patching PAGES address word self.old.image)) self.old self.new result }
+        ensures fits { FitsRam PAGES self.new.image }
+    {
+        let _alloc = self.alloc;
+        place_at::<PAGES>(address)?;
+        self.image.patch(address, word)?;
+        self.machine = None;
+        Ok(())
+    }
+}

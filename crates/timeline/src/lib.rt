@@ -1,0 +1,11 @@
+//! A history that can be edited, an image and a log, and the answers of the run from reset that they determine.
+#![tactic(auto)]
+
+mod edits;
+mod machine;
+mod queries;
+mod timeline;
+mod writer;
+
+pub use timeline::{MAX_POSITION, Timeline};
+pub use writer::Writer;
