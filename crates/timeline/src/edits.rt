@@ -23,7 +23,7 @@ impl<const PAGES: u32, const SPAN: u32> Timeline<PAGES, SPAN> {
         Ok(place)
     }
 
-    /// Deletes an event by its place in the log.
+    /// Deletes an event by its place in the log. `NoEvent` if there is none.
     pub fn del(&mut self, place: u64) -> Result<(), Fault>
         ensures { Changes (with_log self.old (deleting place self.old.log)) self.old self.new result }
     {
@@ -32,7 +32,7 @@ impl<const PAGES: u32, const SPAN: u32> Timeline<PAGES, SPAN> {
         Ok(())
     }
 
-    /// Gives an event another byte.
+    /// Gives an event another byte. `NoEvent` if there is none.
     pub fn set(&mut self, place: u64, byte: u8) -> Result<(), Fault>
         ensures { Changes (with_log self.old (setting place byte self.old.log)) self.old self.new result }
     {
@@ -42,7 +42,7 @@ impl<const PAGES: u32, const SPAN: u32> Timeline<PAGES, SPAN> {
     }
 
     /// Moves an event to another time, as if it was deleted and added again, and gives its new place in the log. A time out of
-    /// its range is `Range`.
+    /// its range is `Range`, and else no such event `NoEvent`.
     pub fn move_to(&mut self, place: u64, time: u64) -> Result<usize, Fault>
         ensures log { Changes (with_log self.old (moving place time self.old.log)) self.old self.new result }
         ensures place { IfOk result (λ now. now ≡ length (up_to time (without place self.old.log))) }
@@ -52,11 +52,13 @@ impl<const PAGES: u32, const SPAN: u32> Timeline<PAGES, SPAN> {
         Ok(place)
     }
 
-    /// Sets a word of the image, by its physical address, also where its value stays the same.
+    /// Sets a word of the image, by its physical address, also where its value stays the same. `Unaligned` if the address is not
+    /// a multiple of 4, `NotMemory` if it is neither in the machine's RAM nor in ROM.
     pub fn patch(&mut self, address: u32, word: u32) -> Result<(), Fault>
         ensures image { ChangesOrLacks (with_image self.old (patching PAGES address word self.old.image)) self.old self.new result }
         ensures fits { FitsRam PAGES self.new.image }
     {
+        // A field is read, so that the sizes are known here.
         let _alloc = self.alloc;
         place_at::<PAGES>(address)?;
         self.image.patch(address, word)?;

@@ -1,4 +1,8 @@
 //! Queries: what the run of the history from reset holds and tells. They leave the history as it is.
+//!
+//! They refuse in this order: a number out of its range is `Range`, an address that is not a multiple of 4 `Unaligned`, one of
+//! neither RAM nor ROM `NotMemory`, a position above the greatest `TooFar`, want of memory `Memory`, and a search that was made
+//! whole and found nothing `NotFound`.
 
 ghost use Rattle.std.specs.Prelude.{◌≡◌, ◌-◌, ◌<◌, ◌≤◌, IfOk, IfSome, MatchResult, Ok};
 ghost use Rattle.r3k_word.specs.Layout.{word_count_of};
@@ -17,8 +21,8 @@ use r3k_word::layout::place_of;
 use refusal::Fault;
 use std::alloc::{AllocError, Global};
 
-/// The most steps that a search for a PC goes.
-pub const MAX_VISIT: u64 = 1_048_576;
+// The most steps that a search for a PC goes.
+const MAX_VISIT: u64 = 1_048_576;
 
 impl<const PAGES: u32, const SPAN: u32> Timeline<PAGES, SPAN> {
     /// The processor at a position.

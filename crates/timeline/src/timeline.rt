@@ -1,7 +1,6 @@
 //! The history, and the machine that its queries have run so far.
 
 ghost use Rattle.std.specs.Prelude.{◌≡◌, MatchResult};
-ghost use Rattle.input_log.specs.Log.{IsLog};
 ghost use Rattle.r3k_image.specs.Boot.{FitsRam};
 ghost use Rattle.r3k_image.specs.declared.fault.ImageFault.TheVariants.{Bad};
 ghost use Rattle.r3k_image.specs.declared.fault.ImageKind.TheVariants.{Pages};

@@ -3,7 +3,6 @@ pub mod Answers
 pub mod Fronts
 pub mod Outcomes
 pub mod Places
-pub mod Replies
 pub mod Scripts
 pub mod Takes
 pub mod Telling
