@@ -1,6 +1,6 @@
 //! The assembler on its own: words of source, every fault alone and before those that come after it, numbers and targets at
 //! their bounds, places, lines and their ends.
-use crate::programs::LOAD_SLOT;
+use crate::image_format::LOAD_SLOT;
 use asm_line::kind::AsmKind;
 use r3k_asm::{AsmFault, assemble};
 use r3k_disasm::text;

@@ -1,5 +1,5 @@
 //! Moves, and queries of the processor: the worked examples, and values by hand.
-use crate::programs::LOAD_SLOT;
+use crate::image_format::LOAD_SLOT;
 use crate::served::run_program;
 use std::alloc::Global;
 use std::str;

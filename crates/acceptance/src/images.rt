@@ -1,5 +1,5 @@
 //! Boot images that are large, or that do not fit the machine.
-use crate::programs::EMPTY_IMAGE;
+use crate::image_format::EMPTY_IMAGE;
 use crate::served::{run_on, run_program};
 use r3k_image::read_image;
 use std::test::Fail;

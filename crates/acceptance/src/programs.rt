@@ -1,18 +1,7 @@
 //! The program's worked runs.
+use crate::image_format::{EMPTY_IMAGE, LOAD_SLOT};
 use crate::served::run_program;
 use std::test::Fail;
-
-pub const EMPTY_IMAGE: [u8; 32] = [
-    0x52, 0x33, 0x4b, 0x49, 0x4d, 0x47, 0x31, 0x0a, 0x10, 0, 0, 0, 1, 0, 0, 0, 0, 0, 0, 0, 0, 0, 1,
-    1, 1, 0, 0x20, 0x06, 0, 0, 0, 0,
-];
-
-/// Word 5 at 0x100, and at the start of ROM lui r1, 0xa000; lw r2, 256(r1); addu r3, r2, r0; addu r4, r2, r0.
-pub const LOAD_SLOT: [u8; 68] = [
-    0x52, 0x33, 0x4b, 0x49, 0x4d, 0x47, 0x31, 0x0a, 0x10, 0, 0, 0, 1, 0, 0, 0, 0, 0, 0, 0, 0, 0, 1,
-    1, 1, 0, 0x20, 0x06, 2, 0, 0, 0, 0, 1, 0, 0, 1, 0, 0, 0, 5, 0, 0, 0, 0, 0, 0xc0, 0x1f, 4, 0, 0,
-    0, 0, 0xa0, 0x01, 0x3c, 0, 0x01, 0x22, 0x8c, 0x21, 0x18, 0x40, 0, 0x21, 0x20, 0x40, 0,
-];
 
 #[test]
 fn empty_image(rt: HostRuntime) -> Result<(), Fail> {

@@ -8,6 +8,3 @@ mod status;
 
 pub use cop0::Cop0;
 pub use exception::{Coprocessor, Exc, ExcCode};
-
-#[cfg(test)]
-mod tests;

@@ -7,6 +7,3 @@ pub mod slot;
 
 pub use caches::Caches;
 pub use slot::Slot;
-
-#[cfg(test)]
-mod tests;

@@ -15,6 +15,3 @@ mod write;
 pub use dz::Dz;
 pub use quiet::quiet_laws;
 pub use write::Sent;
-
-#[cfg(test)]
-mod tests;

@@ -20,6 +20,3 @@ pub use limits::{MAX_EVENTS, MAX_TIME};
 pub use log::Log;
 pub use reading::read_log;
 pub use writing::write_log;
-
-#[cfg(test)]
-mod tests;

@@ -15,6 +15,3 @@ mod store;
 
 pub use bus::{Bus, Lines};
 pub use region::{ClockRegister, Device, Region};
-
-#[cfg(test)]
-mod tests;

@@ -12,6 +12,3 @@ mod time;
 
 pub use clock::Clock;
 pub use quiet::quiet_laws;
-
-#[cfg(test)]
-mod tests;

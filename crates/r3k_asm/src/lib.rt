@@ -10,6 +10,3 @@ mod source;
 
 pub use fault::AsmFault;
 pub use passes::assemble;
-
-#[cfg(test)]
-mod tests;

@@ -7,6 +7,3 @@ mod operand;
 mod target;
 
 pub use instruction::text;
-
-#[cfg(test)]
-mod tests;

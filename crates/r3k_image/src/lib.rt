@@ -21,6 +21,3 @@ pub use reading::read_image;
 pub use rom::raw_rom;
 pub use word_map::{WordAddress, WordMap};
 pub use writing::{image_laws, write_image};
-
-#[cfg(test)]
-mod tests;

@@ -1,10 +1,12 @@
 -- A run and its trace split at any point.
-use Rattle.std.proofs.Common.{◌≡◌, ℕ, zero, suc, ◌+◌, List, [], ◌∷◌, ◌++◌, length, Option, Some, None, refl, sym, ap, ◌∙◌, append_assoc, add-zero, add-one, arith, length-append}
+use Rattle.std.proofs.Common.{◌≡◌, ℕ, zero, suc, ◌+◌, ◌≤◌, ◌<◌, List, [], ◌∷◌, ◌++◌, length, Option, Some, None, refl, sym, ap, ◌∙◌, append_assoc, add-zero, add-one, arith, length-append}
 use Rattle.std.proofs.Math.Path.{ap₂}
 use Rattle.std.proofs.lemmas.List.{append-nil}
 use Rattle.std.specs.List.{cons_option}
 use Rattle.std.proofs.lemmas.List.Elements.{filter_map-append}
 use Rattle.input_log.specs.Event.{TimedByte}
+use Rattle.input_log.specs.Log.{window_of}
+use Rattle.input_log.proofs.Window.{narrowed}
 use Rattle.r3k_machine.specs.declared.step.Done.{Done}
 use Rattle.r3k_machine.specs.State.{State}
 use Rattle.r3k_machine.specs.Step.{next, told}
@@ -75,3 +77,34 @@ writer_split address [] rest = none_first (last_writer address rest)
 writer_split address (done ∷ steps) rest =
     ap (λ (o : Option ℕ). later 1 o (stores_into address done.stored)) (writer_split address steps rest)
     ∙ joined (length steps) (last_writer address rest) (last_writer address steps) (stores_into address done.stored)
+
+-- the events of a step within a window are those of the log
+pub arriving_own : (from to time : ℕ) (log : List TimedByte) → from ≤ time → time < to → arriving (window_of from to log) time ≡ arriving log time
+arriving_own from to time log first last = narrowed from to time (time + 1) log first (omega (arith, last))
+
+-- a run and its trace depend on the events of their own times alone
+run_within : (pages to : ℕ) (log : List TimedByte) (time : ℕ) (s : State) (n : ℕ) → time + n ≤ to
+    → run pages (window_of time to log) time s n ≡ run pages log time s n
+unfolding run
+run_within pages to log time s zero within = refl
+run_within pages to log time s (suc n) within =
+    ap₂ (λ (events : List TimedByte) (u : State). next pages events u)
+    (arriving_own time to (time + n) log (omega arith) (omega (arith, within)))
+    (run_within pages to log time s n (omega (arith, within)))
+
+trace_within : (pages to : ℕ) (log : List TimedByte) (time : ℕ) (s : State) (n : ℕ) → time + n ≤ to
+    → trace pages (window_of time to log) time s n ≡ trace pages log time s n
+unfolding trace
+trace_within pages to log time s zero within = refl
+trace_within pages to log time s (suc n) within =
+    ap₂ (λ (steps : List Done) (done : Done). steps ++ done ∷ [])
+    (trace_within pages to log time s n (omega (arith, within)))
+    (ap₂ (λ (events : List TimedByte) (u : State). told pages events u)
+    (arriving_own time to (time + n) log (omega arith) (omega (arith, within)))
+    (run_within pages to log time s n (omega (arith, within))))
+
+pub run_own : (pages : ℕ) (log : List TimedByte) (time : ℕ) (s : State) (n : ℕ) → run pages (window_of time (time + n) log) time s n ≡ run pages log time s n
+run_own pages log time s n = run_within pages (time + n) log time s n (omega arith)
+
+pub trace_own : (pages : ℕ) (log : List TimedByte) (time : ℕ) (s : State) (n : ℕ) → trace pages (window_of time (time + n) log) time s n ≡ trace pages log time s n
+trace_own pages log time s n = trace_within pages (time + n) log time s n (omega arith)

@@ -32,3 +32,4 @@ pub mod Step
 pub mod Told
 pub mod Run
 pub mod Same
+pub mod SameProcessor

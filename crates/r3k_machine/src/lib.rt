@@ -5,8 +5,8 @@ mod address;
 mod devices;
 mod exception;
 mod execute;
-mod flat;
 mod isolated;
+mod kept;
 mod laws;
 mod load_store;
 mod memory;
@@ -15,7 +15,7 @@ pub mod step;
 mod translation;
 
 pub use address::Where;
-pub use flat::FlatMemory;
+pub use kept::KeptCore;
 pub use laws::run_laws;
 pub use memory::Mem;
 pub use state::{Core, DelayedLoad};

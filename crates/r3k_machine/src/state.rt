@@ -4,6 +4,7 @@ ghost use Rattle.std.specs.Prelude.{◌≡◌, ◌<◌, IfOk, slice_index_or};
 ghost use Rattle.tlb64.specs.Entries.{empty_entry};
 ghost use Rattle.r3k_machine.specs.Core.{HoldsZero};
 ghost use Rattle.r3k_machine.specs.Reset.{reset_core};
+ghost use Rattle.r3k_machine.specs.SameProcessor.{is_same_processor};
 
 use cop0::Cop0;
 use dcache::Caches;
@@ -107,6 +108,20 @@ impl Model for Core {
     } };
 
     ghost invariant = { λ c. HoldsZero c.processor.registers };
+}
+
+// Whether the small parts of two processors are equal.
+pub(crate) fn is_same_processor(a: &Processor, b: &Processor) -> bool
+    ensures { result ≡ is_same_processor a.now b.now }
+{
+    a.registers == b.registers
+        && a.hi == b.hi
+        && a.lo == b.lo
+        && a.pc == b.pc
+        && a.next_pc == b.next_pc
+        && a.delay == b.delay
+        && a.load == b.load
+        && a.cop0 == b.cop0
 }
 
 /// The PC at reset, in kseg1.
@@ -246,15 +261,7 @@ impl PartialEq for Core {
         ensures value { result ≡ is_same self.now other.now }
         ensures equal { IsTrue result ↔ (self.now ≡ other.now) }
     {
-        let (a, b) = (&self.processor, &other.processor);
-        a.registers == b.registers
-            && a.hi == b.hi
-            && a.lo == b.lo
-            && a.pc == b.pc
-            && a.next_pc == b.next_pc
-            && a.delay == b.delay
-            && a.load == b.load
-            && a.cop0 == b.cop0
+        is_same_processor(&self.processor, &other.processor)
             && self.tlb == other.tlb
             && self.bus == other.bus
             && self.caches == other.caches

@@ -14,7 +14,8 @@ use dz_serial::Sent;
 use input_log::{Cursor, Log};
 use r3k_image::Image;
 use r3k_machine::step::step;
-use r3k_machine::{Core, Done, FlatMemory};
+use r3k_live::FlatMemory;
+use r3k_machine::{Core, Done};
 use std::alloc::{AllocError, Global};
 
 /// The machine at a time of a run.

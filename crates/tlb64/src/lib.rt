@@ -8,6 +8,3 @@ pub mod tlb;
 
 pub use entry::{Entry, Found};
 pub use tlb::Tlb;
-
-#[cfg(test)]
-mod tests;

@@ -17,6 +17,3 @@ pub use command::{Command, parse_line};
 pub use memory::Words;
 pub use reply::{ControlRegisters, Load, Registers, Reply, Where, Writer, reply_text};
 pub use text::decimal_digits;
-
-#[cfg(test)]
-mod tests;

@@ -7,7 +7,7 @@ use Rattle.wb_text.specs.declared.command.Command.{Command}
 use Rattle.refusal.specs.declared.fault.Fault.{Fault}
 use Rattle.wb_text.specs.declared.reply.Reply.{Reply}
 use Rattle.wb_text.specs.declared.reply.Reply.TheVariants.{Fault as Refused}
-use Rattle.workbench.specs.Session.{Triple, Answers}
+use Rattle.wb_session.specs.Session.{Triple, Answers}
 use Rattle.workbench.specs.Script.{FromCommand, FromLine, is_quit, says_quit}
 use Rattle.workbench.specs.Taking.{LeadsTo}
 

@@ -2,7 +2,6 @@ mod Feeds
 pub mod Answers
 pub mod Fronts
 pub mod Outcomes
-pub mod Places
 pub mod Scripts
 pub mod Takes
 pub mod Telling

@@ -8,7 +8,7 @@ use Rattle.wb_options.specs.declared.fault.RunFault.{RunFault}
 use Rattle.wb_options.specs.declared.fault.RunFault.TheVariants.{Memory, BadImage, BadLog, BadSource, ReadFault, WriteFault, Usage, Help}
 use Rattle.workbench.specs.Runs.{Runs, ScriptRuns}
 use Rattle.workbench.specs.Serve.{AsksFor, Front, IsFrontFault, IsJudgement, Makes, ReadsAll, Refuses, Serves, ServesScript, image_in, log_in, size_of}
-use Rattle.workbench.specs.Session.{IsNewFault, Triple}
+use Rattle.wb_session.specs.Session.{IsNewFault, Triple}
 
 -- a session that there is not
 pub no_session : (T : Type 0) (pages most : ℕ) (image : Boot) (log : List TimedByte) (fault : RunFault) → IsNewFault pages image fault → Runs {T = T} pages most image log (Err fault) [] []

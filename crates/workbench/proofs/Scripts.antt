@@ -9,7 +9,7 @@ use Rattle.refusal.specs.declared.fault.Fault.{Fault}
 use Rattle.refusal.specs.declared.fault.Fault.TheVariants.{Syntax}
 use Rattle.wb_text.specs.declared.reply.Reply.TheVariants.{Fault as Refused}
 use Rattle.workbench.specs.LineBuffer.{HasNoFeed}
-use Rattle.workbench.specs.Session.{Triple, plain}
+use Rattle.wb_session.specs.Session.{Triple, plain}
 use Rattle.workbench.specs.Script.{onto_first, lines_of, has_feed, complete_part, complete_lines, is_quit, says_quit, Rest, FromCommand, FromLine, IsText, Quits}
 use Rattle.wb_io.specs.Calls.{Call, TakesAll}
 use Rattle.wb_io.proofs.CallLemmas.{TakesFront-after, TakesFront-more}

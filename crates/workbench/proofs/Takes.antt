@@ -9,7 +9,7 @@ use Rattle.wb_options.specs.declared.fault.RunFault.{RunFault}
 use Rattle.wb_options.specs.declared.fault.RunFault.TheVariants.{WriteFault}
 use Rattle.workbench.specs.Runs.{IsPiece, NoQuit, ScriptRuns, WritesText}
 use Rattle.workbench.specs.Script.{IsText, Quits, QuitsAnyway, complete_lines, lines_of}
-use Rattle.workbench.specs.Session.{Triple}
+use Rattle.wb_session.specs.Session.{Triple}
 use Rattle.workbench.specs.Taking.{Answered, Ends, GoesOn, Stops, Took, Unanswered}
 use Rattle.workbench.proofs.Scripts.{goes_on_after_line, ends_at_quit, goes_on_with_byte, goes_on_without_byte, goes_on_twice, ends_later, ends_anyway, stops_anyway, stops_at_line, stops_later, text_of_last_line, text_of_last_quit}
 use Rattle.workbench.proofs.Feeds.{no_feed_push}

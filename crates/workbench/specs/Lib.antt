@@ -1,15 +1,13 @@
 pub use Rattle.r3k_image.specs.Boot
 pub use Rattle.input_log.specs.Event
-pub use Rattle.timeline.specs.History
-pub use Rattle.timeline.specs.Query
+pub use Rattle.timeline.specs.Sizes
 pub use Rattle.wb_text.specs.Command
 pub use Rattle.wb_text.specs.Reply
 pub use Rattle.wb_io.specs.Calls
 pub use Rattle.wb_options.specs.Fault
 pub use Rattle.wb_options.specs.Options
+pub use Rattle.wb_session.specs.Session
 pub mod LineBuffer
-pub mod Memory
-pub mod Session
 pub mod Script
 pub mod Taking
 pub mod Runs

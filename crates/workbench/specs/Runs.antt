@@ -7,7 +7,7 @@ use Rattle.r3k_image.specs.declared.fault.ImageKind.TheVariants.{Pages}
 use Rattle.wb_options.specs.declared.fault.RunFault.{RunFault}
 use Rattle.wb_options.specs.declared.fault.RunFault.TheVariants.{Memory, BadImage, ReadFault, WriteFault}
 use Rattle.workbench.specs.Script.{IsText, Quits, QuitsAnyway, complete_lines, lines_of}
-use Rattle.workbench.specs.Session.{Triple}
+use Rattle.wb_session.specs.Session.{Triple}
 
 -- a read of a script: it was asked for a piece of 4096 bytes and gave some
 abbrev pub IsPiece : Call → Type 0

@@ -7,7 +7,7 @@ use Rattle.wb_text.specs.declared.command.Command.TheVariants.{Quit}
 use Rattle.refusal.specs.declared.fault.Fault.{Fault}
 use Rattle.wb_text.specs.declared.reply.Reply.{Reply}
 use Rattle.wb_text.specs.declared.reply.Reply.TheVariants.{Fault as Refused}
-use Rattle.workbench.specs.Session.{Triple, Answers}
+use Rattle.wb_session.specs.Session.{Triple, Answers}
 
 -- a byte at the front of the first line
 abbrev pub onto_first : ℕ → List (List ℕ) → List (List ℕ)

@@ -5,7 +5,7 @@ use Rattle.wb_text.specs.Command.{command_of}
 use Rattle.wb_text.specs.Reply.{text_of}
 use Rattle.workbench.specs.LineBuffer.{HasNoFeed}
 use Rattle.workbench.specs.Script.{FromLine, IsText, Quits, QuitsAnyway, complete_lines, lines_of, says_quit}
-use Rattle.workbench.specs.Session.{Triple}
+use Rattle.wb_session.specs.Session.{Triple}
 use Rattle.workbench.specs.declared.script.Answer.{Answer}
 use Rattle.workbench.specs.declared.script.Answer.TheVariants.{Quit, Nothing, Reply}
 

@@ -9,12 +9,12 @@ ghost use Rattle.timeline.specs.Sizes.{AreSizes};
 ghost use Rattle.workbench.specs.Taking.{Answered, IsAnswer, Stops, Took, Unanswered};
 
 use crate::line_buffer::LineBuffer;
-use crate::session::Session;
 use input_log::Log;
 use r3k_image::Image;
 use std::alloc::Global;
 use wb_io::{PIECE_BYTES, Sink, Source, write_whole};
 use wb_options::RunFault;
+use wb_session::Session;
 use wb_text::{Command, Reply, parse_line, reply_text};
 
 /// The most reads of a run.

@@ -1,0 +1,210 @@
+//! The bus on its own: its regions, and its devices by their registers.
+use dz_serial::Sent;
+use kn02_bus::{Bus, Device, Lines, Region};
+use std::test::Fail;
+
+const START: [u8; 12] = [0x59, 0, 0x59, 0, 0x23, 0, 7, 0x28, 2, 4, 0x20, 2];
+
+const PAGES: u32 = 2048;
+
+const SERIAL_CSR: Device = Device::Serial(0);
+
+// RBUF is read and LPR written.
+const RBUF_LPR: Device = Device::Serial(8);
+
+const TCR: Device = Device::Serial(16);
+
+const TDR: Device = Device::Serial(24);
+
+// A register of the clock, by its address.
+fn register(number: u32) -> Device {
+    match Region::of(0x1FE8_0000u32.wrapping_add(number.wrapping_mul(4)), PAGES) {
+        Region::Device(device) => device,
+        _ => Device::Csr,
+    }
+}
+
+// The number of a clock register that an address is of, if it is of one.
+fn clock_register(pa: u32) -> Option<u8> {
+    let Region::Device(device) = Region::of(pa, PAGES) else {
+        return None;
+    };
+    match device {
+        Device::Clock(register) => Some(register.number()),
+        _ => None,
+    }
+}
+
+fn tick(bus: &mut Bus, ticks: u32) {
+    for _ in 0..ticks {
+        bus.tick();
+    }
+}
+
+// The first and the last address of each part, and those beside them.
+#[test]
+fn regions(rt: HostRuntime) {
+    for (pa, pages) in [(0, 16), (0x0000_FFFF, 16), (0x01FF_FFFF, 8192)] {
+        assert_eq!(rt; Region::of(pa, pages), Region::Ram, "{pa:x}");
+    }
+    for (pa, pages) in [(0x0001_0000, 16), (0x0200_0000, 8192)] {
+        assert_eq!(rt; Region::of(pa, pages), Region::Unassigned, "{pa:x}");
+    }
+    for pa in [0x1FC0_0000, 0x1FC3_FFFF] {
+        assert_eq!(rt; Region::of(pa, PAGES), Region::Rom, "{pa:x}");
+    }
+    for (pa, offset) in [(0x1FE0_0000, 0), (0x1FE0_000B, 8), (0x1FE0_001F, 28)] {
+        assert_eq!(rt;
+            Region::of(pa, PAGES),
+            Region::Device(Device::Serial(offset))
+        );
+    }
+    for (pa, number) in [(0x1FE8_0000, 0), (0x1FE8_002A, 10), (0x1FE8_00FF, 63)] {
+        assert_eq!(rt; clock_register(pa), Some(number), "{pa:x}");
+    }
+    for pa in [0x1FF0_0000, 0x1FF0_0003] {
+        assert_eq!(rt;
+            Region::of(pa, PAGES),
+            Region::Device(Device::Csr),
+            "{pa:x}"
+        );
+    }
+    for pa in [
+        0x1FBF_FFFF,
+        0x1FC4_0000,
+        0x1FDF_FFFF,
+        0x1FE0_0020,
+        0x1FE7_FFFF,
+        0x1FE8_0100,
+        0x1FEF_FFFF,
+        0x1FF0_0004,
+        0xFFFF_FFFF,
+    ] {
+        assert_eq!(rt; Region::of(pa, PAGES), Region::Unassigned, "{pa:x}");
+    }
+}
+
+// Two buses with the same history are equal, and so is a third that takes it over.
+#[test]
+fn full_silo(rt: HostRuntime) {
+    let mut bus = Bus::new(16, START, 1);
+    bus.store(RBUF_LPR, 0x1000, 15);
+    bus.store(SERIAL_CSR, 0x20, 15);
+    for byte in 0..65 {
+        bus.receive(0, byte);
+    }
+    let mut other = Bus::new(1, [0; 12], 2);
+    assert!(rt; bus != other);
+    other.assign(&bus);
+    assert!(rt; bus == other);
+    assert_eq!(rt; bus.load(SERIAL_CSR), 0x00A0);
+    assert_eq!(rt; bus.load(RBUF_LPR), 0x8000);
+    assert!(rt; bus != other);
+    bus.receive(0, 0x41);
+    let mut last = 0;
+    for _ in 0..63 {
+        last = bus.load(RBUF_LPR);
+    }
+    assert_eq!(rt; last, 0x803F);
+    assert_eq!(rt; bus.load(RBUF_LPR), 0xC041);
+    assert_eq!(rt; bus.load(RBUF_LPR), 0);
+}
+
+// An update of the time at the end of a second, with its interrupt.
+#[test]
+fn clock(rt: HostRuntime) {
+    let mut bus = Bus::new(16, START, 1);
+    tick(&mut bus, 8189);
+    assert_eq!(rt; bus.load(register(10)), 0x20);
+    bus.tick();
+    assert_eq!(rt; bus.load(register(10)), 0xA0);
+    // UIE, by byte 0 alone
+    bus.store(register(11), 0x12, 14);
+    assert_eq!(rt; bus.load(register(11)), 2);
+    bus.store(register(11), 0xFFFF_FF12, 1);
+    assert_eq!(rt; bus.load(register(11)), 0x12);
+    bus.tick();
+    assert_eq!(rt;
+        bus.lines(),
+        Lines {
+            board: false,
+            clock: false
+        }
+    );
+    bus.tick();
+    assert_eq!(rt;
+        bus.lines(),
+        Lines {
+            board: false,
+            clock: true
+        }
+    );
+    let want = [0, 0, 0, 0, 0, 0, 1, 0x29, 2, 4];
+    for r in 0..10u32 {
+        assert_eq!(rt; bus.load(register(r)), want[r as usize], "register {r}");
+    }
+    assert_eq!(rt; bus.load(register(12)), 0xB0);
+    assert_eq!(rt; bus.load(register(12)), 0);
+    assert_eq!(rt;
+        bus.lines(),
+        Lines {
+            board: false,
+            clock: false
+        }
+    );
+}
+
+// Byte 2 of CSR has the enables, bit 7 is the serial part's line, and both together interrupt.
+#[test]
+fn csr(rt: HostRuntime) {
+    let mut bus = Bus::new(3, START, 1);
+    bus.store(Device::Csr, 0xFFFF_FFFF, 11);
+    assert_eq!(rt; bus.load(Device::Csr), 0);
+    bus.store(Device::Csr, 0xFFFF_FFFF, 15);
+    assert_eq!(rt; bus.load(Device::Csr), 0x00FF_0000);
+    assert!(rt; !bus.lines().board);
+    // TIE and MSE, and line 1
+    bus.store(TCR, 2, 1);
+    bus.store(SERIAL_CSR, 0x4020, 3);
+    assert_eq!(rt; bus.load(Device::Csr), 0x00FF_0000);
+    bus.tick();
+    assert_eq!(rt; bus.load(Device::Csr), 0x00FF_0080);
+    assert!(rt; bus.lines().board);
+    bus.store(Device::Csr, 0x007F_0000, 4);
+    assert_eq!(rt; bus.load(Device::Csr), 0x007F_0080);
+    assert!(rt; !bus.lines().board);
+    bus.store(Device::Csr, 0x0080_0000, 4);
+    assert!(rt; bus.lines().board);
+    // the byte goes out, and the line is busy for three ticks
+    assert_eq!(rt; bus.store(TDR, 0x1241, 14), None);
+    assert_eq!(rt;
+        bus.store(TDR, 0x1241, 1),
+        Some(Sent {
+            line: 1,
+            byte: 0x41
+        })
+    );
+    assert_eq!(rt; bus.load(Device::Csr), 0x0080_0000);
+    tick(&mut bus, 2);
+    assert!(rt; !bus.lines().board);
+    bus.tick();
+    assert_eq!(rt; bus.load(SERIAL_CSR), 0xC120);
+    assert!(rt; bus.lines().board);
+}
+
+// Buses at the same tick are equal and print the same, whether the clock was read before or not.
+#[test]
+fn looks(rt: HostRuntime) -> Result<(), Fail> {
+    let mut bus = Bus::new(16, START, 1);
+    let mut other = Bus::new(16, START, 1);
+    tick(&mut bus, 9);
+    bus.load(register(0));
+    tick(&mut bus, 9);
+    tick(&mut other, 17);
+    assert!(rt; bus != other);
+    other.tick();
+    assert!(rt; bus == other);
+    let printed = format!(in rt.alloc(); "{bus:?}")?;
+    assert_eq!(rt; printed, format!(in rt.alloc(); "{other:?}")?);
+    Ok(())
+}

@@ -1,0 +1,94 @@
+//! The translation entries on their own.
+use tlb64::{Entry, Found, Tlb};
+
+// EntryHi of page 3 is 0x3000, and of process 1 of it 0x3040. EntryLo has G in bit 8.
+#[test]
+fn translation_lookup(rt: HostRuntime) {
+    let mut tlb = Tlb::new();
+    let own = Entry {
+        hi: 0x3040,
+        lo: 0x7200,
+    };
+    tlb.write(5, own);
+    assert_eq!(rt; tlb.lookup(0x3000, 0), None);
+    let found = Found {
+        index: 5,
+        entry: own,
+        several: false,
+    };
+    assert_eq!(rt; tlb.lookup(0x3000, 1), Some(found));
+
+    let global = Entry {
+        hi: 0x3040,
+        lo: 0x7300,
+    };
+    tlb.write(5, global);
+    let found = Found {
+        index: 5,
+        entry: global,
+        several: false,
+    };
+    assert_eq!(rt; tlb.lookup(0x3000, 0), Some(found));
+
+    let other = Entry {
+        hi: 0x3000,
+        lo: 0x8200,
+    };
+    tlb.write(9, other);
+    let several = Found {
+        several: true,
+        ..found
+    };
+    assert_eq!(rt; tlb.lookup(0x3FFF, 0), Some(several));
+    assert_eq!(rt; tlb.probe(0x3000), Some(several));
+    // What several entries match is never kept; what one matches is, of its process and for its use alone.
+    for is_fetch in [false, true, false, true] {
+        assert_eq!(rt; tlb.translate(is_fetch, 0x3004, 0x0000), Some(several));
+        assert_eq!(rt; tlb.kept(is_fetch, 0x3004, 0x0000), None);
+        assert_eq!(rt; tlb.translate(is_fetch, 0x3008, 0x0040), Some(found));
+        assert_eq!(rt; tlb.kept(is_fetch, 0x3FFC, 0x0040), Some(0x7300));
+        assert_eq!(rt; tlb.kept(is_fetch, 0x3FFC, 0x0080), None);
+        assert_eq!(rt; tlb.translate(is_fetch, 0xB000, 0x0000), None);
+    }
+    // Process 1 has the global entry alone, and the next page has none.
+    assert_eq!(rt; tlb.probe(0x3040), Some(found));
+    assert_eq!(rt; tlb.lookup(0x4000, 0), None);
+    assert_eq!(rt; tlb.read(5), global);
+    assert_eq!(rt; tlb.read(9), other);
+    tlb.write(5, other);
+    assert_eq!(rt; tlb.kept(true, 0x3004, 0x0040), None);
+    assert_eq!(rt; tlb.translate(true, 0x3004, 0x0040), None);
+}
+
+// At reset all entries are of page 0 and process 0, and none is global.
+#[test]
+fn reset(rt: HostRuntime) {
+    let tlb = Tlb::new();
+    let entry = Entry { hi: 0, lo: 0 };
+    let found = Found {
+        index: 0,
+        entry,
+        several: true,
+    };
+    assert_eq!(rt; tlb.lookup(0xFFF, 0), Some(found));
+    assert_eq!(rt; tlb.lookup(0xFFF, 1), None);
+    assert_eq!(rt; tlb.lookup(0xFFF, 64), None);
+    assert_eq!(rt; tlb.lookup(0x1000, 0), None);
+    assert_eq!(rt; tlb.read(63), entry);
+}
+
+#[test]
+fn assign(rt: HostRuntime) {
+    let mut tlb = Tlb::new();
+    let mut other = Tlb::new();
+    assert!(rt; tlb == other);
+    let entry = Entry {
+        hi: 0x3040,
+        lo: 0x7200,
+    };
+    other.write(63, entry);
+    assert!(rt; tlb != other);
+    tlb.assign(&other);
+    assert!(rt; tlb == other);
+    assert_eq!(rt; tlb.read(63), entry);
+}

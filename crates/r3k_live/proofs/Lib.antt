@@ -1,0 +1,4 @@
+pub mod Recorded
+pub mod Going
+pub mod Marks
+pub mod Writers

@@ -1,0 +1,122 @@
+-- What is recorded of a run, after one more step.
+use Rattle.std.proofs.Common.{◌≡◌, ℕ, zero, suc, ◌+◌, ◌*◌, ◌/◌, ◌%◌, ◌<◌, Bool, true, false, ◌||◌, List, [], ◌∷◌, ◌++◌, length, Option, Some, None, IfSome, IsFalse, nat_eq, slice_index, slice_index_or, slice_set, refl, sym, ap, ◌∙◌, arith, inl, inr, get_or}
+use Rattle.std.proofs.Math.Path.{ap₂}
+use Rattle.std.specs.List.{list_any}
+use Rattle.std.proofs.lemmas.Bool.{cases_Bool, eq-eqb, eqb-true, true≢false}
+use Rattle.std.proofs.lemmas.List.{get_or-set_same, get_or-set_other}
+use Rattle.dz_serial.specs.declared.write.Sent.{Sent}
+use Rattle.r3k_word.specs.Layout.{page_of_place}
+use Rattle.r3k_word.specs.declared.layout.TheConstants.{PAGE_BYTES, PAGE_WORDS}
+use Rattle.r3k_machine.specs.declared.step.Done.{Done}
+use Rattle.r3k_machine.specs.Run.{last_writer, later, stores_into}
+use Rattle.r3k_machine.specs.Told.{DifferAt, IsPage, IsRamWord}
+use Rattle.r3k_machine.proofs.Splits.{writer_split}
+use Rattle.r3k_live.specs.Record.{is_dirty, is_page, is_touched, sent_from, stores_in, with_sent}
+use Rattle.r3k_live.specs.Recording.{kept_step, page_of_store, with_mark, with_writer}
+use Rattle.r3k_live.specs.declared.recorder.SentAt.{SentAt}
+
+-- a test of one more element
+or-false : (a : Bool) → (a || false) ≡ a
+or-false true = refl
+or-false false = refl
+
+pub or-assoc : (a b c : Bool) → (a || (b || c)) ≡ ((a || b) || c)
+or-assoc true b c = refl
+or-assoc false b c = refl
+
+pub any_more : {A : Type 0} (p : A → Bool) (xs : List A) (x : A) → list_any p (xs ++ x ∷ []) ≡ (list_any p xs || p x)
+any_more p [] x = or-false (p x)
+any_more p (y ∷ xs) x = ap (λ (b : Bool). p y || b) (any_more p xs x) ∙ or-assoc (p y) (list_any p xs) (p x)
+
+-- the bytes that were sent
+in_front : (first : ℕ) (sent : Option Sent) (xs ys : List SentAt) → with_sent first sent (xs ++ ys) ≡ with_sent first sent xs ++ ys
+in_front first None xs ys = refl
+in_front first (Some sent) xs ys = refl
+
+pub sent_more : (first : ℕ) (steps : List Done) (done : Done)
+    → sent_from first (steps ++ done ∷ []) ≡ sent_from first steps ++ with_sent (first + length steps) done.sent []
+sent_more first [] done = ap (λ (n : ℕ). with_sent n done.sent []) (let e : first ≡ first + 0 = omega arith in e)
+sent_more first (other ∷ steps) done =
+    ap (with_sent first other.sent) (sent_more (suc first) steps done)
+    ∙ (in_front first other.sent (sent_from (suc first) steps) (with_sent (suc first + length steps) done.sent [])
+    ∙ ap (λ (n : ℕ). with_sent first other.sent (sent_from (suc first) steps) ++ with_sent n done.sent [])
+    (let e : suc first + length steps ≡ first + suc (length steps) = omega arith in e))
+
+-- the marks
+pub mark_more : (marks : List Bool) (marked : Option ℕ) (page : ℕ) → page < length marks
+    → slice_index_or (with_mark marks marked) page false ≡ (slice_index_or marks page false || is_page page marked)
+mark_more marks None page within = sym (or-false (slice_index_or marks page false))
+mark_more marks (Some other) page within =
+    elim (cases_Bool (nat_eq other page)) [
+      | inl here ↦
+          let same : other ≡ page = eqb-true other page here in
+          ap (λ (n : ℕ). slice_index_or (slice_set marks n true) page false) same
+          ∙ (get_or-set_same marks page true false within
+          ∙ sym (ap (λ (b : Bool). slice_index_or marks page false || b) here ∙ or-true (slice_index_or marks page false)))
+      | inr apart ↦
+          get_or-set_other marks other page true false (λ same. true≢false (sym (eq-eqb other page (sym same)) ∙ apart))
+          ∙ sym (ap (λ (b : Bool). slice_index_or marks page false || b) apart ∙ or-false (slice_index_or marks page false))
+    ]
+  where
+    or-true : (a : Bool) → (a || true) ≡ true
+    or-true true = refl
+    or-true false = refl
+
+pub mark_kept : (marks : List Bool) (marked : Option ℕ) → length (with_mark marks marked) ≡ length marks
+mark_kept marks None = refl
+mark_kept marks (Some page) = length-set marks page true
+  where
+    length-set : (xs : List Bool) (i : ℕ) (x : Bool) → length (slice_set xs i x) ≡ length xs
+    length-set [] zero x = refl
+    length-set [] (suc i) x = refl
+    length-set (y ∷ xs) zero x = refl
+    length-set (y ∷ xs) (suc i) x = ap suc (length-set xs i x)
+
+-- the last writers
+pub last_more : (pages place : ℕ) (last : List ℕ) (steps : List Done) (done : Done) → length last ≡ pages * PAGE_WORDS → place < pages * PAGE_WORDS
+    → IfSome done.stored (IsRamWord pages) → slice_index last place ≡ kept_step (last_writer (4 * place) steps)
+    → slice_index (with_writer last (length steps) done.stored) place ≡ kept_step (last_writer (4 * place) (steps ++ done ∷ []))
+last_more pages place last steps done long within ram so_far =
+    at_store done.stored ram
+    ∙ sym (ap kept_step (writer_split (4 * place) steps (done ∷ [])))
+  where
+    at_store : (stored : Option ℕ) → IfSome stored (IsRamWord pages)
+        → slice_index (with_writer last (length steps) stored) place ≡ kept_step (later (length steps) (later 1 None (stores_into (4 * place) stored)) (last_writer (4 * place) steps))
+    at_store None ram = so_far
+    at_store (Some address) ram =
+        elim (cases_Bool (nat_eq address (4 * place))) [
+          | inl here ↦
+              let same : address ≡ 4 * place = eqb-true address (4 * place) here in
+              ap (λ (n : ℕ). slice_index (slice_set last n (length steps + 1)) place) (let e : address / 4 ≡ place = omega (arith, same) in e)
+              ∙ (get_or-set_same last place (length steps + 1) 0 (rw long within)
+              ∙ rw here (ap (λ (n : ℕ). n + 1) (let e : length steps ≡ length steps + 0 = omega arith in e)))
+          | inr apart ↦
+              get_or-set_other last (address / 4) place (length steps + 1) 0
+              (λ same. true≢false (sym (eq-eqb address (4 * place) (omega (arith, same, ram.0))) ∙ apart))
+              ∙ (so_far ∙ rw apart refl)
+        ]
+
+-- a page of a word is dirty where it was, or where the word is one of it
+pub page_stored : (page : ℕ) (stored : Option ℕ) → is_page page (page_of_store stored) ≡ stores_in page stored
+page_stored page None = refl
+page_stored page (Some address) = refl
+
+-- a word of a page that was not stored into
+neither : (a b : Bool) → IsFalse (a || b) → (a ≡ false) × (b ≡ false)
+neither true b h = absurd (true≢false h)
+neither false b h = (refl, h)
+
+pub stayed : (steps : List Done) (done : Done) (first old new : List ℕ) → DifferAt done.stored old new
+    → ((place : ℕ) → IsFalse (is_dirty steps (page_of_place place)) → slice_index first place ≡ slice_index old place)
+    → (place : ℕ) → IsFalse (is_dirty (steps ++ done ∷ []) (page_of_place place)) → slice_index first place ≡ slice_index new place
+stayed steps done first old new differ so_far place clean =
+    let parts = neither (is_dirty steps (page_of_place place)) (stores_in (page_of_place place) done.stored)
+    (sym (any_more (λ done. stores_in (page_of_place place) done.stored) steps done) ∙ clean) in
+    so_far place parts.0 ∙ by_store done.stored differ parts.1
+  where
+    by_store : (stored : Option ℕ) → DifferAt stored old new → IsFalse (stores_in (page_of_place place) stored) → slice_index old place ≡ slice_index new place
+    by_store None same clean = ap (λ (words : List ℕ). slice_index words place) (sym same)
+    by_store (Some address) change clean =
+        sym (ap (λ (words : List ℕ). slice_index words place) change.1
+        ∙ get_or-set_other old (address / 4) place change.0 0
+        (λ same. true≢false (sym (eq-eqb (address / 4096) (page_of_place place) (omega (arith, same))) ∙ clean)))

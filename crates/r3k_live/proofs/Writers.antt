@@ -1,0 +1,54 @@
+-- The words that were stored into, taken out in order.
+use Rattle.std.proofs.Common.{◌≡◌, ℕ, ◌+◌, ◌*◌, ◌<◌, ◌≤◌, false, List, All, Contains, map, length, slice_index, slice_index_or, Option, Some, None, IsSome, IfOk, Result, Ok, Err, IsPermutation, refl, sym, ap, subst, ◌∙◌, arith, get_or, zero, suc}
+use Rattle.std.proofs.Math.Path.{ap₂}
+use Rattle.std.specs.Ordering.{nat_cmp}
+use Rattle.std.specs.List.Sorted.{IsNonDecreasingBy, IsSorted, IsSortedByKey}
+use Rattle.std.proofs.lemmas.Bool.{true≢false}
+use Rattle.std.proofs.lemmas.List.{get_or-map, length-map}
+use Rattle.std.proofs.lemmas.List.Sorted.{All-permutation, Contains-permutation, IsNonDecreasingBy-from_sort}
+use Rattle.r3k_word.specs.declared.layout.TheConstants.{PAGE_WORDS}
+use Rattle.r3k_machine.specs.declared.step.Done.{Done}
+use Rattle.r3k_machine.specs.Run.{last_writer}
+use Rattle.r3k_live.specs.Record.{AreWriters}
+use Rattle.r3k_live.specs.Recording.{AreStored, kept_step}
+use Rattle.r3k_live.specs.declared.recorder.Written.{Written}
+
+kept_is : (o : Option ℕ) (step : ℕ) → kept_step o ≡ step + 1 → o ≡ Some step
+kept_is None step is = absurd (let e : ⊥ = omega (arith, is) in e)
+kept_is (Some other) step is = ap Some (let e : other ≡ step = omega (arith, is) in e)
+
+kept_some : (o : Option ℕ) → IsSome o → 0 < kept_step o
+kept_some None some = absurd (true≢false (sym some))
+kept_some (Some step) some = omega arith
+
+by_key : (writers : List Written) → IsSorted nat_cmp (map (λ w. w.place) writers) → IsNonDecreasingBy (λ w. w.place) writers
+by_key writers sorted =
+    IsNonDecreasingBy-from_sort (λ (w : Written). w.place) writers
+    (λ k d low within.
+    ap₂ (λ (x y : ℕ). Rattle.std.specs.Ordering.is_lt (nat_cmp x y))
+    (sym (get_or-map (λ (w : Written). w.place) writers (k + 1) d d.place within))
+    (sym (get_or-map (λ (w : Written). w.place) writers k d d.place (omega (arith, within))))
+    ∙ sorted k d.place low (subst (λ (n : ℕ). k + 1 < n) (sym (length-map writers (λ (w : Written). w.place))) within))
+
+pub writers_are : (pages : ℕ) (steps : List Done) (last stored places : List ℕ) (writers : List Written) → length last ≡ pages * PAGE_WORDS
+    → ((place : ℕ) → place < pages * PAGE_WORDS → slice_index last place ≡ kept_step (last_writer (4 * place) steps))
+    → AreStored last stored → IsPermutation stored places → IsSorted nat_cmp places
+    → map (λ w. w.place) writers ≡ places → All (λ w. slice_index last w.place ≡ w.step + 1) writers → AreWriters pages steps writers
+writers_are pages steps last stored places writers long is kept permuted sorted places_are steps_are = record {
+  each = λ k d within.
+      let place = (slice_index_or writers k d).place in
+      let at : slice_index_or places k d.place ≡ place = ap (λ (xs : List ℕ). slice_index_or xs k d.place) (sym places_are) ∙ get_or-map (λ (w : Written). w.place) writers k d d.place within in
+      let inside : k < length places = subst (λ (n : ℕ). k < n) (sym (length-map writers (λ (w : Written). w.place)) ∙ ap length places_are) within in
+      let bound = (All-permutation (λ place. (place < length last) × (0 < slice_index last place)) stored places permuted kept.within k d.place inside).0 in
+      kept_is (last_writer (4 * place) steps) (slice_index_or writers k d).step
+      (sym (is place (omega (arith, at, bound, long))) ∙ steps_are k d within);
+  all = λ place within some.
+      subst (λ (xs : List ℕ). Contains xs place) (sym places_are)
+      (Contains-permutation stored places place permuted (kept.all place (subst (λ (n : ℕ). 0 < n) (sym (is place within)) (kept_some (last_writer (4 * place) steps) some))));
+  ascending = by_key writers (subst (IsSorted nat_cmp) (sym places_are) sorted);
+}
+
+pub if_both : {A E : Type 0} {R : A → Type 0} (P Q : A → Type 0) (r : Result A E) → IfOk r P → IfOk r Q
+    → ((x : A) → P x → Q x → R x) → IfOk r R
+if_both P Q (Ok x) p q f = f x p q
+if_both P Q (Err e) p q f = tt

@@ -1,0 +1,60 @@
+-- What the steps of a run told, taken together (own): the bytes that they sent, the pages that they stored into, and those that
+-- they touched. The last step that stored into a word is told by the last writer.
+use Rattle.std.specs.Prelude.{◌≡◌, ℕ, suc, ◌*◌, ◌/◌, ◌<◌, Bool, false, ◌||◌, List, [], ◌∷◌, Option, Some, None, All, Contains, IsSome, filter, map, nat_eq, slice_index_or}
+use Rattle.std.specs.List.{list_any, range_with_len}
+use Rattle.std.specs.List.Sorted.{IsNonDecreasingBy}
+use Rattle.r3k_word.specs.declared.layout.TheConstants.{PAGE_BYTES, PAGE_WORDS}
+use Rattle.dz_serial.specs.declared.write.Sent.{Sent}
+use Rattle.r3k_machine.specs.declared.step.Done.{Done}
+use Rattle.r3k_machine.specs.Run.{last_writer}
+use Rattle.r3k_pages.specs.Pages.{page_count_of}
+use Rattle.r3k_live.specs.declared.recorder.SentAt.{SentAt}
+use Rattle.r3k_live.specs.declared.recorder.Written.{Written}
+
+-- a byte that a step sent, if it did, in front of later ones
+abbrev pub with_sent : (step : ℕ) → Option Sent → List SentAt → List SentAt
+with_sent step None later = later
+with_sent step (Some sent) later = record { line = sent.line; byte = sent.byte; step = step } ∷ later
+
+-- the bytes that steps sent, where the first step has this number
+abbrev pub sent_from : (first : ℕ) → List Done → List SentAt
+sent_from first [] = []
+sent_from first (done ∷ steps) = with_sent first done.sent (sent_from (suc first) steps)
+
+-- whether a step stored into a word of a page
+abbrev pub stores_in : ℕ → Option ℕ → Bool
+stores_in page None = false
+stores_in page (Some address) = nat_eq (address / PAGE_BYTES) page
+
+-- whether this is the page
+abbrev pub is_page : ℕ → Option ℕ → Bool
+is_page page None = false
+is_page page (Some other) = nat_eq other page
+
+-- whether a step touched a page: it fetched from it, or loaded from it or stored into it
+abbrev pub touches : ℕ → Done → Bool
+touches page done = is_page page (slice_index_or done.touched 0 None) || is_page page (slice_index_or done.touched 1 None)
+
+-- whether steps stored into a page, and whether they touched it
+abbrev pub is_dirty : List Done → ℕ → Bool
+is_dirty steps page = list_any (λ done. stores_in page done.stored) steps
+
+abbrev pub is_touched : List Done → ℕ → Bool
+is_touched steps page = list_any (touches page) steps
+
+-- the pages for which a test holds, in ascending order
+abbrev pub pages_where : ℕ → (ℕ → Bool) → List ℕ
+pages_where pages test = filter test (range_with_len 0 (page_count_of pages))
+
+-- the pages that steps stored into, and those that they touched
+abbrev pub dirty_pages : ℕ → List Done → List ℕ
+dirty_pages pages steps = pages_where pages (is_dirty steps)
+
+abbrev pub touched_pages : ℕ → List Done → List ℕ
+touched_pages pages steps = pages_where pages (is_touched steps)
+
+-- the words of RAM that steps stored into, by their places in ascending order, each with its last step
+pub record AreWriters (pages : ℕ) (steps : List Done) (writers : List Written) : Type 0 where
+  pub each : All (λ writer. last_writer (4 * writer.place) steps ≡ Some writer.step) writers
+  pub all : (place : ℕ) → place < pages * PAGE_WORDS → IsSome (last_writer (4 * place) steps) → Contains (map (λ writer. writer.place) writers) place
+  pub ascending : IsNonDecreasingBy (λ writer. writer.place) writers

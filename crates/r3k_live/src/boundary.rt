@@ -1,0 +1,67 @@
+//! Where a run stood, to be gone back to.
+
+ghost use Rattle.std.specs.Prelude.{◌≡◌, ◌≤◌, IfOk, IfSome, length};
+ghost use Rattle.r3k_word.specs.Layout.{word_count_of};
+ghost use Rattle.r3k_word.specs.declared.layout.TheConstants.{MAX_RAM_PAGES};
+ghost use Rattle.r3k_pages.specs.Pages.{SameOutside};
+
+use r3k_machine::{Core, KeptCore};
+use r3k_pages::Snapshot;
+use std::alloc::{AllocError, Global};
+use std::marker::Model;
+
+/// A state of the machine, kept: the core, and a snapshot of memory. It shares with earlier ones what is known to be equal.
+#[derive(Drop)]
+pub struct Boundary<const PAGES: u32> {
+    core: KeptCore,
+    memory: Snapshot<PAGES>,
+}
+
+impl<const PAGES: u32> Model for Boundary<PAGES> {
+    ghost use Rattle.r3k_machine.specs.State.{State};
+
+    ghost Value = { State };
+
+    ghost view = { λ b. record { core = b.core; words = b.memory } };
+}
+
+impl<const PAGES: u32> Boundary<PAGES> {
+    // Keeps a core and words.
+    pub(crate) fn keep(
+        alloc: Global,
+        core: &Core,
+        words: &[u32],
+        previous: Option<&Boundary<PAGES>>,
+        dirty: &[u32],
+    ) -> Result<Boundary<PAGES>, AllocError>
+        requires pages { PAGES ≤ MAX_RAM_PAGES }
+        requires whole { length words.now ≡ word_count_of PAGES }
+        requires same { IfSome previous (λ previous. SameOutside dirty.now previous.now.words words.now) }
+        ensures { IfOk result (λ boundary. boundary ≡ record { core = core.now; words = words.now }) }
+    {
+        match previous {
+            Some(previous) => Ok(Boundary {
+                core: core.keep(alloc, Some(&previous.core))?,
+                memory: Snapshot::capture(alloc, words, Some(&previous.memory), dirty)?,
+            }),
+            None => Ok(Boundary {
+                core: core.keep(alloc, None)?,
+                memory: Snapshot::capture(alloc, words, None, dirty)?,
+            }),
+        }
+    }
+
+    /// The core.
+    pub fn core(&self) -> &KeptCore
+        ensures { result.now ≡ self.now.core }
+    {
+        &self.core
+    }
+
+    /// The words of RAM and ROM.
+    pub fn memory(&self) -> &Snapshot<PAGES>
+        ensures { result.now ≡ self.now.words }
+    {
+        &self.memory
+    }
+}

@@ -1,0 +1,76 @@
+//! A plain memory: all words in one vector.
+
+ghost use Rattle.std.specs.Prelude.{◌≡◌, ◌≤◌, IfOk, length};
+ghost use Rattle.r3k_word.specs.Layout.{word_count_of};
+ghost use Rattle.r3k_word.specs.declared.layout.TheConstants.{MAX_RAM_PAGES};
+ghost use Rattle.r3k_machine.specs.Reset.{reset_words};
+
+use r3k_image::Image;
+use r3k_machine::Mem;
+use r3k_pages::Snapshot;
+use r3k_word::layout::{address_of, word_count};
+use std::alloc::{AllocError, Global};
+
+/// All words of RAM and ROM, in one vector.
+#[derive(Debug, Drop)]
+pub struct FlatMemory<const PAGES: u32> {
+    words: Vec<u32>,
+    ghost whole: { length words.items ≡ word_count_of PAGES },
+    ghost range: { PAGES ≤ MAX_RAM_PAGES },
+}
+
+impl<const PAGES: u32> FlatMemory<PAGES> {
+    /// The words at reset: those that the image sets, and all others 0.
+    pub fn boot(alloc: Global, image: &Image) -> Result<FlatMemory<PAGES>, AllocError>
+        requires { PAGES ≤ MAX_RAM_PAGES }
+        ensures { IfOk result (λ memory. memory.words.items ≡ reset_words PAGES image.now) }
+    {
+        let count = word_count(PAGES);
+        let mut words = Vec::with_capacity(alloc, count)?;
+        for place in 0..count {
+            words.push(image.word(address_of(PAGES, place)).unwrap_or(0))?;
+        }
+        Ok(FlatMemory { words })
+    }
+
+    /// All words.
+    pub fn words(&self) -> &[u32]
+        ensures words { result.now ≡ self.now.words.items }
+        ensures whole { length result.now ≡ word_count_of PAGES }
+        ensures range { PAGES ≤ MAX_RAM_PAGES }
+    {
+        &self.words
+    }
+
+    // Makes it hold the words of a snapshot.
+    pub(crate) fn load(&mut self, snapshot: &Snapshot<PAGES>)
+        ensures { self.new.words.items ≡ snapshot.now }
+    {
+        snapshot.copy_to(&mut self.words);
+    }
+}
+
+impl<const PAGES: u32> Mem for FlatMemory<PAGES> {
+    ghost words = { λ memory. memory.words.items };
+
+    ghost ram = { λ _. PAGES };
+
+    #[inline]
+    fn ram_pages(&self) -> u32 {
+        PAGES
+    }
+
+    #[inline]
+    fn word(&self, place: usize) -> u32 {
+        self.words[place]
+    }
+
+    #[inline]
+    fn set_word(&mut self, place: usize, value: u32) {
+        self.words[place] = value;
+    }
+
+    ghost whole = { λ memory. memory.whole };
+
+    ghost range = { λ memory. memory.range };
+}

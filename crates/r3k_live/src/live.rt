@@ -1,0 +1,223 @@
+//! The machine that runs.
+
+ghost use Rattle.std.specs.Prelude.{◌≡◌, ◌+◌, ◌-◌, ◌^◌, ◌<◌, ◌≤◌, ℕ, [], IfOk, IfSome, None, length, min, slice_index, unwrap_or};
+ghost use Rattle.r3k_word.specs.Layout.{word_count_of};
+ghost use Rattle.r3k_word.specs.declared.layout.TheConstants.{MAX_RAM_PAGES};
+ghost use Rattle.input_log.specs.Log.{AreInOrder, AreWithin};
+ghost use Rattle.r3k_pages.specs.Pages.{SameOutside};
+ghost use Rattle.r3k_machine.specs.Reset.{reset};
+ghost use Rattle.r3k_machine.specs.Run.{run, trace};
+ghost use Rattle.r3k_live.specs.Living.{counted, state_of};
+ghost use Rattle.r3k_live.specs.Record.{dirty_pages};
+ghost use Rattle.r3k_live.specs.Recording.{Records};
+ghost use Rattle.r3k_live.specs.Visits.{first_visit};
+
+use crate::boundary::Boundary;
+use crate::flat::FlatMemory;
+use crate::recorder::Recorder;
+use input_log::{Cursor, Event};
+use r3k_image::Image;
+use r3k_machine::step::step;
+use r3k_machine::{Core, Mem};
+use std::alloc::{AllocError, Global};
+use std::marker::Model;
+
+/// The machine that runs, with `PAGES` pages of RAM: its core, one flat memory, and the count of all steps that it has made.
+#[derive(Drop)]
+pub struct Live<const PAGES: u32> {
+    core: Core,
+    memory: FlatMemory<PAGES>,
+    steps: u64,
+}
+
+impl<const PAGES: u32> Model for Live<PAGES> {
+    ghost use Rattle.r3k_live.specs.Living.{Living};
+
+    ghost Value = { Living };
+
+    ghost view = { λ live. record { state = record { core = live.core; words = live.memory.words.items }; steps = live.steps } };
+}
+
+// No address of an instruction.
+const NOWHERE: u64 = u64::MAX;
+
+impl<const PAGES: u32> Live<PAGES> {
+    /// The machine at reset. All its memory is taken here.
+    pub fn new(alloc: Global, image: &Image) -> Result<Live<PAGES>, AllocError>
+        requires { PAGES ≤ MAX_RAM_PAGES }
+        ensures { IfOk result (λ live. live ≡ record { state = reset PAGES image.now; steps = 0 }) }
+    {
+        Ok(Live {
+            core: Core::reset(alloc, image)?,
+            memory: FlatMemory::<PAGES>::boot(alloc, image)?,
+            steps: 0,
+        })
+    }
+
+    /// Makes it stand at a boundary. It takes no memory and makes no step.
+    pub fn load(&mut self, boundary: &Boundary<PAGES>)
+        ensures { self.new ≡ record { state = boundary.now; steps = self.old.steps } }
+    {
+        self.memory.load(boundary.memory());
+        self.core.restore(boundary.core());
+    }
+
+    /// Runs so many steps, at most `SPAN`, from a time on, with the events of their times, and records what they tell in a
+    /// recorder that is empty. It takes no memory.
+    pub fn run<const SPAN: u32>(
+        &mut self,
+        from: u64,
+        events: &[Event],
+        steps: u32,
+        recorder: &mut Recorder<PAGES, SPAN>,
+    )
+        requires steps { steps ≤ SPAN }
+        requires time { from + steps < 2 ^ 64 }
+        requires in_order { AreInOrder events.now }
+        requires empty { Records PAGES [] recorder.old }
+        ensures state { self.new.state ≡ run PAGES events.now from self.old.state steps }
+        ensures count { self.new.steps ≡ counted self.old.steps steps }
+        ensures least { self.old.steps ≤ self.new.steps }
+        ensures recorded { Records PAGES (trace PAGES events.now from self.old.state steps) recorder.new }
+        ensures dirty { SameOutside (dirty_pages PAGES (trace PAGES events.now from self.old.state steps)) self.old.state.words self.new.state.words }
+    {
+        let _stopped = self.go_on(from, events, steps, NOWHERE, recorder);
+    }
+
+    /// The same, but it ends behind the first step after which the PC holds an address, and gives the number of steps to there.
+    pub fn visit<const SPAN: u32>(
+        &mut self,
+        from: u64,
+        events: &[Event],
+        steps: u32,
+        address: u32,
+        recorder: &mut Recorder<PAGES, SPAN>,
+    ) -> Option<u32>
+        requires steps { steps ≤ SPAN }
+        requires time { from + steps < 2 ^ 64 }
+        requires in_order { AreInOrder events.now }
+        requires empty { Records PAGES [] recorder.old }
+        ensures found { result ≡ first_visit PAGES events.now from self.old.state address 0 steps }
+        ensures state { self.new.state ≡ run PAGES events.now from self.old.state (unwrap_or result steps) }
+        ensures count { self.new.steps ≡ counted self.old.steps (unwrap_or result steps) }
+        ensures least { self.old.steps ≤ self.new.steps }
+        ensures recorded { Records PAGES (trace PAGES events.now from self.old.state (unwrap_or result steps)) recorder.new }
+        ensures dirty { SameOutside (dirty_pages PAGES (trace PAGES events.now from self.old.state (unwrap_or result steps)))
+            self.old.state.words self.new.state.words }
+    {
+        self.go_on(from, events, steps, address as u64, recorder)
+    }
+
+    // Steps until the PC holds an address, or so many times.
+    fn go_on<const SPAN: u32>(
+        &mut self,
+        from: u64,
+        events: &[Event],
+        steps: u32,
+        stop: u64,
+        recorder: &mut Recorder<PAGES, SPAN>,
+    ) -> Option<u32>
+        requires steps { steps ≤ SPAN }
+        requires time { from + steps < 2 ^ 64 }
+        requires in_order { AreInOrder events.now }
+        requires empty { Records PAGES [] recorder.old }
+        ensures found { result ≡ first_visit PAGES events.now from self.old.state stop 0 steps }
+        ensures never { 2 ^ 32 ≤ stop → result ≡ None }
+        ensures state { self.new.state ≡ run PAGES events.now from self.old.state (unwrap_or result steps) }
+        ensures count { self.new.steps ≡ counted self.old.steps (unwrap_or result steps) }
+        ensures least { self.old.steps ≤ self.new.steps }
+        ensures recorded { Records PAGES (trace PAGES events.now from self.old.state (unwrap_or result steps)) recorder.new }
+        ensures dirty { SameOutside (dirty_pages PAGES (trace PAGES events.now from self.old.state (unwrap_or result steps)))
+            self.old.state.words self.new.state.words }
+    {
+        let stopped = step_until(
+            &mut self.core,
+            &mut self.memory,
+            from,
+            Cursor::new(events),
+            steps,
+            stop,
+            recorder,
+        );
+        self.steps = self.steps.saturating_add(stopped.unwrap_or(steps) as u64);
+        stopped
+    }
+
+    /// Keeps where it stands. With an earlier boundary it shares that one's pages outside a set of pages, `dirty`, outside which
+    /// both have the same words, and its cache arrays where they are equal.
+    pub fn keep(
+        &self,
+        alloc: Global,
+        previous: Option<&Boundary<PAGES>>,
+        dirty: &[u32],
+    ) -> Result<Boundary<PAGES>, AllocError>
+        requires { IfSome previous (λ previous. SameOutside dirty.now previous.now.words self.now.state.words) }
+        ensures { IfOk result (λ boundary. boundary ≡ self.now.state) }
+    {
+        Boundary::keep(alloc, &self.core, self.memory.words(), previous, dirty)
+    }
+
+    /// All words of RAM and ROM, RAM first.
+    pub fn words(&self) -> &[u32]
+        ensures words { result.now ≡ self.now.state.words }
+        ensures whole { length result.now ≡ word_count_of PAGES }
+    {
+        self.memory.words()
+    }
+
+    /// The word at a place in the list of all words.
+    pub fn word(&self, place: usize) -> u32
+        requires { place < word_count_of PAGES }
+        ensures { result ≡ slice_index self.now.state.words place }
+    {
+        self.memory.word(place)
+    }
+
+    /// The core.
+    pub fn core(&self) -> &Core
+        ensures { result.now ≡ self.now.state.core }
+    {
+        &self.core
+    }
+
+    /// How many steps it has made since it was made, up to the greatest number.
+    pub fn steps(&self) -> u64
+        ensures { result ≡ self.now.steps }
+    {
+        self.steps
+    }
+}
+
+// The one loop that steps: so many steps, or until the PC holds an address, each of which tells the recorder.
+#[inline(never)]
+fn step_until<const PAGES: u32, const SPAN: u32>(
+    core: &mut Core,
+    memory: &mut FlatMemory<PAGES>,
+    from: u64,
+    mut events: Cursor,
+    steps: u32,
+    stop: u64,
+    recorder: &mut Recorder<PAGES, SPAN>,
+) -> Option<u32>
+    requires steps { steps ≤ SPAN }
+    requires time { from + steps < 2 ^ 64 }
+    requires empty { Records PAGES [] recorder.old }
+    ensures found { result ≡ first_visit PAGES events.entry from (state_of core.old memory.old) stop 0 steps }
+    ensures never { 2 ^ 32 ≤ stop → result ≡ None }
+    ensures state { state_of core.new memory.new ≡ run PAGES events.entry from (state_of core.old memory.old) (unwrap_or result steps) }
+    ensures recorded { Records PAGES (trace PAGES events.entry from (state_of core.old memory.old) (unwrap_or result steps)) recorder.new }
+    ensures dirty { SameOutside (dirty_pages PAGES (trace PAGES events.entry from (state_of core.old memory.old) (unwrap_or result steps)))
+        memory.old.words.items memory.new.words.items }
+    ensures bound { unwrap_or result steps ≤ steps }
+{
+    let mut made = 0;
+    while made < steps {
+        let done = step(core, memory, events.next(from + made as u64));
+        recorder.note(done);
+        made += 1;
+        if core.pc() as u64 == stop {
+            return Some(made);
+        }
+    }
+    None
+}

@@ -1,0 +1,262 @@
+//! A record of what steps told: bytes sent, words stored into, and pages touched.
+
+ghost use Rattle.std.specs.Prelude.{◌≡◌, ◌+◌, ◌-◌, ◌*◌, ◌/◌, ◌^◌, ◌<◌, ◌≤◌, [], ◌∷◌, ◌++◌, All, IfOk, IfSome, List, false, filter, length, map, slice_index, slice_index_or, slice_set, vec_capacity, vec_len, ℕ};
+ghost use Rattle.std.specs.List.{range_with_len};
+ghost use Rattle.r3k_word.specs.declared.layout.TheConstants.{MAX_RAM_PAGES, PAGE_WORDS};
+ghost use Rattle.r3k_pages.specs.Pages.{IsPageSet, page_count_of};
+ghost use Rattle.r3k_machine.specs.declared.step.Done.{Done};
+ghost use Rattle.r3k_machine.specs.Run.{last_writer};
+ghost use Rattle.r3k_machine.specs.Told.{IsPage, IsRamWord};
+ghost use Rattle.r3k_live.specs.Record.{AreWriters, dirty_pages, sent_from, touched_pages, with_sent};
+ghost use Rattle.r3k_live.specs.Recording.{AreStored, Records, page_of_store, with_mark, with_writer};
+
+use dz_serial::Sent;
+use r3k_machine::Done;
+use r3k_word::layout::{PAGE_BYTES, PAGE_WORDS, ROM_PAGES};
+use std::alloc::{AllocError, Global};
+use std::marker::Model;
+
+/// A byte that a step sent, with the step's number in its run.
+#[derive(Clone, Copy, Debug, PartialEq, Eq)]
+pub struct SentAt {
+    pub line: u8,
+    pub byte: u8,
+    pub step: u32,
+}
+
+/// A word of RAM that was stored into, by its place, with the last step that did so.
+#[derive(Clone, Copy, Debug, PartialEq, Eq)]
+pub struct Written {
+    pub place: u32,
+    pub step: u32,
+}
+
+/// What the steps of a run told, at most `SPAN` of them, on a machine with `PAGES` pages of RAM. All room is taken when it is made.
+#[derive(Drop)]
+pub struct Recorder<const PAGES: u32, const SPAN: u32> {
+    steps: u32,
+    // For each word of RAM one more than the last step that stored into it, or 0.
+    last: Vec<u32>,
+    // The places of these words, each once, in the order of their first stores.
+    stored: Vec<u32>,
+    dirty: Vec<bool>,
+    touched: Vec<bool>,
+    sent: Vec<SentAt>,
+}
+
+impl<const PAGES: u32, const SPAN: u32> Model for Recorder<PAGES, SPAN> {
+    ghost use Rattle.std.specs.Prelude.{vec_capacity};
+    ghost use Rattle.r3k_live.specs.Recording.{IsRecording, Recording};
+
+    ghost Value = { Recording };
+
+    ghost view = { λ r. record {
+      steps = r.steps;
+      last = r.last.items;
+      stored = r.stored.items;
+      dirty = r.dirty.items;
+      touched = r.touched.items;
+      sent = r.sent.items;
+    } };
+
+    ghost invariant = { λ r. IsRecording PAGES SPAN (vec_capacity r.stored) (vec_capacity r.sent) (record {
+      steps = r.steps;
+      last = r.last.items;
+      stored = r.stored.items;
+      dirty = r.dirty.items;
+      touched = r.touched.items;
+      sent = r.sent.items;
+    }) };
+}
+
+impl<const PAGES: u32, const SPAN: u32> Recorder<PAGES, SPAN> {
+    /// A record of no step. All its memory is taken here.
+    pub fn new(alloc: Global) -> Result<Recorder<PAGES, SPAN>, AllocError>
+        requires { PAGES ≤ MAX_RAM_PAGES }
+        ensures { IfOk result (Records PAGES []) }
+    {
+        let pages = PAGES as usize + ROM_PAGES as usize;
+        Ok(Recorder {
+            steps: 0,
+            last: vec![in alloc; 0; PAGES as usize * PAGE_WORDS as usize]?,
+            stored: Vec::with_capacity(alloc, SPAN as usize)?,
+            dirty: vec![in alloc; false; pages]?,
+            touched: vec![in alloc; false; pages]?,
+            sent: Vec::with_capacity(alloc, SPAN as usize)?,
+        })
+    }
+
+    /// Empties it, by no more than what was recorded.
+    pub fn clear(&mut self)
+        ensures { Records PAGES [] self.new }
+    {
+        forget(&mut self.last, &self.stored);
+        self.stored.clear();
+        self.dirty.fill(false);
+        self.touched.fill(false);
+        self.sent.clear();
+        self.steps = 0;
+    }
+
+    /// The last step that stored into the word of RAM at a place, if one did.
+    pub fn writer(&self, place: usize) -> Option<u32>
+        requires { place < PAGES * PAGE_WORDS }
+        ensures { (steps : List Done) → Records PAGES steps self.now → result ≡ last_writer (4 * place) steps }
+    {
+        self.last[place].checked_sub(1)
+    }
+
+    /// The words of RAM that were stored into, in ascending order, each with the last step that did so.
+    pub fn writers(&self, alloc: Global) -> Result<Vec<Written>, AllocError>
+        ensures { (steps : List Done) → Records PAGES steps self.now → IfOk result (λ writers. AreWriters PAGES steps writers.items) }
+    {
+        let mut places = Vec::from_slice(alloc, &self.stored)?;
+        places.sort_unstable();
+        writers_of(alloc, &self.last, &places)
+    }
+
+    /// The bytes that were sent, in order.
+    pub fn sent(&self) -> &[SentAt]
+        ensures sent { (steps : List Done) → Records PAGES steps self.now → result.now ≡ sent_from 0 steps }
+        ensures few { length result.now ≤ self.now.steps }
+    {
+        &self.sent
+    }
+
+    /// The pages that were stored into, in ascending order.
+    pub fn dirty(&self, alloc: Global) -> Result<Vec<u32>, AllocError>
+        ensures pages { (steps : List Done) → Records PAGES steps self.now → IfOk result (λ pages. pages.items ≡ dirty_pages PAGES steps) }
+        ensures set { IfOk result (λ pages. IsPageSet PAGES pages.items) }
+    {
+        marked(alloc, &self.dirty)
+    }
+
+    /// The pages that were touched, in ascending order: fetched from, loaded from or stored into.
+    pub fn touched(&self, alloc: Global) -> Result<Vec<u32>, AllocError>
+        ensures pages { (steps : List Done) → Records PAGES steps self.now → IfOk result (λ pages. pages.items ≡ touched_pages PAGES steps) }
+        ensures set { IfOk result (λ pages. IsPageSet PAGES pages.items) }
+    {
+        marked(alloc, &self.touched)
+    }
+
+    // Records what one more step told.
+    #[inline]
+    pub(crate) fn note(&mut self, done: Done)
+        requires room { self.old.steps < SPAN }
+        requires stored { IfSome done.stored (IsRamWord PAGES) }
+        requires touched { All (λ page. IfSome page (IsPage PAGES)) done.touched }
+        ensures steps { self.new.steps ≡ self.old.steps + 1 }
+        ensures records { (steps : List Done) → Records PAGES steps self.old → Records PAGES (steps ++ done ∷ []) self.new }
+    {
+        note_sent(&mut self.sent, done.sent, self.steps);
+        note_store(&mut self.last, &mut self.stored, done.stored, self.steps);
+        mark(&mut self.dirty, page_of_store(done.stored));
+        mark(&mut self.touched, done.touched[0]);
+        mark(&mut self.touched, done.touched[1]);
+        self.steps += 1;
+    }
+}
+
+// Notes the byte that a step sent, if it did.
+#[inline]
+fn note_sent(sent: &mut Vec<SentAt>, byte: Option<Sent>, step: u32)
+    requires { vec_len sent.old < vec_capacity sent.old }
+    ensures items { sent.new.items ≡ sent.old.items ++ with_sent step byte [] }
+    ensures long { length sent.new.items ≤ length sent.old.items + 1 }
+    ensures room { vec_capacity sent.new ≡ vec_capacity sent.old }
+{
+    if let Some(byte) = byte {
+        sent.push_reserved(SentAt {
+            line: byte.line,
+            byte: byte.byte,
+            step,
+        });
+    }
+}
+
+// Notes with the word that a step stored into, if it did, that it was the last one.
+#[inline]
+fn note_store(last: &mut Vec<u32>, stored: &mut Vec<u32>, address: Option<u32>, step: u32)
+    requires within { IfSome address (λ address. address / 4 < length last.old.items) }
+    requires step { step < 2 ^ 32 - 1 }
+    requires room { vec_len stored.old < vec_capacity stored.old }
+    requires marked { AreStored last.old.items stored.old.items }
+    ensures last { last.new.items ≡ with_writer last.old.items step address }
+    ensures marked { AreStored last.new.items stored.new.items }
+    ensures long { length stored.new.items ≤ length stored.old.items + 1 }
+    ensures room { vec_capacity stored.new ≡ vec_capacity stored.old }
+{
+    let Some(address) = address else {
+        return;
+    };
+    let place = address as usize / 4;
+    if last[place] == 0 {
+        stored.push_reserved(address / 4);
+    }
+    last[place] = step + 1;
+}
+
+// The page of the word that a step stored into, if it did.
+#[inline]
+fn page_of_store(address: Option<u32>) -> Option<u32>
+    ensures { result ≡ page_of_store address }
+{
+    match address {
+        Some(address) => Some(address / PAGE_BYTES),
+        None => None,
+    }
+}
+
+// Marks a page, if there is one.
+#[inline]
+fn mark(marks: &mut Vec<bool>, page: Option<u32>)
+    requires { IfSome page (λ page. page < length marks.old.items) }
+    ensures { marks.new.items ≡ with_mark marks.old.items page }
+{
+    if let Some(page) = page {
+        marks[page as usize] = true;
+    }
+}
+
+// Words by their places, each with its last step.
+fn writers_of(alloc: Global, last: &[u32], places: &[u32]) -> Result<Vec<Written>, AllocError>
+    requires { All (λ place. (place < length last.now) × (0 < slice_index last.now place)) places.now }
+    ensures places { IfOk result (λ writers. map (λ writer. writer.place) writers.items ≡ places.now) }
+    ensures steps { IfOk result (λ writers. All (λ writer. slice_index last.now writer.place ≡ writer.step + 1) writers.items) }
+{
+    let mut writers = Vec::with_capacity(alloc, places.len())?;
+    for place in places {
+        let step = last[*place as usize] - 1;
+        writers.push(Written {
+            place: *place,
+            step,
+        })?;
+    }
+    Ok(writers)
+}
+
+// The numbers of the marks that are set, in ascending order.
+fn marked(alloc: Global, marks: &[bool]) -> Result<Vec<u32>, AllocError>
+    requires { length marks.now ≤ 2 ^ 32 }
+    ensures { IfOk result (λ pages. pages.items ≡ filter (λ page. slice_index_or marks.now page false) (range_with_len 0 (length marks.now))) }
+{
+    let mut pages = Vec::new(alloc);
+    for page in 0..marks.len() {
+        if !marks[page] {
+            continue;
+        }
+        pages.push(page as u32)?;
+    }
+    Ok(pages)
+}
+
+// Forgets the steps that are noted for these words.
+fn forget(last: &mut Vec<u32>, stored: &[u32])
+    requires { AreStored last.old.items stored.now }
+    ensures long { length last.new.items ≡ length last.old.items }
+    ensures none { (place : ℕ) → slice_index last.new.items place ≡ 0 }
+{
+    for place in stored {
+        last[*place as usize] = 0;
+    }
+}

@@ -1,0 +1,5 @@
+use Rattle.std.proofs.Common.{refl}
+use Rattle.r3k_machine.proofs.state.Core.next_pc.Goals as goal
+
+pub returns : goal.returns
+returns c = rw (← c.self.view_is) refl

@@ -1,0 +1,110 @@
+//! A core that is kept and does not run: kept cores share the arrays of the isolated cache where these are equal.
+
+ghost use Rattle.std.specs.Prelude.{◌≡◌, IfOk};
+
+use crate::state::{Core, Processor, is_same_processor};
+use dcache::Caches;
+use kn02_bus::Bus;
+use std::alloc::{AllocError, Global};
+use std::marker::Model;
+use std::rc::Rc;
+use tlb64::Tlb;
+
+/// All that a core holds, kept apart from the core that runs. The arrays of its isolated cache may be those of another one.
+#[derive(Drop)]
+pub struct KeptCore {
+    processor: Processor,
+    tlb: Tlb,
+    caches: Rc<Caches>,
+    bus: Bus,
+}
+
+impl Model for KeptCore {
+    ghost use Rattle.r3k_machine.specs.Core.{Core, HoldsZero};
+
+    ghost Value = { Core };
+
+    ghost view = { λ c. record {
+      registers = c.processor.registers;
+      hi = c.processor.hi;
+      lo = c.processor.lo;
+      pc = c.processor.pc;
+      next_pc = c.processor.next_pc;
+      delay = c.processor.delay;
+      load = c.processor.load;
+      cop0 = c.processor.cop0;
+      entries = c.tlb;
+      caches = c.caches.value;
+      bus = c.bus;
+    } };
+
+    ghost invariant = { λ c. HoldsZero c.processor.registers };
+}
+
+impl Core {
+    /// What the core holds, to be kept. Its arrays of the isolated cache are those of an earlier kept core where they equal them.
+    pub fn keep(&self, alloc: Global, previous: Option<&KeptCore>) -> Result<KeptCore, AllocError>
+        ensures { IfOk result (λ kept. kept ≡ self.now) }
+    {
+        let mut tlb = Tlb::new();
+        tlb.assign(&self.tlb);
+        let mut bus = Bus::new(1, [0; 12], 1);
+        bus.assign(&self.bus);
+        Ok(KeptCore {
+            processor: self.processor,
+            tlb,
+            caches: keep_caches(alloc, &self.caches, previous)?,
+            bus,
+        })
+    }
+
+    /// Makes the core hold what was kept. It takes no memory.
+    pub fn restore(&mut self, kept: &KeptCore)
+        ensures { self.new ≡ kept.now }
+    {
+        self.processor = kept.processor;
+        self.tlb.assign(&kept.tlb);
+        self.caches.assign(&kept.caches);
+        self.bus.assign(&kept.bus);
+    }
+}
+
+// The arrays of the earlier kept core where they are equal to these, or else a copy.
+fn keep_caches(alloc: Global, caches: &Caches, previous: Option<&KeptCore>) -> Result<Rc<Caches>, AllocError>
+    ensures { IfOk result (λ kept. kept.value ≡ caches.now) }
+{
+    if let Some(previous) = previous {
+        if *previous.caches == *caches {
+            return previous.caches.clone();
+        }
+    }
+    Rc::new(alloc, caches.copy(alloc)?).map_err(|_| AllocError)
+}
+
+impl PartialEq for KeptCore {
+    ghost use Rattle.std.specs.Prelude.{◌≡◌, ◌↔◌, IsTrue};
+    ghost use Rattle.std.specs.Cmp.{decided, partial_equiv_from_equiv};
+    ghost use Rattle.r3k_machine.specs.Same.{is_same, is_same_decides};
+
+    ghost eq = { is_same };
+
+    ghost laws = { partial_equiv_from_equiv (decided is_same is_same_decides) };
+
+    /// Whether all that both hold is equal.
+    fn eq(&self, other: &KeptCore) -> bool
+        ensures value { result ≡ is_same self.now other.now }
+        ensures equal { IsTrue result ↔ (self.now ≡ other.now) }
+    {
+        is_same_processor(&self.processor, &other.processor)
+            && self.tlb == other.tlb
+            && self.bus == other.bus
+            && *self.caches == *other.caches
+    }
+}
+
+impl Eq for KeptCore {
+    ghost use Rattle.std.specs.Cmp.{decided};
+    ghost use Rattle.r3k_machine.specs.Same.{is_same, is_same_decides};
+
+    ghost laws = { decided is_same is_same_decides };
+}

@@ -1,0 +1,70 @@
+-- The words of a snapshot by their places.
+use Rattle.std.proofs.Common.{◌≡◌, ℕ, ◌+◌, ◌-◌, ◌*◌, ◌/◌, ◌%◌, ◌<◌, ◌≤◌, List, [], ◌∷◌, ◌++◌, map, length, slice_index, slice_index_or, Option, Some, None, Result, Ok, Err, IfOk, IfSome, MatchResult, IsFalse, sym, ap, subst, ◌∙◌, arith, refl, get_or, take, drop, min, inl, inr}
+use Rattle.std.specs.List.{range_with_len}
+use Rattle.std.proofs.lemmas.List.{get_or-map, get_or-append_right, get_or-take, get_or-drop, get_or_past}
+use Rattle.std.proofs.lemmas.List.FromFn.{get_or-map-range_with_len, length-map-range_with_len}
+use Rattle.std.proofs.lemmas.Grind.{same_number_lists}
+use Rattle.std.proofs.lemmas.Bool.{cases_Bool, eq-eqb, eqb-true, true≢false}
+use Rattle.std.proofs.Common.{Bool, true, false, ◌||◌, nat_eq}
+use Rattle.r3k_word.specs.Layout.{page_of_place, word_count_of}
+use Rattle.r3k_word.specs.declared.layout.TheConstants.{PAGE_WORDS}
+use Rattle.r3k_pages.specs.declared.group.TheConstants.{GROUP_PAGES}
+use Rattle.r3k_pages.specs.Groups.{IsGroupOf, IsPageOf, group_count_of, touches, word_in, words_in}
+use Rattle.r3k_pages.specs.Pages.{SameOutside, SamePage, holds, page_count_of}
+
+-- what holds of an answer, where something else does
+pub if_ok : {A E : Type 0} {R : A → Type 0} (P : A → Type 0) (Q : E → Type 0) (r : Result A E) → MatchResult r P Q → ((x : A) → P x → R x) → IfOk r R
+if_ok P Q (Ok x) p f = f x p
+if_ok P Q (Err e) p f = tt
+
+pub if_some : {A : Type 0} (P : A → Type 0) (o : Option A) (x : A) → o ≡ Some x → IfSome o P → P x
+if_some P o x is p = subst (λ o. IfSome o P) is p
+
+pub word_is : (pages : ℕ) (groups : List (List (List ℕ))) (place : ℕ) → place < word_count_of pages
+    → slice_index (words_in pages groups) place ≡ word_in groups place
+word_is pages groups place within = get_or-map-range_with_len (word_in groups) 0 (word_count_of pages) place place 0 within (omega arith)
+
+pub words_long : (pages : ℕ) (groups : List (List (List ℕ))) → length (words_in pages groups) ≡ word_count_of pages
+words_long pages groups = length-map-range_with_len (word_in groups) 0 (word_count_of pages)
+
+-- words that stand in groups of pages
+pub words_are : (pages : ℕ) (groups : List (List (List ℕ))) (words : List ℕ) → length words ≡ word_count_of pages
+    → ((place : ℕ) → place < word_count_of pages → word_in groups place ≡ slice_index words place) → words_in pages groups ≡ words
+words_are pages groups words long each =
+    same_number_lists (words_in pages groups) words (words_long pages groups ∙ sym long)
+    (λ place within.
+    let inside = subst (λ (n : ℕ). place < n) (words_long pages groups) within in
+    word_is pages groups place inside ∙ each place inside)
+
+-- a group that a snapshot keeps
+pub kept_in : {A : Type 0} (f : A → List (List ℕ)) (items : List A) (d : A) (pages place group : ℕ) → place < word_count_of pages
+    → page_of_place place / GROUP_PAGES ≡ group → group < length items
+    → slice_index (slice_index_or (f (slice_index_or items group d)) (page_of_place place % GROUP_PAGES) []) (place % PAGE_WORDS)
+    ≡ slice_index (words_in pages (map f items)) place
+kept_in f items d pages place group within of inside =
+    let word_of : List (List ℕ) → ℕ = λ kept. slice_index (slice_index_or kept (page_of_place place % GROUP_PAGES) []) (place % PAGE_WORDS) in
+    sym (word_is pages (map f items) place within
+    ∙ (ap (λ (n : ℕ). word_of (slice_index_or (map f items) n [])) of
+    ∙ ap word_of (get_or-map f items group d [] inside)))
+
+-- a part of a memory as a page
+pub page_copied : (words : List ℕ) (page place : ℕ) → page_of_place place ≡ page
+    → slice_index (take PAGE_WORDS (drop (page * PAGE_WORDS) words)) (place % PAGE_WORDS) ≡ slice_index words place
+page_copied words page place of =
+    get_or-take PAGE_WORDS (drop (page * PAGE_WORDS) words) (place % PAGE_WORDS) 0 (omega arith)
+    ∙ (get_or-drop (page * PAGE_WORDS) words (place % PAGE_WORDS) 0
+    ∙ ap (slice_index words) (omega (arith, of)))
+
+-- a set that has no page of a group
+neither : (a b : Bool) → IsFalse (a || b) → (a ≡ false) × (b ≡ false)
+neither true b h = absurd (true≢false h)
+neither false b h = (refl, h)
+
+pub untouched : (set : List ℕ) (page group : ℕ) → page / GROUP_PAGES ≡ group → IsFalse (touches set group) → IsFalse (holds set page)
+untouched [] page group of none = refl
+untouched (other ∷ set) page group of none =
+    let parts = neither (nat_eq (other / GROUP_PAGES) group) (touches set group) none in
+    elim (cases_Bool (nat_eq other page)) [
+      | inl here ↦ absurd (true≢false (sym (eq-eqb (other / GROUP_PAGES) group (ap (λ (n : ℕ). n / GROUP_PAGES) (eqb-true other page here) ∙ of)) ∙ parts.0))
+      | inr apart ↦ rw apart (untouched set page group of parts.1)
+    ]

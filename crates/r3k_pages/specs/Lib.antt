@@ -1,0 +1,3 @@
+pub use Rattle.r3k_word.specs.Layout
+pub mod Pages
+pub mod Groups

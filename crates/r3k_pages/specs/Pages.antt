@@ -1,0 +1,27 @@
+-- Pages of memory (own): the words of RAM and ROM by pages of 1,024 words. Pages of RAM come first, then those of ROM.
+use Rattle.std.specs.Prelude.{◌≡◌, ℕ, ◌+◌, ◌<◌, Bool, IsFalse, List, All, nat_eq, slice_index}
+use Rattle.std.specs.List.{list_any}
+use Rattle.std.specs.List.Sorted.{IsStrictlyIncreasing}
+use Rattle.r3k_word.specs.Layout.{page_of_place}
+use Rattle.r3k_word.specs.declared.layout.TheConstants.{ROM_PAGES}
+
+-- how many pages there are with so many of RAM
+abbrev pub page_count_of : ℕ → ℕ
+page_count_of pages = pages + ROM_PAGES
+
+-- a set of pages is handed over as an ascending list, each page once
+pub record IsPageSet (pages : ℕ) (set : List ℕ) : Type 0 where
+  pub ascending : IsStrictlyIncreasing set
+  pub within : All (λ page. page < page_count_of pages) set
+
+-- whether a page is in a set
+abbrev pub holds : List ℕ → ℕ → Bool
+holds set page = list_any (λ other. nat_eq other page) set
+
+-- a page has the same words in two memories
+abbrev pub SamePage : ℕ → List ℕ → List ℕ → Type 0
+SamePage page a b = (place : ℕ) → page_of_place place ≡ page → slice_index a place ≡ slice_index b place
+
+-- two memories have the same words outside a set of pages
+abbrev pub SameOutside : List ℕ → List ℕ → List ℕ → Type 0
+SameOutside set a b = (place : ℕ) → IsFalse (holds set (page_of_place place)) → slice_index a place ≡ slice_index b place

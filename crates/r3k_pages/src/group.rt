@@ -1,0 +1,120 @@
+//! Pages by groups: a snapshot that changes one page shares all groups but that page's.
+
+ghost use Rattle.std.specs.Prelude.{◌≡◌, ◌<◌, ◌≤◌, IfOk, IfSome, IsTrue, length, not, slice_index_or, []};
+ghost use Rattle.r3k_word.specs.Layout.{word_count_of};
+ghost use Rattle.r3k_word.specs.declared.layout.TheConstants.{MAX_RAM_PAGES, PAGE_WORDS};
+ghost use Rattle.r3k_pages.specs.Groups.{IsGroupOf, IsPageOf, group_count_of, touches};
+ghost use Rattle.r3k_pages.specs.Pages.{SameOutside, holds, page_count_of};
+
+use crate::page::Page;
+use crate::snapshot::{Snapshot, page_count};
+use r3k_word::layout::PAGE_WORDS;
+use std::alloc::{AllocError, Global};
+use std::marker::Model;
+use std::rc::Rc;
+
+/// How many pages a group has.
+pub(crate) const GROUP_PAGES: usize = 32;
+
+/// Pages one behind another. Behind the last page of memory that page stands again, up to the group's end.
+#[derive(Drop)]
+pub(crate) struct Group {
+    pages: Vec<Rc<Page>>,
+}
+
+impl Model for Group {
+    ghost use Rattle.std.specs.Prelude.{◌≡◌, List, ℕ, length, map};
+    ghost use Rattle.r3k_pages.specs.declared.group.TheConstants.{GROUP_PAGES};
+
+    ghost Value = { List (List ℕ) };
+
+    ghost view = { λ group. map (λ page. page.value) group.pages.items };
+
+    ghost invariant = { λ group. length group.pages.items ≡ GROUP_PAGES };
+}
+
+impl Group {
+    ghost use Rattle.r3k_pages.specs.declared.group.TheConstants.{GROUP_PAGES};
+
+    /// A page of the group.
+    pub(crate) fn page(&self, index: usize) -> &Rc<Page>
+        requires { index < GROUP_PAGES }
+        ensures { result.now.value ≡ slice_index_or self.now index [] }
+    {
+        &self.pages[index]
+    }
+}
+
+// Whether a page of a group is in a set of pages.
+fn touches(set: &[u32], group: usize) -> bool
+    ensures { result ≡ touches set.now group }
+{
+    set.iter().any(|page| *page as usize / GROUP_PAGES == group)
+}
+
+// A page of memory: the earlier one where it stayed, or else a copy.
+fn page_of<const PAGES: u32>(
+    alloc: Global,
+    words: &[u32],
+    previous: Option<&Snapshot<PAGES>>,
+    dirty: &[u32],
+    page: usize,
+) -> Result<Rc<Page>, AllocError>
+    requires pages { PAGES ≤ MAX_RAM_PAGES }
+    requires whole { length words.now ≡ word_count_of PAGES }
+    requires page { page < page_count_of PAGES }
+    requires same { IfSome previous (λ previous. SameOutside dirty.now previous.now words.now) }
+    ensures { IfOk result (λ result. IsPageOf words.now page result.value) }
+{
+    match previous {
+        Some(previous) if !dirty.contains(&(page as u32)) => previous.page(page).clone(),
+        _ => {
+            let start = page * PAGE_WORDS as usize;
+            Page::new(alloc, &words[start..start + PAGE_WORDS as usize])
+        }
+    }
+}
+
+/// A group of the pages of memory: the earlier one where all its pages stayed, or else those pages that stayed and copies of the
+/// others.
+pub(crate) fn group_of<const PAGES: u32>(
+    alloc: Global,
+    words: &[u32],
+    previous: Option<&Snapshot<PAGES>>,
+    dirty: &[u32],
+    group: usize,
+) -> Result<Rc<Group>, AllocError>
+    requires pages { PAGES ≤ MAX_RAM_PAGES }
+    requires whole { length words.now ≡ word_count_of PAGES }
+    requires group { group < group_count_of PAGES }
+    requires same { IfSome previous (λ previous. SameOutside dirty.now previous.now words.now) }
+    ensures { IfOk result (λ result. IsGroupOf PAGES words.now group result.value) }
+{
+    match previous {
+        Some(previous) if !touches(dirty, group) => previous.group(group).clone(),
+        _ => copied_group(alloc, words, previous, dirty, group),
+    }
+}
+
+// The same where a page of it may have changed.
+fn copied_group<const PAGES: u32>(
+    alloc: Global,
+    words: &[u32],
+    previous: Option<&Snapshot<PAGES>>,
+    dirty: &[u32],
+    group: usize,
+) -> Result<Rc<Group>, AllocError>
+    requires pages { PAGES ≤ MAX_RAM_PAGES }
+    requires whole { length words.now ≡ word_count_of PAGES }
+    requires group { group < group_count_of PAGES }
+    requires same { IfSome previous (λ previous. SameOutside dirty.now previous.now words.now) }
+    ensures { IfOk result (λ result. IsGroupOf PAGES words.now group result.value) }
+{
+    let last = page_count(PAGES) - 1;
+    let mut pages = Vec::with_capacity(alloc, GROUP_PAGES)?;
+    for index in 0..GROUP_PAGES {
+        let page = (group * GROUP_PAGES + index).min(last);
+        pages.push(page_of(alloc, words, previous, dirty, page)?)?;
+    }
+    Rc::new(alloc, Group { pages }).map_err(|_| AllocError)
+}

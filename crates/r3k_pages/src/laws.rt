@@ -1,0 +1,18 @@
+//! Laws of pages: nothing runs here.
+
+ghost use Rattle.std.specs.Prelude.{◌≡◌, ◌/◌, ◌<◌, ℕ, List, IsFalse, IsTrue, length, slice_set};
+ghost use Rattle.r3k_word.specs.Layout.{page_of_place, word_count_of};
+ghost use Rattle.r3k_pages.specs.Pages.{SameOutside, SamePage, holds, page_count_of};
+
+/// Memories that are the same outside a set of pages, and on its pages, are the same; a word that is stored into changes its page
+/// alone; what is the same outside a set is so outside a larger one, and in turn.
+pub fn page_laws()
+    ensures whole { (pages : ℕ) (set a b : List ℕ) → length a ≡ word_count_of pages → length b ≡ word_count_of pages →
+        SameOutside set a b → ((page : ℕ) → IsTrue (holds set page) → SamePage page a b) → a ≡ b }
+    ensures stored { (set words : List ℕ) (place word : ℕ) → IsTrue (holds set (page_of_place place)) →
+        SameOutside set words (slice_set words place word) }
+    ensures larger { (set other a b : List ℕ) → ((page : ℕ) → IsTrue (holds set page) → IsTrue (holds other page)) →
+        SameOutside set a b → SameOutside other a b }
+    ensures turned { (set a b : List ℕ) → SameOutside set a b → SameOutside set b a }
+    ensures chained { (set a b c : List ℕ) → SameOutside set a b → SameOutside set b c → SameOutside set a c }
+{}

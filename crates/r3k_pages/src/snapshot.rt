@@ -1,0 +1,115 @@
+//! A snapshot: the words of RAM and ROM at a time.
+
+ghost use Rattle.std.specs.Prelude.{◌≡◌, ◌+◌, ◌*◌, ◌<◌, ◌≤◌, ◌↔◌, IfOk, IfSome, IsTrue, [], length, map, slice_index, slice_index_or};
+ghost use Rattle.r3k_word.specs.Layout.{page_of_place, word_count_of};
+ghost use Rattle.r3k_word.specs.declared.layout.TheConstants.{MAX_RAM_PAGES, PAGE_WORDS};
+ghost use Rattle.r3k_pages.specs.Groups.{IsGroupOf, IsPageOf, group_count_of};
+ghost use Rattle.r3k_pages.specs.Pages.{SameOutside, SamePage, page_count_of};
+
+use crate::group::{GROUP_PAGES, Group, group_of};
+use crate::page::Page;
+use r3k_word::layout::{PAGE_WORDS, ROM_PAGES, page_of};
+use std::alloc::{AllocError, Global};
+use std::marker::Model;
+use std::rc::Rc;
+
+/// The words of RAM and ROM at a time, on a machine with `PAGES` pages of RAM. Snapshots share pages, and groups of them, that are
+/// known to be equal.
+#[derive(Drop)]
+pub struct Snapshot<const PAGES: u32> {
+    groups: Vec<Rc<Group>>,
+}
+
+impl<const PAGES: u32> Model for Snapshot<PAGES> {
+    ghost use Rattle.std.specs.Prelude.{◌≡◌, ◌≤◌, List, ℕ, length, map};
+    ghost use Rattle.r3k_word.specs.declared.layout.TheConstants.{MAX_RAM_PAGES};
+    ghost use Rattle.r3k_pages.specs.Groups.{group_count_of, words_in};
+
+    ghost Value = { List ℕ };
+
+    ghost view = { λ s. words_in PAGES (map (λ group. group.value) s.groups.items) };
+
+    ghost invariant = { λ s. (length s.groups.items ≡ group_count_of PAGES) × (PAGES ≤ MAX_RAM_PAGES) };
+}
+
+/// How many pages RAM and ROM have together.
+pub(crate) fn page_count(ram_pages: u32) -> usize
+    ensures { result ≡ page_count_of ram_pages }
+{
+    ram_pages as usize + ROM_PAGES as usize
+}
+
+// How many groups these are in, the last one with room.
+fn group_count(ram_pages: u32) -> usize
+    ensures { result ≡ group_count_of ram_pages }
+{
+    page_count(ram_pages).div_ceil(GROUP_PAGES)
+}
+
+impl<const PAGES: u32> Snapshot<PAGES> {
+    /// The snapshot of all words of a memory. With an earlier snapshot it shares that one's pages outside a set of pages, `dirty`,
+    /// outside which both have the same words.
+    pub fn capture(
+        alloc: Global,
+        words: &[u32],
+        previous: Option<&Snapshot<PAGES>>,
+        dirty: &[u32],
+    ) -> Result<Snapshot<PAGES>, AllocError>
+        requires pages { PAGES ≤ MAX_RAM_PAGES }
+        requires whole { length words.now ≡ word_count_of PAGES }
+        requires same { IfSome previous (λ previous. SameOutside dirty.now previous.now words.now) }
+        ensures { IfOk result (λ s. s ≡ words.now) }
+    {
+        let count = group_count(PAGES);
+        let mut groups = Vec::with_capacity(alloc, count)?;
+        for group in 0..count {
+            groups.push(group_of(alloc, words, previous, dirty, group)?)?;
+        }
+        Ok(Snapshot { groups })
+    }
+
+    /// The word at a place in the list of all words.
+    pub fn word(&self, place: usize) -> u32
+        requires { place < word_count_of PAGES }
+        ensures { result ≡ slice_index self.now place }
+    {
+        self.page(page_of(place)).words()[place % PAGE_WORDS as usize]
+    }
+
+    /// Whether a page has the same words in both.
+    pub fn same_page(&self, page: u32, other: &Snapshot<PAGES>) -> bool
+        requires { page < page_count_of PAGES }
+        ensures { IsTrue result ↔ SamePage page self.now other.now }
+    {
+        self.page(page as usize).words() == other.page(page as usize).words()
+    }
+
+    /// Makes a memory hold its words.
+    pub fn copy_to(&self, words: &mut [u32])
+        requires { length words.old ≡ word_count_of PAGES }
+        ensures { words.new ≡ self.now }
+    {
+        // The groups are read, so that their number is known here.
+        let _groups = &self.groups;
+        for page in 0..page_count(PAGES) {
+            let start = page * PAGE_WORDS as usize;
+            words[start..start + PAGE_WORDS as usize].copy_from_slice(self.page(page).words());
+        }
+    }
+
+    // A group of pages.
+    pub(crate) fn group(&self, group: usize) -> &Rc<Group>
+        requires { group < group_count_of PAGES }
+        ensures { IsGroupOf PAGES self.now group result.now.value }
+    {
+        &self.groups[group]
+    }
+
+    // A page.
+    pub(crate) fn page(&self, page: usize) -> &Rc<Page>
+        requires { page < page_count_of PAGES }
+        ensures { IsPageOf self.now page result.now.value }
+    {
+        self.group(page / GROUP_PAGES).page(page % GROUP_PAGES)
+    }
+}

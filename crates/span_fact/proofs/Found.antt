@@ -1,0 +1,29 @@
+-- The last writer of a word that is looked up in order.
+use Rattle.std.proofs.Common.{◌≡◌, ℕ, ◌*◌, ◌<◌, ◌≤◌, List, Contains, map, length, slice_index_or, Option, Some, None, IsSome, refl, sym, ap, subst, ◌∙◌, arith, inl, inr}
+use Rattle.std.proofs.lemmas.Bool.{cases_lt}
+use Rattle.std.proofs.lemmas.List.{get_or-map, length-map}
+use Rattle.r3k_word.specs.declared.layout.TheConstants.{PAGE_WORDS}
+use Rattle.r3k_machine.specs.declared.step.Done.{Done}
+use Rattle.r3k_machine.specs.Run.{last_writer}
+use Rattle.r3k_live.specs.Record.{AreWriters}
+use Rattle.r3k_live.specs.declared.recorder.Written.{Written}
+
+-- the word of a place is not among those from its place on, so no step stored into it
+pub not_found : (pages : ℕ) (steps : List Done) (writers : List Written) (place at : ℕ) → AreWriters pages steps writers → place < pages * PAGE_WORDS
+    → ((k : ℕ) (d : Written) → k < at → (slice_index_or writers k d).place < place)
+    → ((k : ℕ) (d : Written) → at ≤ k → k < length writers → ¬ ((slice_index_or writers k d).place ≡ place))
+    → None ≡ last_writer (4 * place) steps
+not_found pages steps writers place at written within below other = none (last_writer (4 * place) steps) (written.all place within)
+  where
+    none : (o : Option ℕ) → (IsSome o → Contains (map (λ w. w.place) writers) place) → None ≡ o
+    none None has = refl
+    none (Some step) has =
+        let found = has refl in
+        let k = found.0 in
+        let d : Written = record { place = place; step = 0 } in
+        let inside : k < length writers = subst (λ (n : ℕ). k < n) (length-map writers (λ (w : Written). w.place)) found.1 in
+        let is : (slice_index_or writers k d).place ≡ place = sym (get_or-map (λ (w : Written). w.place) writers k d place inside) ∙ found.2 in
+        elim (cases_lt k at) [
+          | inl before ↦ absurd (let e : ⊥ = omega (arith, is, below k d before) in e)
+          | inr behind ↦ absurd (other k d behind inside is)
+        ]

@@ -1,0 +1,33 @@
+use Rattle.std.proofs.Common.{◌*◌, List, sym, ap, subst, ◌∙◌}
+use Rattle.input_log.specs.Event.{TimedByte}
+use Rattle.r3k_machine.specs.Run.{run, trace}
+use Rattle.r3k_machine.specs.State.{State}
+use Rattle.r3k_live.specs.Record.{AreWriters, dirty_pages, sent_from, touched_pages}
+use Rattle.span_fact.specs.Span.{Holds}
+use Rattle.span_fact.proofs.fact.Fact.make.Goals as goal
+
+pub invariant_of-result : goal.invariant_of-result
+invariant_of-result g c =
+    let pages = g.row.PAGES in
+    let span = g.row.SPAN in
+    let index = c.args.index in
+    let from = index * span in
+    let events = c.args.events.now in
+    let stood = c.args.live.now.state in
+    let steps = trace pages events from stood span in
+    let here = c.requires.stands in
+    let recorded = c.run.ensures.recorded in
+    subst (λ (kept : List TimedByte). Holds pages span (record { index = index; start = c.args.start.value; events = kept })
+        c.in_ok-share.field-0.value c.in_ok-writers.field-0.items c.in_ok-from_slice-2.field-0.items c.in_ok-dirty.dirty.items c.in_ok-touched.field-0.items)
+    (sym (c.in_ok-from_slice.ensures {u = tt}).items)
+    (record {
+      in_order = c.requires.in_order;
+      within = c.requires.within;
+      ends =
+          c.in_ok-share.ensures {u = tt}
+          ∙ (c.in_ok-end.ensures {u = tt} ∙ (c.run.ensures.state ∙ ap (λ (s : State). run pages events from s span) here));
+      written = subst (λ (s : State). AreWriters pages (trace pages events from s span) c.in_ok-writers.field-0.items) here (c.in_ok-writers.ensures {u = tt} steps recorded);
+      told = (c.in_ok-from_slice-2.ensures {u = tt}).items ∙ (c.sent.ensures.sent steps recorded ∙ ap (λ (s : State). sent_from 0 (trace pages events from s span)) here);
+      stored = (c.in_ok-dirty.ensures {u = tt}).pages steps recorded ∙ ap (λ (s : State). dirty_pages pages (trace pages events from s span)) here;
+      seen = (c.in_ok-touched.ensures {u = tt}).pages steps recorded ∙ ap (λ (s : State). touched_pages pages (trace pages events from s span)) here;
+    })

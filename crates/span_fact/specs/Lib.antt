@@ -1,0 +1,2 @@
+pub use Rattle.r3k_live.specs.Record
+pub mod Span

@@ -1,0 +1,32 @@
+-- A span of a run (own): so many steps from a state, with the events of their times. All else of it follows.
+use Rattle.std.specs.Prelude.{◌≡◌, ℕ, ◌+◌, ◌*◌, List}
+use Rattle.input_log.specs.Event.{TimedByte}
+use Rattle.input_log.specs.Log.{AreInOrder, AreWithin}
+use Rattle.r3k_machine.specs.State.{State}
+use Rattle.r3k_machine.specs.Run.{run, trace}
+use Rattle.r3k_machine.specs.declared.step.Done.{Done}
+use Rattle.r3k_live.specs.Record.{AreWriters, dirty_pages, sent_from, touched_pages}
+use Rattle.r3k_live.specs.declared.recorder.SentAt.{SentAt}
+use Rattle.r3k_live.specs.declared.recorder.Written.{Written}
+
+pub record Span : Type 0 where
+  pub index : ℕ
+  pub start : State
+  pub events : List TimedByte
+
+-- where it ends, and what its steps tell
+abbrev pub end_of : (pages span : ℕ) → Span → State
+end_of pages span s = run pages s.events (s.index * span) s.start span
+
+abbrev pub steps_of : (pages span : ℕ) → Span → List Done
+steps_of pages span s = trace pages s.events (s.index * span) s.start span
+
+-- a record of a span tells of it what is so
+pub record Holds (pages span : ℕ) (s : Span) (end : State) (writers : List Written) (sent : List SentAt) (dirty touched : List ℕ) : Type 0 where
+  pub in_order : AreInOrder s.events
+  pub within : AreWithin (s.index * span) ((s.index + 1) * span) s.events
+  pub ends : end ≡ end_of pages span s
+  pub written : AreWriters pages (steps_of pages span s) writers
+  pub told : sent ≡ sent_from 0 (steps_of pages span s)
+  pub stored : dirty ≡ dirty_pages pages (steps_of pages span s)
+  pub seen : touched ≡ touched_pages pages (steps_of pages span s)

@@ -1,0 +1,164 @@
+//! The record of a span: `SPAN` steps from a state, with the events of their times.
+
+ghost use Rattle.std.specs.Prelude.{◌≡◌, ◌+◌, ◌*◌, ◌^◌, ◌<◌, ◌≤◌, ℕ, IfOk, length, slice_index_or};
+ghost use Rattle.std.specs.List.Sorted.{IsNonDecreasingBy};
+ghost use Rattle.r3k_word.specs.declared.layout.TheConstants.{PAGE_WORDS};
+ghost use Rattle.input_log.specs.Log.{AreInOrder, AreWithin};
+ghost use Rattle.r3k_pages.specs.Pages.{IsPageSet};
+ghost use Rattle.r3k_machine.specs.Run.{last_writer};
+ghost use Rattle.r3k_live.specs.Living.{counted};
+ghost use Rattle.r3k_live.specs.Record.{dirty_pages, sent_from, touched_pages};
+ghost use Rattle.r3k_live.specs.declared.recorder.Written.{Written};
+ghost use Rattle.span_fact.specs.Span.{end_of, steps_of};
+
+use input_log::Event;
+use r3k_live::{Boundary, Live, Recorder, SentAt, Written};
+use std::alloc::{AllocError, Global};
+use std::marker::Model;
+use std::rc::Rc;
+
+/// What `SPAN` steps from a state, with the events of their times, leave and tell, on a machine with `PAGES` pages of RAM.
+#[derive(Drop)]
+pub struct Fact<const PAGES: u32, const SPAN: u32> {
+    index: u64,
+    start: Rc<Boundary<PAGES>>,
+    end: Rc<Boundary<PAGES>>,
+    events: Vec<Event>,
+    writers: Vec<Written>,
+    sent: Vec<SentAt>,
+    dirty: Vec<u32>,
+    touched: Vec<u32>,
+}
+
+impl<const PAGES: u32, const SPAN: u32> Model for Fact<PAGES, SPAN> {
+    ghost use Rattle.span_fact.specs.Span.{Holds, Span};
+
+    ghost Value = { Span };
+
+    ghost view = { λ f. record { index = f.index; start = f.start.value; events = f.events.items } };
+
+    ghost invariant = { λ f. Holds PAGES SPAN (record { index = f.index; start = f.start.value; events = f.events.items })
+        f.end.value f.writers.items f.sent.items f.dirty.items f.touched.items };
+}
+
+impl<const PAGES: u32, const SPAN: u32> Fact<PAGES, SPAN> {
+    /// The record of the span of an index, made by running it: the machine stands at its start, which is handed in as kept, and
+    /// then at its end. Where memory is refused the machine may stand anywhere in the span, and has made at most `SPAN` steps.
+    pub fn make(
+        alloc: Global,
+        live: &mut Live<PAGES>,
+        recorder: &mut Recorder<PAGES, SPAN>,
+        start: Rc<Boundary<PAGES>>,
+        index: u64,
+        events: &[Event],
+    ) -> Result<Fact<PAGES, SPAN>, AllocError>
+        requires stands { live.old.state ≡ start.value }
+        requires in_order { AreInOrder events.now }
+        requires within { AreWithin (index * SPAN) ((index + 1) * SPAN) events.now }
+        requires time { (index + 1) * SPAN < 2 ^ 64 }
+        ensures made { IfOk result (λ fact. fact ≡ record { index = index; start = start.entry.value; events = events.now }) }
+        ensures stands { IfOk result (λ fact. live.new.state ≡ end_of PAGES SPAN fact) }
+        ensures count { IfOk result (λ _. live.new.steps ≡ counted live.old.steps SPAN) }
+        ensures least { live.old.steps ≤ live.new.steps }
+        ensures most { live.new.steps ≤ counted live.old.steps SPAN }
+    {
+        recorder.clear();
+        live.run(index * SPAN as u64, events, SPAN, recorder);
+        let dirty = recorder.dirty(alloc)?;
+        let end = live.keep(alloc, Some(&start), &dirty)?;
+        Ok(Fact {
+            index,
+            start,
+            end: share(alloc, end)?,
+            events: Vec::from_slice(alloc, events)?,
+            writers: recorder.writers(alloc)?,
+            sent: Vec::from_slice(alloc, recorder.sent())?,
+            dirty,
+            touched: recorder.touched(alloc)?,
+        })
+    }
+
+    /// The number of the span in its run: its steps are those from `index * SPAN` on.
+    pub fn index(&self) -> u64
+        ensures { result ≡ self.now.index }
+    {
+        self.index
+    }
+
+    /// Where it starts.
+    pub fn start(&self) -> &Rc<Boundary<PAGES>>
+        ensures { result.now.value ≡ self.now.start }
+    {
+        &self.start
+    }
+
+    /// Where it ends: where the run stands behind its last step.
+    pub fn end(&self) -> &Rc<Boundary<PAGES>>
+        ensures { result.now.value ≡ end_of PAGES SPAN self.now }
+    {
+        &self.end
+    }
+
+    /// The events of its times.
+    pub fn events(&self) -> &[Event]
+        ensures events { result.now ≡ self.now.events }
+        ensures in_order { AreInOrder result.now }
+        ensures within { AreWithin (self.now.index * SPAN) ((self.now.index + 1) * SPAN) result.now }
+    {
+        &self.events
+    }
+
+    /// The last of its steps, counted from its start, that stored into the word of RAM at a place, if one did.
+    pub fn writer(&self, place: usize) -> Option<u32>
+        requires { place < PAGES * PAGE_WORDS }
+        ensures { result ≡ last_writer (4 * place) (steps_of PAGES SPAN self.now) }
+    {
+        let at = first_from(&self.writers, place);
+        if at == self.writers.len() {
+            return None;
+        }
+        let writer = self.writers[at];
+        if writer.place as usize != place {
+            return None;
+        }
+        Some(writer.step)
+    }
+
+    /// The bytes that its steps sent, in order, each with its line and its step, counted from its start.
+    pub fn sent(&self) -> &[SentAt]
+        ensures { result.now ≡ sent_from 0 (steps_of PAGES SPAN self.now) }
+    {
+        &self.sent
+    }
+
+    /// The pages that its steps stored into, in ascending order.
+    pub fn dirty(&self) -> &[u32]
+        ensures { result.now ≡ dirty_pages PAGES (steps_of PAGES SPAN self.now) }
+    {
+        &self.dirty
+    }
+
+    /// The pages that its steps touched, in ascending order: fetched from, loaded from or stored into.
+    pub fn touched(&self) -> &[u32]
+        ensures { result.now ≡ touched_pages PAGES (steps_of PAGES SPAN self.now) }
+    {
+        &self.touched
+    }
+}
+
+// A boundary that several spans can hold.
+fn share<const PAGES: u32>(alloc: Global, boundary: Boundary<PAGES>) -> Result<Rc<Boundary<PAGES>>, AllocError>
+    ensures { IfOk result (λ shared. shared.value ≡ boundary.entry) }
+{
+    Rc::new(alloc, boundary).map_err(|_| AllocError)
+}
+
+// Where in ascending order the words from a place on begin.
+fn first_from(writers: &[Written], place: usize) -> usize
+    requires { IsNonDecreasingBy (λ writer. writer.place) writers.now }
+    ensures bound { result ≤ length writers.now }
+    ensures below { (k : ℕ) (d : Written) → k < result → (slice_index_or writers.now k d).place < place }
+    ensures above { (k : ℕ) (d : Written) → result ≤ k → k < length writers.now → place ≤ (slice_index_or writers.now k d).place }
+{
+    writers.partition_point(|writer| (writer.place as usize) < place)
+}

@@ -1,0 +1,238 @@
+-- A session (own): an image, a log and a position, and the answer to each command.
+use Rattle.std.specs.Prelude.{◌≡◌, ◌⊎◌, ℕ, ◌+◌, ◌-◌, ◌≤◌, Bool, true, false, List, length, map, Option, Some, None, Result, Ok, Err, if◌then◌else◌, nat_le, refl, slice_index, slice_index_or}
+use Rattle.std.specs.Coded.{Coded, code_by, coded×, coded_ℕ, coded_list}
+use Rattle.cop0.specs.Registers.{Registers as ControlState, register_of}
+use Rattle.input_log.specs.Edits.{adding, deleting, moving, setting, up_to, without}
+use Rattle.input_log.specs.Event.{TimedByte}
+use Rattle.r3k_image.specs.Boot.{Boot, FitsRam, boot_code}
+use Rattle.r3k_image.specs.Patch.{patching}
+use Rattle.r3k_image.specs.declared.fault.ImageKind.TheVariants.{Pages}
+use Rattle.r3k_machine.specs.Core.{Core}
+use Rattle.r3k_machine.specs.Address.{where_at}
+use Rattle.r3k_machine.specs.LoadSlot.{DelayedLoad}
+use Rattle.r3k_machine.specs.declared.address.Where.{Where as MachineWhere}
+use Rattle.r3k_machine.specs.declared.address.Where.TheVariants as machine_where
+use Rattle.r3k_machine.specs.Run.{state_at}
+use Rattle.tlb64.specs.Entries.{empty_entry}
+use Rattle.tlb64.specs.declared.entry.Entry.{Entry}
+use Rattle.timeline.specs.Console.{part_of}
+use Rattle.timeline.specs.History.{History, timed_byte_code}
+use Rattle.timeline.specs.Query.{console_at, core_at, max_position, next_pc, sent_at, writer_at}
+use Rattle.timeline.specs.Sizes.{AreSizes}
+use Rattle.timeline.specs.declared.writer.Writer.{Writer as LastWriter}
+use Rattle.timeline.specs.declared.writer.Writer.TheVariants as last
+use Rattle.wb_options.specs.declared.fault.RunFault.{RunFault}
+use Rattle.wb_options.specs.declared.fault.RunFault.TheVariants.{Memory as OutOfMemory, BadImage}
+use Rattle.wb_text.specs.declared.command.Command.{Command}
+use Rattle.wb_text.specs.declared.command.Command.TheVariants.{Pos, Goto, Step, Back, Visit, Regs, Reg, Cp0, Tlb, Where as WhereIs, Mem, Dis, Console, Find, Writer as WriterOf, Log, Add, Del, Set, Move, Patch, Quit}
+use Rattle.refusal.specs.declared.fault.Fault.{Fault}
+use Rattle.refusal.specs.declared.fault.Fault.TheVariants.{Memory, NotFound, TooFar}
+use Rattle.wb_text.specs.declared.memory.Words.{Words}
+use Rattle.wb_text.specs.declared.reply.ControlRegisters.{ControlRegisters}
+use Rattle.wb_text.specs.declared.reply.Load.{Load}
+use Rattle.wb_text.specs.declared.reply.Registers.{Registers as AllRegisters}
+use Rattle.wb_text.specs.declared.reply.Writer.{Writer}
+use Rattle.wb_text.specs.declared.reply.Writer.TheVariants as writer
+use Rattle.wb_text.specs.declared.reply.Where.{Where}
+use Rattle.wb_text.specs.declared.reply.Where.TheVariants.{Cached, Uncached, AddressError, Refill, Miss}
+use Rattle.wb_text.specs.declared.reply.Reply.{Reply}
+use Rattle.wb_text.specs.declared.reply.Reply.TheVariants.{Position, Registers, Register, Control, Entry as EntryReply, Where as Place, Memory as MemoryReply, Instructions, Console as ConsoleReply, Found, Writer as WriterReply, Log as LogReply, Event, Left, Patched, Nothing, Fault as Refused}
+use Rattle.wb_session.specs.Memory.{places_of}
+
+-- what a session is
+pub record Triple : Type 0 where
+  pub image : Boot
+  pub log : List TimedByte
+  pub position : ℕ
+
+-- the history of a session
+abbrev pub history_of : Triple → History
+history_of s = record { image = s.image; log = s.log }
+
+-- A session of a machine with so many pages of RAM and spans of so many steps: sizes in their ranges, an image that fits,
+-- and a position that is not past the greatest one.
+pub record IsSession (pages span : ℕ) (s : Triple) : Type 0 where
+  pub sizes : AreSizes pages span
+  pub fits : FitsRam pages s.image
+  pub position : s.position ≤ max_position
+
+-- why there is no session of an image
+abbrev pub IsNewFault : ℕ → Boot → RunFault → Type 0
+IsNewFault pages image OutOfMemory = Unit {0}
+IsNewFault pages image (BadImage kind) = (kind ≡ Pages) × ¬ FitsRam pages image
+IsNewFault pages image fault = ⊥
+
+-- how proofs tell two sessions apart: by all their parts
+abbrev pub triple_code : Coded Triple
+triple_code =
+    code_by (Boot × (List TimedByte × ℕ)) (coded× boot_code (coded× (coded_list timed_byte_code) coded_ℕ)) (λ s. (s.image, (s.log, s.position)))
+    (λ p. record { image = p.0; log = p.1.0; position = p.1.1 }) (λ _. refl)
+
+-- what `regs` shows of a processor
+abbrev pub shown_load : Option DelayedLoad → Option Load
+shown_load None = None
+shown_load (Some load) = Some (record { register = load.register; value = load.value })
+
+abbrev pub shown : Core → AllRegisters
+shown core = record {
+  pc = core.pc;
+  next_pc = core.next_pc;
+  hi = core.hi;
+  lo = core.lo;
+  delay = core.delay;
+  load = shown_load core.load;
+  registers = core.registers;
+}
+
+-- what `cp0` shows of the control registers
+abbrev pub shown_control : ControlState → ControlRegisters
+shown_control c = record {
+  index = register_of c 0;
+  random = register_of c 1;
+  entry_lo = register_of c 2;
+  context = register_of c 4;
+  bad_vaddr = register_of c 8;
+  entry_hi = register_of c 10;
+  status = register_of c 12;
+  cause = register_of c 13;
+  epc = register_of c 14;
+  prid = register_of c 15;
+}
+
+-- what `tlb` shows of a translation entry
+abbrev pub shown_entry : ℕ → Entry → Reply
+shown_entry number entry = EntryReply number entry.hi entry.lo
+
+-- what `where` shows of an address
+abbrev pub shown_place : MachineWhere → Where
+shown_place (machine_where.Cached physical) = Cached physical
+shown_place (machine_where.Uncached physical) = Uncached physical
+shown_place machine_where.Adel = AddressError
+shown_place machine_where.Refill = Refill
+shown_place machine_where.Tlbl = Miss
+
+-- an answer: the session after it, and the reply
+pub record Answer : Type 0 where
+  pub session : Triple
+  pub reply : Reply
+
+abbrev pub answer : Triple → Reply → Answer
+answer session reply = record { session = session; reply = reply }
+
+-- a refusal keeps the session
+abbrev pub refusal : Triple → Fault → Answer
+refusal s fault = answer s (Refused fault)
+
+-- a move to a position, unless it is past the greatest one
+abbrev pub moved : Triple → ℕ → Answer
+moved s position =
+    if nat_le position max_position
+    then answer (record { image = s.image; log = s.log; position = position }) (Position position)
+    else refusal s TooFar
+
+-- the words of memory that a session shows, from an address on, or why it can't
+abbrev pub words_of : ℕ → Triple → (address : ℕ) → Result (List ℕ) Fault → Result Words Fault
+words_of pages s address (Ok places) =
+    Ok (record { address = address; words = record { items = map (slice_index (state_at pages s.image s.log s.position).words) places } })
+words_of pages s address (Err fault) = Err fault
+
+abbrev pub words_shown : ℕ → Triple → (address count : ℕ) → Result Words Fault
+words_shown pages s address count = words_of pages s address (places_of pages address count)
+
+-- what `writer` shows of the last writer
+abbrev pub shown_writer : LastWriter → Writer
+shown_writer (last.Step step) = writer.Step step
+shown_writer last.Image = writer.Image
+shown_writer last.Never = writer.Never
+
+-- what `console` shows of the bytes that were sent, and `log` of the log: how many there are, and a part of them
+abbrev pub console_shown : (line : ℕ) → ℕ × List ℕ → Reply
+console_shown line shown = ConsoleReply line shown.0 (record { items = shown.1 })
+
+abbrev pub log_shown : (from count : ℕ) → List TimedByte → Reply
+log_shown from count log = LogReply (length log) from (record { items = part_of from count log })
+
+-- The answers by what a query, a search for a position, an edit of the log, and a patch give. A refusal keeps the session.
+abbrev pub shows : {A : Type 0} → Triple → (A → Reply) → Result A Fault → Answer
+shows s show (Ok answered) = answer s (show answered)
+shows s show (Err fault) = refusal s fault
+
+abbrev pub visits : Triple → Result ℕ Fault → Answer
+visits s (Ok position) = answer (record { image = s.image; log = s.log; position = position }) (Position position)
+visits s (Err fault) = refusal s fault
+
+abbrev pub edits : Triple → (List TimedByte → Reply) → Result (List TimedByte) Fault → Answer
+edits s tell (Ok log) = answer (record { image = s.image; log = log; position = s.position }) (tell log)
+edits s tell (Err fault) = refusal s fault
+
+abbrev pub patches : Triple → Result Boot Fault → Answer
+patches s (Ok image) = answer (record { image = image; log = s.log; position = s.position }) Patched
+patches s (Err fault) = refusal s fault
+
+-- the answer that shows something of the processor
+abbrev pub of_core : ℕ → Triple → (Core → Reply) → Answer
+of_core pages s show = shows s show (core_at pages (history_of s) s.position)
+
+-- The plain answer of a command, on a machine with so many RAM pages. A refused command keeps the session.
+abbrev pub plain : ℕ → Triple → Command → Answer
+plain pages s Pos = answer s (Position s.position)
+plain pages s (Goto position) = moved s position
+plain pages s (Step count) = moved s (s.position + count)
+plain pages s (Back count) = if nat_le count s.position then moved s (s.position - count) else refusal s TooFar
+plain pages s (Visit address limit) = visits s (next_pc pages (history_of s) s.position address limit)
+plain pages s Regs = of_core pages s (λ core. Registers (shown core))
+plain pages s (Reg number) = of_core pages s (λ core. Register number (slice_index core.registers number))
+plain pages s Cp0 = of_core pages s (λ core. Control (shown_control core.cop0))
+plain pages s (Tlb number) = of_core pages s (λ core. shown_entry number (slice_index_or core.entries number empty_entry))
+plain pages s (WhereIs address) = of_core pages s (λ core. Place (shown_place (where_at core address)))
+plain pages s (Mem address count) = shows s (λ words. MemoryReply words) (words_shown pages s address count)
+plain pages s (Dis address count) = shows s (λ words. Instructions words) (words_shown pages s address count)
+plain pages s (Console line from count) = shows s (console_shown line) (console_at pages (history_of s) s.position line from count)
+plain pages s (Find line place) = shows s (λ step. Found step) (sent_at pages (history_of s) s.position line place)
+plain pages s (WriterOf address) = shows s (λ last. WriterReply (shown_writer last)) (writer_at pages (history_of s) s.position address)
+plain pages s (Log from count) = answer s (log_shown from count s.log)
+plain pages s (Add time line byte) = edits s (λ _. Event (length (up_to time s.log))) (adding (record { time = time; line = line; byte = byte }) s.log)
+plain pages s (Del place) = edits s (λ log. Left (length log)) (deleting place s.log)
+plain pages s (Set place byte) = edits s (λ _. Event place) (setting place byte s.log)
+plain pages s (Move place time) = edits s (λ _. Event (length (up_to time (without place s.log)))) (moving place time s.log)
+plain pages s (Patch address word) = patches s (patching pages address word s.image)
+plain pages s Quit = answer s Nothing
+
+-- the commands that may be refused for memory
+abbrev pub takes_memory : Command → Bool
+takes_memory Pos = false
+takes_memory (Goto position) = false
+takes_memory (Step count) = false
+takes_memory (Back count) = false
+takes_memory (Visit address limit) = true
+takes_memory Regs = true
+takes_memory (Reg number) = true
+takes_memory Cp0 = true
+takes_memory (Tlb number) = true
+takes_memory (WhereIs address) = true
+takes_memory (Mem address count) = true
+takes_memory (Dis address count) = true
+takes_memory (Console line from count) = true
+takes_memory (Find line place) = true
+takes_memory (WriterOf address) = true
+takes_memory (Log from count) = false
+takes_memory (Add time line byte) = true
+takes_memory (Del place) = false
+takes_memory (Set place byte) = false
+takes_memory (Move place time) = false
+takes_memory (Patch address word) = true
+takes_memory Quit = false
+
+-- the refusals that come before that for memory: 2 to 7
+abbrev pub comes_before_memory : Reply → Bool
+comes_before_memory (Refused Memory) = false
+comes_before_memory (Refused NotFound) = false
+comes_before_memory (Refused fault) = true
+comes_before_memory reply = false
+
+-- The answers of a command: the plain one, and where it takes memory also a refusal for want of it, which keeps the
+-- session, but only where the plain reply is no refusal that comes before.
+abbrev pub Answers : ℕ → Triple → Command → Triple → Reply → Type 0
+Answers pages old command new reply =
+    (answer new reply ≡ plain pages old command)
+    ⊎ ((takes_memory command ≡ true) × (comes_before_memory (plain pages old command).reply ≡ false) × (new ≡ old) × (reply ≡ Refused Memory))

@@ -1,0 +1,296 @@
+//! A session: an image, a log and a position, and the answer to each command.
+
+ghost use Rattle.std.specs.Prelude.{◌≡◌, ◌⊎◌, Err, IsOk, MatchResult, Ok};
+ghost use Rattle.r3k_image.specs.Boot.{FitsRam};
+ghost use Rattle.timeline.specs.Sizes.{AreSizes};
+ghost use Rattle.wb_text.specs.declared.command.Command.TheVariants as command;
+ghost use Rattle.wb_session.specs.Session.{Answers, IsNewFault, answer, log_shown, moved};
+
+use crate::showing::{
+    control_of, entry_shown, events_from, place_shown, registers_of, writer_shown,
+};
+use input_log::Log;
+use r3k_image::Image;
+use refusal::Fault;
+use std::alloc::Global;
+use std::marker::Model;
+use timeline::{MAX_POSITION, Timeline};
+use wb_options::RunFault;
+use wb_text::{
+    Address, ByteCount, ByteValue, Command, EntryNumber, EventCount, EventTime, LineNumber,
+    RegisterNumber, Reply, StepCount, WordValue,
+};
+
+/// A session on a machine with `PAGES` pages of RAM. Runs will be kept in spans of `SPAN` steps.
+#[derive(Drop)]
+pub struct Session<const PAGES: u32, const SPAN: u32> {
+    pub(crate) timeline: Timeline<PAGES, SPAN>,
+    pub(crate) position: u64,
+}
+
+impl<const PAGES: u32, const SPAN: u32> Model for Session<PAGES, SPAN> {
+    ghost use Rattle.wb_session.specs.Session.{IsSession, Triple, triple_code};
+
+    ghost Value = { Triple };
+
+    ghost coded = { triple_code };
+
+    ghost view = { λ s. record { image = s.timeline.image; log = s.timeline.log; position = s.position } };
+
+    ghost invariant = { λ s. IsSession PAGES SPAN
+        (record { image = s.timeline.image; log = s.timeline.log; position = s.position }) };
+}
+
+impl<const PAGES: u32, const SPAN: u32> Session<PAGES, SPAN> {
+    /// The session of an image and a log, at position 0. An image that sets a word of RAM past the machine's is refused,
+    /// and then image and log are dropped.
+    pub fn new(alloc: Global, image: Image, log: Log) -> Result<Session<PAGES, SPAN>, RunFault>
+        requires sizes { AreSizes PAGES SPAN }
+        ensures { MatchResult result
+            (λ s. FitsRam PAGES image × (s ≡ record { image = image; log = log; position = 0 }))
+            (IsNewFault PAGES image) }
+    {
+        Ok(Session {
+            timeline: Timeline::new(alloc, image, log)?,
+            position: 0,
+        })
+    }
+
+    /// Answers a command.
+    pub fn apply(&mut self, command: Command) -> Reply
+        ensures { Answers PAGES self.old command self.new result }
+    {
+        match command {
+            Command::Pos => Reply::Position(self.position),
+            Command::Goto(position) => self.goto(position),
+            Command::Step(count) => self.step(count),
+            Command::Back(count) => self.back(count),
+            Command::Visit { address, limit } => self.visit(address, limit),
+            Command::Regs => self.registers(),
+            Command::Reg(number) => self.register(number),
+            Command::Cp0 => self.control(),
+            Command::Tlb(number) => self.entry(number),
+            Command::Where(address) => self.place(address),
+            Command::Mem { address, count } => match self.words(address, count) {
+                Ok(words) => Reply::Memory(words),
+                Err(fault) => Reply::Fault(fault),
+            },
+            Command::Dis { address, count } => match self.words(address, count) {
+                Ok(words) => Reply::Instructions(words),
+                Err(fault) => Reply::Fault(fault),
+            },
+            Command::Console { line, from, count } => self.console(line, from, count),
+            Command::Find { line, place } => self.find(line, place),
+            Command::Writer(address) => self.writer(address),
+            Command::Log { from, count } => self.events(from, count),
+            Command::Add { time, line, byte } => self.add(time, line, byte),
+            Command::Del(event) => self.del(event),
+            Command::Set { event, byte } => self.set(event, byte),
+            Command::Move { event, time } => self.move_to(event, time),
+            Command::Patch { address, word } => self.patch(address, word),
+            Command::Quit => Reply::Nothing,
+        }
+    }
+
+    // Moves to a position.
+    fn goto(&mut self, position: u64) -> Reply
+        ensures { answer self.new result ≡ moved self.old position }
+    {
+        if position > MAX_POSITION {
+            return Reply::Fault(Fault::TooFar);
+        }
+        self.position = position;
+        Reply::Position(position)
+    }
+
+    // Moves forward.
+    fn step(&mut self, count: u64) -> Reply
+        ensures { Answers PAGES self.old (command.Step count) self.new result }
+    {
+        match self.position.checked_add(count) {
+            Some(position) => self.goto(position),
+            None => Reply::Fault(Fault::TooFar),
+        }
+    }
+
+    // Moves back.
+    fn back(&mut self, count: u64) -> Reply
+        ensures { Answers PAGES self.old (command.Back count) self.new result }
+    {
+        match self.position.checked_sub(count) {
+            Some(position) => self.goto(position),
+            None => Reply::Fault(Fault::TooFar),
+        }
+    }
+
+    // Moves forward to the next position at which the PC holds an address.
+    fn visit(&mut self, address: Address, limit: StepCount) -> Reply
+        ensures { Answers PAGES self.old (command.Visit address limit) self.new result }
+    {
+        match self
+            .timeline
+            .next_pc(self.position, address.get() as u32, limit.get())
+        {
+            Ok(position) => {
+                self.position = position;
+                Reply::Position(position)
+            }
+            Err(fault) => Reply::Fault(fault),
+        }
+    }
+
+    // Shows the registers.
+    fn registers(&mut self) -> Reply
+        ensures { Answers PAGES self.old command.Regs self.new result }
+    {
+        match self.timeline.core_at(self.position) {
+            Ok(core) => Reply::Registers(registers_of(core.as_ref())),
+            Err(fault) => Reply::Fault(fault),
+        }
+    }
+
+    // Shows a register.
+    fn register(&mut self, register: RegisterNumber) -> Reply
+        ensures { Answers PAGES self.old (command.Reg register) self.new result }
+    {
+        match self.timeline.core_at(self.position) {
+            Ok(core) => Reply::Register {
+                number: register,
+                value: core.registers()[register.get() as usize],
+            },
+            Err(fault) => Reply::Fault(fault),
+        }
+    }
+
+    // Shows the control registers.
+    fn control(&mut self) -> Reply
+        ensures { Answers PAGES self.old command.Cp0 self.new result }
+    {
+        match self.timeline.core_at(self.position) {
+            Ok(core) => Reply::Control(control_of(core.cop0())),
+            Err(fault) => Reply::Fault(fault),
+        }
+    }
+
+    // Shows a translation entry.
+    fn entry(&mut self, number: EntryNumber) -> Reply
+        ensures { Answers PAGES self.old (command.Tlb number) self.new result }
+    {
+        match self.timeline.core_at(self.position) {
+            Ok(core) => entry_shown(number, core.entry(number.get() as u32)),
+            Err(fault) => Reply::Fault(fault),
+        }
+    }
+
+    // Shows where an address leads.
+    fn place(&mut self, address: Address) -> Reply
+        ensures { Answers PAGES self.old (command.Where address) self.new result }
+    {
+        match self.timeline.core_at(self.position) {
+            Ok(core) => Reply::Where(place_shown(core.where_is(address.get() as u32))),
+            Err(fault) => Reply::Fault(fault),
+        }
+    }
+
+    // Shows bytes that were sent on a line.
+    fn console(&mut self, line: LineNumber, from: u64, count: ByteCount) -> Reply
+        ensures { Answers PAGES self.old (command.Console line from count) self.new result }
+    {
+        let number = line.get() as u8;
+        match self
+            .timeline
+            .console_at(self.position, number, from, count.get() as usize)
+        {
+            Ok((total, bytes)) => Reply::Console { line, total, bytes },
+            Err(fault) => Reply::Fault(fault),
+        }
+    }
+
+    // Tells the step that sent a byte.
+    fn find(&mut self, line: LineNumber, place: u64) -> Reply
+        ensures { Answers PAGES self.old (command.Find line place) self.new result }
+    {
+        match self
+            .timeline
+            .sent_at(self.position, line.get() as u8, place)
+        {
+            Ok(step) => Reply::Found(step),
+            Err(fault) => Reply::Fault(fault),
+        }
+    }
+
+    // Tells the last writer of a word.
+    fn writer(&mut self, address: Address) -> Reply
+        ensures { Answers PAGES self.old (command.Writer address) self.new result }
+    {
+        match self.timeline.writer_at(self.position, address.get() as u32) {
+            Ok(writer) => Reply::Writer(writer_shown(writer)),
+            Err(fault) => Reply::Fault(fault),
+        }
+    }
+
+    // Shows events of the log.
+    fn events(&self, from: u64, count: EventCount) -> Reply
+        ensures { result ≡ log_shown from count self.now.log }
+    {
+        let events = self.timeline.log().events();
+        Reply::Log {
+            total: events.len() as u64,
+            first: from,
+            events: events_from(events, from, count.get() as usize),
+        }
+    }
+
+    // Adds an event.
+    fn add(&mut self, time: EventTime, line: LineNumber, byte: ByteValue) -> Reply
+        ensures { Answers PAGES self.old (command.Add time line byte) self.new result }
+    {
+        match self
+            .timeline
+            .add(time.get(), line.get() as u8, byte.get() as u8)
+        {
+            Ok(event) => Reply::Event(event as u64),
+            Err(fault) => Reply::Fault(fault),
+        }
+    }
+
+    // Deletes an event.
+    fn del(&mut self, event: u64) -> Reply
+        ensures { Answers PAGES self.old (command.Del event) self.new result }
+    {
+        match self.timeline.del(event) {
+            Ok(()) => Reply::Left(self.timeline.log().events().len() as u64),
+            Err(fault) => Reply::Fault(fault),
+        }
+    }
+
+    // Gives an event another byte.
+    fn set(&mut self, event: u64, byte: ByteValue) -> Reply
+        ensures { Answers PAGES self.old (command.Set event byte) self.new result }
+    {
+        match self.timeline.set(event, byte.get() as u8) {
+            Ok(()) => Reply::Event(event),
+            Err(fault) => Reply::Fault(fault),
+        }
+    }
+
+    // Moves an event to another time.
+    fn move_to(&mut self, event: u64, time: EventTime) -> Reply
+        ensures { Answers PAGES self.old (command.Move event time) self.new result }
+    {
+        match self.timeline.move_to(event, time.get()) {
+            Ok(event) => Reply::Event(event as u64),
+            Err(fault) => Reply::Fault(fault),
+        }
+    }
+
+    // Sets a word of the image.
+    fn patch(&mut self, address: Address, word: WordValue) -> Reply
+        ensures { Answers PAGES self.old (command.Patch address word) self.new result }
+    {
+        match self.timeline.patch(address.get() as u32, word.get() as u32) {
+            Ok(()) => Reply::Patched,
+            Err(fault) => Reply::Fault(fault),
+        }
+    }
+}
