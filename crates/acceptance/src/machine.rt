@@ -3,8 +3,8 @@
 use input_log::Event;
 use r3k_asm::assemble;
 use r3k_image::{Image, raw_rom};
-use r3k_machine::step::step;
 use r3k_live::FlatMemory;
+use r3k_machine::step::step;
 use r3k_machine::{Core, Done, Mem};
 use r3k_word::layout::word_count;
 use std::alloc::Global;

@@ -70,7 +70,11 @@ impl Core {
 }
 
 // The arrays of the earlier kept core where they are equal to these, or else a copy.
-fn keep_caches(alloc: Global, caches: &Caches, previous: Option<&KeptCore>) -> Result<Rc<Caches>, AllocError>
+fn keep_caches(
+    alloc: Global,
+    caches: &Caches,
+    previous: Option<&KeptCore>,
+) -> Result<Rc<Caches>, AllocError>
     ensures { IfOk result (λ kept. kept.value ≡ caches.now) }
 {
     if let Some(previous) = previous {

@@ -147,7 +147,10 @@ impl<const PAGES: u32, const SPAN: u32> Fact<PAGES, SPAN> {
 }
 
 // A boundary that several spans can hold.
-fn share<const PAGES: u32>(alloc: Global, boundary: Boundary<PAGES>) -> Result<Rc<Boundary<PAGES>>, AllocError>
+fn share<const PAGES: u32>(
+    alloc: Global,
+    boundary: Boundary<PAGES>,
+) -> Result<Rc<Boundary<PAGES>>, AllocError>
     ensures { IfOk result (λ shared. shared.value ≡ boundary.entry) }
 {
     Rc::new(alloc, boundary).map_err(|_| AllocError)

@@ -13,8 +13,8 @@ use arrayvec::ArrayVec;
 use dz_serial::Sent;
 use input_log::{Cursor, Log};
 use r3k_image::Image;
-use r3k_machine::step::step;
 use r3k_live::FlatMemory;
+use r3k_machine::step::step;
 use r3k_machine::{Core, Done};
 use std::alloc::{AllocError, Global};
 

@@ -18,7 +18,7 @@ invariant_of-result g c =
     let here = c.requires.stands in
     let recorded = c.run.ensures.recorded in
     subst (λ (kept : List TimedByte). Holds pages span (record { index = index; start = c.args.start.value; events = kept })
-        c.in_ok-share.field-0.value c.in_ok-writers.field-0.items c.in_ok-from_slice-2.field-0.items c.in_ok-dirty.dirty.items c.in_ok-touched.field-0.items)
+    c.in_ok-share.field-0.value c.in_ok-writers.field-0.items c.in_ok-from_slice-2.field-0.items c.in_ok-dirty.dirty.items c.in_ok-touched.field-0.items)
     (sym (c.in_ok-from_slice.ensures {u = tt}).items)
     (record {
       in_order = c.requires.in_order;

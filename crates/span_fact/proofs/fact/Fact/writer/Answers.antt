@@ -42,7 +42,7 @@ returns-then-writer-place g c =
     ∙ ap (λ (s : Span). last_writer (4 * c.args.place) (steps_of g.row.PAGES g.row.SPAN s)) c.self.view_is
 
 bounded : (at len a b : ℕ) → at ≤ a → a ≡ b → len ≡ b → ¬ (at ≡ len) → at < b
-bounded at len a b low same is other = elim (cases_lt at b) [ | inl below ↦ below | inr above ↦ absurd (other (omega (arith, low, same, is, above))) ]
+bounded at len a b low same is other = elim (cases_lt at b) [ inl below ↦ below | inr above ↦ absurd (other (omega (arith, low, same, is, above))) ]
 
 pub returns : goal.returns
 returns g c =
