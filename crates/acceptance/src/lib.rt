@@ -40,6 +40,8 @@ mod interrupts;
 #[cfg(test)]
 mod isolated;
 #[cfg(test)]
+mod live;
+#[cfg(test)]
 mod log_edits;
 #[cfg(test)]
 mod log_format;
@@ -47,6 +49,8 @@ mod log_format;
 mod logs;
 #[cfg(test)]
 mod machine;
+#[cfg(test)]
+mod pages;
 #[cfg(test)]
 mod programs;
 #[cfg(test)]
@@ -57,6 +61,8 @@ mod register_stores;
 mod registers;
 #[cfg(test)]
 mod reply_texts;
+#[cfg(test)]
+mod running;
 #[cfg(test)]
 mod script_lines;
 #[cfg(test)]

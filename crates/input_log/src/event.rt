@@ -1,5 +1,7 @@
 //! A timed serial byte.
 
+ghost use Rattle.std.specs.Prelude.{◌≡◌, ◌↔◌, IsTrue};
+
 use std::marker::Model;
 
 /// A byte that arrives at a line of the serial part, in the step `time`. A line is at most 3.
@@ -21,4 +23,11 @@ impl Model for Event {
     ghost invariant = { λ event. event.line ≤ 3 };
 
     ghost inverse = { λ event. record { time = event.time; line = event.line; byte = event.byte } };
+}
+
+/// Whether two lists of events are equal.
+pub fn same_events(a: &[Event], b: &[Event]) -> bool
+    ensures { IsTrue result ↔ (a.now ≡ b.now) }
+{
+    a == b
 }

@@ -13,7 +13,7 @@ mod reading;
 mod writing;
 
 pub use cursor::Cursor;
-pub use event::Event;
+pub use event::{Event, same_events};
 pub use fault::{LogFault, LogKind};
 pub use laws::log_laws;
 pub use limits::{MAX_EVENTS, MAX_TIME};

@@ -120,3 +120,18 @@ stayed steps done first old new differ so_far place clean =
         sym (ap (λ (words : List ℕ). slice_index words place) change.1
         ∙ get_or-set_other old (address / 4) place change.0 0
         (λ same. true≢false (sym (eq-eqb (address / 4096) (page_of_place place) (omega (arith, same))) ∙ clean)))
+
+-- no step stores into what is no word of RAM
+pub ram_more : (pages address : ℕ) (steps : List Done) (done : Done) → IfSome done.stored (IsRamWord pages) → ¬ IsRamWord pages address
+    → last_writer address steps ≡ None → last_writer address (steps ++ done ∷ []) ≡ None
+ram_more pages address steps done ram other so_far =
+    writer_split address steps (done ∷ [])
+    ∙ (ap (λ (o : Option ℕ). later (length steps) (later 1 None o) (last_writer address steps)) (not_here done.stored ram) ∙ so_far)
+  where
+    not_here : (stored : Option ℕ) → IfSome stored (IsRamWord pages) → stores_into address stored ≡ None
+    not_here None ram = refl
+    not_here (Some there) ram =
+        elim (cases_Bool (nat_eq there address)) [
+          | inl here ↦ absurd (other (Rattle.std.proofs.Common.subst (IsRamWord pages) (eqb-true there address here) ram))
+          | inr apart ↦ rw apart refl
+        ]

@@ -9,6 +9,7 @@ use Rattle.std.proofs.lemmas.List.Sorted.{All-permutation, Contains-permutation,
 use Rattle.r3k_word.specs.declared.layout.TheConstants.{PAGE_WORDS}
 use Rattle.r3k_machine.specs.declared.step.Done.{Done}
 use Rattle.r3k_machine.specs.Run.{last_writer}
+use Rattle.r3k_machine.specs.Told.{IsRamWord}
 use Rattle.r3k_live.specs.Record.{AreWriters}
 use Rattle.r3k_live.specs.Recording.{AreStored, kept_step}
 use Rattle.r3k_live.specs.declared.recorder.Written.{Written}
@@ -32,9 +33,10 @@ by_key writers sorted =
 
 pub writers_are : (pages : ℕ) (steps : List Done) (last stored places : List ℕ) (writers : List Written) → length last ≡ pages * PAGE_WORDS
     → ((place : ℕ) → place < pages * PAGE_WORDS → slice_index last place ≡ kept_step (last_writer (4 * place) steps))
+    → ((address : ℕ) → ¬ IsRamWord pages address → last_writer address steps ≡ None)
     → AreStored last stored → IsPermutation stored places → IsSorted nat_cmp places
     → map (λ w. w.place) writers ≡ places → All (λ w. slice_index last w.place ≡ w.step + 1) writers → AreWriters pages steps writers
-writers_are pages steps last stored places writers long is kept permuted sorted places_are steps_are = record {
+writers_are pages steps last stored places writers long is ram kept permuted sorted places_are steps_are = record {
   each = λ k d within.
       let place = (slice_index_or writers k d).place in
       let at : slice_index_or places k d.place ≡ place = ap (λ (xs : List ℕ). slice_index_or xs k d.place) (sym places_are) ∙ get_or-map (λ (w : Written). w.place) writers k d d.place within in
@@ -45,6 +47,7 @@ writers_are pages steps last stored places writers long is kept permuted sorted 
   all = λ place within some.
       subst (λ (xs : List ℕ). Contains xs place) (sym places_are)
       (Contains-permutation stored places place permuted (kept.all place (subst (λ (n : ℕ). 0 < n) (sym (is place within)) (kept_some (last_writer (4 * place) steps) some))));
+  ram = ram;
   ascending = by_key writers (subst (IsSorted nat_cmp) (sym places_are) sorted);
 }
 

@@ -7,6 +7,7 @@ use Rattle.r3k_word.specs.declared.layout.TheConstants.{PAGE_BYTES, PAGE_WORDS}
 use Rattle.dz_serial.specs.declared.write.Sent.{Sent}
 use Rattle.r3k_machine.specs.declared.step.Done.{Done}
 use Rattle.r3k_machine.specs.Run.{last_writer}
+use Rattle.r3k_machine.specs.Told.{IsRamWord}
 use Rattle.r3k_pages.specs.Pages.{page_count_of}
 use Rattle.r3k_live.specs.declared.recorder.SentAt.{SentAt}
 use Rattle.r3k_live.specs.declared.recorder.Written.{Written}
@@ -57,4 +58,5 @@ touched_pages pages steps = pages_where pages (is_touched steps)
 pub record AreWriters (pages : ℕ) (steps : List Done) (writers : List Written) : Type 0 where
   pub each : All (λ writer. last_writer (4 * writer.place) steps ≡ Some writer.step) writers
   pub all : (place : ℕ) → place < pages * PAGE_WORDS → IsSome (last_writer (4 * place) steps) → Contains (map (λ writer. writer.place) writers) place
+  pub ram : (address : ℕ) → ¬ IsRamWord pages address → last_writer address steps ≡ None
   pub ascending : IsNonDecreasingBy (λ writer. writer.place) writers

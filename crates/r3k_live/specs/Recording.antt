@@ -3,6 +3,7 @@ use Rattle.std.specs.Prelude.{◌≡◌, ℕ, ◌+◌, ◌*◌, ◌/◌, ◌<◌
 use Rattle.r3k_word.specs.declared.layout.TheConstants.{MAX_RAM_PAGES, PAGE_BYTES, PAGE_WORDS}
 use Rattle.r3k_machine.specs.declared.step.Done.{Done}
 use Rattle.r3k_machine.specs.Run.{last_writer}
+use Rattle.r3k_machine.specs.Told.{IsRamWord}
 use Rattle.r3k_pages.specs.Pages.{page_count_of}
 use Rattle.r3k_live.specs.Record.{is_dirty, is_touched, sent_from}
 use Rattle.r3k_live.specs.declared.recorder.SentAt.{SentAt}
@@ -57,6 +58,7 @@ pub record IsRecording (pages span stored_room sent_room : ℕ) (r : Recording) 
 pub record Records (pages : ℕ) (steps : List Done) (r : Recording) : Type 0 where
   pub count : r.steps ≡ length steps
   pub last : (place : ℕ) → place < pages * PAGE_WORDS → slice_index r.last place ≡ kept_step (last_writer (4 * place) steps)
+  pub ram : (address : ℕ) → ¬ IsRamWord pages address → last_writer address steps ≡ None
   pub dirty : (page : ℕ) → page < page_count_of pages → slice_index_or r.dirty page false ≡ is_dirty steps page
   pub touched : (page : ℕ) → page < page_count_of pages → slice_index_or r.touched page false ≡ is_touched steps page
   pub sent : r.sent ≡ sent_from 0 steps

@@ -100,6 +100,7 @@ impl<const PAGES: u32> Live<PAGES> {
         ensures found { result ≡ first_visit PAGES events.now from self.old.state address 0 steps }
         ensures state { self.new.state ≡ run PAGES events.now from self.old.state (unwrap_or result steps) }
         ensures count { self.new.steps ≡ counted self.old.steps (unwrap_or result steps) }
+        ensures bound { unwrap_or result steps ≤ steps }
         ensures least { self.old.steps ≤ self.new.steps }
         ensures recorded { Records PAGES (trace PAGES events.now from self.old.state (unwrap_or result steps)) recorder.new }
         ensures dirty { SameOutside (dirty_pages PAGES (trace PAGES events.now from self.old.state (unwrap_or result steps)))
@@ -125,6 +126,7 @@ impl<const PAGES: u32> Live<PAGES> {
         ensures never { 2 ^ 32 ≤ stop → result ≡ None }
         ensures state { self.new.state ≡ run PAGES events.now from self.old.state (unwrap_or result steps) }
         ensures count { self.new.steps ≡ counted self.old.steps (unwrap_or result steps) }
+        ensures bound { unwrap_or result steps ≤ steps }
         ensures least { self.old.steps ≤ self.new.steps }
         ensures recorded { Records PAGES (trace PAGES events.now from self.old.state (unwrap_or result steps)) recorder.new }
         ensures dirty { SameOutside (dirty_pages PAGES (trace PAGES events.now from self.old.state (unwrap_or result steps)))

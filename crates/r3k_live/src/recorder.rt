@@ -98,12 +98,14 @@ impl<const PAGES: u32, const SPAN: u32> Recorder<PAGES, SPAN> {
         self.steps = 0;
     }
 
-    /// The last step that stored into the word of RAM at a place, if one did.
-    pub fn writer(&self, place: usize) -> Option<u32>
-        requires { place < PAGES * PAGE_WORDS }
-        ensures { (steps : List Done) → Records PAGES steps self.now → result ≡ last_writer (4 * place) steps }
+    /// The last step that stored into the word at a physical address, if one did.
+    pub fn writer(&self, address: u32) -> Option<u32>
+        ensures { (steps : List Done) → Records PAGES steps self.now → result ≡ last_writer address steps }
     {
-        self.last[place].checked_sub(1)
+        if address % 4 != 0 || address / PAGE_BYTES >= PAGES {
+            return None;
+        }
+        self.last[address as usize / 4].checked_sub(1)
     }
 
     /// The words of RAM that were stored into, in ascending order, each with the last step that did so.

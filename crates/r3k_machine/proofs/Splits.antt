@@ -83,7 +83,7 @@ pub arriving_own : (from to time : ℕ) (log : List TimedByte) → from ≤ time
 arriving_own from to time log first last = narrowed from to time (time + 1) log first (omega (arith, last))
 
 -- a run and its trace depend on the events of their own times alone
-run_within : (pages to : ℕ) (log : List TimedByte) (time : ℕ) (s : State) (n : ℕ) → time + n ≤ to
+pub run_within : (pages to : ℕ) (log : List TimedByte) (time : ℕ) (s : State) (n : ℕ) → time + n ≤ to
     → run pages (window_of time to log) time s n ≡ run pages log time s n
 unfolding run
 run_within pages to log time s zero within = refl

@@ -1,5 +1,5 @@
 -- The words of a snapshot by their places.
-use Rattle.std.proofs.Common.{◌≡◌, ℕ, ◌+◌, ◌-◌, ◌*◌, ◌/◌, ◌%◌, ◌<◌, ◌≤◌, List, [], ◌∷◌, ◌++◌, map, length, slice_index, slice_index_or, Option, Some, None, Result, Ok, Err, IfOk, IfSome, MatchResult, IsFalse, sym, ap, subst, ◌∙◌, arith, refl, get_or, take, drop, min, inl, inr}
+use Rattle.std.proofs.Common.{◌≡◌, ℕ, suc, ◌+◌, ◌-◌, ◌*◌, ◌/◌, ◌%◌, ◌<◌, ◌≤◌, List, [], ◌∷◌, ◌++◌, map, length, slice_index, slice_index_or, Option, Some, None, Result, Ok, Err, IfOk, IfSome, MatchResult, IsFalse, sym, ap, subst, ◌∙◌, arith, refl, get_or, take, drop, min, inl, inr}
 use Rattle.std.specs.List.{range_with_len}
 use Rattle.std.proofs.lemmas.List.{get_or-map, get_or-append_right, get_or-take, get_or-drop, get_or_past}
 use Rattle.std.proofs.lemmas.List.FromFn.{get_or-map-range_with_len, length-map-range_with_len}
@@ -68,3 +68,32 @@ untouched (other ∷ set) page group of none =
       | inl here ↦ absurd (true≢false (sym (eq-eqb (other / GROUP_PAGES) group (ap (λ (n : ℕ). n / GROUP_PAGES) (eqb-true other page here) ∙ of)) ∙ parts.0))
       | inr apart ↦ rw apart (untouched set page group of parts.1)
     ]
+
+-- a page that is in a set has a place in it
+pub held_at : (set : List ℕ) (page : ℕ) → holds set page ≡ true → (k : ℕ) × (k < length set) × (slice_index set k ≡ page)
+held_at [] page is = absurd (true≢false (sym is))
+held_at (other ∷ set) page is =
+    elim (cases_Bool (nat_eq other page)) [
+      | inl here ↦ (0, omega arith, eqb-true other page here)
+      | inr apart ↦
+          let rest = held_at set page (sym (ap (λ (b : Bool). b || holds set page) apart) ∙ is) in
+          (suc rest.0, omega (arith, rest.1), rest.2)
+    ]
+
+-- memories that are the same outside a set of pages and on its pages are the same
+pub all_same : (set a b : List ℕ) → length a ≡ length b → SameOutside set a b → ((k : ℕ) → k < length set → SamePage (slice_index set k) a b) → a ≡ b
+all_same set a b long outside inside =
+    same_number_lists a b long
+    (λ place within.
+    elim (cases_Bool (holds set (page_of_place place))) [
+      | inl held ↦
+          let at = held_at set (page_of_place place) held in
+          inside at.0 at.1 place (sym at.2)
+      | inr other ↦ outside place other
+    ])
+
+pub all_pages_same : (pages : ℕ) (a b : List ℕ) → length a ≡ word_count_of pages → length b ≡ word_count_of pages
+    → ((page : ℕ) → page < page_count_of pages → SamePage page a b) → a ≡ b
+all_pages_same pages a b long_a long_b same =
+    same_number_lists a b (long_a ∙ sym long_b)
+    (λ place within. same (page_of_place place) (omega (arith, within, long_a)) place refl)

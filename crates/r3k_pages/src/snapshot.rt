@@ -1,6 +1,6 @@
 //! A snapshot: the words of RAM and ROM at a time.
 
-ghost use Rattle.std.specs.Prelude.{◌≡◌, ◌+◌, ◌*◌, ◌<◌, ◌≤◌, ◌↔◌, IfOk, IfSome, IsTrue, [], length, map, slice_index, slice_index_or};
+ghost use Rattle.std.specs.Prelude.{◌≡◌, ◌+◌, ◌*◌, ◌<◌, ◌≤◌, ◌↔◌, All, IfOk, IfSome, IsTrue, [], length, map, slice_index, slice_index_or};
 ghost use Rattle.r3k_word.specs.Layout.{page_of_place, word_count_of};
 ghost use Rattle.r3k_word.specs.declared.layout.TheConstants.{MAX_RAM_PAGES, PAGE_WORDS};
 ghost use Rattle.r3k_pages.specs.Groups.{IsGroupOf, IsPageOf, group_count_of};
@@ -82,6 +82,38 @@ impl<const PAGES: u32> Snapshot<PAGES> {
         ensures { IsTrue result ↔ SamePage page self.now other.now }
     {
         self.page(page as usize).words() == other.page(page as usize).words()
+    }
+
+    /// Whether both have the same words, where those outside a set of pages, the differing ones, are the same.
+    pub fn same_words(&self, other: &Snapshot<PAGES>, differing: &[u32]) -> bool
+        requires pages { All (λ page. page < page_count_of PAGES) differing.now }
+        requires same { SameOutside differing.now self.now other.now }
+        ensures { IsTrue result ↔ (self.now ≡ other.now) }
+    {
+        // The groups are read, so that their number is known here.
+        let _groups = &self.groups;
+        let _others = &other.groups;
+        for page in differing {
+            if !self.same_page(*page, other) {
+                return false;
+            }
+        }
+        true
+    }
+
+    /// Whether both have the same words.
+    pub fn equals(&self, other: &Snapshot<PAGES>) -> bool
+        ensures { IsTrue result ↔ (self.now ≡ other.now) }
+    {
+        // The groups are read, so that their number is known here.
+        let _groups = &self.groups;
+        let _others = &other.groups;
+        for page in 0..PAGES + ROM_PAGES {
+            if !self.same_page(page, other) {
+                return false;
+            }
+        }
+        true
     }
 
     /// Makes a memory hold its words.

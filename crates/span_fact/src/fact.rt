@@ -1,18 +1,20 @@
 //! The record of a span: `SPAN` steps from a state, with the events of their times.
 
-ghost use Rattle.std.specs.Prelude.{◌≡◌, ◌+◌, ◌*◌, ◌^◌, ◌<◌, ◌≤◌, ℕ, IfOk, length, slice_index_or};
+ghost use Rattle.std.specs.Prelude.{◌≡◌, ◌+◌, ◌*◌, ◌^◌, ◌<◌, ◌≤◌, ℕ, IfOk, List, length, slice_index_or};
 ghost use Rattle.std.specs.List.Sorted.{IsNonDecreasingBy};
 ghost use Rattle.r3k_word.specs.declared.layout.TheConstants.{PAGE_WORDS};
 ghost use Rattle.input_log.specs.Log.{AreInOrder, AreWithin};
 ghost use Rattle.r3k_pages.specs.Pages.{IsPageSet};
+ghost use Rattle.r3k_machine.specs.declared.step.Done.{Done};
 ghost use Rattle.r3k_machine.specs.Run.{last_writer};
 ghost use Rattle.r3k_live.specs.Living.{counted};
-ghost use Rattle.r3k_live.specs.Record.{dirty_pages, sent_from, touched_pages};
+ghost use Rattle.r3k_live.specs.Record.{AreWriters, dirty_pages, sent_from, touched_pages};
 ghost use Rattle.r3k_live.specs.declared.recorder.Written.{Written};
 ghost use Rattle.span_fact.specs.Span.{end_of, steps_of};
 
 use input_log::Event;
 use r3k_live::{Boundary, Live, Recorder, SentAt, Written};
+use r3k_word::layout::PAGE_BYTES;
 use std::alloc::{AllocError, Global};
 use std::marker::Model;
 use std::rc::Rc;
@@ -108,20 +110,11 @@ impl<const PAGES: u32, const SPAN: u32> Fact<PAGES, SPAN> {
         &self.events
     }
 
-    /// The last of its steps, counted from its start, that stored into the word of RAM at a place, if one did.
-    pub fn writer(&self, place: usize) -> Option<u32>
-        requires { place < PAGES * PAGE_WORDS }
-        ensures { result ≡ last_writer (4 * place) (steps_of PAGES SPAN self.now) }
+    /// The last of its steps, counted from its start, that stored into the word at a physical address, if one did.
+    pub fn writer(&self, address: u32) -> Option<u32>
+        ensures { result ≡ last_writer address (steps_of PAGES SPAN self.now) }
     {
-        let at = first_from(&self.writers, place);
-        if at == self.writers.len() {
-            return None;
-        }
-        let writer = self.writers[at];
-        if writer.place as usize != place {
-            return None;
-        }
-        Some(writer.step)
+        writer_in::<PAGES>(&self.writers, address)
     }
 
     /// The bytes that its steps sent, in order, each with its line and its step, counted from its start.
@@ -156,12 +149,35 @@ fn share<const PAGES: u32>(
     Rc::new(alloc, boundary).map_err(|_| AllocError)
 }
 
+// The last step that stored into the word at an address, among those of all words of RAM that were stored into.
+fn writer_in<const PAGES: u32>(writers: &[Written], address: u32) -> Option<u32>
+    requires { IsNonDecreasingBy (λ writer. writer.place) writers.now }
+    ensures { (steps : List Done) → AreWriters PAGES steps writers.now → result ≡ last_writer address steps }
+{
+    if address % 4 != 0 {
+        return None;
+    }
+    if address / PAGE_BYTES >= PAGES {
+        return None;
+    }
+    let place = address / 4;
+    let at = first_from(writers, place);
+    if at == writers.len() {
+        return None;
+    }
+    let writer = writers[at];
+    if writer.place != place {
+        return None;
+    }
+    Some(writer.step)
+}
+
 // Where in ascending order the words from a place on begin.
-fn first_from(writers: &[Written], place: usize) -> usize
+fn first_from(writers: &[Written], place: u32) -> usize
     requires { IsNonDecreasingBy (λ writer. writer.place) writers.now }
     ensures bound { result ≤ length writers.now }
     ensures below { (k : ℕ) (d : Written) → k < result → (slice_index_or writers.now k d).place < place }
     ensures above { (k : ℕ) (d : Written) → result ≤ k → k < length writers.now → place ≤ (slice_index_or writers.now k d).place }
 {
-    writers.partition_point(|writer| (writer.place as usize) < place)
+    writers.partition_point(|writer| writer.place < place)
 }

@@ -1,6 +1,8 @@
+mod Answered
 mod Consoles
 mod Patches
-mod Runs
+mod Steps
 mod Senders
+mod Spans
 mod Visits
 mod Writers

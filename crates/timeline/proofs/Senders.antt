@@ -6,7 +6,7 @@ use Rattle.r3k_image.specs.Boot.{Boot}
 use Rattle.r3k_machine.specs.Run.{byte_on, senders_of, state_at, trace, trace_at, with_sender}
 use Rattle.r3k_machine.proofs.Splits.{senders_split}
 use Rattle.timeline.specs.Going.{told_at}
-use Rattle.timeline.proofs.Runs.{trace_front, trace_long, trace_more}
+use Rattle.timeline.proofs.Steps.{trace_front, trace_long, trace_more}
 
 -- the senders so far
 abbrev pub senders_at : (pages : ℕ) (image : Boot) (log : List TimedByte) (line time : ℕ) → List ℕ

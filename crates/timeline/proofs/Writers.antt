@@ -9,7 +9,7 @@ use Rattle.r3k_machine.specs.declared.step.Done.{Done}
 use Rattle.r3k_machine.specs.Run.{last_writer, later, stores_into, trace_at}
 use Rattle.r3k_machine.proofs.Splits.{writer_split}
 use Rattle.timeline.specs.Going.{told_at}
-use Rattle.timeline.proofs.Runs.{trace_long, trace_more}
+use Rattle.timeline.proofs.Steps.{trace_long, trace_more}
 
 -- what a step more does to the last writer
 after : (pages : ℕ) (image : Boot) (log : List TimedByte) (address time : ℕ)

@@ -9,3 +9,4 @@ pub mod Console
 pub mod History
 pub mod Going
 pub mod Query
+pub mod Runs

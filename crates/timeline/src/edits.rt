@@ -1,4 +1,4 @@
-//! Edits of the history. What is kept of its runs goes with an edit.
+//! Edits of the history. Records of spans outlive an edit of the log, though they may no longer be those of the run.
 
 ghost use Rattle.std.specs.Prelude.{◌≡◌, IfOk, length};
 ghost use Rattle.input_log.specs.Edits.{adding, deleting, moving, setting, up_to, without};
@@ -8,6 +8,7 @@ ghost use Rattle.refusal.specs.Given.{Changes, ChangesOrLacks};
 ghost use Rattle.timeline.specs.History.{with_image, with_log};
 
 use crate::queries::place_at;
+use crate::runs::forget;
 use crate::timeline::Timeline;
 use refusal::Fault;
 
@@ -18,8 +19,8 @@ impl<const PAGES: u32, const SPAN: u32> Timeline<PAGES, SPAN> {
         ensures log { ChangesOrLacks (with_log self.old (adding (record { time = time; line = line; byte = byte }) self.old.log)) self.old self.new result }
         ensures place { IfOk result (λ place. place ≡ length (up_to time self.old.log)) }
     {
-        let place = self.log.add(time, line, byte)?;
-        self.machine = None;
+        let place = self.inputs.log.add(time, line, byte)?;
+        forget(&mut self.runs);
         Ok(place)
     }
 
@@ -27,8 +28,8 @@ impl<const PAGES: u32, const SPAN: u32> Timeline<PAGES, SPAN> {
     pub fn del(&mut self, place: u64) -> Result<(), Fault>
         ensures { Changes (with_log self.old (deleting place self.old.log)) self.old self.new result }
     {
-        self.log.del(place)?;
-        self.machine = None;
+        self.inputs.log.del(place)?;
+        forget(&mut self.runs);
         Ok(())
     }
 
@@ -36,8 +37,8 @@ impl<const PAGES: u32, const SPAN: u32> Timeline<PAGES, SPAN> {
     pub fn set(&mut self, place: u64, byte: u8) -> Result<(), Fault>
         ensures { Changes (with_log self.old (setting place byte self.old.log)) self.old self.new result }
     {
-        self.log.set(place, byte)?;
-        self.machine = None;
+        self.inputs.log.set(place, byte)?;
+        forget(&mut self.runs);
         Ok(())
     }
 
@@ -47,8 +48,8 @@ impl<const PAGES: u32, const SPAN: u32> Timeline<PAGES, SPAN> {
         ensures log { Changes (with_log self.old (moving place time self.old.log)) self.old self.new result }
         ensures place { IfOk result (λ now. now ≡ length (up_to time (without place self.old.log))) }
     {
-        let place = self.log.move_to(place, time)?;
-        self.machine = None;
+        let place = self.inputs.log.move_to(place, time)?;
+        forget(&mut self.runs);
         Ok(place)
     }
 
@@ -61,8 +62,8 @@ impl<const PAGES: u32, const SPAN: u32> Timeline<PAGES, SPAN> {
         // A field is read, so that the sizes are known here.
         let _alloc = self.alloc;
         place_at::<PAGES>(address)?;
-        self.image.patch(address, word)?;
-        self.machine = None;
+        self.inputs.image.patch(address, word)?;
+        self.runs = None;
         Ok(())
     }
 }

@@ -2,8 +2,10 @@
 #![tactic(auto)]
 
 mod edits;
+mod inputs;
 mod machine;
 mod queries;
+mod runs;
 mod timeline;
 mod writer;
 

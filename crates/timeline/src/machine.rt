@@ -58,38 +58,6 @@ impl<const PAGES: u32> Machine<PAGES> {
         self.time += 1;
         done
     }
-
-    /// Goes on to a position.
-    pub(crate) fn run_to(&mut self, log: &Log, position: u64)
-        requires { self.old.time ≤ position }
-        ensures state { (image : Boot) → StandsAt {pages = PAGES} image log.now self.old.time self.old →
-            StandsAt {pages = PAGES} image log.now position self.new }
-        ensures time { self.new.time ≡ position }
-    {
-        let mut events = Cursor::new(log.window(self.time, position));
-        while self.time < position {
-            let _done = self.step(&mut events);
-        }
-    }
-
-    /// Goes on to the next position at which the PC holds an address, if there is one up to a last one, or else to that.
-    pub(crate) fn visit(&mut self, log: &Log, address: u32, last: u64) -> Option<u64>
-        requires { self.old.time ≤ last }
-        ensures state { (image : Boot) → StandsAt {pages = PAGES} image log.now self.old.time self.old →
-            StandsAt {pages = PAGES} image log.now self.new.time self.new }
-        ensures found { (image : Boot) → StandsAt {pages = PAGES} image log.now self.old.time self.old →
-            result ≡ next_visit PAGES image log.now address self.old.time (last - self.old.time) }
-        ensures bound { IfSome result (λ position. position ≤ last) }
-    {
-        let mut events = Cursor::new(log.window(self.time, last));
-        while self.time < last {
-            let _done = self.step(&mut events);
-            if self.core.pc() == address {
-                return Some(self.time);
-            }
-        }
-        None
-    }
 }
 
 /// What is shown of a console: how many bytes were sent, and those from a place on.

@@ -9,14 +9,15 @@ ghost use Rattle.r3k_word.specs.Layout.{word_count_of};
 ghost use Rattle.r3k_word.specs.declared.layout.TheConstants.{MAX_RAM_PAGES};
 ghost use Rattle.refusal.specs.Given.{Gives, GivesFault};
 ghost use Rattle.r3k_machine.specs.Run.{next_visit};
-ghost use Rattle.timeline.specs.Going.{StandsAt};
 ghost use Rattle.timeline.specs.Query.{console_at, core_at, max_position, next_pc, of_word, sent_at, up_to_max, word_at, writer_at};
+ghost use Rattle.timeline.specs.Runs.{AreOf};
 
-use crate::machine::{Machine, console_of, last_writer, sender_of};
+use crate::machine::{console_of, last_writer, sender_of};
+use crate::runs::Runs;
 use crate::timeline::{MAX_POSITION, Timeline};
 use crate::writer::Writer;
 use arrayvec::ArrayVec;
-use r3k_machine::{Core, Mem};
+use r3k_machine::Core;
 use r3k_word::layout::place_of;
 use refusal::Fault;
 use std::alloc::{AllocError, Global};
@@ -33,10 +34,10 @@ impl<const PAGES: u32, const SPAN: u32> Timeline<PAGES, SPAN> {
     {
         let alloc = self.alloc;
         check_position(position)?;
-        let machine = self.machine_at(alloc, position)?;
-        let copy = machine.core.copy(alloc);
-        self.machine = Some(machine);
-        match Box::new(alloc, copy?) {
+        let mut runs = self.take_runs(alloc)?;
+        let core = runs.core_at(alloc, &self.inputs, position);
+        self.runs = Some(runs);
+        match Box::new(alloc, core?) {
             Ok(core) => Ok(core),
             Err(_) => Err(Fault::Memory),
         }
@@ -50,9 +51,12 @@ impl<const PAGES: u32, const SPAN: u32> Timeline<PAGES, SPAN> {
         let alloc = self.alloc;
         let place = place_at::<PAGES>(address)?;
         check_position(position)?;
-        let machine = self.machine_at(alloc, position)?;
-        let word = machine.memory.word(place);
-        self.machine = Some(machine);
+        let mut runs = self.take_runs(alloc)?;
+        let word = runs.word_at(alloc, &self.inputs, position, place);
+        self.runs = Some(runs);
+        let Ok(word) = word else {
+            return Err(Fault::Memory);
+        };
         Ok(word)
     }
 
@@ -74,15 +78,9 @@ impl<const PAGES: u32, const SPAN: u32> Timeline<PAGES, SPAN> {
             return Err(Fault::Range);
         }
         check_position(position)?;
-        let shown = console_of::<PAGES>(
-            self.alloc,
-            &self.image,
-            &self.log,
-            position,
-            line,
-            from,
-            count,
-        )?;
+        let image = &self.inputs.image;
+        let log = &self.inputs.log;
+        let shown = console_of::<PAGES>(self.alloc, image, log, position, line, from, count)?;
         Ok((shown.total, shown.bytes))
     }
 
@@ -94,8 +92,10 @@ impl<const PAGES: u32, const SPAN: u32> Timeline<PAGES, SPAN> {
         let alloc = self.alloc;
         place_at::<PAGES>(address)?;
         check_position(position)?;
-        let step = last_writer::<PAGES>(alloc, &self.image, &self.log, position, address)?;
-        Ok(match (step, self.image.word(address)) {
+        let image = &self.inputs.image;
+        let log = &self.inputs.log;
+        let step = last_writer::<PAGES>(alloc, image, log, position, address)?;
+        Ok(match (step, self.inputs.image.word(address)) {
             (Some(step), _) => Writer::Step(step),
             (None, Some(_)) => Writer::Image,
             (None, None) => Writer::Never,
@@ -112,9 +112,9 @@ impl<const PAGES: u32, const SPAN: u32> Timeline<PAGES, SPAN> {
             return Err(Fault::Range);
         }
         check_position(position)?;
-        sender_of::<PAGES>(self.alloc, &self.image, &self.log, position, line, place)?.ok_or(
-            Fault::NotFound,
-        )
+        let image = &self.inputs.image;
+        let log = &self.inputs.log;
+        sender_of::<PAGES>(self.alloc, image, log, position, line, place)?.ok_or(Fault::NotFound)
     }
 
     /// The least position after one, at most `limit` steps behind it, at which the PC holds an address. A limit that is not 1
@@ -140,31 +140,29 @@ impl<const PAGES: u32, const SPAN: u32> Timeline<PAGES, SPAN> {
 
     // The least position after one, up to a last one, at which the PC holds an address.
     fn visit(&mut self, position: u64, address: u32, last: u64) -> Result<Option<u64>, AllocError>
-        requires { position ≤ last }
+        requires before { position ≤ last }
+        requires bound { last ≤ max_position }
         ensures found { IfOk result (λ found.
             found ≡ next_visit PAGES self.old.image self.old.log address position (last - position)) }
         ensures bound { IfOk result (λ found. IfSome found (λ position. position ≤ last)) }
         ensures same { self.new ≡ self.old }
     {
         let alloc = self.alloc;
-        let mut machine = self.machine_at(alloc, position)?;
-        let found = machine.visit(&self.log, address, last);
-        self.machine = Some(machine);
-        Ok(found)
+        let mut runs = self.take_runs(alloc)?;
+        let found = runs.next_visit(alloc, &self.inputs, position, address, last);
+        self.runs = Some(runs);
+        found
     }
 
-    // Takes the machine at a position out: the one that is kept, where it has not gone past, or else a new one.
-    fn machine_at(&mut self, alloc: Global, position: u64) -> Result<Machine<PAGES>, AllocError>
-        ensures stands { IfOk result (λ machine. StandsAt {pages = PAGES} self.old.image self.old.log machine.time machine) }
-        ensures time { IfOk result (λ machine. machine.time ≡ position) }
+    // Takes the machine out, with what is kept of its runs, or else a new one.
+    fn take_runs(&mut self, alloc: Global) -> Result<Runs<PAGES, SPAN>, AllocError>
+        ensures of { IfOk result (AreOf {pages = PAGES} {span = SPAN} self.old.image self.old.log) }
         ensures same { self.new ≡ self.old }
     {
-        let mut machine = match self.machine.take() {
-            Some(machine) if machine.time <= position => machine,
-            _ => Machine::boot(alloc, &self.image)?,
-        };
-        machine.run_to(&self.log, position);
-        Ok(machine)
+        match self.runs.take() {
+            Some(runs) => Ok(runs),
+            None => Runs::boot(alloc, &self.inputs),
+        }
     }
 }
 

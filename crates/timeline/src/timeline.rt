@@ -6,7 +6,8 @@ ghost use Rattle.r3k_image.specs.declared.fault.ImageFault.TheVariants.{Bad};
 ghost use Rattle.r3k_image.specs.declared.fault.ImageKind.TheVariants.{Pages};
 ghost use Rattle.timeline.specs.Sizes.{AreSizes};
 
-use crate::machine::Machine;
+use crate::inputs::Inputs;
+use crate::runs::Runs;
 use input_log::Log;
 use r3k_image::{Image, ImageFault, ImageKind};
 use std::alloc::Global;
@@ -16,29 +17,28 @@ use std::marker::Model;
 pub const MAX_POSITION: u64 = 4_294_967_295;
 
 /// An image and a log that can be edited, on a machine with `PAGES` pages of RAM. Queries are answered as if the machine was
-/// run from reset for each. Runs will be kept in spans of `SPAN` steps.
+/// run from reset for each. What was run is kept in spans of `SPAN` steps.
 #[derive(Drop)]
 pub struct Timeline<const PAGES: u32, const SPAN: u32> {
     pub(crate) alloc: Global,
-    pub(crate) image: Image,
-    pub(crate) log: Log,
-    // Where the last query left the machine, until image or log is edited.
-    pub(crate) machine: Option<Machine<PAGES>>,
+    pub(crate) inputs: Inputs,
+    // The machine, and what is kept of its runs, from the first query on.
+    pub(crate) runs: Option<Runs<PAGES, SPAN>>,
 }
 
 impl<const PAGES: u32, const SPAN: u32> Model for Timeline<PAGES, SPAN> {
     ghost use Rattle.std.specs.Prelude.{IfSome};
     ghost use Rattle.timeline.specs.History.{History, IsHistory, history_code};
-    ghost use Rattle.timeline.specs.Going.{StandsAt};
+    ghost use Rattle.timeline.specs.Runs.{AreOf};
 
     ghost Value = { History };
 
     ghost coded = { history_code };
 
-    ghost view = { λ t. record { image = t.image; log = t.log } };
+    ghost view = { λ t. record { image = t.inputs.image; log = t.inputs.log } };
 
-    ghost invariant = { λ t. IsHistory PAGES SPAN (record { image = t.image; log = t.log })
-        × IfSome t.machine (λ machine. StandsAt {pages = PAGES} t.image t.log machine.time machine) };
+    ghost invariant = { λ t. IsHistory PAGES SPAN (record { image = t.inputs.image; log = t.inputs.log })
+        × IfSome t.runs (AreOf {pages = PAGES} {span = SPAN} t.inputs.image t.inputs.log) };
 }
 
 impl<const PAGES: u32, const SPAN: u32> Timeline<PAGES, SPAN> {
@@ -55,9 +55,8 @@ impl<const PAGES: u32, const SPAN: u32> Timeline<PAGES, SPAN> {
         }
         Ok(Timeline {
             alloc,
-            image,
-            log,
-            machine: None,
+            inputs: Inputs { image, log },
+            runs: None,
         })
     }
 
@@ -65,13 +64,13 @@ impl<const PAGES: u32, const SPAN: u32> Timeline<PAGES, SPAN> {
     pub fn image(&self) -> &Image
         ensures { result.now ≡ self.now.image }
     {
-        &self.image
+        &self.inputs.image
     }
 
     /// The log as it now stands.
     pub fn log(&self) -> &Log
         ensures { result.now ≡ self.now.log }
     {
-        &self.log
+        &self.inputs.log
     }
 }

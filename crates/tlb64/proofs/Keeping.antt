@@ -1,7 +1,7 @@
 -- What is kept of lookups, after a lookup and after a write.
 use Rattle.std.proofs.Common.{◌≡◌, ℕ, zero, suc, ◌+◌, ◌*◌, ◌/◌, ◌%◌, ◌<◌, List, length, replicate, get_or, sym, ap, arith, false, refl, ◌∙◌}
 use Rattle.std.proofs.lemmas.Nat.{div-mul-add, mod-mul-add, mod_below}
-use Rattle.std.specs.Prelude.{Bool, nat_eq, nat_lt, ◌&&◌, ◌||◌, position, count_by, slice_index_or, Option, Some, None, slice_set}
+use Rattle.std.specs.Prelude.{Bool, nat_eq, nat_lt, ◌&&◌, ◌||◌, position, count_by, slice_index_or, Option, Some, slice_set}
 use Rattle.std.specs.Option.{option_map}
 use Rattle.r3k_word.specs.Word.{has}
 use Rattle.std.proofs.lemmas.List.{length-set, length-replicate}

@@ -60,7 +60,7 @@ pub(crate) fn run_with<const PAGES: u32, const SPAN: u32, R: Source, W: Sink>(
 {
     let mut session = match Session::<PAGES, SPAN>::new(alloc, image, log) {
         Ok(session) => session,
-        Err(fault) => return Err(fault),
+        Err(refusal) => return Err(refusal),
     };
     run_script(&mut session, reader, writer, most)
 }

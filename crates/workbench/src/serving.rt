@@ -37,7 +37,7 @@ pub fn serve<const PAGES: u32, const SPAN: u32, R: Source, W: Sink>(
     };
     let (image, log) = front.bytes.split_at(size);
     let image = match image_of(alloc, options.kind, image) {
-        Err(fault) => return Err(fault),
+        Err(refusal) => return Err(refusal),
         Ok(image) => image,
     };
     let log = match log_of(alloc, log) {

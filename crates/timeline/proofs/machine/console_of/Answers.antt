@@ -5,7 +5,7 @@ use Rattle.r3k_machine.specs.Run.{byte_on, console_of, trace, trace_at}
 use Rattle.timeline.specs.Console.{with_byte}
 use Rattle.timeline.specs.Going.{Shows, StandsAt, told_at}
 use Rattle.timeline.proofs.Consoles.{console_more, part_nil}
-use Rattle.timeline.proofs.Runs.{trace_more}
+use Rattle.timeline.proofs.Steps.{trace_more}
 use Rattle.timeline.proofs.machine.console_of.Goals as goal
 
 pub loop-machine-init : goal.loop-machine-init

@@ -1,5 +1,5 @@
 use Rattle.std.proofs.Common.{◌≡◌, ℕ, ◌≤◌, inl, inr, List, [], ◌∷◌, ◌++◌, length, take, Some, Ok, Err, Result, refl, sym, ap, subst, arith, rules, length-append, length-take-le}
-use Rattle.wb_io.specs.Calls.{Call, MovesSome, call}
+use Rattle.wb_io.specs.Calls.{Call, MovesSome, bytes_moved, call}
 use Rattle.wb_io.specs.declared.source.Failed.{Failed}
 use Rattle.wb_io.proofs.CallLemmas.{Each-append_one, Reads-nil, Reads-one, Reads-trans, Writes-nil, Writes-trans}
 use Rattle.wb_options.specs.declared.fault.RunFault.{RunFault}
@@ -127,3 +127,9 @@ loop-made-preserved g c =
       omega (arith, more, h.7),
       omega (arith, h.8, c.read.auto.buffer),
     )
+
+pub returns : goal.returns
+returns g c =
+    let h = c.loop-made.invariant in
+    let all : length h.0 ≡ c.args.most = omega arith in
+    (h.0, h.1, h.2, h.3, omega arith, (inr (h.4, all), h.6.no_quit, (bytes_moved h.1, h.6.complete_text, record { each = h.5; all = refl })))

@@ -10,7 +10,7 @@ returns-in-Err g c = (
   Reads-nil (g.R.Source.reads c.args.reader.now) (g.R.Source.left c.args.reader.now),
   Writes-nil (g.W.Sink.writes c.args.writer.now) (g.W.Sink.written c.args.writer.now),
   omega arith,
-  no_session (Unit {0}) g.row.PAGES c.args.most c.args.image c.args.log c.in-Err.fault c.in-Err.ensures,
+  no_session (Unit {0}) g.row.PAGES c.args.most c.args.image c.args.log c.in-Err.refusal c.in-Err.ensures,
 )
 
 pub returns : goal.returns

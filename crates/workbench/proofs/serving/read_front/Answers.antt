@@ -3,9 +3,20 @@ use Rattle.std.proofs.lemmas.Grind.{common_steps}
 use Rattle.std.proofs.lemmas.List.{append-nil, take-append-le}
 use Rattle.wb_io.specs.Calls.{Call, MovesSome, bytes_moved, call}
 use Rattle.wb_io.specs.declared.source.Failed.{Failed}
-use Rattle.wb_io.proofs.CallLemmas.{Reads-one, Reads-trans, bytes_moved-append}
+use Rattle.wb_io.proofs.CallLemmas.{Reads-nil, Reads-one, Reads-trans, bytes_moved-append}
 use Rattle.workbench.proofs.Fronts.{AsksFor-append_one}
 use Rattle.workbench.proofs.serving.read_front.Goals as goal
+
+pub loop-piece-init : goal.loop-piece-init
+loop-piece-init g c = (
+  [],
+  Reads-nil (g.R.Source.reads c.args.reader.now) (g.R.Source.left c.args.reader.now),
+  tt,
+  c.new-bytes.ensures.items,
+  omega arith,
+  refl,
+  refl,
+)
 
 pub returns-in-Err : goal.returns-in-Err
 returns-in-Err g c =

@@ -17,7 +17,7 @@ returns-in-Err-image_of g c =
     let front : Front = record { kind = c.args.options.kind; size = c.args.options.size; log_size = c.args.options.log_size } in
     let f = c.in-Ok.ensures in
     let bytes = c.split_at.ensures.front ∙ ap (λ (z : List ℕ). take c.args.options.size z) (c.deref.ensures.value ∙ f.3.1) in
-    let fault = c.in-Err-image_of.fault in
+    let fault = c.in-Err-image_of.refusal in
     let none = c.in-Err-image_of.ensures {u = tt} in (
       f.0,
       [],

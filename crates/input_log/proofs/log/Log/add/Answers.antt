@@ -7,7 +7,12 @@ use Rattle.input_log.proofs.Editing.{is_insert, log_with, added}
 use Rattle.input_log.proofs.log.Log.add.Goals as goal
 
 -- what the log is then
-made : (c : goal.Else-is_err) → c.insert.new.self.items ≡ with_event (record { time = c.args.time; line = c.args.line; byte = c.args.byte }) c.self.inside.events.items
+made : (c : goal.Else-is_err) → c.insert.new.self.items ≡ with_event (record {
+  time = c.args.time;
+  line =
+      c.args.line;
+  byte = c.args.byte;
+}) c.self.inside.events.items
 made c =
     let event : TimedByte = record { time = c.args.time; line = c.args.line; byte = c.args.byte } in
     let place : c.place_behind-place.result ≡ length (up_to c.args.time c.self.inside.events.items) =
@@ -20,9 +25,18 @@ pub invariant_of-self-2 : goal.invariant_of-self-2
 invariant_of-self-2 c =
     let event : TimedByte = record { time = c.args.time; line = c.args.line; byte = c.args.byte } in
     let few = c.if-len-ge-MAX_EVENTS.false in
-    subst IsLog (sym (made c)) (log_with event c.self.inside.events.items (record { line = omega arith; byte = omega arith; time = omega arith }) (omega arith) c.self.invariant)
+    subst IsLog (sym (made c)) (log_with event c.self.inside.events.items (record {
+      line = omega arith;
+      byte =
+          omega arith;
+      time = omega arith;
+    }) (omega arith) c.self.invariant)
 
 pub returns-clause-log : goal.returns-clause-log
 returns-clause-log c =
     let event : TimedByte = record { time = c.args.time; line = c.args.line; byte = c.args.byte } in
     ap (adding event) (sym c.self.view_is) ∙ added event c.self.inside.events.items (omega arith) (omega arith) (omega arith) ∙ ap (λ events. Ok events) (sym (made c))
+
+pub returns-clause-place : goal.returns-clause-place
+returns-clause-place c =
+    c.place_behind-place.ensures.place ∙ ap (λ events. length (up_to c.args.time events)) (c.deref.ensures.value ∙ c.self.view_is)

@@ -1,5 +1,5 @@
 -- The words so far, and those that are left.
-use Rattle.std.proofs.Common.{◌≡◌, ◌++◌, sym, ap, subst, ◌∙◌}
+use Rattle.std.proofs.Common.{◌≡◌, ◌++◌, sym, ap, subst, ◌∙◌, append_assoc}
 use Rattle.std.specs.FinMap as map
 use Rattle.std.specs.Map.Iter.{deref_pair}
 use Rattle.std.proofs.lemmas.List.{append-nil}
@@ -14,7 +14,8 @@ use Rattle.r3k_image.proofs.word_map.WordMap.runs.Goals as goal
 pub loop-address-init : goal.loop-address-init
 loop-address-init c =
     let es = c.self.inside.words.entries in
-    let whole : es ≡ map.entries c.args.self.now = sym (entries_of_words 0 es c.self.invariant) ∙ ap map.entries c.self.view_is in
+    let whole : es ≡ map.entries c.args.self.now =
+    sym (entries_of_words 0 es c.self.invariant) ∙ ap map.entries c.self.view_is in
     record {
       words = ap (λ v. words_in (views v) ++ c.into_iter-address-iterator.result) c.new-runs.ensures.items ∙ c.into_iter-address-iterator.ensures.into_iter_gives.0 ∙ whole;
       longest = subst (λ v. AreLongest (views v)) (sym c.new-runs.ensures.items) tt;
@@ -30,6 +31,13 @@ returns-clause-runs c =
 pub returns-clause-stand : goal.returns-clause-stand
 returns-clause-stand c =
     let es = c.self.inside.words.entries in
-    let whole : es ≡ map.entries c.args.self.now = sym (entries_of_words 0 es c.self.invariant) ∙ ap map.entries c.self.view_is in
+    let whole : es ≡ map.entries c.args.self.now =
+    sym (entries_of_words 0 es c.self.invariant) ∙ ap map.entries c.self.view_is in
     let is : views c.loop-address.runs.items ≡ runs_of (map.entries c.args.self.now) = returns-clause-runs c in
     subst (AreSegments 0) (sym is) (runs_stand 0 (map.entries c.args.self.now) (subst (AreEntries 0) whole c.self.invariant))
+
+pub loop-address-preserved : goal.loop-address-preserved
+loop-address-preserved c = record {
+  words = rw (c.in_ok-push_words.ensures.words, append_assoc) (rw c.in-Some.ensures.steps at c.loop-address.invariant.words);
+  longest = c.in_ok-push_words.ensures.longest;
+}

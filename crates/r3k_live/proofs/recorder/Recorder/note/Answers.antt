@@ -5,7 +5,7 @@ use Rattle.r3k_machine.specs.Run.{last_writer}
 use Rattle.r3k_live.specs.Record.{is_dirty, is_page, is_touched, stores_in, touches, with_sent}
 use Rattle.r3k_live.specs.Recording.{Recording, kept_step, page_of_store, with_mark, with_writer}
 use Rattle.r3k_live.specs.declared.recorder.SentAt.{SentAt}
-use Rattle.r3k_live.proofs.Recorded.{any_more, last_more, mark_kept, mark_more, or-assoc, page_stored, sent_more}
+use Rattle.r3k_live.proofs.Recorded.{any_more, last_more, mark_kept, mark_more, or-assoc, page_stored, ram_more, sent_more}
 use Rattle.r3k_live.proofs.recorder.Recorder.note.Goals as goal
 
 pub returns-clause-records : goal.returns-clause-records
@@ -24,6 +24,7 @@ returns-clause-records g c =
           ap (λ (xs : List ℕ). slice_index xs place) (c.note_store.ensures.last ∙ ap (λ (n : ℕ). with_writer inside.last.items n done.stored) steps_are)
           ∙ last_more g.row.PAGES place inside.last.items steps done c.self.invariant.last within c.requires.stored
           (ap (λ (xs : List ℕ). slice_index xs place) last_is ∙ so_far.last place within);
+      ram = λ address other. ram_more g.row.PAGES address steps done c.requires.stored other (so_far.ram address other);
       dirty = λ page within.
           ap (λ (xs : List Bool). slice_index_or xs page false) (c.mark.ensures ∙ ap (with_mark inside.dirty.items) c.page_of_store.ensures)
           ∙ (mark_more inside.dirty.items (page_of_store done.stored) page (rw c.self.invariant.dirty within)

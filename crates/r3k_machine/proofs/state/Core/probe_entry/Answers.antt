@@ -4,15 +4,22 @@ use Rattle.r3k_machine.proofs.state.Core.probe_entry.Goals as goal
 
 pub returns : goal.returns
 returns c =
-    let found = (rw c.read.ensures at c.in-Some.ensures.found) in
     elim c.if-found.branch [
       | then-found w ↦ rw (
         c.probed-2.ensures,
         w.self-inside-is,
         w.set_ts.ensures,
         ← c.self.view_is,
-        ← found,
+        ← c.read.ensures,
+        ← c.in-Some.ensures.found,
         w.if-found.true,
       ) refl
-      | else-found w ↦ rw (c.probed-2.ensures, w.self-inside-is, ← c.self.view_is, ← found, w.if-found.false) refl
+      | else-found w ↦ rw (
+        c.probed-2.ensures,
+        w.self-inside-is,
+        ← c.self.view_is,
+        ← c.read.ensures,
+        ← c.in-Some.ensures.found,
+        w.if-found.false,
+      ) refl
     ]

@@ -3,7 +3,7 @@ use Rattle.std.proofs.Math.Path.{ap₂}
 use Rattle.input_log.specs.Event.{TimedByte}
 use Rattle.r3k_machine.specs.State.{State}
 use Rattle.r3k_machine.specs.Step.{next}
-use Rattle.timeline.proofs.Runs.{state_more}
+use Rattle.timeline.proofs.Steps.{state_more}
 use Rattle.timeline.proofs.machine.Machine.step.Goals as goal
 
 pub returns-clause-state : goal.returns-clause-state

@@ -1,0 +1,237 @@
+//! Snapshots of memory that share their pages: those that are known to be equal are taken from an earlier snapshot.
+ghost use Rattle.std.specs.Prelude.{◌≡◌, ◌^◌, ◌<◌, ◌≤◌, IfOk, length};
+ghost use Rattle.r3k_word.specs.Layout.{word_count_of};
+ghost use Rattle.r3k_word.specs.declared.layout.TheConstants.{MAX_RAM_PAGES};
+ghost use Rattle.r3k_pages.specs.Pages.{SameOutside};
+
+use r3k_pages::{Snapshot, page_laws};
+use r3k_word::layout::{PAGE_WORDS, ROM_PAGES, page_of, word_count};
+use std::alloc::{AllocError, Global};
+use std::process::Abort;
+use std::test::Fail;
+
+// The word that stands at a place at first: no two places have the same.
+fn first_word(place: usize) -> u32
+    requires { place < 2 ^ 31 }
+{
+    0x8000_0000 + place as u32
+}
+
+// A memory, filled.
+fn filled<const PAGES: u32>(alloc: Global) -> Result<Vec<u32>, AllocError>
+    requires { PAGES ≤ MAX_RAM_PAGES }
+    ensures { IfOk result (λ words. length words.items ≡ word_count_of PAGES) }
+{
+    let mut words = vec![in alloc; 0; word_count(PAGES)]?;
+    for place in 0..word_count(PAGES) {
+        words[place] = first_word(place);
+    }
+    Ok(words)
+}
+
+// Turns all bits of the word at a place of a page that is in a set: what is the same outside the set stays so.
+fn turn<const PAGES: u32>(
+    rt: &impl Abort,
+    earlier: &Snapshot<PAGES>,
+    set: &[u32],
+    words: &mut Vec<u32>,
+    place: usize,
+)
+    requires { SameOutside set.now earlier.now words.old.items }
+    ensures same { SameOutside set.now earlier.now words.new.items }
+    ensures whole { length words.new.items ≡ length words.old.items }
+{
+    let page = page_of(place);
+    assert!(rt; place < words.len());
+    assert!(rt; set.iter().any(|other| *other as usize == page));
+    page_laws();
+    words[place] = !words[place];
+}
+
+// Turns the first and the last word of each page of a set, and takes a snapshot.
+fn after<const PAGES: u32>(
+    rt: &impl Abort,
+    alloc: Global,
+    words: &mut Vec<u32>,
+    earlier: &Snapshot<PAGES>,
+    dirty: &[u32],
+) -> Result<Snapshot<PAGES>, AllocError>
+    requires pages { PAGES ≤ MAX_RAM_PAGES }
+    requires whole { length words.old.items ≡ word_count_of PAGES }
+    requires earlier { earlier.now ≡ words.old.items }
+    ensures snapshot { IfOk result (λ snapshot. snapshot ≡ words.new.items) }
+    ensures whole { length words.new.items ≡ word_count_of PAGES }
+{
+    for page in dirty {
+        let first = *page as usize * PAGE_WORDS as usize;
+        turn(rt, earlier, dirty, words, first);
+        turn(rt, earlier, dirty, words, first + PAGE_WORDS as usize - 1);
+    }
+    Snapshot::capture(alloc, words, Some(earlier), dirty)
+}
+
+// A snapshot of the same memory, with a set of pages that may have changed, but did not.
+fn again<const PAGES: u32>(
+    alloc: Global,
+    words: &[u32],
+    earlier: &Snapshot<PAGES>,
+    set: &[u32],
+) -> Result<Snapshot<PAGES>, AllocError>
+    requires pages { PAGES ≤ MAX_RAM_PAGES }
+    requires whole { length words.now ≡ word_count_of PAGES }
+    requires earlier { earlier.now ≡ words.now }
+{
+    Snapshot::capture(alloc, words, Some(earlier), set)
+}
+
+// A snapshot has the words of a memory, but for these pages, whose first and last word are turned.
+fn holds<const PAGES: u32>(rt: &impl Abort, snapshot: &Snapshot<PAGES>, turned: &[u32])
+    requires { PAGES ≤ MAX_RAM_PAGES }
+{
+    for place in 0..word_count(PAGES) {
+        let at = place % PAGE_WORDS as usize;
+        let turns = (at == 0 || at == PAGE_WORDS as usize - 1)
+            && turned.contains(&(page_of(place) as u32));
+        let want = if turns {
+            !first_word(place)
+        } else {
+            first_word(place)
+        };
+        assert_eq!(rt; snapshot.word(place), want, "at {place}");
+    }
+}
+
+// Of all pages these alone differ.
+fn differ_in<const PAGES: u32>(
+    rt: &impl Abort,
+    one: &Snapshot<PAGES>,
+    other: &Snapshot<PAGES>,
+    pages: &[u32],
+)
+    requires { PAGES ≤ MAX_RAM_PAGES }
+{
+    for page in 0..PAGES + ROM_PAGES {
+        let same = !pages.contains(&page);
+        assert_eq!(rt; one.same_page(page, other), same, "page {page}");
+        assert_eq!(rt; other.same_page(page, one), same, "page {page}");
+    }
+}
+
+// A snapshot keeps its words when the memory changes, and gives them back.
+fn kept<const PAGES: u32>(rt: &impl Abort, alloc: Global) -> Result<(), Fail>
+    requires { PAGES ≤ MAX_RAM_PAGES }
+{
+    let mut words = filled::<PAGES>(alloc)?;
+    let before = words.clone()?;
+    let snapshot = Snapshot::<PAGES>::capture(alloc, &words, None, &[])?;
+    holds(rt, &snapshot, &[]);
+    words.fill(7);
+    holds(rt, &snapshot, &[]);
+    snapshot.copy_to(&mut words);
+    assert!(rt; words == before);
+    Ok(())
+}
+
+// With a set of pages that change: the later snapshot has the new words and the earlier one the old ones.
+fn changed<const PAGES: u32>(rt: &impl Abort, alloc: Global, dirty: &[u32]) -> Result<(), Fail>
+    requires { PAGES ≤ MAX_RAM_PAGES }
+{
+    let mut words = filled::<PAGES>(alloc)?;
+    let before = words.clone()?;
+    let earlier = Snapshot::<PAGES>::capture(alloc, &words, None, &[])?;
+    let later = after(rt, alloc, &mut words, &earlier, dirty)?;
+    holds(rt, &earlier, &[]);
+    holds(rt, &later, dirty);
+    differ_in(rt, &earlier, &later, dirty);
+    // What is turned twice is as it was, and no page stands for another one.
+    let turned = words.clone()?;
+    let back = after(rt, alloc, &mut words, &later, dirty)?;
+    assert!(rt; words == before);
+    differ_in(rt, &earlier, &back, &[]);
+    differ_in(rt, &later, &back, dirty);
+    later.copy_to(&mut words);
+    assert!(rt; words == turned);
+    back.copy_to(&mut words);
+    assert!(rt; words == before);
+    Ok(())
+}
+
+#[test]
+fn words_are_kept(rt: HostRuntime) -> Result<(), Fail> {
+    kept::<16>(&rt, rt.alloc())?;
+    kept::<40>(&rt, rt.alloc())?;
+    // No RAM, and pages that fill their groups.
+    kept::<0>(&rt, rt.alloc())?;
+    kept::<32>(&rt, rt.alloc())
+}
+
+#[test]
+fn no_page_changes(rt: HostRuntime) -> Result<(), Fail> {
+    changed::<16>(&rt, rt.alloc(), &[])?;
+    changed::<40>(&rt, rt.alloc(), &[])
+}
+
+// The first page and the last of RAM and of ROM, and pages at the ends of a group.
+#[test]
+fn one_page_changes(rt: HostRuntime) -> Result<(), Fail> {
+    for page in [0, 15, 16, 31, 32, 63, 64, 79] {
+        changed::<16>(&rt, rt.alloc(), &[page])?;
+    }
+    for page in [0, 31, 32, 39, 40, 95, 96, 103] {
+        changed::<40>(&rt, rt.alloc(), &[page])?;
+    }
+    Ok(())
+}
+
+#[test]
+fn many_pages_change(rt: HostRuntime) -> Result<(), Fail> {
+    changed::<16>(&rt, rt.alloc(), &[0, 15, 16, 31, 32, 79])?;
+    changed::<16>(&rt, rt.alloc(), &[1, 2, 3, 30, 77, 78])?;
+    changed::<40>(&rt, rt.alloc(), &[0, 31, 32, 39, 40, 103])
+}
+
+// A page that is handed over as changed, but did not, is the same; and so is all memory.
+#[test]
+fn set_that_is_too_large(rt: HostRuntime) -> Result<(), Fail> {
+    let words = filled::<16>(rt.alloc())?;
+    let earlier = Snapshot::<16>::capture(rt.alloc(), &words, None, &[])?;
+    let later = again(rt.alloc(), &words, &earlier, &[5, 40])?;
+    holds(&rt, &later, &[]);
+    differ_in(&rt, &earlier, &later, &[]);
+    // Without an earlier one the set says nothing.
+    let alone = Snapshot::<16>::capture(rt.alloc(), &words, None, &[5])?;
+    holds(&rt, &alone, &[]);
+    Ok(())
+}
+
+// Pages of two spans, one of them in both: each snapshot stands for its own time.
+#[test]
+fn snapshots_one_behind_another(rt: HostRuntime) -> Result<(), Fail> {
+    let mut words = filled::<16>(rt.alloc())?;
+    let first = Snapshot::<16>::capture(rt.alloc(), &words, None, &[])?;
+    let second = after(&rt, rt.alloc(), &mut words, &first, &[3, 70])?;
+    let third = after(&rt, rt.alloc(), &mut words, &second, &[3, 4, 33])?;
+    drop(first);
+    differ_in(&rt, &second, &third, &[3, 4, 33]);
+    holds(&rt, &second, &[3, 70]);
+    holds(&rt, &third, &[4, 33, 70]);
+    drop(second);
+    holds(&rt, &third, &[4, 33, 70]);
+    Ok(())
+}
+
+// Where an allocation fails, as in a run with failing ones, memory and the earlier snapshot are as they were.
+#[test]
+fn refused_memory(rt: HostRuntime) -> Result<(), Fail> {
+    let Ok(words) = filled::<16>(rt.alloc()) else {
+        return Ok(());
+    };
+    let Ok(earlier) = Snapshot::<16>::capture(rt.alloc(), &words, None, &[]) else {
+        return Ok(());
+    };
+    if let Ok(later) = again(rt.alloc(), &words, &earlier, &[0, 79]) {
+        holds(&rt, &later, &[]);
+    }
+    holds(&rt, &earlier, &[]);
+    Ok(())
+}

@@ -1,0 +1,23 @@
+use Rattle.std.proofs.Common.{◌≡◌, ℕ, ◌≤◌, List, Option, None, Some, refl, sym, ap, ◌∙◌, subst, length, length-set, arith, slice_index_or}
+use Rattle.span_fact.specs.Span.{Span}
+use Rattle.checkpoints.specs.Kept.{Kept, span_at}
+use Rattle.checkpoints.proofs.Putting.{others_kept, put_kept, same_kept}
+use Rattle.checkpoints.proofs.kept.Kept.put.Goals as goal
+
+pub invariant_of-self : goal.invariant_of-self
+invariant_of-self g c =
+    let inside : Kept = record { spans = c.self.inside.facts.items; continues = c.self.inside.continues.items; valid = c.self.inside.valid } in
+    same_kept g.row.PAGES g.row.SPAN inside _ c.self.invariant c.make_room.ensures.facts c.make_room.ensures.continues refl c.make_room.ensures.long
+
+pub invariant_of-self-2 : goal.invariant_of-self-2
+invariant_of-self-2 g c =
+    let inside : Kept = record { spans = c.self.inside.facts.items; continues = c.self.inside.continues.items; valid = c.self.inside.valid } in
+    put_kept g.row.PAGES g.row.SPAN inside _ c.make_room.new.facts.items c.make_room.new.continues.items c.index-index.result c.args.fact c.self.invariant
+    c.make_room.ensures.facts c.make_room.ensures.continues (c.in_ok-make_room.ensures {u = tt}).room (sym c.index-index.ensures) refl c.unmark.ensures.others refl
+    (omega (arith, length-set c.make_room.new.facts.items c.index-index.result (Some c.args.fact), c.unmark.ensures.long, c.make_room.ensures.long))
+
+pub returns-clause-others : goal.returns-clause-others
+returns-clause-others g c =
+    λ i other.
+    others_kept c.make_room.new.facts.items c.index-index.result i c.args.fact (λ same. other (same ∙ c.index-index.ensures))
+    ∙ (c.make_room.ensures.facts i ∙ ap (λ (k : Kept). span_at k i) c.self.view_is)

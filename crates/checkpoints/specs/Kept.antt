@@ -1,0 +1,29 @@
+-- Records of spans that are kept (own).
+use Rattle.std.specs.Prelude.{◌≡◌, ℕ, ◌+◌, ◌<◌, ◌≤◌, Bool, false, IsTrue, List, length, Option, Some, None, IfSome, IsSome, slice_index_or}
+use Rattle.span_fact.specs.Span.{Span, end_of}
+
+pub record Kept : Type 0 where
+  pub spans : List (Option Span)
+  pub continues : List Bool
+  pub valid : ℕ
+
+-- the span of which a record of this number is kept, if there is one
+abbrev pub span_at : Kept → ℕ → Option Span
+span_at kept index = slice_index_or kept.spans index None
+
+-- whether the record behind this one is known to start where this one ends
+abbrev pub continues_at : Kept → ℕ → Bool
+continues_at kept index = slice_index_or kept.continues index false
+
+-- there are both, and one starts where the other ends
+abbrev pub Follows : (pages span : ℕ) → Option Span → Option Span → Type 0
+Follows pages span None b = ⊥
+Follows pages span (Some a) None = ⊥
+Follows pages span (Some a) (Some b) = b.start ≡ end_of pages span a
+
+-- each record has its number, the valid ones are there, and what is known is so
+pub record IsKept (pages span : ℕ) (kept : Kept) : Type 0 where
+  pub numbers : (i : ℕ) → IfSome (span_at kept i) (λ s. s.index ≡ i)
+  pub joined : (i : ℕ) → i < kept.valid → IsSome (span_at kept i)
+  pub follow : (i : ℕ) → IsTrue (continues_at kept i) → Follows pages span (span_at kept i) (span_at kept (i + 1))
+  pub room : length kept.spans ≤ length kept.continues

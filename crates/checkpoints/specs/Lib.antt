@@ -1,0 +1,2 @@
+pub use Rattle.span_fact.specs.Span
+pub mod Kept

@@ -1,0 +1,221 @@
+//! The records that are kept: one for each span at most.
+
+ghost use Rattle.std.specs.Prelude.{◌≡◌, ◌+◌, ◌-◌, ◌^◌, ◌<◌, ◌≤◌, ◌↔◌, ℕ, [], All, IfOk, IfSome, IsSome, IsTrue, MatchOption, None, OnErr, Option, Some, length, min, slice_index_or, false};
+ghost use Rattle.r3k_machine.specs.State.{State};
+ghost use Rattle.r3k_pages.specs.Pages.{SameOutside, page_count_of};
+ghost use Rattle.span_fact.specs.Span.{Span, end_of};
+ghost use Rattle.checkpoints.specs.Kept.{Follows, continues_at, span_at};
+
+use input_log::{Event, same_events};
+use r3k_live::Boundary;
+use r3k_pages::Snapshot;
+use span_fact::Fact;
+use std::alloc::{AllocError, Global};
+use std::marker::Model;
+
+/// Records of spans by their numbers. The first ones, as many as are valid, are those of the present run; each other one may be that
+/// of an earlier run.
+#[derive(Drop)]
+pub struct Kept<const PAGES: u32, const SPAN: u32> {
+    facts: Vec<Option<Fact<PAGES, SPAN>>>,
+    // Whether the next record is known to start where this one ends.
+    continues: Vec<bool>,
+    valid: u64,
+}
+
+impl<const PAGES: u32, const SPAN: u32> Model for Kept<PAGES, SPAN> {
+    ghost use Rattle.checkpoints.specs.Kept.{IsKept, Kept};
+
+    ghost Value = { Kept };
+
+    ghost view = { λ k. record { spans = k.facts.items; continues = k.continues.items; valid = k.valid } };
+
+    ghost invariant = { λ k. IsKept PAGES SPAN (record { spans = k.facts.items; continues = k.continues.items; valid = k.valid }) };
+}
+
+impl<const PAGES: u32, const SPAN: u32> Kept<PAGES, SPAN> {
+    /// No records. It takes no memory.
+    pub fn new(alloc: Global) -> Kept<PAGES, SPAN>
+        ensures { result ≡ record { spans = []; continues = []; valid = 0 } }
+    {
+        Kept {
+            facts: Vec::new(alloc),
+            continues: Vec::new(alloc),
+            valid: 0,
+        }
+    }
+
+    /// The record of a span, if one is kept.
+    pub fn fact(&self, index: u64) -> Option<&Fact<PAGES, SPAN>>
+        ensures fact { MatchOption result (span_at self.now index ≡ None) (λ fact. span_at self.now index ≡ Some fact.now) }
+        ensures index { IfSome result (λ fact. fact.now.index ≡ index) }
+    {
+        self.facts.get(index as usize)?.as_ref()
+    }
+
+    /// Whether a record is kept of the span of a number with this start and these events. Where a set of pages is handed in, the
+    /// differing ones, the start of the record has the words of this one outside them.
+    pub fn applies(
+        &self,
+        index: u64,
+        start: &Boundary<PAGES>,
+        events: &[Event],
+        differing: Option<&[u32]>,
+    ) -> bool
+        requires pages { IfSome differing (λ pages. All (λ page. page < page_count_of PAGES) pages.now) }
+        requires same { IfSome differing (λ pages. IfSome (span_at self.now index) (λ s. SameOutside pages.now s.start.words start.now.words)) }
+        ensures { IsTrue result ↔ (span_at self.now index ≡ Some (record { index = index; start = start.now; events = events.now })) }
+    {
+        match self.fact(index) {
+            None => false,
+            Some(fact) => is_span(fact, start, events, differing),
+        }
+    }
+
+    /// Whether the record behind this one is known to start where this one ends.
+    pub fn continues(&self, index: u64) -> bool
+        ensures { IsTrue result → Follows PAGES SPAN (span_at self.now index) (span_at self.now (index + 1)) }
+    {
+        self.continues.get(index as usize).is_some_and(|it| *it)
+    }
+
+    /// Whether a record is kept of the span behind this one, with these events, that is known to start where this one ends.
+    pub fn applies_next(&self, index: u64, events: &[Event]) -> bool
+        requires { index < 2 ^ 64 - 1 }
+        ensures { IsTrue result → (a : Span) → span_at self.now index ≡ Some a →
+            span_at self.now (index + 1) ≡ Some (record { index = index + 1; start = end_of PAGES SPAN a; events = events.now }) }
+    {
+        if !self.continues(index) {
+            return false;
+        }
+        match self.fact(index + 1) {
+            Some(fact) => same_events(fact.events(), events),
+            None => false,
+        }
+    }
+
+    /// Notes that the record behind this one starts where this one ends.
+    pub fn tie(&mut self, index: u64)
+        requires { Follows PAGES SPAN (span_at self.old index) (span_at self.old (index + 1)) }
+        ensures spans { self.new.spans ≡ self.old.spans }
+        ensures valid { self.new.valid ≡ self.old.valid }
+    {
+        mark(&mut self.continues, index as usize);
+    }
+
+    /// Keeps a record in place of the one of its number. Where memory is refused the record is dropped, and all is as it was.
+    pub fn put(&mut self, fact: Fact<PAGES, SPAN>) -> Result<(), AllocError>
+        ensures there { IfOk result (λ _. span_at self.new fact.entry.index ≡ Some fact.entry) }
+        ensures others { IfOk result (λ _. (i : ℕ) → ¬ (i ≡ fact.entry.index) → span_at self.new i ≡ span_at self.old i) }
+        ensures same { OnErr result ((i : ℕ) → span_at self.new i ≡ span_at self.old i) }
+        ensures valid { self.new.valid ≡ self.old.valid }
+    {
+        let index = fact.index() as usize;
+        make_room(&mut self.facts, &mut self.continues, index)?;
+        unmark(&mut self.continues, index);
+        self.facts[index] = Some(fact);
+        Ok(())
+    }
+
+    /// How many records, from the first on, are those of the present run.
+    pub fn valid(&self) -> u64
+        ensures { result ≡ self.now.valid }
+    {
+        self.valid
+    }
+
+    /// The record behind these is that of the present run too.
+    pub fn join(&mut self)
+        requires kept { IsSome (span_at self.old self.old.valid) }
+        requires room { self.old.valid < 2 ^ 64 - 1 }
+        ensures { self.new ≡ record self.old { valid = self.old.valid + 1 } }
+    {
+        self.valid += 1;
+    }
+
+    /// The records from a number on may not be those of the present run. They stay.
+    pub fn truncate_valid(&mut self, index: u64)
+        ensures { self.new ≡ record self.old { valid = min self.old.valid index } }
+    {
+        self.valid = self.valid.min(index);
+    }
+}
+
+// Whether a record is that of a span with this start and these events.
+fn is_span<const PAGES: u32, const SPAN: u32>(
+    fact: &Fact<PAGES, SPAN>,
+    start: &Boundary<PAGES>,
+    events: &[Event],
+    differing: Option<&[u32]>,
+) -> bool
+    requires pages { IfSome differing (λ pages. All (λ page. page < page_count_of PAGES) pages.now) }
+    requires same { IfSome differing (λ pages. SameOutside pages.now fact.now.start.words start.now.words) }
+    ensures { IsTrue result ↔ (fact.now ≡ record { index = fact.now.index; start = start.now; events = events.now }) }
+{
+    if !same_events(fact.events(), events) {
+        return false;
+    }
+    let kept = fact.start();
+    if kept.core() != start.core() {
+        return false;
+    }
+    same_words(kept.memory(), start.memory(), differing)
+}
+
+// Whether two memories have the same words, where those outside a set of pages may be known to be the same.
+fn same_words<const PAGES: u32>(
+    a: &Snapshot<PAGES>,
+    b: &Snapshot<PAGES>,
+    differing: Option<&[u32]>,
+) -> bool
+    requires pages { IfSome differing (λ pages. All (λ page. page < page_count_of PAGES) pages.now) }
+    requires same { IfSome differing (λ pages. SameOutside pages.now a.now b.now) }
+    ensures { IsTrue result ↔ (a.now ≡ b.now) }
+{
+    match differing {
+        Some(pages) => a.same_words(b, pages),
+        None => a.equals(b),
+    }
+}
+
+// Makes room up to a place.
+fn make_room<const PAGES: u32, const SPAN: u32>(
+    facts: &mut Vec<Option<Fact<PAGES, SPAN>>>,
+    continues: &mut Vec<bool>,
+    index: usize,
+) -> Result<(), AllocError>
+    requires { length facts.old.items ≤ length continues.old.items }
+    ensures facts { (i : ℕ) → slice_index_or facts.new.items i None ≡ slice_index_or facts.old.items i None }
+    ensures continues { (i : ℕ) → slice_index_or continues.new.items i false ≡ slice_index_or continues.old.items i false }
+    ensures room { IfOk result (λ _. index < length facts.new.items) }
+    ensures long { length facts.new.items ≤ length continues.new.items }
+{
+    while facts.len() <= index {
+        continues.push(false)?;
+        facts.push(None)?;
+    }
+    Ok(())
+}
+
+// Marks a place, if it is there.
+fn mark(continues: &mut Vec<bool>, index: usize)
+    ensures others { (i : ℕ) → ¬ (i ≡ index) → slice_index_or continues.new.items i false ≡ slice_index_or continues.old.items i false }
+    ensures long { length continues.new.items ≡ length continues.old.items }
+{
+    if index < continues.len() {
+        continues[index] = true;
+    }
+}
+
+// Takes the mark of a place away, and that of the one before it.
+fn unmark(continues: &mut Vec<bool>, index: usize)
+    requires { index < length continues.old.items }
+    ensures others { (i : ℕ) → IsTrue (slice_index_or continues.new.items i false) →
+        ¬ (i ≡ index) × ¬ (i + 1 ≡ index) × IsTrue (slice_index_or continues.old.items i false) }
+    ensures long { length continues.new.items ≡ length continues.old.items }
+{
+    continues[index] = false;
+    if index > 0 {
+        continues[index - 1] = false;
+    }
+}

@@ -1,0 +1,8 @@
+use Rattle.std.proofs.Common.{refl}
+use Rattle.std.proofs.lemmas.Option.{slice_get-get_or}
+use Rattle.input_log.proofs.log.Log.set.Goals as goal
+
+pub returns : goal.returns
+returns c =
+    let there = slice_get-get_or c.args.self.now c.in_ok-index.index c.index-event.result.now c.in_ok-index.ensures.found.1 in
+    rw (← c.in_ok-index.ensures.found.0, there, ← c.self.view_is, ← c.index-event.ensures, ← c.event.view_is) refl

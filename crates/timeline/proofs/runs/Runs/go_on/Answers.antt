@@ -1,0 +1,23 @@
+use Rattle.std.proofs.Common.{◌-◌, List, ap, ◌∙◌}
+use Rattle.std.proofs.Math.Path.{ap₂}
+use Rattle.input_log.specs.Event.{TimedByte}
+use Rattle.r3k_machine.specs.State.{State}
+use Rattle.r3k_machine.specs.Run.{run, state_at}
+use Rattle.timeline.proofs.Spans.{gone_on, if_some}
+use Rattle.timeline.proofs.runs.Runs.go_on.Goals as goal
+
+pub returns-clause-of : goal.returns-clause-of
+returns-clause-of g c =
+    let pages = g.row.PAGES in
+    let image = c.args.inputs.now.image in
+    let log = c.args.inputs.now.log in
+    let time = c.args.time in
+    let stood = if_some _ c.args.self.now.at time c.requires.at c.requires.of.stands in record {
+      sizes = c.requires.of.sizes;
+      start = c.requires.of.start;
+      stands =
+          c.run.ensures.state
+          ∙ (ap₂ (λ (events : List TimedByte) (s : State). run pages events time s (c.args.position - time)) c.window.ensures.events stood
+          ∙ gone_on pages image log time c.args.position c.requires.before);
+      joined = c.requires.of.joined;
+    }

@@ -1,0 +1,4 @@
+use Rattle.workbench.proofs.script.run.Goals as goal
+
+pub returns : goal.returns
+returns g c = c.run_with.ensures
