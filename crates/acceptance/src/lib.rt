@@ -36,6 +36,8 @@ mod image_patches;
 #[cfg(test)]
 mod images;
 #[cfg(test)]
+mod indexes;
+#[cfg(test)]
 mod interrupts;
 #[cfg(test)]
 mod isolated;

@@ -4,7 +4,7 @@ ghost use Rattle.r3k_word.specs.Layout.{word_count_of};
 ghost use Rattle.r3k_word.specs.declared.layout.TheConstants.{MAX_RAM_PAGES};
 ghost use Rattle.r3k_pages.specs.Pages.{SameOutside};
 
-use r3k_pages::{Snapshot, page_laws};
+use r3k_pages::{PageMarks, Snapshot, page_laws};
 use r3k_word::layout::{PAGE_WORDS, ROM_PAGES, page_of, word_count};
 use std::alloc::{AllocError, Global};
 use std::process::Abort;
@@ -217,6 +217,59 @@ fn snapshots_one_behind_another(rt: HostRuntime) -> Result<(), Fail> {
     holds(&rt, &third, &[4, 33, 70]);
     drop(second);
     holds(&rt, &third, &[4, 33, 70]);
+    Ok(())
+}
+
+// One word of a snapshot is set, and the snapshot that it was is as before.
+#[test]
+fn one_word_is_set(rt: HostRuntime) -> Result<(), Fail> {
+    let words = filled::<16>(rt.alloc())?;
+    let snapshot = Snapshot::<16>::capture(rt.alloc(), &words, None, &[])?;
+    for place in [0, 1023, 1024, 33 * 1024 + 5, 80 * 1024 - 1] {
+        let set = snapshot.with_word(rt.alloc(), place, 7)?;
+        differ_in(&rt, &snapshot, &set, &[page_of(place) as u32]);
+        assert_eq!(rt; set.word(place), 7);
+        let back = set.with_word(rt.alloc(), place, first_word(place))?;
+        holds(&rt, &back, &[]);
+    }
+    holds(&rt, &snapshot, &[]);
+    Ok(())
+}
+
+// Of pages that all differ the named ones are taken from the other one.
+#[test]
+fn pages_of_another(rt: HostRuntime) -> Result<(), Fail> {
+    let mut words = filled::<16>(rt.alloc())?;
+    let own = Snapshot::<16>::capture(rt.alloc(), &words, None, &[])?;
+    let all = [0, 1, 15, 16, 31, 32, 63, 64, 79];
+    let other = after(&rt, rt.alloc(), &mut words, &own, &all)?;
+    let none = own.overlay(rt.alloc(), &[], &other)?;
+    holds(&rt, &none, &[]);
+    for page in all {
+        let both = own.overlay(rt.alloc(), &[page], &other)?;
+        holds(&rt, &both, &[page]);
+        let back = both.overlay(rt.alloc(), &[5, page], &own)?;
+        holds(&rt, &back, &[]);
+    }
+    let both = own.overlay(rt.alloc(), &[1, 16, 31, 79], &other)?;
+    holds(&rt, &both, &[1, 16, 31, 79]);
+    holds(&rt, &own, &[]);
+    holds(&rt, &other, &all);
+    Ok(())
+}
+
+// A set of pages has each once, in the order in which they came.
+#[test]
+fn marked_pages(rt: HostRuntime) -> Result<(), Fail> {
+    let mut marks = PageMarks::<16>::new(rt.alloc())?;
+    assert!(rt; marks.pages().is_empty());
+    marks.add(&[3, 79]);
+    marks.add(&[0, 79, 3, 16, 0]);
+    assert!(rt; marks.pages() == [3, 79, 0, 16].as_slice());
+    marks.clear();
+    assert!(rt; marks.pages().is_empty());
+    marks.add(&[79]);
+    assert!(rt; marks.pages() == [79].as_slice());
     Ok(())
 }
 

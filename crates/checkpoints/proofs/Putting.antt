@@ -1,7 +1,7 @@
 -- Records that are kept, after one is put.
-use Rattle.std.proofs.Common.{◌≡◌, ℕ, ◌+◌, ◌<◌, ◌≤◌, ◌⊎◌, Bool, true, false, IsTrue, List, length, Option, Some, None, IfSome, IsSome, slice_index_or, slice_set, refl, sym, ap, subst, ◌∙◌, inl, inr, nat_eq}
-use Rattle.std.proofs.lemmas.Bool.{cases_Bool, eq-eqb, eqb-true, true≢false}
-use Rattle.std.proofs.lemmas.List.{get_or-set_same, get_or-set_other}
+use Rattle.std.proofs.Common.{◌≡◌, ℕ, ◌+◌, ◌<◌, ◌≤◌, ◌⊎◌, Bool, false, IsTrue, List, length, Option, Some, None, IfSome, IsSome, slice_index_or, slice_set, refl, sym, ap, subst, ◌∙◌, inl, inr, nat_eq}
+use Rattle.std.proofs.lemmas.Bool.{cases_Bool, cases_lt, eq-eqb, eqb-true, true≢false}
+use Rattle.std.proofs.lemmas.List.{get_or-set_same, get_or-set_other, get_or_past}
 use Rattle.span_fact.specs.Span.{Span}
 use Rattle.checkpoints.specs.Kept.{Follows, IsKept, Kept, continues_at, span_at}
 
@@ -59,3 +59,12 @@ put_kept pages span old new spans continues index fact kept same_spans same_cont
     at_other : (i : ℕ) → ¬ (i ≡ index) → span_at new i ≡ span_at old i
     at_other i other =
         ap (λ (xs : List (Option Span)). slice_index_or xs i None) put ∙ (others_kept spans index i fact other ∙ same_spans i)
+
+-- a record that another one follows has a place
+pub has_place : (pages span : ℕ) (spans : List (Option Span)) (index : ℕ) (b : Option Span) → Follows pages span (slice_index_or spans index None) b
+    → index < length spans
+has_place pages span spans index b follows =
+    elim (cases_lt index (length spans)) [
+      | inl within ↦ within
+      | inr past ↦ absurd (subst (λ (o : Option Span). Follows pages span o b) (get_or_past spans index None past) follows)
+    ]

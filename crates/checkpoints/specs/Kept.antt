@@ -1,6 +1,10 @@
 -- Records of spans that are kept (own).
 use Rattle.std.specs.Prelude.{◌≡◌, ℕ, ◌+◌, ◌<◌, ◌≤◌, Bool, false, IsTrue, List, length, Option, Some, None, IfSome, IsSome, slice_index_or}
-use Rattle.span_fact.specs.Span.{Span, end_of}
+use Rattle.input_log.specs.Event.{TimedByte}
+use Rattle.r3k_machine.specs.State.{State}
+use Rattle.r3k_pages.specs.Pages.{SamePage, holds}
+use Rattle.r3k_live.specs.Record.{touched_pages}
+use Rattle.span_fact.specs.Span.{Span, end_of, steps_of}
 
 pub record Kept : Type 0 where
   pub spans : List (Option Span)
@@ -20,6 +24,26 @@ abbrev pub Follows : (pages span : ℕ) → Option Span → Option Span → Type
 Follows pages span None b = ⊥
 Follows pages span (Some a) None = ⊥
 Follows pages span (Some a) (Some b) = b.start ≡ end_of pages span a
+
+-- there is one, and its events are these
+abbrev pub HasEvents : Option Span → List TimedByte → Type 0
+HasEvents None events = ⊥
+HasEvents (Some s) events = s.events ≡ events
+
+-- two memories have the same words on the pages of a set
+abbrev pub SameOn : List ℕ → List ℕ → List ℕ → Type 0
+SameOn set a b = (page : ℕ) → IsTrue (holds set page) → SamePage page a b
+
+-- a span nearly applies: its events are these, and its start differs from this one only in words of pages that it does not touch
+pub record NearlyApplies (pages span : ℕ) (s : Span) (start : State) (events : List TimedByte) : Type 0 where
+  pub same_events : s.events ≡ events
+  pub same_core : s.start.core ≡ start.core
+  pub same_touched : SameOn (touched_pages pages (steps_of pages span s)) s.start.words start.words
+
+-- there is one that does
+abbrev pub IsNear : (pages span : ℕ) → Option Span → State → List TimedByte → Type 0
+IsNear pages span None start events = ⊥
+IsNear pages span (Some s) start events = NearlyApplies pages span s start events
 
 -- each record has its number, the valid ones are there, and what is known is so
 pub record IsKept (pages span : ℕ) (kept : Kept) : Type 0 where

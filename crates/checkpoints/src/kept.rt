@@ -2,9 +2,9 @@
 
 ghost use Rattle.std.specs.Prelude.{◌≡◌, ◌+◌, ◌-◌, ◌^◌, ◌<◌, ◌≤◌, ◌↔◌, ℕ, [], All, IfOk, IfSome, IsSome, IsTrue, MatchOption, None, OnErr, Option, Some, length, min, slice_index_or, false};
 ghost use Rattle.r3k_machine.specs.State.{State};
-ghost use Rattle.r3k_pages.specs.Pages.{SameOutside, page_count_of};
+ghost use Rattle.r3k_pages.specs.Pages.{SameOutside, SamePage, page_count_of};
 ghost use Rattle.span_fact.specs.Span.{Span, end_of};
-ghost use Rattle.checkpoints.specs.Kept.{Follows, continues_at, span_at};
+ghost use Rattle.checkpoints.specs.Kept.{Follows, HasEvents, IsNear, NearlyApplies, SameOn, continues_at, span_at};
 
 use input_log::{Event, same_events};
 use r3k_live::Boundary;
@@ -72,9 +72,28 @@ impl<const PAGES: u32, const SPAN: u32> Kept<PAGES, SPAN> {
         }
     }
 
+    /// Whether a record is kept of the span of a number with these events, whose start differs from this one only in words of pages
+    /// that the span does not touch. Outside the differing pages both starts have the same words.
+    pub fn nearly(
+        &self,
+        index: u64,
+        start: &Boundary<PAGES>,
+        events: &[Event],
+        differing: &[u32],
+    ) -> bool
+        requires { IfSome (span_at self.now index) (λ s. SameOutside differing.now s.start.words start.now.words) }
+        ensures { IsTrue result ↔ IsNear PAGES SPAN (span_at self.now index) start.now events.now }
+    {
+        match self.fact(index) {
+            None => false,
+            Some(fact) => is_near(fact, start, events, differing),
+        }
+    }
+
     /// Whether the record behind this one is known to start where this one ends.
     pub fn continues(&self, index: u64) -> bool
-        ensures { IsTrue result → Follows PAGES SPAN (span_at self.now index) (span_at self.now (index + 1)) }
+        ensures exact { result ≡ continues_at self.now index }
+        ensures follows { IsTrue result → Follows PAGES SPAN (span_at self.now index) (span_at self.now (index + 1)) }
     {
         self.continues.get(index as usize).is_some_and(|it| *it)
     }
@@ -82,7 +101,8 @@ impl<const PAGES: u32, const SPAN: u32> Kept<PAGES, SPAN> {
     /// Whether a record is kept of the span behind this one, with these events, that is known to start where this one ends.
     pub fn applies_next(&self, index: u64, events: &[Event]) -> bool
         requires { index < 2 ^ 64 - 1 }
-        ensures { IsTrue result → (a : Span) → span_at self.now index ≡ Some a →
+        ensures exact { IsTrue result ↔ (IsTrue (continues_at self.now index) × HasEvents (span_at self.now (index + 1)) events.now) }
+        ensures next { IsTrue result → (a : Span) → span_at self.now index ≡ Some a →
             span_at self.now (index + 1) ≡ Some (record { index = index + 1; start = end_of PAGES SPAN a; events = events.now }) }
     {
         if !self.continues(index) {
@@ -97,6 +117,8 @@ impl<const PAGES: u32, const SPAN: u32> Kept<PAGES, SPAN> {
     /// Notes that the record behind this one starts where this one ends.
     pub fn tie(&mut self, index: u64)
         requires { Follows PAGES SPAN (span_at self.old index) (span_at self.old (index + 1)) }
+        ensures tied { IsTrue (continues_at self.new index) }
+        ensures others { (i : ℕ) → ¬ (i ≡ index) → continues_at self.new i ≡ continues_at self.old i }
         ensures spans { self.new.spans ≡ self.old.spans }
         ensures valid { self.new.valid ≡ self.old.valid }
     {
@@ -152,14 +174,83 @@ fn is_span<const PAGES: u32, const SPAN: u32>(
     requires same { IfSome differing (λ pages. SameOutside pages.now fact.now.start.words start.now.words) }
     ensures { IsTrue result ↔ (fact.now ≡ record { index = fact.now.index; start = start.now; events = events.now }) }
 {
+    if !has_events_and_core(fact, start, events) {
+        return false;
+    }
+    same_words(fact.start().memory(), start.memory(), differing)
+}
+
+// Whether a record is that of a span with these events, from a state with this core.
+fn has_events_and_core<const PAGES: u32, const SPAN: u32>(
+    fact: &Fact<PAGES, SPAN>,
+    start: &Boundary<PAGES>,
+    events: &[Event],
+) -> bool
+    ensures { IsTrue result ↔ ((fact.now.events ≡ events.now) × (fact.now.start.core ≡ start.now.core)) }
+{
     if !same_events(fact.events(), events) {
         return false;
     }
     let kept = fact.start();
-    if kept.core() != start.core() {
+    kept.core() == start.core()
+}
+
+// Whether a record is that of a span with these events, whose start differs from this one only in words of pages that it does not
+// touch.
+fn is_near<const PAGES: u32, const SPAN: u32>(
+    fact: &Fact<PAGES, SPAN>,
+    start: &Boundary<PAGES>,
+    events: &[Event],
+    differing: &[u32],
+) -> bool
+    requires { SameOutside differing.now fact.now.start.words start.now.words }
+    ensures { IsTrue result ↔ NearlyApplies PAGES SPAN fact.now start.now events.now }
+{
+    if !has_events_and_core(fact, start, events) {
         return false;
     }
-    same_words(kept.memory(), start.memory(), differing)
+    same_on(
+        fact.start().memory(),
+        start.memory(),
+        fact.touched(),
+        differing,
+    )
+}
+
+// Whether two memories have the same words on the pages of a set, where those outside the differing ones are the same.
+fn same_on<const PAGES: u32>(
+    a: &Snapshot<PAGES>,
+    b: &Snapshot<PAGES>,
+    set: &[u32],
+    differing: &[u32],
+) -> bool
+    requires pages { All (λ page. page < page_count_of PAGES) set.now }
+    requires same { SameOutside differing.now a.now b.now }
+    ensures { IsTrue result ↔ SameOn set.now a.now b.now }
+{
+    for page in set {
+        if !same_page(a, b, *page, differing) {
+            return false;
+        }
+    }
+    true
+}
+
+// Whether a page has the same words in two memories, where those outside the differing pages are the same.
+fn same_page<const PAGES: u32>(
+    a: &Snapshot<PAGES>,
+    b: &Snapshot<PAGES>,
+    page: u32,
+    differing: &[u32],
+) -> bool
+    requires page { page < page_count_of PAGES }
+    requires same { SameOutside differing.now a.now b.now }
+    ensures { IsTrue result ↔ SamePage page a.now b.now }
+{
+    if !differing.contains(&page) {
+        return true;
+    }
+    a.same_page(page, b)
 }
 
 // Whether two memories have the same words, where those outside a set of pages may be known to be the same.
@@ -199,6 +290,7 @@ fn make_room<const PAGES: u32, const SPAN: u32>(
 
 // Marks a place, if it is there.
 fn mark(continues: &mut Vec<bool>, index: usize)
+    ensures marked { index < length continues.old.items → IsTrue (slice_index_or continues.new.items index false) }
     ensures others { (i : ℕ) → ¬ (i ≡ index) → slice_index_or continues.new.items i false ≡ slice_index_or continues.old.items i false }
     ensures long { length continues.new.items ≡ length continues.old.items }
 {

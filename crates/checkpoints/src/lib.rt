@@ -2,5 +2,7 @@
 #![tactic(auto)]
 
 mod kept;
+mod laws;
 
 pub use kept::Kept;
+pub use laws::near_laws;

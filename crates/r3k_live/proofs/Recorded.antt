@@ -1,17 +1,17 @@
 -- What is recorded of a run, after one more step.
 use Rattle.std.proofs.Common.{◌≡◌, ℕ, zero, suc, ◌+◌, ◌*◌, ◌/◌, ◌%◌, ◌<◌, Bool, true, false, ◌||◌, List, [], ◌∷◌, ◌++◌, length, Option, Some, None, IfSome, IsFalse, nat_eq, slice_index, slice_index_or, slice_set, refl, sym, ap, ◌∙◌, arith, inl, inr, get_or}
-use Rattle.std.proofs.Math.Path.{ap₂}
 use Rattle.std.specs.List.{list_any}
 use Rattle.std.proofs.lemmas.Bool.{cases_Bool, eq-eqb, eqb-true, true≢false}
 use Rattle.std.proofs.lemmas.List.{get_or-set_same, get_or-set_other}
 use Rattle.dz_serial.specs.declared.write.Sent.{Sent}
 use Rattle.r3k_word.specs.Layout.{page_of_place}
-use Rattle.r3k_word.specs.declared.layout.TheConstants.{PAGE_BYTES, PAGE_WORDS}
+use Rattle.r3k_word.specs.declared.layout.TheConstants.{PAGE_WORDS}
 use Rattle.r3k_machine.specs.declared.step.Done.{Done}
 use Rattle.r3k_machine.specs.Run.{last_writer, later, stores_into}
-use Rattle.r3k_machine.specs.Told.{DifferAt, IsPage, IsRamWord}
+use Rattle.r3k_machine.specs.Told.{DifferAt, IsRamWord}
 use Rattle.r3k_machine.proofs.Splits.{writer_split}
-use Rattle.r3k_live.specs.Record.{is_dirty, is_page, is_touched, sent_from, stores_in, with_sent}
+use Rattle.r3k_machine.specs.Locality.{is_page}
+use Rattle.r3k_live.specs.Record.{is_dirty, sent_from, stores_in, with_sent}
 use Rattle.r3k_live.specs.Recording.{kept_step, page_of_store, with_mark, with_writer}
 use Rattle.r3k_live.specs.declared.recorder.SentAt.{SentAt}
 

@@ -1,13 +1,14 @@
 -- What the steps of a run told, taken together (own): the bytes that they sent, the pages that they stored into, and those that
 -- they touched. The last step that stored into a word is told by the last writer.
-use Rattle.std.specs.Prelude.{◌≡◌, ℕ, suc, ◌*◌, ◌/◌, ◌<◌, Bool, false, ◌||◌, List, [], ◌∷◌, Option, Some, None, All, Contains, IsSome, filter, map, nat_eq, slice_index_or}
+use Rattle.std.specs.Prelude.{◌≡◌, ℕ, suc, ◌*◌, ◌/◌, ◌<◌, Bool, false, List, [], ◌∷◌, Option, Some, None, All, Contains, IsSome, filter, map, nat_eq}
 use Rattle.std.specs.List.{list_any, range_with_len}
-use Rattle.std.specs.List.Sorted.{IsNonDecreasingBy}
+use Rattle.std.specs.List.Sorted.{IsStrictlyIncreasing}
 use Rattle.r3k_word.specs.declared.layout.TheConstants.{PAGE_BYTES, PAGE_WORDS}
 use Rattle.dz_serial.specs.declared.write.Sent.{Sent}
 use Rattle.r3k_machine.specs.declared.step.Done.{Done}
 use Rattle.r3k_machine.specs.Run.{last_writer}
 use Rattle.r3k_machine.specs.Told.{IsRamWord}
+use Rattle.r3k_machine.specs.Locality.{is_touched}
 use Rattle.r3k_pages.specs.Pages.{page_count_of}
 use Rattle.r3k_live.specs.declared.recorder.SentAt.{SentAt}
 use Rattle.r3k_live.specs.declared.recorder.Written.{Written}
@@ -27,21 +28,9 @@ abbrev pub stores_in : ℕ → Option ℕ → Bool
 stores_in page None = false
 stores_in page (Some address) = nat_eq (address / PAGE_BYTES) page
 
--- whether this is the page
-abbrev pub is_page : ℕ → Option ℕ → Bool
-is_page page None = false
-is_page page (Some other) = nat_eq other page
-
--- whether a step touched a page: it fetched from it, or loaded from it or stored into it
-abbrev pub touches : ℕ → Done → Bool
-touches page done = is_page page (slice_index_or done.touched 0 None) || is_page page (slice_index_or done.touched 1 None)
-
--- whether steps stored into a page, and whether they touched it
+-- whether steps stored into a page
 abbrev pub is_dirty : List Done → ℕ → Bool
 is_dirty steps page = list_any (λ done. stores_in page done.stored) steps
-
-abbrev pub is_touched : List Done → ℕ → Bool
-is_touched steps page = list_any (touches page) steps
 
 -- the pages for which a test holds, in ascending order
 abbrev pub pages_where : ℕ → (ℕ → Bool) → List ℕ
@@ -54,9 +43,9 @@ dirty_pages pages steps = pages_where pages (is_dirty steps)
 abbrev pub touched_pages : ℕ → List Done → List ℕ
 touched_pages pages steps = pages_where pages (is_touched steps)
 
--- the words of RAM that steps stored into, by their places in ascending order, each with its last step
+-- the words of RAM that steps stored into, by their places in ascending order, each once and with its last step
 pub record AreWriters (pages : ℕ) (steps : List Done) (writers : List Written) : Type 0 where
   pub each : All (λ writer. last_writer (4 * writer.place) steps ≡ Some writer.step) writers
   pub all : (place : ℕ) → place < pages * PAGE_WORDS → IsSome (last_writer (4 * place) steps) → Contains (map (λ writer. writer.place) writers) place
   pub ram : (address : ℕ) → ¬ IsRamWord pages address → last_writer address steps ≡ None
-  pub ascending : IsNonDecreasingBy (λ writer. writer.place) writers
+  pub ascending : IsStrictlyIncreasing (map (λ writer. writer.place) writers)

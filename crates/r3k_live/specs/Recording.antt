@@ -1,11 +1,13 @@
 -- How a recorder keeps what steps told (own).
-use Rattle.std.specs.Prelude.{◌≡◌, ℕ, ◌+◌, ◌*◌, ◌/◌, ◌<◌, ◌≤◌, Bool, true, false, List, length, All, Contains, Option, Some, None, slice_index, slice_index_or, slice_set}
+use Rattle.std.specs.Prelude.{◌≡◌, ℕ, ◌+◌, ◌*◌, ◌/◌, ◌<◌, ◌≤◌, Bool, true, false, List, length, All, Contains, Option, Some, None, nat_eq, slice_index, slice_index_or, slice_set}
+use Rattle.std.specs.List.{IsDistinct}
 use Rattle.r3k_word.specs.declared.layout.TheConstants.{MAX_RAM_PAGES, PAGE_BYTES, PAGE_WORDS}
 use Rattle.r3k_machine.specs.declared.step.Done.{Done}
 use Rattle.r3k_machine.specs.Run.{last_writer}
 use Rattle.r3k_machine.specs.Told.{IsRamWord}
 use Rattle.r3k_pages.specs.Pages.{page_count_of}
-use Rattle.r3k_live.specs.Record.{is_dirty, is_touched, sent_from}
+use Rattle.r3k_machine.specs.Locality.{is_touched}
+use Rattle.r3k_live.specs.Record.{is_dirty, sent_from}
 use Rattle.r3k_live.specs.declared.recorder.SentAt.{SentAt}
 
 pub record Recording : Type 0 where
@@ -53,6 +55,7 @@ pub record IsRecording (pages span stored_room sent_room : ℕ) (r : Recording) 
   pub stored_fits : span ≤ stored_room
   pub sent_fits : span ≤ sent_room
   pub marked : AreStored r.last r.stored
+  pub once : IsDistinct nat_eq r.stored
 
 -- a recorder holds what these steps told
 pub record Records (pages : ℕ) (steps : List Done) (r : Recording) : Type 0 where

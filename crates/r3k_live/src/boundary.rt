@@ -1,9 +1,9 @@
 //! Where a run stood, to be gone back to.
 
-ghost use Rattle.std.specs.Prelude.{◌≡◌, ◌≤◌, IfOk, IfSome, length};
+ghost use Rattle.std.specs.Prelude.{◌≡◌, ◌<◌, ◌≤◌, IfOk, IfSome, length, slice_set};
 ghost use Rattle.r3k_word.specs.Layout.{word_count_of};
 ghost use Rattle.r3k_word.specs.declared.layout.TheConstants.{MAX_RAM_PAGES};
-ghost use Rattle.r3k_pages.specs.Pages.{SameOutside};
+ghost use Rattle.r3k_pages.specs.Pages.{SameOutside, overlaid};
 
 use r3k_machine::{Core, KeptCore};
 use r3k_pages::Snapshot;
@@ -63,5 +63,36 @@ impl<const PAGES: u32> Boundary<PAGES> {
         ensures { result.now ≡ self.now.words }
     {
         &self.memory
+    }
+
+    /// The state with the word at a place set, and the same core. It shares all else.
+    pub fn with_word(
+        &self,
+        alloc: Global,
+        place: usize,
+        word: u32,
+    ) -> Result<Boundary<PAGES>, AllocError>
+        requires { place < word_count_of PAGES }
+        ensures { IfOk result (λ boundary. boundary ≡ record self.now { words = slice_set self.now.words place word }) }
+    {
+        Ok(Boundary {
+            core: self.core.share()?,
+            memory: self.memory.with_word(alloc, place, word)?,
+        })
+    }
+
+    /// The state with the pages of a set taken from the memory of another one, and the same core. It copies no words.
+    pub fn overlay(
+        &self,
+        alloc: Global,
+        pages: &[u32],
+        other: &Boundary<PAGES>,
+    ) -> Result<Boundary<PAGES>, AllocError>
+        ensures { IfOk result (λ boundary. boundary ≡ record self.now { words = overlaid pages.now self.now.words other.now.words }) }
+    {
+        Ok(Boundary {
+            core: self.core.share()?,
+            memory: self.memory.overlay(alloc, pages, &other.memory)?,
+        })
     }
 }

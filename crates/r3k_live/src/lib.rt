@@ -3,10 +3,12 @@
 
 mod boundary;
 mod flat;
+mod laws;
 mod live;
 mod recorder;
 
 pub use boundary::Boundary;
 pub use flat::FlatMemory;
-pub use live::Live;
+pub use laws::run_locality;
+pub use live::{Live, counted};
 pub use recorder::{Recorder, SentAt, Written};

@@ -38,6 +38,13 @@ impl<const PAGES: u32> Model for Live<PAGES> {
     ghost view = { λ live. record { state = record { core = live.core; words = live.memory.words.items }; steps = live.steps } };
 }
 
+/// A count of steps after so many more. It stands still at the greatest number.
+pub fn counted(before: u64, steps: u32) -> u64
+    ensures { result ≡ counted before steps }
+{
+    before.saturating_add(steps as u64)
+}
+
 // No address of an instruction.
 const NOWHERE: u64 = u64::MAX;
 
@@ -141,7 +148,7 @@ impl<const PAGES: u32> Live<PAGES> {
             stop,
             recorder,
         );
-        self.steps = self.steps.saturating_add(stopped.unwrap_or(steps) as u64);
+        self.steps = counted(self.steps, stopped.unwrap_or(steps));
         stopped
     }
 

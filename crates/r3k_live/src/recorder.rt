@@ -1,7 +1,7 @@
 //! A record of what steps told: bytes sent, words stored into, and pages touched.
 
-ghost use Rattle.std.specs.Prelude.{◌≡◌, ◌+◌, ◌-◌, ◌*◌, ◌/◌, ◌^◌, ◌<◌, ◌≤◌, [], ◌∷◌, ◌++◌, All, IfOk, IfSome, List, false, filter, length, map, slice_index, slice_index_or, slice_set, vec_capacity, vec_len, ℕ};
-ghost use Rattle.std.specs.List.{range_with_len};
+ghost use Rattle.std.specs.Prelude.{◌≡◌, ◌+◌, ◌-◌, ◌*◌, ◌/◌, ◌^◌, ◌<◌, ◌≤◌, [], ◌∷◌, ◌++◌, All, IfOk, IfSome, List, false, filter, length, map, nat_eq, slice_index, slice_index_or, slice_set, vec_capacity, vec_len, ℕ};
+ghost use Rattle.std.specs.List.{IsDistinct, range_with_len};
 ghost use Rattle.r3k_word.specs.declared.layout.TheConstants.{MAX_RAM_PAGES, PAGE_WORDS};
 ghost use Rattle.r3k_pages.specs.Pages.{IsPageSet, page_count_of};
 ghost use Rattle.r3k_machine.specs.declared.step.Done.{Done};
@@ -108,7 +108,7 @@ impl<const PAGES: u32, const SPAN: u32> Recorder<PAGES, SPAN> {
         self.last[address as usize / 4].checked_sub(1)
     }
 
-    /// The words of RAM that were stored into, in ascending order, each with the last step that did so.
+    /// The words of RAM that were stored into, in ascending order, each once and with the last step that did so.
     pub fn writers(&self, alloc: Global) -> Result<Vec<Written>, AllocError>
         ensures { (steps : List Done) → Records PAGES steps self.now → IfOk result (λ writers. AreWriters PAGES steps writers.items) }
     {
@@ -183,8 +183,10 @@ fn note_store(last: &mut Vec<u32>, stored: &mut Vec<u32>, address: Option<u32>, 
     requires step { step < 2 ^ 32 - 1 }
     requires room { vec_len stored.old < vec_capacity stored.old }
     requires marked { AreStored last.old.items stored.old.items }
+    requires once { IsDistinct nat_eq stored.old.items }
     ensures last { last.new.items ≡ with_writer last.old.items step address }
     ensures marked { AreStored last.new.items stored.new.items }
+    ensures once { IsDistinct nat_eq stored.new.items }
     ensures long { length stored.new.items ≤ length stored.old.items + 1 }
     ensures room { vec_capacity stored.new ≡ vec_capacity stored.old }
 {

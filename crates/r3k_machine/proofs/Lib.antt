@@ -1,1 +1,6 @@
 pub mod Splits
+pub mod Carried
+mod Fetched
+mod Untouched
+pub mod Elsewhere
+pub mod Within

@@ -31,5 +31,6 @@ pub mod Reset
 pub mod Step
 pub mod Told
 pub mod Run
+pub mod Locality
 pub mod Same
 pub mod SameProcessor

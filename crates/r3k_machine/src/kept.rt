@@ -46,15 +46,11 @@ impl Core {
     pub fn keep(&self, alloc: Global, previous: Option<&KeptCore>) -> Result<KeptCore, AllocError>
         ensures { IfOk result (λ kept. kept ≡ self.now) }
     {
-        let mut tlb = Tlb::new();
-        tlb.assign(&self.tlb);
-        let mut bus = Bus::new(1, [0; 12], 1);
-        bus.assign(&self.bus);
         Ok(KeptCore {
             processor: self.processor,
-            tlb,
+            tlb: copied_tlb(&self.tlb),
             caches: keep_caches(alloc, &self.caches, previous)?,
-            bus,
+            bus: copied_bus(&self.bus),
         })
     }
 
@@ -67,6 +63,38 @@ impl Core {
         self.caches.assign(&kept.caches);
         self.bus.assign(&kept.bus);
     }
+}
+
+impl KeptCore {
+    /// The same once more, with the same arrays of the isolated cache.
+    pub fn share(&self) -> Result<KeptCore, AllocError>
+        ensures { IfOk result (λ kept. kept ≡ self.now) }
+    {
+        Ok(KeptCore {
+            processor: self.processor,
+            tlb: copied_tlb(&self.tlb),
+            caches: self.caches.clone()?,
+            bus: copied_bus(&self.bus),
+        })
+    }
+}
+
+// The translation entries once more.
+fn copied_tlb(entries: &Tlb) -> Tlb
+    ensures { result ≡ entries.now }
+{
+    let mut tlb = Tlb::new();
+    tlb.assign(entries);
+    tlb
+}
+
+// The bus once more.
+fn copied_bus(same: &Bus) -> Bus
+    ensures { result ≡ same.now }
+{
+    let mut bus = Bus::new(1, [0; 12], 1);
+    bus.assign(same);
+    bus
 }
 
 // The arrays of the earlier kept core where they are equal to these, or else a copy.

@@ -1,11 +1,14 @@
 //! Laws of the run: nothing runs here.
 
-ghost use Rattle.std.specs.Prelude.{◌≡◌, ℕ, ◌+◌, ◌++◌, List, length};
+ghost use Rattle.std.specs.Prelude.{◌≡◌, ℕ, ◌+◌, ◌++◌, All, Bool, IfSome, List, length};
 ghost use Rattle.input_log.specs.Event.{TimedByte};
 ghost use Rattle.input_log.specs.Log.{window_of};
 ghost use Rattle.r3k_machine.specs.declared.step.Done.{Done};
 ghost use Rattle.r3k_machine.specs.State.{State};
 ghost use Rattle.r3k_machine.specs.Run.{run, trace, console_of, senders_of, last_writer, later};
+ghost use Rattle.r3k_machine.specs.Step.{next, told};
+ghost use Rattle.r3k_machine.specs.Told.{IsPage};
+ghost use Rattle.r3k_machine.specs.Locality.{IsApart, IsWithPages, is_touched, touches};
 
 /// A run and its trace split at any point, and so do the console, the steps that sent its bytes, and the last writer. They
 /// depend on the events of their own times alone.
@@ -26,4 +29,24 @@ pub fn run_laws()
         run pages (window_of time (time + n) log) time s n ≡ run pages log time s n }
     ensures own_times_of_trace { (pages : ℕ) (log : List TimedByte) (time : ℕ) (s : State) (n : ℕ) →
         trace pages (window_of time (time + n) log) time s n ≡ trace pages log time s n }
+{}
+
+/// A step that touches no page of a set tells the same from the state with any other words in these pages, and the next
+/// state is the same with these words in them. So it is with the trace and the end of a run. There is one such state alone.
+/// Any page that a step touches is one of the machine.
+pub fn locality()
+    ensures pages { (pages : ℕ) (events : List TimedByte) (s : State) → All (λ page. IfSome page (IsPage pages)) (told pages events s).touched }
+    ensures told { (pages : ℕ) (events : List TimedByte) (set : ℕ → Bool) (s t : State) (other : List ℕ) →
+        IsWithPages set s other t → IsApart set (λ page. touches page (told pages events s)) →
+        told pages events t ≡ told pages events s }
+    ensures next { (pages : ℕ) (events : List TimedByte) (set : ℕ → Bool) (s t : State) (other : List ℕ) →
+        IsWithPages set s other t → IsApart set (λ page. touches page (told pages events s)) →
+        IsWithPages set (next pages events s) other (next pages events t) }
+    ensures trace { (pages : ℕ) (log : List TimedByte) (time : ℕ) (set : ℕ → Bool) (s t : State) (other : List ℕ) (n : ℕ) →
+        IsWithPages set s other t → IsApart set (is_touched (trace pages log time s n)) →
+        trace pages log time t n ≡ trace pages log time s n }
+    ensures run { (pages : ℕ) (log : List TimedByte) (time : ℕ) (set : ℕ → Bool) (s t : State) (other : List ℕ) (n : ℕ) →
+        IsWithPages set s other t → IsApart set (is_touched (trace pages log time s n)) →
+        IsWithPages set (run pages log time s n) other (run pages log time t n) }
+    ensures one { (set : ℕ → Bool) (s : State) (other : List ℕ) (t u : State) → IsWithPages set s other t → IsWithPages set s other u → t ≡ u }
 {}

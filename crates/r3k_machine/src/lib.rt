@@ -16,7 +16,7 @@ mod translation;
 
 pub use address::Where;
 pub use kept::KeptCore;
-pub use laws::run_laws;
+pub use laws::{locality, run_laws};
 pub use memory::Mem;
 pub use state::{Core, DelayedLoad};
 pub use step::Done;

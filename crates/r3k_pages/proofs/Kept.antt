@@ -1,7 +1,6 @@
 -- The words of a snapshot by their places.
-use Rattle.std.proofs.Common.{◌≡◌, ℕ, suc, ◌+◌, ◌-◌, ◌*◌, ◌/◌, ◌%◌, ◌<◌, ◌≤◌, List, [], ◌∷◌, ◌++◌, map, length, slice_index, slice_index_or, Option, Some, None, Result, Ok, Err, IfOk, IfSome, MatchResult, IsFalse, sym, ap, subst, ◌∙◌, arith, refl, get_or, take, drop, min, inl, inr}
-use Rattle.std.specs.List.{range_with_len}
-use Rattle.std.proofs.lemmas.List.{get_or-map, get_or-append_right, get_or-take, get_or-drop, get_or_past}
+use Rattle.std.proofs.Common.{◌≡◌, ℕ, suc, ◌*◌, ◌/◌, ◌%◌, ◌<◌, List, [], ◌∷◌, map, length, slice_index, slice_index_or, Option, Some, Result, Ok, Err, IfOk, IfSome, MatchResult, IsFalse, sym, ap, subst, ◌∙◌, arith, refl, take, drop, inl, inr}
+use Rattle.std.proofs.lemmas.List.{get_or-map, get_or-take, get_or-drop}
 use Rattle.std.proofs.lemmas.List.FromFn.{get_or-map-range_with_len, length-map-range_with_len}
 use Rattle.std.proofs.lemmas.Grind.{same_number_lists}
 use Rattle.std.proofs.lemmas.Bool.{cases_Bool, eq-eqb, eqb-true, true≢false}
@@ -9,7 +8,7 @@ use Rattle.std.proofs.Common.{Bool, true, false, ◌||◌, nat_eq}
 use Rattle.r3k_word.specs.Layout.{page_of_place, word_count_of}
 use Rattle.r3k_word.specs.declared.layout.TheConstants.{PAGE_WORDS}
 use Rattle.r3k_pages.specs.declared.group.TheConstants.{GROUP_PAGES}
-use Rattle.r3k_pages.specs.Groups.{IsGroupOf, IsPageOf, group_count_of, touches, word_in, words_in}
+use Rattle.r3k_pages.specs.Groups.{touches, word_in, words_in}
 use Rattle.r3k_pages.specs.Pages.{SameOutside, SamePage, holds, page_count_of}
 
 -- what holds of an answer, where something else does
@@ -56,7 +55,7 @@ page_copied words page place of =
     ∙ ap (slice_index words) (omega (arith, of)))
 
 -- a set that has no page of a group
-neither : (a b : Bool) → IsFalse (a || b) → (a ≡ false) × (b ≡ false)
+pub neither : (a b : Bool) → IsFalse (a || b) → (a ≡ false) × (b ≡ false)
 neither true b h = absurd (true≢false h)
 neither false b h = (refl, h)
 

@@ -1,1 +1,4 @@
 pub mod Kept
+pub mod Set
+pub mod Marked
+pub mod Overlaid

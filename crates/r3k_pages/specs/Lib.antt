@@ -1,3 +1,4 @@
 pub use Rattle.r3k_word.specs.Layout
 pub mod Pages
 pub mod Groups
+pub mod Marking

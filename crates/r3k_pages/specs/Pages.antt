@@ -1,6 +1,6 @@
 -- Pages of memory (own): the words of RAM and ROM by pages of 1,024 words. Pages of RAM come first, then those of ROM.
-use Rattle.std.specs.Prelude.{◌≡◌, ℕ, ◌+◌, ◌<◌, Bool, IsFalse, List, All, nat_eq, slice_index}
-use Rattle.std.specs.List.{list_any}
+use Rattle.std.specs.Prelude.{◌≡◌, ℕ, ◌+◌, ◌<◌, Bool, IsFalse, List, All, if◌then◌else◌, length, map, nat_eq, slice_index}
+use Rattle.std.specs.List.{list_any, range_with_len}
 use Rattle.std.specs.List.Sorted.{IsStrictlyIncreasing}
 use Rattle.r3k_word.specs.Layout.{page_of_place}
 use Rattle.r3k_word.specs.declared.layout.TheConstants.{ROM_PAGES}
@@ -25,3 +25,8 @@ SamePage page a b = (place : ℕ) → page_of_place place ≡ page → slice_ind
 -- two memories have the same words outside a set of pages
 abbrev pub SameOutside : List ℕ → List ℕ → List ℕ → Type 0
 SameOutside set a b = (place : ℕ) → IsFalse (holds set (page_of_place place)) → slice_index a place ≡ slice_index b place
+
+-- a memory with the words of another one on the pages of a set
+abbrev pub overlaid : (set own other : List ℕ) → List ℕ
+overlaid set own other =
+    map (λ place. if holds set (page_of_place place) then slice_index other place else slice_index own place) (range_with_len 0 (length own))

@@ -1,12 +1,12 @@
 //! Pages by groups: a snapshot that changes one page shares all groups but that page's.
 
-ghost use Rattle.std.specs.Prelude.{◌≡◌, ◌<◌, ◌≤◌, IfOk, IfSome, IsTrue, length, not, slice_index_or, []};
+ghost use Rattle.std.specs.Prelude.{◌≡◌, ◌+◌, ◌^◌, ◌<◌, ◌≤◌, ℕ, IfOk, IfSome, IsTrue, if◌then◌else◌, length, map, not, slice_index_or, slice_set, []};
 ghost use Rattle.r3k_word.specs.Layout.{word_count_of};
 ghost use Rattle.r3k_word.specs.declared.layout.TheConstants.{MAX_RAM_PAGES, PAGE_WORDS};
 ghost use Rattle.r3k_pages.specs.Groups.{IsGroupOf, IsPageOf, group_count_of, touches};
 ghost use Rattle.r3k_pages.specs.Pages.{SameOutside, holds, page_count_of};
 
-use crate::page::Page;
+use crate::page::{Page, shared};
 use crate::snapshot::{Snapshot, page_count};
 use r3k_word::layout::PAGE_WORDS;
 use std::alloc::{AllocError, Global};
@@ -16,7 +16,7 @@ use std::rc::Rc;
 /// How many pages a group has.
 pub(crate) const GROUP_PAGES: usize = 32;
 
-/// Pages one behind another. Behind the last page of memory that page stands again, up to the group's end.
+/// Pages one behind another. Behind the last page of memory stand pages that nothing reads, up to the group's end.
 #[derive(Drop)]
 pub(crate) struct Group {
     pages: Vec<Rc<Page>>,
@@ -36,6 +36,38 @@ impl Model for Group {
 impl Group {
     ghost use Rattle.r3k_pages.specs.declared.group.TheConstants.{GROUP_PAGES};
 
+    /// The group with the pages of a set taken from another one, where its own first page has this number. It copies no words.
+    pub(crate) fn overlay(
+        &self,
+        alloc: Global,
+        set: &[u32],
+        other: &Group,
+        first: usize,
+    ) -> Result<Rc<Group>, AllocError>
+        requires { first + GROUP_PAGES < 2 ^ 64 }
+        ensures { IfOk result (λ group. (index : ℕ) → index < GROUP_PAGES →
+            slice_index_or group.value index [] ≡ slice_index_or (if holds set.now (first + index) then other.now else self.now) index []) }
+    {
+        let mut pages = Vec::with_capacity(alloc, GROUP_PAGES)?;
+        for index in 0..GROUP_PAGES {
+            let page = if holds(set, first + index) {
+                other.page(index)
+            } else {
+                self.page(index)
+            };
+            pages.push(page.clone()?)?;
+        }
+        Group::new(alloc, pages)
+    }
+
+    /// A group of these pages.
+    fn new(alloc: Global, pages: Vec<Rc<Page>>) -> Result<Rc<Group>, AllocError>
+        requires { length pages.items ≡ GROUP_PAGES }
+        ensures { IfOk result (λ group. group.value ≡ map (λ page. page.value) pages.items) }
+    {
+        Rc::new(alloc, Group { pages }).map_err(|_| AllocError)
+    }
+
     /// A page of the group.
     pub(crate) fn page(&self, index: usize) -> &Rc<Page>
         requires { index < GROUP_PAGES }
@@ -43,10 +75,36 @@ impl Group {
     {
         &self.pages[index]
     }
+
+    /// The group with a word of one of its pages set.
+    pub(crate) fn with_word(
+        &self,
+        alloc: Global,
+        index: usize,
+        place: usize,
+        word: u32,
+    ) -> Result<Rc<Group>, AllocError>
+        requires index { index < GROUP_PAGES }
+        requires place { place < PAGE_WORDS }
+        ensures set { IfOk result (λ group. group.value ≡ slice_set self.now index (slice_set (slice_index_or self.now index []) place word)) }
+        ensures pages { length self.now ≡ GROUP_PAGES }
+        ensures words { IfOk result (λ _. length (slice_index_or self.now index []) ≡ PAGE_WORDS) }
+    {
+        let mut pages = shared(alloc, &self.pages)?;
+        pages[index] = self.page(index).with_word(alloc, place, word)?;
+        Group::new(alloc, pages)
+    }
 }
 
-// Whether a page of a group is in a set of pages.
-fn touches(set: &[u32], group: usize) -> bool
+// Whether a page is in a set.
+fn holds(set: &[u32], page: usize) -> bool
+    ensures { result ≡ holds set.now page }
+{
+    set.iter().any(|other| *other as usize == page)
+}
+
+/// Whether a page of a group is in a set of pages.
+pub(crate) fn touches(set: &[u32], group: usize) -> bool
     ensures { result ≡ touches set.now group }
 {
     set.iter().any(|page| *page as usize / GROUP_PAGES == group)
@@ -116,5 +174,5 @@ fn copied_group<const PAGES: u32>(
         let page = (group * GROUP_PAGES + index).min(last);
         pages.push(page_of(alloc, words, previous, dirty, page)?)?;
     }
-    Rc::new(alloc, Group { pages }).map_err(|_| AllocError)
+    Group::new(alloc, pages)
 }

@@ -4,7 +4,9 @@
 mod group;
 mod laws;
 mod page;
+mod page_marks;
 mod snapshot;
 
 pub use laws::page_laws;
+pub use page_marks::PageMarks;
 pub use snapshot::Snapshot;

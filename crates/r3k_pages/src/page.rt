@@ -1,6 +1,6 @@
 //! A page of a snapshot: 1,024 words that stay as they are.
 
-ghost use Rattle.std.specs.Prelude.{◌≡◌, IfOk, length};
+ghost use Rattle.std.specs.Prelude.{◌≡◌, ◌<◌, IfOk, length, map, slice_set};
 ghost use Rattle.r3k_word.specs.declared.layout.TheConstants.{PAGE_WORDS};
 
 use std::alloc::{AllocError, Global};
@@ -36,6 +36,22 @@ impl Page {
         Rc::new(alloc, page).map_err(|_| AllocError)
     }
 
+    /// The page with the word at a place of it set.
+    pub(crate) fn with_word(
+        &self,
+        alloc: Global,
+        place: usize,
+        word: u32,
+    ) -> Result<Rc<Page>, AllocError>
+        requires { place < PAGE_WORDS }
+        ensures set { IfOk result (λ page. page.value ≡ slice_set self.now place word) }
+        ensures whole { length self.now ≡ PAGE_WORDS }
+    {
+        let mut words = Vec::from_slice(alloc, &self.words)?;
+        words[place] = word;
+        Rc::new(alloc, Page { words }).map_err(|_| AllocError)
+    }
+
     /// Its words.
     pub(crate) fn words(&self) -> &[u32]
         ensures words { result.now ≡ self.now }
@@ -43,4 +59,18 @@ impl Page {
     {
         &self.words
     }
+}
+
+/// The same pointers once more.
+pub(crate) fn shared<T: Drop>(
+    alloc: Global,
+    pointers: &Vec<Rc<T>>,
+) -> Result<Vec<Rc<T>>, AllocError>
+    ensures { IfOk result (λ same. map (λ pointer. pointer.value) same.items ≡ map (λ pointer. pointer.value) pointers.now.items) }
+{
+    let mut same = Vec::with_capacity(alloc, pointers.len())?;
+    for pointer in pointers {
+        same.push(pointer.clone()?)?;
+    }
+    Ok(same)
 }

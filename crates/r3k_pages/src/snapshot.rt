@@ -1,13 +1,13 @@
 //! A snapshot: the words of RAM and ROM at a time.
 
-ghost use Rattle.std.specs.Prelude.{◌≡◌, ◌+◌, ◌*◌, ◌<◌, ◌≤◌, ◌↔◌, All, IfOk, IfSome, IsTrue, [], length, map, slice_index, slice_index_or};
+ghost use Rattle.std.specs.Prelude.{◌≡◌, ◌+◌, ◌*◌, ◌<◌, ◌≤◌, ◌↔◌, All, IfOk, IfSome, IsTrue, [], length, map, slice_index, slice_index_or, slice_set};
 ghost use Rattle.r3k_word.specs.Layout.{page_of_place, word_count_of};
 ghost use Rattle.r3k_word.specs.declared.layout.TheConstants.{MAX_RAM_PAGES, PAGE_WORDS};
 ghost use Rattle.r3k_pages.specs.Groups.{IsGroupOf, IsPageOf, group_count_of};
-ghost use Rattle.r3k_pages.specs.Pages.{SameOutside, SamePage, page_count_of};
+ghost use Rattle.r3k_pages.specs.Pages.{SameOutside, SamePage, overlaid, page_count_of};
 
-use crate::group::{GROUP_PAGES, Group, group_of};
-use crate::page::Page;
+use crate::group::{GROUP_PAGES, Group, group_of, touches};
+use crate::page::{Page, shared};
 use r3k_word::layout::{PAGE_WORDS, ROM_PAGES, page_of};
 use std::alloc::{AllocError, Global};
 use std::marker::Model;
@@ -64,6 +64,41 @@ impl<const PAGES: u32> Snapshot<PAGES> {
         let mut groups = Vec::with_capacity(alloc, count)?;
         for group in 0..count {
             groups.push(group_of(alloc, words, previous, dirty, group)?)?;
+        }
+        Ok(Snapshot { groups })
+    }
+
+    /// The snapshot with the word at a place set. It shares all other pages, and all groups without that page.
+    pub fn with_word(
+        &self,
+        alloc: Global,
+        place: usize,
+        word: u32,
+    ) -> Result<Snapshot<PAGES>, AllocError>
+        requires { place < word_count_of PAGES }
+        ensures { IfOk result (λ s. s ≡ slice_set self.now place word) }
+    {
+        let page = page_of(place);
+        let group = page / GROUP_PAGES;
+        let at = place % PAGE_WORDS as usize;
+        let mut groups = shared(alloc, &self.groups)?;
+        groups[group] = groups[group].with_word(alloc, page % GROUP_PAGES, at, word)?;
+        Ok(Snapshot { groups })
+    }
+
+    /// The snapshot with the pages of a set taken from another one. It shares the pages of both, and all groups without a page of
+    /// the set: no words are copied.
+    pub fn overlay(
+        &self,
+        alloc: Global,
+        pages: &[u32],
+        other: &Snapshot<PAGES>,
+    ) -> Result<Snapshot<PAGES>, AllocError>
+        ensures { IfOk result (λ s. s ≡ overlaid pages.now self.now other.now) }
+    {
+        let mut groups = Vec::with_capacity(alloc, self.groups.len())?;
+        for group in 0..self.groups.len() {
+            groups.push(self.overlaid_group(alloc, pages, other, group)?)?;
         }
         Ok(Snapshot { groups })
     }
@@ -127,6 +162,26 @@ impl<const PAGES: u32> Snapshot<PAGES> {
             let start = page * PAGE_WORDS as usize;
             words[start..start + PAGE_WORDS as usize].copy_from_slice(self.page(page).words());
         }
+    }
+
+    // A group with the pages of a set taken from another snapshot.
+    fn overlaid_group(
+        &self,
+        alloc: Global,
+        pages: &[u32],
+        other: &Snapshot<PAGES>,
+        group: usize,
+    ) -> Result<Rc<Group>, AllocError>
+        requires { group < group_count_of PAGES }
+        ensures { IfOk result (λ result. IsGroupOf PAGES (overlaid pages.now self.now other.now) group result.value) }
+    {
+        // The groups are read, so that their number is known here.
+        let _groups = &self.groups;
+        let own = self.group(group);
+        if !touches(pages, group) {
+            return own.clone();
+        }
+        own.overlay(alloc, pages, other.group(group), group * GROUP_PAGES)
     }
 
     // A group of pages.

@@ -1,7 +1,9 @@
 -- The last writer of a word that is looked up in order.
-use Rattle.std.proofs.Common.{◌≡◌, ℕ, ◌*◌, ◌<◌, ◌≤◌, List, Contains, map, length, slice_index_or, Option, Some, None, IsSome, refl, sym, ap, subst, ◌∙◌, arith, inl, inr}
+use Rattle.std.proofs.Common.{◌≡◌, ℕ, ◌*◌, ◌<◌, ◌≤◌, List, Contains, map, length, slice_index_or, Option, Some, None, IsSome, refl, sym, subst, ◌∙◌, arith, inl, inr}
+use Rattle.std.specs.List.Sorted.{IsNonDecreasingBy, IsStrictlyIncreasing}
 use Rattle.std.proofs.lemmas.Bool.{cases_lt}
 use Rattle.std.proofs.lemmas.List.{get_or-map, length-map}
+use Rattle.std.proofs.lemmas.Map.Keys.{non_decreasing_from_sorted, sorted_from_strictly_increasing}
 use Rattle.r3k_word.specs.declared.layout.TheConstants.{PAGE_WORDS}
 use Rattle.r3k_machine.specs.declared.step.Done.{Done}
 use Rattle.r3k_machine.specs.Run.{last_writer}
@@ -27,3 +29,12 @@ not_found pages steps writers place at written within below other = none (last_w
           | inl before ↦ absurd (let e : ⊥ = omega (arith, is, below k d before) in e)
           | inr behind ↦ absurd (other k d behind inside is)
         ]
+
+-- places that rise do not fall
+pub rising : (writers : List Written) → IsStrictlyIncreasing (map (λ w. w.place) writers) → IsNonDecreasingBy (λ w. w.place) writers
+rising writers up =
+    λ i j d low within.
+    let place : Written → ℕ = λ w. w.place in
+    let inside : j < length (map place writers) = subst (λ (n : ℕ). j < n) (sym (length-map writers place)) within in
+    let ordered = non_decreasing_from_sorted (map place writers) (sorted_from_strictly_increasing (map place writers) up) i j (place d) low inside in
+    omega (arith, ordered, get_or-map place writers i d (place d) (omega (arith, low, within)), get_or-map place writers j d (place d) within)

@@ -5,6 +5,7 @@ use Rattle.input_log.specs.Log.{AreInOrder, AreWithin}
 use Rattle.r3k_machine.specs.State.{State}
 use Rattle.r3k_machine.specs.Run.{run, trace}
 use Rattle.r3k_machine.specs.declared.step.Done.{Done}
+use Rattle.r3k_pages.specs.Pages.{SameOutside}
 use Rattle.r3k_live.specs.Record.{AreWriters, dirty_pages, sent_from, touched_pages}
 use Rattle.r3k_live.specs.declared.recorder.SentAt.{SentAt}
 use Rattle.r3k_live.specs.declared.recorder.Written.{Written}
@@ -29,4 +30,5 @@ pub record Holds (pages span : ℕ) (s : Span) (end : State) (writers : List Wri
   pub written : AreWriters pages (steps_of pages span s) writers
   pub told : sent ≡ sent_from 0 (steps_of pages span s)
   pub stored : dirty ≡ dirty_pages pages (steps_of pages span s)
+  pub stayed : SameOutside dirty s.start.words end.words
   pub seen : touched ≡ touched_pages pages (steps_of pages span s)

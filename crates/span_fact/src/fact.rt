@@ -1,10 +1,10 @@
 //! The record of a span: `SPAN` steps from a state, with the events of their times.
 
-ghost use Rattle.std.specs.Prelude.{◌≡◌, ◌+◌, ◌*◌, ◌^◌, ◌<◌, ◌≤◌, ℕ, IfOk, List, length, slice_index_or};
-ghost use Rattle.std.specs.List.Sorted.{IsNonDecreasingBy};
+ghost use Rattle.std.specs.Prelude.{◌≡◌, ◌+◌, ◌*◌, ◌^◌, ◌<◌, ◌≤◌, ℕ, IfOk, List, length, map, slice_index_or};
+ghost use Rattle.std.specs.List.Sorted.{IsNonDecreasingBy, IsStrictlyIncreasing};
 ghost use Rattle.r3k_word.specs.declared.layout.TheConstants.{PAGE_WORDS};
 ghost use Rattle.input_log.specs.Log.{AreInOrder, AreWithin};
-ghost use Rattle.r3k_pages.specs.Pages.{IsPageSet};
+ghost use Rattle.r3k_pages.specs.Pages.{IsPageSet, SameOutside};
 ghost use Rattle.r3k_machine.specs.declared.step.Done.{Done};
 ghost use Rattle.r3k_machine.specs.Run.{last_writer};
 ghost use Rattle.r3k_live.specs.Living.{counted};
@@ -124,16 +124,19 @@ impl<const PAGES: u32, const SPAN: u32> Fact<PAGES, SPAN> {
         &self.sent
     }
 
-    /// The pages that its steps stored into, in ascending order.
+    /// The pages that its steps stored into, in ascending order. All others have the same words at its end as at its start.
     pub fn dirty(&self) -> &[u32]
-        ensures { result.now ≡ dirty_pages PAGES (steps_of PAGES SPAN self.now) }
+        ensures pages { result.now ≡ dirty_pages PAGES (steps_of PAGES SPAN self.now) }
+        ensures set { IsPageSet PAGES result.now }
+        ensures stayed { SameOutside result.now self.now.start.words (end_of PAGES SPAN self.now).words }
     {
         &self.dirty
     }
 
     /// The pages that its steps touched, in ascending order: fetched from, loaded from or stored into.
     pub fn touched(&self) -> &[u32]
-        ensures { result.now ≡ touched_pages PAGES (steps_of PAGES SPAN self.now) }
+        ensures pages { result.now ≡ touched_pages PAGES (steps_of PAGES SPAN self.now) }
+        ensures set { IsPageSet PAGES result.now }
     {
         &self.touched
     }
@@ -151,7 +154,7 @@ fn share<const PAGES: u32>(
 
 // The last step that stored into the word at an address, among those of all words of RAM that were stored into.
 fn writer_in<const PAGES: u32>(writers: &[Written], address: u32) -> Option<u32>
-    requires { IsNonDecreasingBy (λ writer. writer.place) writers.now }
+    requires { IsStrictlyIncreasing (map (λ writer. writer.place) writers.now) }
     ensures { (steps : List Done) → AreWriters PAGES steps writers.now → result ≡ last_writer address steps }
 {
     if address % 4 != 0 {

@@ -1,12 +1,12 @@
 -- A part of a console, where the console has a byte more.
-use Rattle.std.proofs.Common.{◌≡◌, ℕ, zero, suc, ◌<◌, ◌≤◌, List, [], ◌∷◌, ◌++◌, length, take, refl, ap, arith, ◌∙◌}
+use Rattle.std.proofs.Common.{◌≡◌, ℕ, zero, suc, ◌<◌, ◌≤◌, List, [], ◌∷◌, ◌++◌, length, take, refl, sym, ap, append_assoc, arith, ◌∙◌}
 use Rattle.std.proofs.Common.{Option, Some, None}
 use Rattle.std.specs.List.{cons_option}
 use Rattle.std.proofs.lemmas.List.{append-nil}
 use Rattle.std.proofs.lemmas.List.Elements.{filter_map-append}
-use Rattle.r3k_machine.specs.declared.step.Done.{Done}
-use Rattle.r3k_machine.specs.Run.{byte_on, console_of}
+use Rattle.r3k_live.specs.declared.recorder.SentAt.{SentAt}
 use Rattle.timeline.specs.Console.{part_of, with_byte}
+use Rattle.timeline.specs.Sent.{bytes_on, on_line}
 
 -- nothing is shown of a console without bytes
 pub part_nil : (from count : ℕ) → part_of {A = ℕ} from count [] ≡ []
@@ -15,15 +15,28 @@ part_nil zero (suc count) = refl
 part_nil (suc from) zero = refl
 part_nil (suc from) (suc count) = refl
 
--- the console after one more step
-behind : (console : List ℕ) (byte : Option ℕ) → console ++ cons_option byte [] ≡ with_byte console byte
-behind console None = append-nil console
-behind console (Some byte) = refl
+-- the bytes of a line after one more
+behind : (bytes : List ℕ) (byte : Option ℕ) → bytes ++ cons_option byte [] ≡ with_byte bytes byte
+behind bytes None = append-nil bytes
+behind bytes (Some byte) = refl
 
-pub console_more : (line : ℕ) (steps : List Done) (done : Done)
-    → console_of line (steps ++ done ∷ []) ≡ with_byte (console_of line steps) (byte_on line done.sent)
-console_more line steps done =
-    filter_map-append (λ done. byte_on line done.sent) steps (done ∷ []) ∙ behind (console_of line steps) (byte_on line done.sent)
+in_front : (console bytes : List ℕ) (byte : Option ℕ) → with_byte (console ++ bytes) byte ≡ console ++ with_byte bytes byte
+in_front console bytes None = refl
+in_front console bytes (Some byte) = append_assoc console bytes (byte ∷ [])
+
+pub bytes_more : (line : ℕ) (console : List ℕ) (front : List SentAt) (one : SentAt)
+    → with_byte (console ++ bytes_on line front) (on_line line (λ one. one.byte) one) ≡ console ++ bytes_on line (front ++ one ∷ [])
+bytes_more line console front one =
+    let byte = on_line line (λ one. one.byte) one in
+    in_front console (bytes_on line front) byte
+    ∙ ap (λ (bytes : List ℕ). console ++ bytes) (sym (filter_map-append (on_line line (λ one. one.byte)) front (one ∷ []) ∙ behind (bytes_on line front) byte))
+
+-- all of a list
+pub take_past : {A : Type 0} (xs : List A) (n : ℕ) → length xs ≤ n → take n xs ≡ xs
+take_past [] zero past = refl
+take_past [] (suc n) past = refl
+take_past (x ∷ xs) zero past = absurd (omega (arith, past))
+take_past (x ∷ xs) (suc n) past = ap (λ (rest : List _). x ∷ rest) (take_past xs n (omega (arith, past)))
 
 take-nil : (count : ℕ) → take {A = ℕ} count [] ≡ []
 take-nil zero = refl

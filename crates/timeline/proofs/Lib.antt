@@ -1,8 +1,12 @@
 mod Answered
 mod Consoles
+mod Counts
+mod Differ
+mod Next
 mod Patches
 mod Steps
-mod Senders
+mod Seeks
+mod Sending
 mod Spans
+mod Told
 mod Visits
-mod Writers

@@ -13,7 +13,7 @@ use Rattle.r3k_machine.proofs.Splits.{run_own, run_split, run_within}
 use Rattle.r3k_machine.specs.State.{State}
 use Rattle.span_fact.specs.Span.{Span, end_of}
 use Rattle.checkpoints.specs.Kept.{Follows}
-use Rattle.timeline.specs.Runs.{span_of}
+use Rattle.timeline.specs.Reuse.{span_of}
 
 pub next_start : (index span : ℕ) → (index + 1) * span ≡ index * span + span
 next_start index span = add-mul index 1 span ∙ ap (λ (n : ℕ). index * span + n) (let e : 1 * span ≡ span = omega arith in e)
@@ -62,6 +62,11 @@ span_is pages span image log index valid start events is start_is events_is =
 pub either : {A E P : Type 0} (X : A → Type 0) (Y : Type 0) (r : Result A E) → IfOk r X → OnErr r Y → ((x : A) → X x → P) → (Y → P) → P
 either X Y (Ok x) ok err f g = f x ok
 either X Y (Err e) ok err f g = g err
+
+-- what holds in any case
+pub ok_all : {A E : Type 0} (r : Result A E) (X : Type 0) → X → IfOk r (λ _. X)
+ok_all (Ok x) X there = there
+ok_all (Err e) X there = tt
 
 -- the value of an option that is known
 pub if_some : {A : Type 0} (P : A → Type 0) (o : Option A) (x : A) → o ≡ Some x → IfSome o P → P x

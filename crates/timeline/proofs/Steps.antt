@@ -1,32 +1,10 @@
--- One more step of the run from reset, and of its trace.
-use Rattle.std.proofs.Common.{◌≡◌, ℕ, ◌+◌, ◌-◌, ◌≤◌, suc, ◌++◌, ◌∷◌, [], sym, ap, ◌∙◌, arith, zero-add, List, length}
+-- The trace of the run from reset.
+use Rattle.std.proofs.Common.{◌≡◌, ℕ, ◌+◌, ◌-◌, ◌≤◌, ◌++◌, ap, ◌∙◌, arith, zero-add, List, length}
 use Rattle.input_log.specs.Event.{TimedByte}
 use Rattle.r3k_image.specs.Boot.{Boot}
 use Rattle.r3k_machine.specs.Reset.{reset}
-use Rattle.r3k_machine.specs.Step.{next}
-use Rattle.r3k_machine.specs.declared.step.Done.{Done}
-use Rattle.r3k_machine.specs.Run.{run, trace, arriving, state_at, trace_at}
-use Rattle.r3k_machine.proofs.Splits.{trace_split, trace_count}
-use Rattle.timeline.specs.Going.{told_at}
-
-pub state_more : (pages : ℕ) (image : Boot) (log : List TimedByte) (time : ℕ)
-    → next pages (arriving log time) (state_at pages image log time) ≡ state_at pages image log (time + 1)
-unfolding run
-state_more pages image log time =
-    let start = reset pages image in
-    ap (λ (t : ℕ). next pages (arriving log t) (run pages log 0 start time)) (sym (zero-add time))
-    ∙ ap (run pages log 0 start) (let e : suc time ≡ time + 1 = omega arith in e)
-
-pub trace_more : (pages : ℕ) (image : Boot) (log : List TimedByte) (time : ℕ)
-    → trace_at pages image log (time + 1) ≡ trace_at pages image log time ++ told_at pages image log time ∷ []
-unfolding trace
-trace_more pages image log time =
-    let start = reset pages image in
-    ap (trace pages log 0 start) (let e : time + 1 ≡ suc time = omega arith in e)
-    ∙ ap (λ (t : ℕ). trace pages log 0 start time ++ next_told t ∷ []) (zero-add time)
-  where
-    next_told : ℕ → Done
-    next_told t = Rattle.r3k_machine.specs.Step.told pages (arriving log t) (run pages log 0 (reset pages image) time)
+use Rattle.r3k_machine.specs.Run.{state_at, trace, trace_at}
+use Rattle.r3k_machine.proofs.Splits.{trace_count, trace_split}
 
 pub trace_long : (pages : ℕ) (image : Boot) (log : List TimedByte) (time : ℕ) → length (trace_at pages image log time) ≡ time
 trace_long pages image log time = trace_count pages log 0 (reset pages image) time

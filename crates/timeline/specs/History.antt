@@ -1,9 +1,8 @@
 -- A history (own): the boot image and the log that determine a run. Both can be edited.
-use Rattle.std.specs.Prelude.{ℕ, List, Result, Ok, Err, refl}
+use Rattle.std.specs.Prelude.{ℕ, List, refl}
 use Rattle.std.specs.Coded.{Coded, code_by, coded×, coded_ℕ, coded_list}
 use Rattle.input_log.specs.Event.{TimedByte}
 use Rattle.r3k_image.specs.Boot.{Boot, FitsRam, boot_code}
-use Rattle.refusal.specs.declared.fault.Fault.{Fault}
 use Rattle.timeline.specs.Sizes.{AreSizes}
 
 pub record History : Type 0 where
@@ -25,12 +24,3 @@ history_code =
 pub record IsHistory (pages span : ℕ) (h : History) : Type 0 where
   pub sizes : AreSizes pages span
   pub fits : FitsRam pages h.image
-
--- the history with the log, or the image, that an edit leaves
-abbrev pub with_log : History → Result (List TimedByte) Fault → Result History Fault
-with_log h (Ok log) = Ok (record { image = h.image; log = log })
-with_log h (Err fault) = Err fault
-
-abbrev pub with_image : History → Result Boot Fault → Result History Fault
-with_image h (Ok image) = Ok (record { image = image; log = h.log })
-with_image h (Err fault) = Err fault

@@ -7,6 +7,8 @@ pub use Rattle.refusal.specs.Given
 pub mod Sizes
 pub mod Console
 pub mod History
-pub mod Going
+pub mod Sent
+pub mod Seeking
 pub mod Query
+pub mod Reuse
 pub mod Runs

@@ -1,69 +1,76 @@
-//! Edits of the history. Records of spans outlive an edit of the log, though they may no longer be those of the run.
+//! Edits of the history. Records of spans outlive them, though they may no longer be those of the run.
 
 ghost use Rattle.std.specs.Prelude.{◌≡◌, IfOk, length};
 ghost use Rattle.input_log.specs.Edits.{adding, deleting, moving, setting, up_to, without};
 ghost use Rattle.r3k_image.specs.Boot.{FitsRam};
 ghost use Rattle.r3k_image.specs.Patch.{patching};
 ghost use Rattle.refusal.specs.Given.{Changes, ChangesOrLacks};
-ghost use Rattle.timeline.specs.History.{with_image, with_log};
+ghost use Rattle.timeline.specs.Reuse.{with_image, with_log};
 
-use crate::queries::place_at;
-use crate::runs::forget;
 use crate::timeline::Timeline;
+use r3k_word::layout::{page_of, place_of};
 use refusal::Fault;
 
 impl<const PAGES: u32, const SPAN: u32> Timeline<PAGES, SPAN> {
     /// Adds an event after all events of its time or an earlier one, and gives its place in the log. A time or a line out of
     /// its range, and a log that is full, are `Range`.
     pub fn add(&mut self, time: u64, line: u8, byte: u8) -> Result<usize, Fault>
-        ensures log { ChangesOrLacks (with_log self.old (adding (record { time = time; line = line; byte = byte }) self.old.log)) self.old self.new result }
-        ensures place { IfOk result (λ place. place ≡ length (up_to time self.old.log)) }
+        ensures log { ChangesOrLacks (with_log self.old (adding (record { time = time; line = line; byte = byte }) self.old.history.log)) self.old self.new result }
+        ensures place { IfOk result (λ place. place ≡ length (up_to time self.old.history.log)) }
     {
         let place = self.inputs.log.add(time, line, byte)?;
-        forget(&mut self.runs);
+        self.runs.forget();
         Ok(place)
     }
 
     /// Deletes an event by its place in the log. `NoEvent` if there is none.
     pub fn del(&mut self, place: u64) -> Result<(), Fault>
-        ensures { Changes (with_log self.old (deleting place self.old.log)) self.old self.new result }
+        ensures { Changes (with_log self.old (deleting place self.old.history.log)) self.old self.new result }
     {
         self.inputs.log.del(place)?;
-        forget(&mut self.runs);
+        self.runs.forget();
         Ok(())
     }
 
     /// Gives an event another byte. `NoEvent` if there is none.
     pub fn set(&mut self, place: u64, byte: u8) -> Result<(), Fault>
-        ensures { Changes (with_log self.old (setting place byte self.old.log)) self.old self.new result }
+        ensures { Changes (with_log self.old (setting place byte self.old.history.log)) self.old self.new result }
     {
         self.inputs.log.set(place, byte)?;
-        forget(&mut self.runs);
+        self.runs.forget();
         Ok(())
     }
 
     /// Moves an event to another time, as if it was deleted and added again, and gives its new place in the log. A time out of
     /// its range is `Range`, and else no such event `NoEvent`.
     pub fn move_to(&mut self, place: u64, time: u64) -> Result<usize, Fault>
-        ensures log { Changes (with_log self.old (moving place time self.old.log)) self.old self.new result }
-        ensures place { IfOk result (λ now. now ≡ length (up_to time (without place self.old.log))) }
+        ensures log { Changes (with_log self.old (moving place time self.old.history.log)) self.old self.new result }
+        ensures place { IfOk result (λ now. now ≡ length (up_to time (without place self.old.history.log))) }
     {
         let place = self.inputs.log.move_to(place, time)?;
-        forget(&mut self.runs);
+        self.runs.forget();
         Ok(place)
     }
 
     /// Sets a word of the image, by its physical address, also where its value stays the same. `Unaligned` if the address is not
     /// a multiple of 4, `NotMemory` if it is neither in the machine's RAM nor in ROM.
     pub fn patch(&mut self, address: u32, word: u32) -> Result<(), Fault>
-        ensures image { ChangesOrLacks (with_image self.old (patching PAGES address word self.old.image)) self.old self.new result }
-        ensures fits { FitsRam PAGES self.new.image }
+        ensures image { ChangesOrLacks (with_image self.old (patching PAGES address word self.old.history.image)) self.old self.new result }
+        ensures fits { FitsRam PAGES self.new.history.image }
     {
         // A field is read, so that the sizes are known here.
-        let _alloc = self.alloc;
-        place_at::<PAGES>(address)?;
-        self.inputs.image.patch(address, word)?;
-        self.runs = None;
+        let alloc = self.alloc;
+        if address % 4 != 0 {
+            return Err(Fault::Unaligned);
+        }
+        let Some(place) = place_of(PAGES, address) else {
+            return Err(Fault::NotMemory);
+        };
+        let reset = self.runs.reset_with(alloc, place, word)?;
+        let Ok(()) = self.inputs.image.patch(address, word) else {
+            return Err(Fault::Memory);
+        };
+        self.runs.restart(reset, page_of(place) as u32);
         Ok(())
     }
 }

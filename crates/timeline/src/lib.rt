@@ -1,11 +1,14 @@
 //! A history that can be edited, an image and a log, and the answers of the run from reset that they determine.
 #![tactic(auto)]
 
+mod differing;
 mod edits;
+mod going;
 mod inputs;
-mod machine;
 mod queries;
 mod runs;
+mod sent;
+mod telling;
 mod timeline;
 mod writer;
 

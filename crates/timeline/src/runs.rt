@@ -1,19 +1,23 @@
 //! The present run of a history: the machine that runs, and the records of spans that are kept.
 
-ghost use Rattle.std.specs.Prelude.{◌≡◌, ℕ, ◌+◌, ◌-◌, ◌*◌, ◌/◌, ◌^◌, ◌<◌, ◌≤◌, IfOk, IfSome, IsTrue, List, Some, slice_index, unwrap_or};
+ghost use Rattle.std.specs.Prelude.{◌≡◌, ◌↔◌, [], ◌∷◌, ℕ, ◌+◌, ◌-◌, ◌*◌, ◌^◌, ◌<◌, ◌≤◌, IfOk, IfSome, IsSome, IsTrue, List, OnErr, Some, slice_set};
 ghost use Rattle.input_log.specs.Event.{TimedByte};
 ghost use Rattle.r3k_image.specs.Boot.{Boot};
 ghost use Rattle.r3k_word.specs.Layout.{word_count_of};
-ghost use Rattle.r3k_machine.specs.Run.{next_visit, state_at};
+ghost use Rattle.r3k_machine.specs.Reset.{reset};
+ghost use Rattle.r3k_machine.specs.Run.{state_at};
+ghost use Rattle.r3k_pages.specs.Pages.{SameOutside, page_count_of};
+ghost use Rattle.r3k_live.specs.Living.{counted};
 ghost use Rattle.checkpoints.specs.Kept.{Follows, span_at};
-ghost use Rattle.timeline.specs.Query.{max_position};
-ghost use Rattle.timeline.specs.Runs.{AreOf, span_of};
+ghost use Rattle.timeline.specs.Reuse.{Applies, Reaches, Spends, span_of};
+ghost use Rattle.timeline.specs.Runs.{AreOf, holding_of};
 ghost use Rattle.timeline.specs.Sizes.{AreSizes};
 
+use crate::differing::Differing;
 use crate::inputs::Inputs;
 use checkpoints::Kept;
 use r3k_live::{Boundary, Live, Recorder};
-use r3k_machine::Core;
+use r3k_pages::PageMarks;
 use span_fact::Fact;
 use std::alloc::{AllocError, Global};
 use std::rc::Rc;
@@ -28,13 +32,19 @@ pub(crate) struct Runs<const PAGES: u32, const SPAN: u32> {
     pub(crate) reset: Rc<Boundary<PAGES>>,
     // Where the machine stands in the run, if it does.
     pub(crate) at: Option<u64>,
+    // Pages in which the next span may start otherwise than the record of its number.
+    pub(crate) differing: Differing<PAGES>,
+    // Pages that were patched since the first record was made.
+    pub(crate) patched: PageMarks<PAGES>,
 }
 
 impl<const PAGES: u32, const SPAN: u32> Runs<PAGES, SPAN> {
     /// The run at reset.
     pub(crate) fn boot(alloc: Global, inputs: &Inputs) -> Result<Runs<PAGES, SPAN>, AllocError>
         requires { AreSizes PAGES SPAN }
-        ensures { IfOk result (AreOf {pages = PAGES} {span = SPAN} inputs.now.image inputs.now.log) }
+        ensures of { IfOk result (AreOf {pages = PAGES} {span = SPAN} inputs.now.image inputs.now.log) }
+        ensures spans { IfOk result (λ runs. runs.kept.spans ≡ []) }
+        ensures steps { IfOk result (λ runs. runs.live.steps ≡ 0) }
     {
         let live = Live::new(alloc, &inputs.image)?;
         let reset = live.keep(alloc, None, &[])?;
@@ -44,11 +54,13 @@ impl<const PAGES: u32, const SPAN: u32> Runs<PAGES, SPAN> {
             kept: Kept::new(alloc),
             reset: share(alloc, reset)?,
             at: Some(0),
+            differing: Differing::new(alloc)?,
+            patched: PageMarks::new(alloc)?,
         })
     }
 
-    // Where a span starts, not behind those that are joined.
-    fn start_of(&self, index: u64) -> &Rc<Boundary<PAGES>>
+    /// Where a span starts, not behind those that are joined.
+    pub(crate) fn start_of(&self, index: u64) -> &Rc<Boundary<PAGES>>
         requires { index ≤ self.now.kept.valid }
         ensures { (image : Boot) (log : List TimedByte) → AreOf {pages = PAGES} {span = SPAN} image log self.now →
             result.now.value ≡ state_at PAGES image log (index * SPAN) }
@@ -67,8 +79,7 @@ impl<const PAGES: u32, const SPAN: u32> Runs<PAGES, SPAN> {
         requires of { AreOf {pages = PAGES} {span = SPAN} inputs.now.image inputs.now.log self.now }
         requires start { start.now ≡ state_at PAGES inputs.now.image inputs.now.log (self.now.kept.valid * SPAN) }
         requires time { (self.now.kept.valid + 1) * SPAN < 2 ^ 64 }
-        ensures { IsTrue result → span_at self.now.kept self.now.kept.valid
-            ≡ Some (span_of PAGES SPAN inputs.now.image inputs.now.log self.now.kept.valid) }
+        ensures { IsTrue result ↔ Applies PAGES SPAN (holding_of inputs.now.image inputs.now.log self.now) self.now.kept.valid }
     {
         let index = self.kept.valid();
         let events = inputs
@@ -77,10 +88,50 @@ impl<const PAGES: u32, const SPAN: u32> Runs<PAGES, SPAN> {
         if index > 0 && self.kept.applies_next(index - 1, events) {
             return true;
         }
-        self.kept.applies(index, start, events, None)
+        self.kept
+            .applies(index, start, events, self.differing.pages())
     }
 
-    // Runs the first span that is not joined, and keeps its record.
+    // Joins one more span. A span of which no record applies is run for it.
+    fn extend(&mut self, alloc: Global, inputs: &Inputs) -> Result<(), AllocError>
+        requires of { AreOf {pages = PAGES} {span = SPAN} inputs.now.image inputs.now.log self.old }
+        requires time { (self.old.kept.valid + 1) * SPAN < 2 ^ 64 }
+        requires few { self.old.kept.valid < 2 ^ 64 - 1 }
+        ensures of { AreOf {pages = PAGES} {span = SPAN} inputs.now.image inputs.now.log self.new }
+        ensures joined { IfOk result (λ _. self.new.kept.valid ≡ self.old.kept.valid + 1) }
+        ensures others { (i : ℕ) → ¬ (i ≡ self.old.kept.valid) → span_at self.new.kept i ≡ span_at self.old.kept i }
+        ensures stays { OnErr result (span_at self.new.kept self.old.kept.valid ≡ span_at self.old.kept self.old.kept.valid) }
+        ensures free { Applies PAGES SPAN (holding_of inputs.now.image inputs.now.log self.old) self.old.kept.valid →
+            self.new.live.steps ≡ self.old.live.steps }
+        ensures count { IfOk result (λ _. ¬ Applies PAGES SPAN (holding_of inputs.now.image inputs.now.log self.old) self.old.kept.valid →
+            self.new.live.steps ≡ counted self.old.live.steps SPAN) }
+        ensures most { self.new.live.steps ≤ self.old.live.steps + SPAN }
+    {
+        let start = self.start_of(self.kept.valid()).clone()?;
+        if self.applies(inputs, &start) {
+            self.join_kept(inputs);
+            return Ok(());
+        }
+        self.run_span(alloc, inputs, start)
+    }
+
+    // Joins the record that is kept of the next span, as it applies.
+    fn join_kept(&mut self, inputs: &Inputs)
+        requires of { AreOf {pages = PAGES} {span = SPAN} inputs.now.image inputs.now.log self.old }
+        requires applies { Applies PAGES SPAN (holding_of inputs.now.image inputs.now.log self.old) self.old.kept.valid }
+        requires few { self.old.kept.valid < 2 ^ 64 - 1 }
+        ensures of { AreOf {pages = PAGES} {span = SPAN} inputs.now.image inputs.now.log self.new }
+        ensures joined { self.new.kept.valid ≡ self.old.kept.valid + 1 }
+        ensures spans { self.new.kept.spans ≡ self.old.kept.spans }
+        ensures steps { self.new.live.steps ≡ self.old.live.steps }
+    {
+        let index = self.kept.valid();
+        let follows = self.kept.continues(index);
+        join_next(&mut self.kept, &mut self.patched, index);
+        self.differing.restart(!follows);
+    }
+
+    // Runs the next span, keeps its record and joins it.
     fn run_span(
         &mut self,
         alloc: Global,
@@ -90,57 +141,59 @@ impl<const PAGES: u32, const SPAN: u32> Runs<PAGES, SPAN> {
         requires of { AreOf {pages = PAGES} {span = SPAN} inputs.now.image inputs.now.log self.old }
         requires start { start.value ≡ state_at PAGES inputs.now.image inputs.now.log (self.old.kept.valid * SPAN) }
         requires time { (self.old.kept.valid + 1) * SPAN < 2 ^ 64 }
+        requires few { self.old.kept.valid < 2 ^ 64 - 1 }
         ensures of { AreOf {pages = PAGES} {span = SPAN} inputs.now.image inputs.now.log self.new }
-        ensures valid { self.new.kept.valid ≡ self.old.kept.valid }
-        ensures there { IfOk result (λ _. span_at self.new.kept self.new.kept.valid
-            ≡ Some (span_of PAGES SPAN inputs.now.image inputs.now.log self.new.kept.valid)) }
+        ensures joined { IfOk result (λ _. self.new.kept.valid ≡ self.old.kept.valid + 1) }
+        ensures others { (i : ℕ) → ¬ (i ≡ self.old.kept.valid) → span_at self.new.kept i ≡ span_at self.old.kept i }
+        ensures stays { OnErr result (span_at self.new.kept self.old.kept.valid ≡ span_at self.old.kept self.old.kept.valid) }
+        ensures count { IfOk result (λ _. self.new.live.steps ≡ counted self.old.live.steps SPAN) }
+        ensures most { self.new.live.steps ≤ self.old.live.steps + SPAN }
+    {
+        let index = self.kept.valid();
+        let fact = self.make_record(alloc, inputs, start)?;
+        let follows = self.kept.continues(index);
+        self.differing.pass_kept(self.kept.fact(index));
+        self.differing.pass_run(&fact);
+        self.differing.any |= !follows;
+        self.kept.put(fact)?;
+        join_next(&mut self.kept, &mut self.patched, index);
+        Ok(())
+    }
+
+    // Runs the next span, and gives its record.
+    fn make_record(
+        &mut self,
+        alloc: Global,
+        inputs: &Inputs,
+        start: Rc<Boundary<PAGES>>,
+    ) -> Result<Fact<PAGES, SPAN>, AllocError>
+        requires of { AreOf {pages = PAGES} {span = SPAN} inputs.now.image inputs.now.log self.old }
+        requires start { start.value ≡ state_at PAGES inputs.now.image inputs.now.log (self.old.kept.valid * SPAN) }
+        requires time { (self.old.kept.valid + 1) * SPAN < 2 ^ 64 }
+        ensures of { AreOf {pages = PAGES} {span = SPAN} inputs.now.image inputs.now.log self.new }
+        ensures made { IfOk result (λ fact. fact ≡ span_of PAGES SPAN inputs.now.image inputs.now.log self.old.kept.valid) }
+        ensures kept { self.new.kept ≡ self.old.kept }
+        ensures differing { self.new.differing ≡ self.old.differing }
+        ensures patched { self.new.patched ≡ self.old.patched }
+        ensures count { IfOk result (λ _. self.new.live.steps ≡ counted self.old.live.steps SPAN) }
+        ensures most { self.new.live.steps ≤ self.old.live.steps + SPAN }
     {
         let index = self.kept.valid();
         let from = index * SPAN as u64;
         let to = (index + 1) * SPAN as u64;
         stand_at(&mut self.live, self.at, from, &start);
         self.at = None;
+        let events = inputs.log.window(from, to);
         let fact = Fact::make(
             alloc,
             &mut self.live,
             &mut self.recorder,
             start,
             index,
-            inputs.log.window(from, to),
+            events,
         )?;
         self.at = Some(to);
-        self.kept.put(fact)
-    }
-
-    // Sees to it that the record of the first span that is not joined is that of this run.
-    fn find_or_run(&mut self, alloc: Global, inputs: &Inputs) -> Result<(), AllocError>
-        requires of { AreOf {pages = PAGES} {span = SPAN} inputs.now.image inputs.now.log self.old }
-        requires time { (self.old.kept.valid + 1) * SPAN < 2 ^ 64 }
-        ensures of { AreOf {pages = PAGES} {span = SPAN} inputs.now.image inputs.now.log self.new }
-        ensures valid { self.new.kept.valid ≡ self.old.kept.valid }
-        ensures there { IfOk result (λ _. span_at self.new.kept self.new.kept.valid
-            ≡ Some (span_of PAGES SPAN inputs.now.image inputs.now.log self.new.kept.valid)) }
-    {
-        let start = self.start_of(self.kept.valid()).clone()?;
-        if self.applies(inputs, &start) {
-            return Ok(());
-        }
-        self.run_span(alloc, inputs, start)
-    }
-
-    // Joins one more span.
-    fn extend(&mut self, alloc: Global, inputs: &Inputs) -> Result<(), AllocError>
-        requires of { AreOf {pages = PAGES} {span = SPAN} inputs.now.image inputs.now.log self.old }
-        requires time { (self.old.kept.valid + 1) * SPAN < 2 ^ 64 }
-        requires few { self.old.kept.valid < 2 ^ 64 - 1 }
-        ensures of { AreOf {pages = PAGES} {span = SPAN} inputs.now.image inputs.now.log self.new }
-        ensures joined { IfOk result (λ _. self.new.kept.valid ≡ self.old.kept.valid + 1) }
-    {
-        self.find_or_run(alloc, inputs)?;
-        let index = self.kept.valid();
-        tie_before(&mut self.kept, index);
-        self.kept.join();
-        Ok(())
+        Ok(fact)
     }
 
     /// Joins all spans before one.
@@ -154,199 +207,57 @@ impl<const PAGES: u32, const SPAN: u32> Runs<PAGES, SPAN> {
         requires time { (index + 1) * SPAN < 2 ^ 64 }
         ensures of { AreOf {pages = PAGES} {span = SPAN} inputs.now.image inputs.now.log self.new }
         ensures joined { IfOk result (λ _. index ≤ self.new.kept.valid) }
+        ensures spends { Spends PAGES SPAN index 0 (holding_of inputs.now.image inputs.now.log self.old)
+            (holding_of inputs.now.image inputs.now.log self.new) }
+        ensures reaches { IfOk result (λ _. Reaches PAGES SPAN index (holding_of inputs.now.image inputs.now.log self.old)
+            (holding_of inputs.now.image inputs.now.log self.new)) }
     {
         while self.kept.valid() < index {
             self.extend(alloc, inputs)?;
         }
         Ok(())
     }
-}
 
-impl<const PAGES: u32, const SPAN: u32> Runs<PAGES, SPAN> {
-    /// Makes the machine stand at a position.
-    pub(crate) fn stand(
-        &mut self,
+    /// No record is joined any more, and the machine stands nowhere in the run: what determines the run has changed but for its
+    /// start. The records stay.
+    pub(crate) fn forget(&mut self)
+        ensures of { (image : Boot) (log : List TimedByte) → AreSizes PAGES SPAN → self.old.reset.value ≡ reset PAGES image →
+            IfSome (span_at self.old.kept 0) (λ s. SameOutside self.old.patched s.start.words (reset PAGES image).words) →
+            AreOf {pages = PAGES} {span = SPAN} image log self.new }
+        ensures spans { self.new.kept.spans ≡ self.old.kept.spans }
+        ensures steps { self.new.live.steps ≡ self.old.live.steps }
+    {
+        self.kept.truncate_valid(0);
+        self.at = None;
+        self.differing.restart(false);
+        self.differing.marked.add(self.patched.pages());
+    }
+
+    /// Where the run starts once the image sets a word to this.
+    pub(crate) fn reset_with(
+        &self,
         alloc: Global,
-        inputs: &Inputs,
-        position: u64,
-    ) -> Result<(), AllocError>
-        requires of { AreOf {pages = PAGES} {span = SPAN} inputs.now.image inputs.now.log self.old }
-        requires position { position ≤ max_position }
-        ensures of { AreOf {pages = PAGES} {span = SPAN} inputs.now.image inputs.now.log self.new }
-        ensures at { IfOk result (λ _. self.new.at ≡ Some position) }
-    {
-        let index = position / SPAN as u64;
-        self.reach(alloc, inputs, index)?;
-        let time = self.stand_in(inputs, index, position)?;
-        self.go_on(inputs, time, position);
-        Ok(())
-    }
-
-    // Makes the machine stand in a span, at a position or before it, and gives the time there.
-    fn stand_in(&mut self, inputs: &Inputs, index: u64, position: u64) -> Result<u64, AllocError>
-        requires of { AreOf {pages = PAGES} {span = SPAN} inputs.now.image inputs.now.log self.old }
-        requires joined { index ≤ self.old.kept.valid }
-        requires in_span { index * SPAN ≤ position }
-        requires time { position < 2 ^ 64 }
-        ensures of { AreOf {pages = PAGES} {span = SPAN} inputs.now.image inputs.now.log self.new }
-        ensures at { IfOk result (λ time. self.new.at ≡ Some time) }
-        ensures in_span { IfOk result (λ time. index * SPAN ≤ time) }
-        ensures before { IfOk result (λ time. time ≤ position) }
-    {
-        let from = index * SPAN as u64;
-        if let Some(time) = self.at {
-            if from <= time && time <= position {
-                return Ok(time);
-            }
-        }
-        let start = self.start_of(index).clone()?;
-        self.live.load(&start);
-        self.at = Some(from);
-        Ok(from)
-    }
-
-    // Goes on to a position, at most a span's steps away.
-    fn go_on(&mut self, inputs: &Inputs, time: u64, position: u64)
-        requires of { AreOf {pages = PAGES} {span = SPAN} inputs.now.image inputs.now.log self.old }
-        requires at { self.old.at ≡ Some time }
-        requires before { time ≤ position }
-        requires near { position ≤ time + SPAN }
-        ensures of { AreOf {pages = PAGES} {span = SPAN} inputs.now.image inputs.now.log self.new }
-        ensures at { self.new.at ≡ Some position }
-    {
-        self.recorder.clear();
-        self.live.run(
-            time,
-            inputs.log.window(time, position),
-            (position - time) as u32,
-            &mut self.recorder,
-        );
-        self.at = Some(position);
-    }
-
-    // Goes on to the next position at which the PC holds an address, or to a position, at most a span's steps away.
-    fn visit_in(&mut self, inputs: &Inputs, time: u64, address: u32, last: u64) -> Option<u64>
-        requires of { AreOf {pages = PAGES} {span = SPAN} inputs.now.image inputs.now.log self.old }
-        requires at { self.old.at ≡ Some time }
-        requires before { time ≤ last }
-        requires near { last ≤ time + SPAN }
-        ensures of { AreOf {pages = PAGES} {span = SPAN} inputs.now.image inputs.now.log self.new }
-        ensures at { self.new.at ≡ Some (unwrap_or result last) }
-        ensures found { result ≡ next_visit PAGES inputs.now.image inputs.now.log address time (last - time) }
-        ensures bound { unwrap_or result last ≤ last }
-    {
-        self.recorder.clear();
-        let found = self.live.visit(
-            time,
-            inputs.log.window(time, last),
-            (last - time) as u32,
-            address,
-            &mut self.recorder,
-        );
-        match found {
-            Some(steps) => {
-                self.at = Some(time + steps as u64);
-                Some(time + steps as u64)
-            }
-            None => {
-                self.at = Some(last);
-                None
-            }
-        }
-    }
-
-    /// Goes on from a position to the next one at which the PC holds an address, if there is one up to a last one.
-    pub(crate) fn visit(
-        &mut self,
-        inputs: &Inputs,
-        position: u64,
-        address: u32,
-        last: u64,
-    ) -> Option<u64>
-        requires of { AreOf {pages = PAGES} {span = SPAN} inputs.now.image inputs.now.log self.old }
-        requires at { self.old.at ≡ Some position }
-        requires before { position ≤ last }
-        requires bound { last ≤ max_position }
-        ensures of { AreOf {pages = PAGES} {span = SPAN} inputs.now.image inputs.now.log self.new }
-        ensures found { result ≡ next_visit PAGES inputs.now.image inputs.now.log address position (last - position) }
-        ensures bound { IfSome result (λ found. found ≤ last) }
-    {
-        let mut time = position;
-        while time < last {
-            let to = last.min(time + SPAN as u64);
-            if let Some(found) = self.visit_in(inputs, time, address, to) {
-                return Some(found);
-            }
-            time = to;
-        }
-        None
-    }
-}
-
-impl<const PAGES: u32, const SPAN: u32> Runs<PAGES, SPAN> {
-    /// The processor at a position.
-    pub(crate) fn core_at(
-        &mut self,
-        alloc: Global,
-        inputs: &Inputs,
-        position: u64,
-    ) -> Result<Core, AllocError>
-        requires of { AreOf {pages = PAGES} {span = SPAN} inputs.now.image inputs.now.log self.old }
-        requires position { position ≤ max_position }
-        ensures of { AreOf {pages = PAGES} {span = SPAN} inputs.now.image inputs.now.log self.new }
-        ensures core { IfOk result (λ core. core ≡ (state_at PAGES inputs.now.image inputs.now.log position).core) }
-    {
-        self.stand(alloc, inputs, position)?;
-        self.live.core().copy(alloc)
-    }
-
-    /// The word at a place in the list of all words, at a position.
-    pub(crate) fn word_at(
-        &mut self,
-        alloc: Global,
-        inputs: &Inputs,
-        position: u64,
         place: usize,
-    ) -> Result<u32, AllocError>
-        requires of { AreOf {pages = PAGES} {span = SPAN} inputs.now.image inputs.now.log self.old }
-        requires position { position ≤ max_position }
-        requires place { place < word_count_of PAGES }
-        ensures of { AreOf {pages = PAGES} {span = SPAN} inputs.now.image inputs.now.log self.new }
-        ensures word { IfOk result (λ word. word ≡ slice_index (state_at PAGES inputs.now.image inputs.now.log position).words place) }
+        word: u32,
+    ) -> Result<Rc<Boundary<PAGES>>, AllocError>
+        requires { place < word_count_of PAGES }
+        ensures { IfOk result (λ reset. reset.value ≡ record { core = self.now.reset.value.core; words = slice_set self.now.reset.value.words place word }) }
     {
-        self.stand(alloc, inputs, position)?;
-        Ok(self.live.word(place))
+        share(alloc, self.reset.with_word(alloc, place, word)?)
     }
 
-    /// The next position after one at which the PC holds an address, if there is one up to a last one.
-    pub(crate) fn next_visit(
-        &mut self,
-        alloc: Global,
-        inputs: &Inputs,
-        position: u64,
-        address: u32,
-        last: u64,
-    ) -> Result<Option<u64>, AllocError>
-        requires of { AreOf {pages = PAGES} {span = SPAN} inputs.now.image inputs.now.log self.old }
-        requires before { position ≤ last }
-        requires bound { last ≤ max_position }
-        ensures of { AreOf {pages = PAGES} {span = SPAN} inputs.now.image inputs.now.log self.new }
-        ensures found { IfOk result (λ found. found ≡ next_visit PAGES inputs.now.image inputs.now.log address position (last - position)) }
-        ensures bound { IfOk result (λ found. IfSome found (λ found. found ≤ last)) }
+    /// Starts the run anew, from a reset that differs in a page. The records stay.
+    pub(crate) fn restart(&mut self, start: Rc<Boundary<PAGES>>, page: u32)
+        requires { page < page_count_of PAGES }
+        ensures of { (image changed : Boot) (log : List TimedByte) → AreOf {pages = PAGES} {span = SPAN} image log self.old →
+            start.entry.value ≡ reset PAGES changed → SameOutside (page ∷ []) (reset PAGES image).words (reset PAGES changed).words →
+            AreOf {pages = PAGES} {span = SPAN} changed log self.new }
+        ensures spans { self.new.kept.spans ≡ self.old.kept.spans }
+        ensures steps { self.new.live.steps ≡ self.old.live.steps }
     {
-        self.stand(alloc, inputs, position)?;
-        Ok(self.visit(inputs, position, address, last))
-    }
-}
-
-/// No record is joined any more, and the machine stands nowhere in the run: what determines the run has changed but for its start.
-pub(crate) fn forget<const PAGES: u32, const SPAN: u32>(runs: &mut Option<Runs<PAGES, SPAN>>)
-    ensures { (image : Boot) (log changed : List TimedByte) → IfSome runs.old (AreOf {pages = PAGES} {span = SPAN} image log) →
-        IfSome runs.new (AreOf {pages = PAGES} {span = SPAN} image changed) }
-{
-    if let Some(runs) = runs {
-        runs.kept.truncate_valid(0);
-        runs.at = None;
+        self.reset = start;
+        self.patched.add(&[page]);
+        self.forget();
     }
 }
 
@@ -357,7 +268,8 @@ fn stand_at<const PAGES: u32>(
     from: u64,
     start: &Boundary<PAGES>,
 )
-    ensures { (at ≡ Some from → live.old.state ≡ start.now) → live.new.state ≡ start.now }
+    ensures stands { (at ≡ Some from → live.old.state ≡ start.now) → live.new.state ≡ start.now }
+    ensures steps { live.new.steps ≡ live.old.steps }
 {
     if at == Some(from) {
         return;
@@ -365,15 +277,26 @@ fn stand_at<const PAGES: u32>(
     live.load(start);
 }
 
-// Notes that a record starts where the one before it ends.
-fn tie_before<const PAGES: u32, const SPAN: u32>(kept: &mut Kept<PAGES, SPAN>, index: u64)
-    requires { 0 < index → Follows PAGES SPAN (span_at kept.old (index - 1)) (span_at kept.old (index - 1 + 1)) }
+// Joins the next record. It starts where the one before it ends, and the first one at reset.
+fn join_next<const PAGES: u32, const SPAN: u32>(
+    kept: &mut Kept<PAGES, SPAN>,
+    patched: &mut PageMarks<PAGES>,
+    index: u64,
+)
+    requires index { index ≡ kept.old.valid }
+    requires there { IsSome (span_at kept.old index) }
+    requires few { index < 2 ^ 64 - 1 }
+    requires follows { 0 < index → Follows PAGES SPAN (span_at kept.old (index - 1)) (span_at kept.old (index - 1 + 1)) }
     ensures spans { kept.new.spans ≡ kept.old.spans }
-    ensures valid { kept.new.valid ≡ kept.old.valid }
+    ensures valid { kept.new.valid ≡ kept.old.valid + 1 }
+    ensures patched { 0 < index → patched.new ≡ patched.old }
 {
     if index > 0 {
         kept.tie(index - 1);
+    } else {
+        patched.clear();
     }
+    kept.join();
 }
 
 // A boundary that several spans can hold.

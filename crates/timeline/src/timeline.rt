@@ -1,8 +1,8 @@
-//! The history, and the machine that its queries have run so far.
+//! The history, and what is kept of its runs.
 
-ghost use Rattle.std.specs.Prelude.{◌≡◌, MatchResult};
+ghost use Rattle.std.specs.Prelude.{◌≡◌, ◌⊎◌, [], MatchResult};
 ghost use Rattle.r3k_image.specs.Boot.{FitsRam};
-ghost use Rattle.r3k_image.specs.declared.fault.ImageFault.TheVariants.{Bad};
+ghost use Rattle.r3k_image.specs.declared.fault.ImageFault.TheVariants.{Bad, Memory};
 ghost use Rattle.r3k_image.specs.declared.fault.ImageKind.TheVariants.{Pages};
 ghost use Rattle.timeline.specs.Sizes.{AreSizes};
 
@@ -17,60 +17,69 @@ use std::marker::Model;
 pub const MAX_POSITION: u64 = 4_294_967_295;
 
 /// An image and a log that can be edited, on a machine with `PAGES` pages of RAM. Queries are answered as if the machine was
-/// run from reset for each. What was run is kept in spans of `SPAN` steps.
+/// run from reset for each. What was run is kept in spans of `SPAN` steps, and run again only where it no longer applies.
 #[derive(Drop)]
 pub struct Timeline<const PAGES: u32, const SPAN: u32> {
     pub(crate) alloc: Global,
     pub(crate) inputs: Inputs,
-    // The machine, and what is kept of its runs, from the first query on.
-    pub(crate) runs: Option<Runs<PAGES, SPAN>>,
+    pub(crate) runs: Runs<PAGES, SPAN>,
 }
 
 impl<const PAGES: u32, const SPAN: u32> Model for Timeline<PAGES, SPAN> {
-    ghost use Rattle.std.specs.Prelude.{IfSome};
-    ghost use Rattle.timeline.specs.History.{History, IsHistory, history_code};
-    ghost use Rattle.timeline.specs.Runs.{AreOf};
+    ghost use Rattle.std.specs.Coded.{codes};
+    ghost use Rattle.timeline.specs.History.{IsHistory, history_code};
+    ghost use Rattle.timeline.specs.Reuse.{Holding};
+    ghost use Rattle.timeline.specs.Runs.{AreOf, holding_of};
 
-    ghost Value = { History };
+    ghost Value = { Holding };
 
-    ghost coded = { history_code };
+    ghost coded = { Prim.hlevel (history_code, codes) };
 
-    ghost view = { λ t. record { image = t.inputs.image; log = t.inputs.log } };
+    ghost view = { λ t. holding_of t.inputs.image t.inputs.log t.runs };
 
     ghost invariant = { λ t. IsHistory PAGES SPAN (record { image = t.inputs.image; log = t.inputs.log })
-        × IfSome t.runs (AreOf {pages = PAGES} {span = SPAN} t.inputs.image t.inputs.log) };
+        × AreOf {pages = PAGES} {span = SPAN} t.inputs.image t.inputs.log t.runs };
 }
 
 impl<const PAGES: u32, const SPAN: u32> Timeline<PAGES, SPAN> {
-    /// The timeline of an image and a log. An image that sets a word of RAM past the machine's is refused, and then image and
-    /// log are dropped.
+    /// The timeline of an image and a log. An image that sets a word of RAM past the machine's is refused. Where it is refused,
+    /// for this or for want of memory, image and log are dropped.
     pub fn new(alloc: Global, image: Image, log: Log) -> Result<Timeline<PAGES, SPAN>, ImageFault>
         requires sizes { AreSizes PAGES SPAN }
         ensures { MatchResult result
-            (λ t. FitsRam PAGES image × (t ≡ record { image = image; log = log }))
-            (λ fault. (fault ≡ Bad Pages) × ¬ FitsRam PAGES image) }
+            (λ t. FitsRam PAGES image × (t ≡ record { history = record { image = image; log = log }; spans = []; steps = 0 }))
+            (λ fault. ((fault ≡ Memory) × FitsRam PAGES image) ⊎ ((fault ≡ Bad Pages) × ¬ FitsRam PAGES image)) }
     {
         if !image.fits(PAGES) {
             return Err(ImageFault::Bad(ImageKind::Pages));
         }
+        let inputs = Inputs { image, log };
+        let runs = Runs::boot(alloc, &inputs)?;
         Ok(Timeline {
             alloc,
-            inputs: Inputs { image, log },
-            runs: None,
+            inputs,
+            runs,
         })
     }
 
     /// The boot image as it now stands.
     pub fn image(&self) -> &Image
-        ensures { result.now ≡ self.now.image }
+        ensures { result.now ≡ self.now.history.image }
     {
         &self.inputs.image
     }
 
     /// The log as it now stands.
     pub fn log(&self) -> &Log
-        ensures { result.now ≡ self.now.log }
+        ensures { result.now ≡ self.now.history.log }
     {
         &self.inputs.log
+    }
+
+    /// How many steps were run so far, for all queries together, up to the greatest number.
+    pub fn steps_run(&self) -> u64
+        ensures { result ≡ self.now.steps }
+    {
+        self.runs.live.steps()
     }
 }

@@ -21,7 +21,7 @@ use wb_text::{
     RegisterNumber, Reply, StepCount, WordValue,
 };
 
-/// A session on a machine with `PAGES` pages of RAM. Runs will be kept in spans of `SPAN` steps.
+/// A session on a machine with `PAGES` pages of RAM. Runs are kept in spans of `SPAN` steps.
 #[derive(Drop)]
 pub struct Session<const PAGES: u32, const SPAN: u32> {
     pub(crate) timeline: Timeline<PAGES, SPAN>,
@@ -35,10 +35,10 @@ impl<const PAGES: u32, const SPAN: u32> Model for Session<PAGES, SPAN> {
 
     ghost coded = { triple_code };
 
-    ghost view = { λ s. record { image = s.timeline.image; log = s.timeline.log; position = s.position } };
+    ghost view = { λ s. record { image = s.timeline.history.image; log = s.timeline.history.log; position = s.position } };
 
     ghost invariant = { λ s. IsSession PAGES SPAN
-        (record { image = s.timeline.image; log = s.timeline.log; position = s.position }) };
+        (record { image = s.timeline.history.image; log = s.timeline.history.log; position = s.position }) };
 }
 
 impl<const PAGES: u32, const SPAN: u32> Session<PAGES, SPAN> {

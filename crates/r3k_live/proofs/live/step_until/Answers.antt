@@ -1,8 +1,8 @@
-use Rattle.std.proofs.Common.{◌≡◌, ℕ, ◌+◌, ◌-◌, ◌<◌, ◌++◌, ◌∷◌, [], List, Some, refl, sym, ap, ◌∙◌, subst, arith, length}
+use Rattle.std.proofs.Common.{◌≡◌, ℕ, ◌+◌, ◌-◌, ◌++◌, ◌∷◌, [], List, refl, sym, ap, ◌∙◌, subst, arith}
 use Rattle.std.proofs.Math.Path.{ap₂}
 use Rattle.input_log.specs.Event.{TimedByte}
 use Rattle.r3k_machine.specs.declared.step.Done.{Done}
-use Rattle.r3k_machine.specs.Run.{arriving, run, trace}
+use Rattle.r3k_machine.specs.Run.{run, trace}
 use Rattle.r3k_machine.specs.State.{State}
 use Rattle.r3k_machine.specs.Step.{next, told}
 use Rattle.r3k_machine.proofs.Splits.{trace_count}

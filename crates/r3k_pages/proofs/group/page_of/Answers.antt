@@ -1,4 +1,4 @@
-use Rattle.std.proofs.Common.{List, ℕ, ap, sym, ◌∙◌, slice_index, ◌%◌, IsFalse, subst}
+use Rattle.std.proofs.Common.{List, ℕ, ap, sym, ◌∙◌, slice_index, ◌%◌}
 use Rattle.r3k_word.specs.declared.layout.TheConstants.{PAGE_WORDS}
 use Rattle.r3k_pages.specs.Pages.{holds}
 use Rattle.r3k_pages.proofs.Kept.{if_ok, if_some}

@@ -1,5 +1,4 @@
 use Rattle.std.proofs.Common.{rules, ltb, arith}
-use Rattle.std.specs.List.Sorted.{IsPartitionPoint}
 use Rattle.std.proofs.lemmas.Bool.{ltb-true, ltb-false}
 use Rattle.std.proofs.lemmas.List.Sorted.{IsPartitionPoint-from_clause, IsPartitionedBy-ltb}
 use Rattle.r3k_live.specs.declared.recorder.Written.{Written}

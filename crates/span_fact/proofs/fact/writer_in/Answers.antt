@@ -1,10 +1,13 @@
-use Rattle.std.proofs.Common.{◌≡◌, ℕ, ◌*◌, ◌/◌, ◌<◌, ◌≤◌, length, slice_index_or, List, Option, None, Some, sym, ap, ◌∙◌, arith, inl, inr}
+use Rattle.std.proofs.Common.{◌≡◌, ℕ, ◌*◌, ◌/◌, ◌<◌, length, slice_index_or, List, sym, ap, ◌∙◌, arith, inl, inr}
 use Rattle.std.proofs.lemmas.Bool.{cases_lt}
 use Rattle.std.proofs.lemmas.List.{get_or_default}
 use Rattle.r3k_machine.specs.Run.{last_writer}
 use Rattle.r3k_live.specs.declared.recorder.Written.{Written}
-use Rattle.span_fact.proofs.Found.{not_found}
+use Rattle.span_fact.proofs.Found.{not_found, rising}
 use Rattle.span_fact.proofs.fact.writer_in.Goals as goal
+
+pub first_from-at-requires : goal.first_from-at-requires
+first_from-at-requires g c = rising c.args.writers.now c.requires
 
 pub returns-then-address-ne0 : goal.returns-then-address-ne0
 returns-then-address-ne0 g c = λ steps written. sym (written.ram c.args.address (λ ram. c.if-address-ne0.true ram.0))
@@ -33,7 +36,7 @@ returns-then-writer-place g c =
     not_found g.row.PAGES steps writers place c.first_from-at.result written (omega (arith, c.if-address.false)) c.first_from-at.ensures.below
     (λ k d low inside same.
     let low_is = c.first_from-at.ensures.above c.first_from-at.result d (omega arith) (omega (arith, low, inside)) in
-    let high_is = written.ascending c.first_from-at.result k d low inside in
+    let high_is = rising writers written.ascending c.first_from-at.result k d low inside in
     let here : (slice_index_or writers c.first_from-at.result d).place ≡ place = omega (arith, low_is, high_is, same) in
     c.if-writer-place.true (at_any writers c.first_from-at.result none d (omega (arith, low, inside)) here))
     ∙ ap (λ (a : ℕ). last_writer a steps) (let e : 4 * place ≡ c.args.address = omega (arith, c.if-address-ne0.false) in e)

@@ -1,5 +1,4 @@
-use Rattle.std.proofs.Common.{◌≡◌, ℕ, ◌≤◌, List, Option, None, Some, refl, sym, ap, ◌∙◌, subst, length, length-set, arith, slice_index_or}
-use Rattle.span_fact.specs.Span.{Span}
+use Rattle.std.proofs.Common.{Some, refl, sym, ap, ◌∙◌, length-set, arith}
 use Rattle.checkpoints.specs.Kept.{Kept, span_at}
 use Rattle.checkpoints.proofs.Putting.{others_kept, put_kept, same_kept}
 use Rattle.checkpoints.proofs.kept.Kept.put.Goals as goal

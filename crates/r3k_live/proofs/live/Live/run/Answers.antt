@@ -1,5 +1,4 @@
-use Rattle.std.proofs.Common.{◌≡◌, ℕ, ◌^◌, ◌≤◌, Option, None, unwrap_or, List, sym, ap, ◌∙◌, subst, arith}
-use Rattle.r3k_machine.specs.declared.step.Done.{Done}
+use Rattle.std.proofs.Common.{ℕ, Option, unwrap_or, ap, ◌∙◌, subst, arith}
 use Rattle.r3k_machine.specs.Run.{run, trace}
 use Rattle.r3k_pages.specs.Pages.{SameOutside}
 use Rattle.r3k_live.specs.Living.{counted}

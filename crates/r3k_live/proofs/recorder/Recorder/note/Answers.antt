@@ -1,9 +1,8 @@
-use Rattle.std.proofs.Common.{◌≡◌, ℕ, ◌+◌, ◌<◌, ◌++◌, ◌∷◌, [], Bool, false, None, ◌||◌, List, sym, ap, ◌∙◌, length, arith, slice_index, slice_index_or, length-append, zero-add}
+use Rattle.std.proofs.Common.{◌≡◌, ℕ, ◌+◌, ◌<◌, ◌++◌, ◌∷◌, [], Bool, false, None, ◌||◌, List, sym, ap, ◌∙◌, length, slice_index, slice_index_or, length-append, zero-add}
 use Rattle.std.proofs.Math.Path.{ap₂}
-use Rattle.r3k_pages.specs.Pages.{page_count_of}
-use Rattle.r3k_machine.specs.Run.{last_writer}
-use Rattle.r3k_live.specs.Record.{is_dirty, is_page, is_touched, stores_in, touches, with_sent}
-use Rattle.r3k_live.specs.Recording.{Recording, kept_step, page_of_store, with_mark, with_writer}
+use Rattle.r3k_machine.specs.Locality.{is_page, is_touched, touches}
+use Rattle.r3k_live.specs.Record.{stores_in, with_sent}
+use Rattle.r3k_live.specs.Recording.{Recording, page_of_store, with_mark, with_writer}
 use Rattle.r3k_live.specs.declared.recorder.SentAt.{SentAt}
 use Rattle.r3k_live.proofs.Recorded.{any_more, last_more, mark_kept, mark_more, or-assoc, page_stored, ram_more, sent_more}
 use Rattle.r3k_live.proofs.recorder.Recorder.note.Goals as goal

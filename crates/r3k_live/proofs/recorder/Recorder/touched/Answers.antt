@@ -1,6 +1,6 @@
 use Rattle.std.proofs.Common.{List, Bool, false, ap, sym, ◌∙◌, slice_index_or, subst}
-use Rattle.r3k_pages.specs.Pages.{IsPageSet, page_count_of}
-use Rattle.r3k_live.specs.Record.{is_touched}
+use Rattle.r3k_pages.specs.Pages.{IsPageSet}
+use Rattle.r3k_machine.specs.Locality.{is_touched}
 use Rattle.r3k_live.specs.Recording.{Recording}
 use Rattle.r3k_live.proofs.Marks.{if_ok_too, marked_pages, pages_set}
 use Rattle.r3k_live.proofs.recorder.Recorder.touched.Goals as goal

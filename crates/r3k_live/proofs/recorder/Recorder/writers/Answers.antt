@@ -22,7 +22,7 @@ returns g c =
     writers_are g.row.PAGES steps last c.self.inside.stored.items c.sort_unstable.new.self.items writers.items c.self.invariant.last
     (λ place within. ap (λ (r : Recording). slice_index r.last place) c.self.view_is ∙ so_far.last place within)
     so_far.ram
-    c.self.invariant.marked
+    c.self.invariant.marked c.self.invariant.once
     (subst (λ (xs : List ℕ). IsPermutation xs c.sort_unstable.new.self.items) ((c.in_ok-places.ensures {u = tt}).items ∙ c.deref.ensures.value) c.sort_unstable.ensures.permutation)
     c.sort_unstable.ensures.sorted (places_are ∙ c.deref-3.ensures.value)
     (subst (λ (last : List ℕ). All (λ w. slice_index last w.place ≡ w.step + 1) writers.items) c.deref-2.ensures.value steps_are))

@@ -1,6 +1,5 @@
-use Rattle.std.proofs.Common.{◌≡◌, ◌<◌, ◌/◌, ◌∙◌, sym, ap, length, arith, subst}
+use Rattle.std.proofs.Common.{◌∙◌, sym, ap, length, arith}
 use Rattle.std.proofs.lemmas.Grind.{same_number_lists}
-use Rattle.r3k_word.specs.Layout.{page_of_place}
 use Rattle.r3k_pages.proofs.Kept.{words_long}
 use Rattle.r3k_pages.proofs.snapshot.Snapshot.copy_to.Goals as goal
 

@@ -1,4 +1,4 @@
-use Rattle.std.proofs.Common.{◌≡◌, ◌/◌, List, ℕ, ap, sym, ◌∙◌, slice_index, ◌%◌, ◌+◌, ◌*◌, ◌<◌, IsTrue, subst, arith, length}
+use Rattle.std.proofs.Common.{◌≡◌, ◌/◌, List, ℕ, ap, sym, ◌∙◌, slice_index, ◌%◌, ◌+◌, ◌*◌, ◌<◌, arith}
 use Rattle.std.specs.Cmp.Lexicographic.{pointwise_decides}
 use Rattle.std.specs.Cmp.{unsigned_Decides}
 use Rattle.std.proofs.lemmas.Grind.{same_number_lists}

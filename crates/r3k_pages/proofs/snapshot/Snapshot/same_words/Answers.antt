@@ -1,4 +1,4 @@
-use Rattle.std.proofs.Common.{refl, sym, ap, length, ◌∙◌, ◌<◌, arith}
+use Rattle.std.proofs.Common.{refl, sym, ap, length, ◌∙◌, arith}
 use Rattle.r3k_pages.proofs.Kept.{all_same, words_long}
 use Rattle.r3k_pages.proofs.snapshot.Snapshot.same_words.Goals as goal
 

@@ -1,7 +1,8 @@
-use Rattle.std.proofs.Common.{◌*◌, List, sym, ap, subst, ◌∙◌}
+use Rattle.std.proofs.Common.{ℕ, ◌*◌, List, sym, ap, subst, ◌∙◌}
 use Rattle.input_log.specs.Event.{TimedByte}
 use Rattle.r3k_machine.specs.Run.{run, trace}
 use Rattle.r3k_machine.specs.State.{State}
+use Rattle.r3k_pages.specs.Pages.{SameOutside}
 use Rattle.r3k_live.specs.Record.{AreWriters, dirty_pages, sent_from, touched_pages}
 use Rattle.span_fact.specs.Span.{Holds}
 use Rattle.span_fact.proofs.fact.Fact.make.Goals as goal
@@ -16,6 +17,8 @@ invariant_of-result g c =
     let stood = c.args.live.now.state in
     let steps = trace pages events from stood span in
     let here = c.requires.stands in
+    let ends = c.in_ok-share.ensures {u = tt} ∙ c.in_ok-end.ensures {u = tt} in
+    let stored = (c.in_ok-dirty.ensures {u = tt}).pages steps c.run.ensures.recorded in
     let recorded = c.run.ensures.recorded in
     subst (λ (kept : List TimedByte). Holds pages span (record { index = index; start = c.args.start.value; events = kept })
     c.in_ok-share.field-0.value c.in_ok-writers.field-0.items c.in_ok-from_slice-2.field-0.items c.in_ok-dirty.dirty.items c.in_ok-touched.field-0.items)
@@ -23,11 +26,13 @@ invariant_of-result g c =
     (record {
       in_order = c.requires.in_order;
       within = c.requires.within;
-      ends =
-          c.in_ok-share.ensures {u = tt}
-          ∙ (c.in_ok-end.ensures {u = tt} ∙ (c.run.ensures.state ∙ ap (λ (s : State). run pages events from s span) here));
+      ends = ends ∙ (c.run.ensures.state ∙ ap (λ (s : State). run pages events from s span) here);
       written = subst (λ (s : State). AreWriters pages (trace pages events from s span) c.in_ok-writers.field-0.items) here (c.in_ok-writers.ensures {u = tt} steps recorded);
       told = (c.in_ok-from_slice-2.ensures {u = tt}).items ∙ (c.sent.ensures.sent steps recorded ∙ ap (λ (s : State). sent_from 0 (trace pages events from s span)) here);
-      stored = (c.in_ok-dirty.ensures {u = tt}).pages steps recorded ∙ ap (λ (s : State). dirty_pages pages (trace pages events from s span)) here;
+      stayed =
+          subst (λ (set : List ℕ). SameOutside set c.args.start.value.words c.in_ok-share.field-0.value.words) (sym stored)
+          (subst (λ (s : State). SameOutside (dirty_pages pages steps) s.words c.in_ok-share.field-0.value.words) here
+          (subst (λ (e : State). SameOutside (dirty_pages pages steps) stood.words e.words) (sym ends) c.run.ensures.dirty));
+      stored = stored ∙ ap (λ (s : State). dirty_pages pages (trace pages events from s span)) here;
       seen = (c.in_ok-touched.ensures {u = tt}).pages steps recorded ∙ ap (λ (s : State). touched_pages pages (trace pages events from s span)) here;
     })

@@ -1,14 +1,19 @@
-use Rattle.std.proofs.Common.{◌<◌, ap, sym, ◌∙◌, arith, subst}
+use Rattle.std.proofs.Common.{◌*◌, ◌<◌, IfSome, ap, sym, ◌∙◌, arith, subst}
+use Rattle.r3k_machine.specs.Reset.{reset}
+use Rattle.r3k_machine.specs.Run.{state_at}
+use Rattle.r3k_pages.specs.Pages.{SameOutside}
 use Rattle.r3k_machine.specs.State.{State}
 use Rattle.r3k_live.specs.Living.{Living}
-use Rattle.checkpoints.specs.Kept.{Kept}
+use Rattle.checkpoints.specs.Kept.{Kept, span_at}
 use Rattle.timeline.proofs.Spans.{at_reset}
 use Rattle.timeline.proofs.runs.Runs.boot.Goals as goal
 
-pub returns : goal.returns
-returns g c = record {
+pub returns-clause-of : goal.returns-clause-of
+returns-clause-of g c = record {
   sizes = c.requires;
   start = c.in_ok-share.ensures {u = tt} ∙ (c.in_ok-reset.ensures {u = tt} ∙ ap (λ (l : Living). l.state) (c.in_ok-live.ensures {u = tt}));
   stands = ap (λ (l : Living). l.state) (c.live.view_is ∙ c.in_ok-live.ensures {u = tt}) ∙ sym (at_reset g.row.PAGES c.args.inputs.now.image c.args.inputs.now.log);
   joined = λ index within. absurd (let e : ⊥ = omega (arith, subst (λ (k : Kept). index < k.valid) c.new-3.ensures within) in e);
+  differ = λ _. subst (λ (k : Kept). IfSome (span_at k k.valid) (λ s. SameOutside c.in_ok-new-2.field-0.marked s.start.words (state_at g.row.PAGES c.args.inputs.now.image c.args.inputs.now.log (k.valid * g.row.SPAN)).words)) (sym c.new-3.ensures) tt;
+  patches = subst (λ (k : Kept). IfSome (span_at k 0) (λ s. SameOutside c.in_ok-new-3.field-0 s.start.words (reset g.row.PAGES c.args.inputs.now.image).words)) (sym c.new-3.ensures) tt;
 }

@@ -1,7 +1,7 @@
 use Rattle.std.proofs.Common.{◌≡◌, ℕ, ◌+◌, ◌-◌, ◌*◌, ap, sym, ◌∙◌, arith}
 use Rattle.r3k_machine.specs.Run.{state_at}
 use Rattle.span_fact.specs.Span.{Span, end_of}
-use Rattle.timeline.specs.Runs.{span_of}
+use Rattle.timeline.specs.Reuse.{span_of}
 use Rattle.timeline.proofs.Spans.{at_reset, ends, some_is}
 use Rattle.timeline.proofs.runs.Runs.start_of.Goals as goal
 

@@ -28,7 +28,7 @@ loop-time-preserved g c =
     let to = c.min-to.result in
     let parts : c.args.last - time ≡ (to - time) + (c.args.last - to) = omega (arith, c.loop-time-test.true, c.min-to.ensures) in record {
       of = c.visit_in.ensures.of;
-      at = c.visit_in.ensures.at ∙ ap (λ (o : Option ℕ). Some (unwrap_or o to)) c.in_default.is;
+      at = c.visit_in.ensures.stands ∙ ap (λ (o : Option ℕ). Some (unwrap_or o to)) c.in_default.is;
       found =
           c.loop-time.invariant.found
           ∙ (ap (next_visit pages image log c.args.address time) parts
@@ -36,6 +36,10 @@ loop-time-preserved g c =
           ∙ (ap (λ (o : Option ℕ). or_behind o (next_visit pages image log c.args.address (time + (to - time)) (c.args.last - to)))
           (sym c.visit_in.ensures.found ∙ c.in_default.is)
           ∙ ap (λ (t : ℕ). next_visit pages image log c.args.address t (c.args.last - to)) (let e : time + (to - time) ≡ to = omega (arith, c.min-to.ensures) in e))));
+      spans = c.visit_in.ensures.spans ∙ c.loop-time.invariant.spans;
+      count = omega (arith, c.visit_in.ensures.count, c.loop-time.invariant.count, c.loop-time.invariant.after, c.min-to.ensures, c.loop-time-test.true);
+      least = omega (arith, c.visit_in.ensures.least, c.loop-time.invariant.least);
+      after = omega (arith, c.loop-time.invariant.after, c.min-to.ensures, c.loop-time-test.true);
       bound = omega (arith, c.min-to.ensures);
     }
 

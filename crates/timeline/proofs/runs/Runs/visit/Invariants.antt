@@ -1,4 +1,4 @@
-use Rattle.std.proofs.Common.{◌≡◌, ◌-◌, ◌≤◌, Some}
+use Rattle.std.proofs.Common.{◌≡◌, ◌+◌, ◌-◌, ◌≤◌, Some}
 use Rattle.r3k_machine.specs.Run.{next_visit}
 use Rattle.timeline.specs.Runs.{AreOf}
 use Rattle.timeline.proofs.runs.Runs.visit.Given as goal
@@ -10,6 +10,10 @@ invariant-loop-time g l = record {
   at : l.self.at ≡ Some l.time;
   found : next_visit g.row.PAGES l.inputs.image l.inputs.log l.address l.position (l.last - l.position)
       ≡ next_visit g.row.PAGES l.inputs.image l.inputs.log l.address l.time (l.last - l.time);
+  spans : l.self.kept.spans ≡ l.fn.self.kept.spans;
+  count : l.self.live.steps ≤ l.fn.self.live.steps + (l.time - l.position);
+  least : l.fn.self.live.steps ≤ l.self.live.steps;
+  after : l.position ≤ l.time;
   bound : l.time ≤ l.last;
 }
 

@@ -27,7 +27,7 @@ returns-in-Some-clause-of g c =
     let log = c.args.inputs.now.log in
     let time = c.args.time in
     let steps = c.args.last - time in
-    let stood = if_some _ c.args.self.now.at time c.requires.at c.requires.of.stands in
+    let stood = if_some _ c.args.self.now.at time c.requires.stands c.requires.of.stands in
     let bound : c.in-Some.steps ≤ steps = subst (λ (o : Option ℕ). unwrap_or o steps ≤ steps) c.in-Some.is c.visit-found.ensures.bound in record {
       sizes = c.requires.of.sizes;
       start = c.requires.of.start;
@@ -37,6 +37,8 @@ returns-in-Some-clause-of g c =
           ∙ (ap₂ (λ (events : List TimedByte) (s : State). run pages events time s c.in-Some.steps) c.window.ensures.events stood
           ∙ gone_within pages image log time c.args.last c.in-Some.steps (omega (arith, bound, c.requires.before))));
       joined = c.requires.of.joined;
+      differ = c.requires.of.differ;
+      patches = c.requires.of.patches;
     }
 
 pub returns-in-Some-clause-found : goal.returns-in-Some-clause-found
@@ -45,7 +47,7 @@ returns-in-Some-clause-found g c =
     let image = c.args.inputs.now.image in
     let log = c.args.inputs.now.log in
     let time = c.args.time in
-    let stood = if_some _ c.args.self.now.at time c.requires.at c.requires.of.stands in
+    let stood = if_some _ c.args.self.now.at time c.requires.stands c.requires.of.stands in
     ap (behind_time time) (sym c.in-Some.is ∙ (c.visit-found.ensures.found
     ∙ ap₂ (λ (events : List TimedByte) (s : State). first_visit pages events time s c.args.address 0 (c.args.last - time)) c.window.ensures.events stood))
     ∙ (seen pages image log c.args.address time c.args.last 0 (c.args.last - time) (omega (arith, c.requires.before))
@@ -64,7 +66,7 @@ returns-in-None-clause-of g c =
     let log = c.args.inputs.now.log in
     let time = c.args.time in
     let steps = c.args.last - time in
-    let stood = if_some _ c.args.self.now.at time c.requires.at c.requires.of.stands in record {
+    let stood = if_some _ c.args.self.now.at time c.requires.stands c.requires.of.stands in record {
       sizes = c.requires.of.sizes;
       start = c.requires.of.start;
       stands =
@@ -73,6 +75,8 @@ returns-in-None-clause-of g c =
           ∙ (ap₂ (λ (events : List TimedByte) (s : State). run pages events time s steps) c.window.ensures.events stood
           ∙ gone_on pages image log time c.args.last c.requires.before));
       joined = c.requires.of.joined;
+      differ = c.requires.of.differ;
+      patches = c.requires.of.patches;
     }
 
 pub returns-in-None-clause-found : goal.returns-in-None-clause-found
@@ -81,7 +85,7 @@ returns-in-None-clause-found g c =
     let image = c.args.inputs.now.image in
     let log = c.args.inputs.now.log in
     let time = c.args.time in
-    let stood = if_some _ c.args.self.now.at time c.requires.at c.requires.of.stands in
+    let stood = if_some _ c.args.self.now.at time c.requires.stands c.requires.of.stands in
     ap (behind_time time) (sym c.in-None.is ∙ (c.visit-found.ensures.found
     ∙ ap₂ (λ (events : List TimedByte) (s : State). first_visit pages events time s c.args.address 0 (c.args.last - time)) c.window.ensures.events stood))
     ∙ (seen pages image log c.args.address time c.args.last 0 (c.args.last - time) (omega (arith, c.requires.before))

@@ -1,19 +1,35 @@
-use Rattle.timeline.proofs.Patches.{fits_after, has_place}
+use Rattle.std.proofs.Common.{ℕ, ◌∷◌, [], List, slice_set, sym, ap, subst, ◌∙◌}
+use Rattle.r3k_image.specs.Boot.{Boot}
+use Rattle.r3k_machine.specs.Reset.{reset, reset_words}
+use Rattle.r3k_machine.specs.State.{State}
+use Rattle.r3k_pages.specs.Pages.{SameOutside}
+use Rattle.timeline.proofs.Patches.{fits_after, reset_patched, set_outside, taken_by_most}
 use Rattle.timeline.proofs.timeline.Timeline.patch.Goals as goal
 
 pub invariant_of-self-2 : goal.invariant_of-self-2
 invariant_of-self-2 g c =
-    let old = c.self.invariant.0 in (
-      record {
-        sizes = old.sizes;
-        fits = fits_after g.row.PAGES c.args.address c.args.word c.self.inside.inputs.image c.patch.new.self old.sizes.most_pages
-            (has_place g.row.PAGES c.args.address c.in_ok-place_at.field-0 c.in_ok-place_at.ensures.place) c.in_ok-patch.ensures old.fits;
-      },
-      tt,
+    let pages = g.row.PAGES in
+    let old = c.self.invariant.0 in
+    let runs = c.self.invariant.1 in
+    let address = c.args.address in
+    let word = c.args.word in
+    let image = c.self.inside.inputs.image in
+    let place = c.in-Some.place in
+    let is = sym c.place_of.ensures ∙ c.in-Some.is in
+    let same = taken_by_most pages address word place image c.patch.new.self old.sizes.most_pages is (c.in-Ok.ensures {u = tt}) in
+    let anew = sym (reset_patched pages address word place image old.sizes.most_pages is) ∙ ap (λ (b : Boot). reset pages b) same in (
+      record { sizes = old.sizes; fits = fits_after pages address word place image c.patch.new.self is same old.fits },
+      c.restart.ensures.of image c.patch.new.self c.self.inside.inputs.log runs
+          (c.in_ok-reset.ensures {u = tt} ∙ (ap (λ (s : State). let r : State = record { core = s.core; words = slice_set s.words place word } in r) runs.start ∙ anew))
+          (subst (λ (words : List ℕ). SameOutside (c.page_of.result ∷ []) (reset_words pages image) words) (ap (λ (s : State). s.words) anew)
+          (subst (λ (page : ℕ). SameOutside (page ∷ []) (reset_words pages image) (slice_set (reset_words pages image) place word)) (sym c.page_of.ensures)
+          (set_outside (reset_words pages image) place word))),
     )
 
 pub returns-clause-fits : goal.returns-clause-fits
 returns-clause-fits g c =
+    let pages = g.row.PAGES in
     let old = c.self.invariant.0 in
-    fits_after g.row.PAGES c.args.address c.args.word c.self.inside.inputs.image c.patch.new.self old.sizes.most_pages
-    (has_place g.row.PAGES c.args.address c.in_ok-place_at.field-0 c.in_ok-place_at.ensures.place) c.in_ok-patch.ensures old.fits
+    let is = sym c.place_of.ensures ∙ c.in-Some.is in
+    fits_after pages c.args.address c.args.word c.in-Some.place c.self.inside.inputs.image c.patch.new.self is
+    (taken_by_most pages c.args.address c.args.word c.in-Some.place c.self.inside.inputs.image c.patch.new.self old.sizes.most_pages is (c.in-Ok.ensures {u = tt})) old.fits

@@ -33,7 +33,7 @@ loop-word-preserved g c =
     let placed = place_among pages c.args.address word c.args.count c.in_ok-_places._places.items
     (all_places pages c.args.address c.args.count c.in_ok-_places._places.items even all) (omega (arith, c.loop-word-test.true, c.get-word-end.ensures.value)) in
     let given = ap₂ (λ (h : History) (n : ℕ). word_at pages h n (c.args.address + 4 * word)) (sym (ap history_of c.loop-word.invariant.same)) (sym (ap (λ (t : Triple). t.position) c.self.view_is))
-    ∙ (ap (λ (a : ℕ). word_at pages c.loop-word.self-inside.timeline c.self.inside.position (a + 4 * word)) (sym c.get.ensures.value) ∙ c.in-Ok.ensures.word) in
+    ∙ (ap (λ (a : ℕ). word_at pages c.loop-word.self-inside.timeline.history c.self.inside.position (a + 4 * word)) (sym c.get.ensures.value) ∙ c.in-Ok.ensures.word) in
     let value = value_is pages (history_of now) now.position (c.args.address + 4 * word) placed.0 c.in-Ok.value
     (subst (λ (t : Triple). t.position ≤ 4294967295) c.self.view_is c.self.invariant.position) (omega (arith, even)) placed.1 given in
     let words = slice_index (state_at pages now.image now.log now.position).words in
@@ -57,7 +57,7 @@ returns-in-Err-clause-words g c =
     let placed = place_among pages c.args.address word c.args.count c.in_ok-_places._places.items
     (all_places pages c.args.address c.args.count c.in_ok-_places._places.items even all) (omega (arith, c.loop-word-test.true, c.get-word-end.ensures.value)) in
     let asked = ap₂ (λ (h : History) (n : ℕ). word_at pages h n (c.args.address + 4 * word)) (sym (ap history_of c.loop-word.invariant.same)) (sym (ap (λ (t : Triple). t.position) c.self.view_is))
-    ∙ ap (λ (a : ℕ). word_at pages c.loop-word.self-inside.timeline c.self.inside.position (a + 4 * word)) (sym c.get.ensures.value) in
+    ∙ ap (λ (a : ℕ). word_at pages c.loop-word.self-inside.timeline.history c.self.inside.position (a + 4 * word)) (sym c.get.ensures.value) in
     let given = subst (λ (q : Result ℕ Fault). GivesFault q c.in-Err.fault) (sym asked) c.in-Err.ensures.word in
     let memory = only_memory pages (history_of now) now.position (c.args.address + 4 * word) placed.0 c.in-Err.fault
     (subst (λ (t : Triple). t.position ≤ 4294967295) c.self.view_is c.self.invariant.position) (omega (arith, even)) placed.1 given in

@@ -7,7 +7,7 @@ use Rattle.wb_session.proofs.session.Session.words.Given as goal
 -- the session is the same, and these are the words at the places so far
 abbrev pub invariant-loop-word : goal.invariant-loop-word
 invariant-loop-word g l = record {
-  same : ◌≡◌ {A = Triple} (record { image = l.self-inside.timeline.image; log = l.self-inside.timeline.log; position = l.self-inside.position }) l.fn.self;
+  same : ◌≡◌ {A = Triple} (record { image = l.self-inside.timeline.history.image; log = l.self-inside.timeline.history.log; position = l.self-inside.position }) l.fn.self;
   so_far : (places : List ℕ) × (places_from g.row.PAGES l.fn.address l.word ≡ Some places)
       × (l.words.items ≡ map (slice_index (state_at g.row.PAGES l.fn.self.image l.fn.self.log l.fn.self.position).words) places);
   len : length l.words.items ≡ l.word;

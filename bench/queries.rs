@@ -1,0 +1,120 @@
+//! How long queries take, and how much memory a kept span: `queries PROGRAM KIND IMAGE STEPS`.
+use std::env;
+use std::fs;
+use std::io::{BufRead, BufReader, Write};
+use std::process::{Child, ChildStdin, ChildStdout, Command, Stdio};
+use std::time::Instant;
+
+// The steps of a span in the program.
+const SPAN: u64 = 65_536;
+
+// What `visit` runs at most. It keeps nothing.
+const VISIT: u64 = 1_048_576;
+
+// The program, with commands going in and replies coming out.
+struct Asked {
+    child: Child,
+    commands: ChildStdin,
+    replies: BufReader<ChildStdout>,
+}
+
+impl Asked {
+    fn start(program: &str, kind: &str, image: &[u8]) -> Asked {
+        let mut child = Command::new(program)
+            .args(["--kind", kind, "--size", &image.len().to_string()])
+            .stdin(Stdio::piped())
+            .stdout(Stdio::piped())
+            .spawn()
+            .expect("the program starts");
+        let mut commands = child.stdin.take().expect("a pipe");
+        commands.write_all(image).expect("it reads the image");
+        let replies = BufReader::new(child.stdout.take().expect("a pipe"));
+        let mut asked = Asked { child, commands, replies };
+        asked.ask("pos");
+        asked
+    }
+
+    // The first line of the reply to a command, and the seconds that it took.
+    fn ask(&mut self, command: &str) -> (String, f64) {
+        let start = Instant::now();
+        writeln!(self.commands, "{command}").expect("it reads commands");
+        let mut line = String::new();
+        self.replies.read_line(&mut line).expect("it replies");
+        (line.trim_end().to_string(), start.elapsed().as_secs_f64())
+    }
+
+    // The seconds that one register takes at a position.
+    fn at(&mut self, position: u64) -> f64 {
+        self.ask(&format!("goto {position}"));
+        self.ask("reg 2").1
+    }
+
+    // The kilobytes that it holds.
+    fn memory(&self) -> u64 {
+        let status = fs::read_to_string(format!("/proc/{}/status", self.child.id())).expect("it runs");
+        let line = status.lines().find(|line| line.starts_with("VmRSS:")).expect("its memory");
+        line.split_whitespace().nth(1).and_then(|n| n.parse().ok()).expect("a number")
+    }
+
+    // Steps a second that keep nothing.
+    fn plain(&mut self) -> f64 {
+        self.at(0);
+        let mut seconds = 0.0;
+        for _ in 0..32 {
+            let (reply, time) = self.ask(&format!("visit 0 {VISIT}"));
+            assert_eq!(reply, "error 8 NotFound");
+            seconds += time;
+        }
+        32.0 * VISIT as f64 / seconds
+    }
+
+    fn end(mut self) {
+        self.ask("pos");
+        drop(self.commands);
+        self.child.wait().expect("it ends");
+    }
+}
+
+// A line of the table: what was measured, and what was wanted.
+fn line(what: &str, value: f64, unit: &str, wanted: &str) {
+    println!("  {what:<58} {value:>9.2} {unit:<4} {wanted}");
+}
+
+fn main() {
+    let words: Vec<String> = env::args().collect();
+    let [_, program, kind, path, steps] = words.as_slice() else {
+        panic!("queries PROGRAM KIND IMAGE STEPS");
+    };
+    let image = fs::read(path).expect("the image");
+    let steps: u64 = steps.parse().expect("a number of steps");
+    println!("{path}, {} million steps", steps / 1_000_000);
+    let mut asked = Asked::start(program, kind, &image);
+    let plain = asked.plain();
+    asked.at(0);
+    let before = asked.memory();
+    let first = asked.at(steps);
+    let speed = steps as f64 / first;
+    line("first query, by the loop that keeps nothing", speed / plain, "", "0.8");
+    line("first query, steps a second", speed / 1e6, "mio", "");
+    let spans = steps / SPAN;
+    line("memory a kept span", asked.memory().saturating_sub(before) as f64 / spans as f64, "KB", "16");
+    let inside = steps / SPAN * SPAN + SPAN / 2;
+    asked.at(inside);
+    line("again", asked.at(inside) * 1e3, "ms", "5");
+    line("at an earlier position in the span", asked.at(inside - 20_000) * 1e3, "ms", "5");
+    line("at a later one", asked.at(inside + 10_000) * 1e3, "ms", "5");
+    asked.at(steps);
+    asked.ask("add 1000 0 0x41");
+    line("after a byte was added at step 1000", asked.at(steps) * 1e3, "ms", "50");
+    let (_, seconds) = asked.ask("console 0 0 16");
+    line("console", seconds * 1e3, "ms", "");
+    let (_, seconds) = asked.ask("find 0 0");
+    line("find", seconds * 1e3, "ms", "");
+    for (what, address) in [("writer of a word that is stored often", 0x100), ("of one that is not", 0x8000)] {
+        let (_, seconds) = asked.ask(&format!("writer {address}"));
+        line(what, seconds * 1e3, "ms", "");
+    }
+    asked.ask("patch 0x1fc3f000 1");
+    line("after a patch of a page that is not touched", asked.at(steps) * 1e3, "ms", "");
+    asked.end();
+}

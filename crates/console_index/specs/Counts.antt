@@ -1,0 +1,16 @@
+-- Counts of bytes by span and line (own).
+use Rattle.std.specs.Prelude.{◌≡◌, ℕ, zero, suc, ◌+◌, ◌<◌, List, [], slice_index, slice_index_or}
+
+-- how many bytes a span has of a line; a missing span has none
+abbrev pub count_at : List (List ℕ) → ℕ → ℕ → ℕ
+count_at counts line span = slice_index (slice_index_or counts span []) line
+
+-- how many bytes of a line the spans below one have together
+unfoldable pub total : List (List ℕ) → ℕ → ℕ → ℕ
+total counts line zero = 0
+total counts line (suc span) = total counts line span + count_at counts line span
+
+-- a span, and a place in it, where the byte stands that has this place in the line's whole console
+abbrev pub IsPlace : List (List ℕ) → ℕ → ℕ → ℕ → ℕ → Type 0
+IsPlace counts line place span rest =
+    (total counts line span + rest ≡ place) × (rest < count_at counts line span)

@@ -1,0 +1,8 @@
+//! What each line sent in each span: sums of counts, and places among the bytes.
+#![tactic(auto)]
+
+mod index;
+mod level;
+mod tree;
+
+pub use index::ConsoleIndex;

@@ -1,0 +1,22 @@
+use Rattle.r3k_machine.proofs.Carried.{one_state}
+use Rattle.r3k_machine.proofs.Elsewhere.{run_elsewhere, step_elsewhere}
+use Rattle.r3k_machine.proofs.Within.{pages_within}
+use Rattle.r3k_machine.proofs.laws.locality.Goals as goal
+
+pub returns-clause-pages : goal.returns-clause-pages
+returns-clause-pages c = pages_within
+
+pub returns-clause-told : goal.returns-clause-told
+returns-clause-told c = λ pages events set s t other w apart. (step_elsewhere pages events set s t other w apart).0
+
+pub returns-clause-next : goal.returns-clause-next
+returns-clause-next c = λ pages events set s t other w apart. (step_elsewhere pages events set s t other w apart).1
+
+pub returns-clause-trace : goal.returns-clause-trace
+returns-clause-trace c = λ pages log time set s t other n w apart. (run_elsewhere pages log time set s t other n w apart).0
+
+pub returns-clause-run : goal.returns-clause-run
+returns-clause-run c = λ pages log time set s t other n w apart. (run_elsewhere pages log time set s t other n w apart).1
+
+pub returns-clause-one : goal.returns-clause-one
+returns-clause-one c = one_state

@@ -1,0 +1,11 @@
+use Rattle.std.proofs.Common.{◌*◌, ◌≤◌}
+use Rattle.r3k_machine.specs.Run.{console_of, trace_at}
+use Rattle.timeline.specs.Console.{Shows}
+use Rattle.timeline.proofs.runs.Runs.shown_before.Given as goal
+
+-- the console of the spans so far
+abbrev pub invariant-loop-index : goal.invariant-loop-index
+invariant-loop-index g l = record {
+  shown : Shows l.from l.count (console_of l.line (trace_at g.row.PAGES l.inputs.image l.inputs.log (l.index * g.row.SPAN))) l.shown;
+  few : l.shown.total ≤ l.index * g.row.SPAN;
+}

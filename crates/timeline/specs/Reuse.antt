@@ -1,0 +1,74 @@
+-- What a timeline keeps of runs, and what a query costs (own).
+use Rattle.std.specs.Prelude.{◌≡◌, ◌⊎◌, ℕ, zero, suc, ◌+◌, ◌-◌, ◌*◌, ◌/◌, ◌%◌, ◌<◌, ◌≤◌, List, Option, Some, None, Result, Ok, Err, slice_index_or}
+use Rattle.input_log.specs.Event.{TimedByte}
+use Rattle.input_log.specs.Log.{window_of}
+use Rattle.r3k_image.specs.Boot.{Boot}
+use Rattle.r3k_machine.specs.Run.{state_at}
+use Rattle.r3k_live.specs.Living.{counted}
+use Rattle.span_fact.specs.Span.{Span}
+use Rattle.refusal.specs.declared.fault.Fault.{Fault}
+use Rattle.refusal.specs.declared.fault.Fault.TheVariants.{Memory, NotFound}
+use Rattle.timeline.specs.History.{History}
+
+-- what a timeline holds: its history, the spans of which it keeps a record, by their numbers, and how many steps it has run
+pub record Holding : Type 0 where
+  pub history : History
+  pub spans : List (Option Span)
+  pub steps : ℕ
+
+-- a span of the run from reset
+abbrev pub span_of : (pages span : ℕ) → Boot → List TimedByte → ℕ → Span
+span_of pages span image log index = record {
+  index = index;
+  start = state_at pages image log (index * span);
+  events = window_of (index * span) ((index + 1) * span) log;
+}
+
+-- the span of which a record of this number is kept, if there is one
+abbrev pub kept_at : Holding → ℕ → Option Span
+kept_at h index = slice_index_or h.spans index None
+
+-- a record is kept of a span that applies: it starts where the run from reset stands, and its events are those of the log
+abbrev pub Applies : (pages span : ℕ) → Holding → ℕ → Type 0
+Applies pages span h index = kept_at h index ≡ Some (span_of pages span h.history.image h.history.log index)
+
+-- of so many spans from the first on, this many have no record that applies
+unfoldable pub Lacks : (pages span : ℕ) → Holding → (count lacking : ℕ) → Type 0
+Lacks pages span h zero lacking = lacking ≡ 0
+Lacks pages span h (suc index) lacking =
+    (Applies pages span h index × Lacks pages span h index lacking)
+    ⊎ ((¬ Applies pages span h index) × (0 < lacking) × Lacks pages span h index (lacking - 1))
+
+-- What a query does that needs so many spans from the first on, and then at most so many steps more: it runs a span only where
+-- no record applies, and replaces records only by some that apply. The history stays.
+pub record Spends (pages span count more : ℕ) (old new : Holding) : Type 0 where
+  pub history : new.history ≡ old.history
+  pub most : (lacking : ℕ) → Lacks pages span old count lacking → new.steps ≤ old.steps + (lacking * span + more)
+  pub kept : (index : ℕ) → (kept_at new index ≡ kept_at old index) ⊎ Applies pages span new index
+
+-- What it has done where it answers: each span that lacked a record was run, and now all have one that applies.
+pub record Reaches (pages span count : ℕ) (old new : Holding) : Type 0 where
+  pub least : (lacking : ℕ) → Lacks pages span old count lacking → counted old.steps (lacking * span) ≤ new.steps
+  pub there : (index : ℕ) → index < count → Applies pages span new index
+
+-- What a query at a position does, whether it answers or is refused, where it may look so many steps beyond. Want of memory may
+-- cut it short. Any other refusal but that there is nothing to be found comes before a step is run.
+abbrev pub AsksFault : (pages span position beyond : ℕ) → (old new : Holding) → Fault → Type 0
+AsksFault pages span position beyond old new Memory = Spends pages span (position / span) (position % span + beyond) old new
+AsksFault pages span position beyond old new NotFound =
+    Spends pages span (position / span) (position % span + beyond) old new × Reaches pages span (position / span) old new
+AsksFault pages span position beyond old new fault = new ≡ old
+
+abbrev pub Asks : {A : Type 0} → (pages span position beyond : ℕ) → (old new : Holding) → Result A Fault → Type 0
+Asks pages span position beyond old new (Ok answer) =
+    Spends pages span (position / span) (position % span + beyond) old new × Reaches pages span (position / span) old new
+Asks pages span position beyond old new (Err fault) = AsksFault pages span position beyond old new fault
+
+-- what is held with the log, or the image, that an edit leaves: the records stay
+abbrev pub with_log : Holding → Result (List TimedByte) Fault → Result Holding Fault
+with_log h (Ok log) = Ok (record { history = record { image = h.history.image; log = log }; spans = h.spans; steps = h.steps })
+with_log h (Err fault) = Err fault
+
+abbrev pub with_image : Holding → Result Boot Fault → Result Holding Fault
+with_image h (Ok image) = Ok (record { history = record { image = image; log = h.history.log }; spans = h.spans; steps = h.steps })
+with_image h (Err fault) = Err fault
