@@ -64,6 +64,8 @@ mod registers;
 #[cfg(test)]
 mod reply_texts;
 #[cfg(test)]
+mod reuse;
+#[cfg(test)]
 mod running;
 #[cfg(test)]
 mod script_lines;
