@@ -58,9 +58,10 @@ impl Asked {
 
     // Steps a second that keep nothing.
     fn plain(&mut self) -> f64 {
-        self.at(0);
         let mut seconds = 0.0;
         for _ in 0..32 {
+            // The machine stands there, so that no start is laid out while it is timed.
+            self.at(0);
             let (reply, time) = self.ask(&format!("visit 0 {VISIT}"));
             assert_eq!(reply, "error 8 NotFound");
             seconds += time;
