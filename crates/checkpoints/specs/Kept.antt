@@ -25,11 +25,6 @@ Follows pages span None b = ⊥
 Follows pages span (Some a) None = ⊥
 Follows pages span (Some a) (Some b) = b.start ≡ end_of pages span a
 
--- there is one, and its events are these
-abbrev pub HasEvents : Option Span → List TimedByte → Type 0
-HasEvents None events = ⊥
-HasEvents (Some s) events = s.events ≡ events
-
 -- two memories have the same words on the pages of a set
 abbrev pub SameOn : List ℕ → List ℕ → List ℕ → Type 0
 SameOn set a b = (page : ℕ) → IsTrue (holds set page) → SamePage page a b

@@ -2,9 +2,11 @@
 
 ghost use Rattle.std.specs.Prelude.{◌≡◌, ◌+◌, ◌-◌, ◌^◌, ◌<◌, ◌≤◌, ◌↔◌, ℕ, [], All, IfOk, IfSome, IsSome, IsTrue, MatchOption, None, OnErr, Option, Some, length, min, slice_index_or, false};
 ghost use Rattle.r3k_machine.specs.State.{State};
+ghost use Rattle.r3k_pages.specs.Layout.{word_count_of};
 ghost use Rattle.r3k_pages.specs.Pages.{SameOutside, SamePage, page_count_of};
-ghost use Rattle.span_fact.specs.Span.{Span, end_of};
-ghost use Rattle.checkpoints.specs.Kept.{Follows, HasEvents, IsNear, NearlyApplies, SameOn, continues_at, span_at};
+ghost use Rattle.r3k_live.specs.Record.{touched_pages};
+ghost use Rattle.span_fact.specs.Span.{Span, end_of, steps_of};
+ghost use Rattle.checkpoints.specs.Kept.{Follows, IsNear, NearlyApplies, SameOn, continues_at, span_at};
 
 use input_log::{Event, same_events};
 use r3k_live::Boundary;
@@ -49,8 +51,12 @@ impl<const PAGES: u32, const SPAN: u32> Kept<PAGES, SPAN> {
     pub fn fact(&self, index: u64) -> Option<&Fact<PAGES, SPAN>>
         ensures fact { MatchOption result (span_at self.now index ≡ None) (λ fact. span_at self.now index ≡ Some fact.now) }
         ensures index { IfSome result (λ fact. fact.now.index ≡ index) }
+        ensures whole { IfSome result (λ fact. length fact.now.start.words ≡ word_count_of PAGES) }
     {
-        self.facts.get(index as usize)?.as_ref()
+        let fact = self.facts.get(index as usize)?.as_ref()?;
+        // Its start is read, so that the number of words is known here.
+        let _start = fact.start();
+        Some(fact)
     }
 
     /// Whether a record is kept of the span of a number with this start and these events. Where a set of pages is handed in, the
@@ -90,28 +96,35 @@ impl<const PAGES: u32, const SPAN: u32> Kept<PAGES, SPAN> {
         }
     }
 
+    /// Whether a record is kept of the span behind one, that is known to start where that one ends, with these events, and the start of
+    /// which differs from this one only in words of pages that it does not touch. Outside the differing pages the record's start has
+    /// the words of this one. The cores are not compared: they are known to be the same.
+    pub fn nearly_next(
+        &self,
+        index: u64,
+        start: &Boundary<PAGES>,
+        events: &[Event],
+        differing: &[u32],
+    ) -> bool
+        requires room { index < 2 ^ 64 - 1 }
+        requires core { IfSome (span_at self.now index) (λ s. (end_of PAGES SPAN s).core ≡ start.now.core) }
+        requires same { IfSome (span_at self.now (index + 1)) (λ s. SameOutside differing.now s.start.words start.now.words) }
+        ensures { IsTrue result ↔ (IsTrue (continues_at self.now index) × IsNear PAGES SPAN (span_at self.now (index + 1)) start.now events.now) }
+    {
+        match self.fact(index + 1) {
+            Some(next) if self.continues(index) => {
+                is_near_from_core(next, start, events, differing)
+            }
+            _ => false,
+        }
+    }
+
     /// Whether the record behind this one is known to start where this one ends.
     pub fn continues(&self, index: u64) -> bool
         ensures exact { result ≡ continues_at self.now index }
         ensures follows { IsTrue result → Follows PAGES SPAN (span_at self.now index) (span_at self.now (index + 1)) }
     {
         self.continues.get(index as usize).is_some_and(|it| *it)
-    }
-
-    /// Whether a record is kept of the span behind this one, with these events, that is known to start where this one ends.
-    pub fn applies_next(&self, index: u64, events: &[Event]) -> bool
-        requires { index < 2 ^ 64 - 1 }
-        ensures exact { IsTrue result ↔ (IsTrue (continues_at self.now index) × HasEvents (span_at self.now (index + 1)) events.now) }
-        ensures next { IsTrue result → (a : Span) → span_at self.now index ≡ Some a →
-            span_at self.now (index + 1) ≡ Some (record { index = index + 1; start = end_of PAGES SPAN a; events = events.now }) }
-    {
-        if !self.continues(index) {
-            return false;
-        }
-        match self.fact(index + 1) {
-            Some(fact) => same_events(fact.events(), events),
-            None => false,
-        }
     }
 
     /// Notes that the record behind this one starts where this one ends.
@@ -209,6 +222,35 @@ fn is_near<const PAGES: u32, const SPAN: u32>(
     if !has_events_and_core(fact, start, events) {
         return false;
     }
+    same_touched(fact, start, differing)
+}
+
+// The same where the cores are known to be equal.
+fn is_near_from_core<const PAGES: u32, const SPAN: u32>(
+    fact: &Fact<PAGES, SPAN>,
+    start: &Boundary<PAGES>,
+    events: &[Event],
+    differing: &[u32],
+) -> bool
+    requires core { fact.now.start.core ≡ start.now.core }
+    requires same { SameOutside differing.now fact.now.start.words start.now.words }
+    ensures { IsTrue result ↔ NearlyApplies PAGES SPAN fact.now start.now events.now }
+{
+    if !same_events(events, fact.events()) {
+        return false;
+    }
+    same_touched(fact, start, differing)
+}
+
+// Whether the start of a record has the words of this one on the pages that its span touches.
+fn same_touched<const PAGES: u32, const SPAN: u32>(
+    fact: &Fact<PAGES, SPAN>,
+    start: &Boundary<PAGES>,
+    differing: &[u32],
+) -> bool
+    requires { SameOutside differing.now fact.now.start.words start.now.words }
+    ensures { IsTrue result ↔ SameOn (touched_pages PAGES (steps_of PAGES SPAN fact.now)) fact.now.start.words start.now.words }
+{
     same_on(
         fact.start().memory(),
         start.memory(),

@@ -60,8 +60,10 @@ impl<const PAGES: u32> Boundary<PAGES> {
 
     /// The words of RAM and ROM.
     pub fn memory(&self) -> &Snapshot<PAGES>
-        ensures { result.now ≡ self.now.words }
+        ensures words { result.now ≡ self.now.words }
+        ensures whole { length result.now ≡ word_count_of PAGES }
     {
+        self.memory.whole();
         &self.memory
     }
 

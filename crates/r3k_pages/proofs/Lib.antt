@@ -2,3 +2,4 @@ pub mod Kept
 pub mod Set
 pub mod Marked
 pub mod Overlaid
+mod Removed

@@ -1,12 +1,13 @@
 //! A set of pages with room for all of them, made once.
 
-ghost use Rattle.std.specs.Prelude.{◌≡◌, ◌<◌, ◌≤◌, ◌||◌, ℕ, [], All, IfOk, nat_eq, vec_capacity};
+ghost use Rattle.std.specs.Prelude.{◌≡◌, ◌<◌, ◌≤◌, ◌||◌, ◌&&◌, ◌↔◌, ◌⊎◌, ℕ, [], All, IfOk, IsFalse, IsTrue, false, filter, length, nat_eq, not, slice_index_or, vec_capacity};
 ghost use Rattle.std.specs.List.{IsDistinct};
 ghost use Rattle.r3k_word.specs.declared.layout.TheConstants.{MAX_RAM_PAGES};
 ghost use Rattle.r3k_pages.specs.Marking.{AreMarked};
-ghost use Rattle.r3k_pages.specs.Pages.{holds, page_count_of};
+ghost use Rattle.r3k_pages.specs.Pages.{SameOutside, SamePage, holds, page_count_of};
 
-use crate::snapshot::page_count;
+use crate::snapshot::{Snapshot, page_count};
+use r3k_word::layout::ROM_PAGES;
 use std::alloc::{AllocError, Global};
 use std::marker::Model;
 
@@ -57,6 +58,23 @@ impl<const PAGES: u32> PageMarks<PAGES> {
         mark_all::<PAGES>(&mut self.marks, &mut self.pages, pages);
     }
 
+    /// Adds the pages in which two memories differ.
+    pub fn add_differing(&mut self, a: &Snapshot<PAGES>, b: &Snapshot<PAGES>)
+        ensures same { SameOutside self.new a.now b.now }
+        ensures exact { (page : ℕ) → IsTrue (holds self.new page) ↔ (IsTrue (holds self.old page) ⊎ ¬ SamePage page a.now b.now) }
+    {
+        mark_differing(&mut self.marks, &mut self.pages, a, b);
+    }
+
+    /// Takes pages out, of which some may not be there.
+    pub fn remove(&mut self, pages: &[u32])
+        requires { All (λ page. page < page_count_of PAGES) pages.now }
+        ensures { (page : ℕ) → holds self.new page ≡ (holds self.old page && not (holds pages.now page)) }
+    {
+        unmark_all::<PAGES>(&mut self.marks, pages);
+        keep_marked(&self.marks, &mut self.pages);
+    }
+
     /// The pages.
     pub fn pages(&self) -> &[u32]
         ensures pages { result.now ≡ self.now }
@@ -91,4 +109,71 @@ fn mark<const PAGES: u32>(marks: &mut Vec<bool>, pages: &mut Vec<u32>, page: u32
     }
     marks[page as usize] = true;
     pages.push_reserved(page);
+}
+
+// Adds the pages in which two memories differ, of which some may be marked.
+fn mark_differing<const PAGES: u32>(
+    marks: &mut Vec<bool>,
+    pages: &mut Vec<u32>,
+    a: &Snapshot<PAGES>,
+    b: &Snapshot<PAGES>,
+)
+    requires marked { AreMarked PAGES (vec_capacity pages.old) marks.old.items pages.old.items }
+    ensures marked { AreMarked PAGES (vec_capacity pages.new) marks.new.items pages.new.items }
+    ensures same { SameOutside pages.new.items a.now b.now }
+    ensures exact { (page : ℕ) → IsTrue (holds pages.new.items page) ↔ (IsTrue (holds pages.old.items page) ⊎ ¬ SamePage page a.now b.now) }
+{
+    // Both memories are whole, so that no page behind the last one differs.
+    a.whole();
+    b.whole();
+    for page in 0..PAGES + ROM_PAGES {
+        mark_where_differing(marks, pages, a, b, page);
+    }
+}
+
+// Adds a page, if two memories differ in it and it is not marked.
+fn mark_where_differing<const PAGES: u32>(
+    marks: &mut Vec<bool>,
+    pages: &mut Vec<u32>,
+    a: &Snapshot<PAGES>,
+    b: &Snapshot<PAGES>,
+    page: u32,
+)
+    requires within { page < page_count_of PAGES }
+    requires marked { AreMarked PAGES (vec_capacity pages.old) marks.old.items pages.old.items }
+    ensures marked { AreMarked PAGES (vec_capacity pages.new) marks.new.items pages.new.items }
+    ensures same { IsFalse (holds pages.new.items page) → SamePage page a.now b.now }
+    ensures exact { IsTrue (holds pages.new.items page) ↔ (IsTrue (holds pages.old.items page) ⊎ ¬ SamePage page a.now b.now) }
+    ensures others { (other : ℕ) → ¬ (other ≡ page) → holds pages.new.items other ≡ holds pages.old.items other }
+{
+    if !a.same_page(page, b) {
+        mark::<PAGES>(marks, pages, page);
+    }
+}
+
+// Takes the marks of pages away.
+fn unmark_all<const PAGES: u32>(marks: &mut Vec<bool>, pages: &[u32])
+    requires within { All (λ page. page < page_count_of PAGES) pages.now }
+    requires long { length marks.old.items ≡ page_count_of PAGES }
+    ensures long { length marks.new.items ≡ page_count_of PAGES }
+    ensures marked { (page : ℕ) → slice_index_or marks.new.items page false ≡ (slice_index_or marks.old.items page false && not (holds pages.now page)) }
+{
+    for page in pages {
+        marks[*page as usize] = false;
+    }
+}
+
+// Keeps those pages that have a mark, in their order.
+fn keep_marked(marks: &[bool], pages: &mut Vec<u32>)
+    ensures kept { pages.new.items ≡ filter (λ page. slice_index_or marks.now page false) pages.old.items }
+    ensures room { vec_capacity pages.new ≡ vec_capacity pages.old }
+{
+    pages.retain(|page| is_marked(marks, *page));
+}
+
+// Whether a page has a mark.
+fn is_marked(marks: &[bool], page: u32) -> bool
+    ensures { result ≡ slice_index_or marks.now page false }
+{
+    marks.get(page as usize).is_some_and(|it| *it)
 }

@@ -103,6 +103,14 @@ impl<const PAGES: u32> Snapshot<PAGES> {
         Ok(Snapshot { groups })
     }
 
+    /// Tells that the list of all words has those of all pages. Nothing runs here.
+    pub fn whole(&self)
+        ensures { length self.now ≡ word_count_of PAGES }
+    {
+        // The groups are read, so that their number is known here.
+        let _groups = &self.groups;
+    }
+
     /// The word at a place in the list of all words.
     pub fn word(&self, place: usize) -> u32
         requires { place < word_count_of PAGES }

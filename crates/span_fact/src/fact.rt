@@ -2,6 +2,7 @@
 
 ghost use Rattle.std.specs.Prelude.{◌≡◌, ◌+◌, ◌*◌, ◌^◌, ◌<◌, ◌≤◌, ℕ, IfOk, List, length, map, slice_index_or};
 ghost use Rattle.std.specs.List.Sorted.{IsNonDecreasingBy, IsStrictlyIncreasing};
+ghost use Rattle.r3k_word.specs.Layout.{word_count_of};
 ghost use Rattle.r3k_word.specs.declared.layout.TheConstants.{PAGE_WORDS};
 ghost use Rattle.input_log.specs.Log.{AreInOrder, AreWithin};
 ghost use Rattle.r3k_pages.specs.Pages.{IsPageSet, SameOutside};
@@ -89,8 +90,11 @@ impl<const PAGES: u32, const SPAN: u32> Fact<PAGES, SPAN> {
 
     /// Where it starts.
     pub fn start(&self) -> &Rc<Boundary<PAGES>>
-        ensures { result.now.value ≡ self.now.start }
+        ensures start { result.now.value ≡ self.now.start }
+        ensures whole { length self.now.start.words ≡ word_count_of PAGES }
     {
+        // Its memory is read, so that the number of words is known here.
+        let _memory = self.start.memory();
         &self.start
     }
 

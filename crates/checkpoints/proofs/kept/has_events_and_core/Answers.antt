@@ -5,7 +5,7 @@ use Rattle.checkpoints.proofs.kept.has_events_and_core.Goals as goal
 
 pub returns : goal.returns
 returns g c =
-    let kept = ap (λ (s : State). s.core) (c.deref.ensures ∙ c.start-kept.ensures) in
+    let kept = ap (λ (s : State). s.core) (c.deref.ensures ∙ c.start-kept.ensures.start) in
     let decides = is_same_decides c.core.result.now c.core-2.result.now in (
       λ equal. (
         sym c.events.ensures.events ∙ c.same_events.ensures.0 c.if-not-same_events.false,

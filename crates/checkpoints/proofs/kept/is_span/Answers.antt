@@ -16,11 +16,11 @@ returns-then-not-has_events_and_core g c = (
 pub returns : goal.returns
 returns g c =
     let agree = c.has_events_and_core.ensures.0 c.if-not-has_events_and_core.false in
-    let words = c.memory.ensures ∙ ap (λ (s : State). s.words) (c.deref.ensures ∙ c.start.ensures) in (
+    let words = c.memory.ensures.words ∙ ap (λ (s : State). s.words) (c.deref.ensures ∙ c.start.ensures.start) in (
       λ equal.
           ap₂ (λ (s : State) (events : List TimedByte). let x : Span = record { index = c.args.fact.now.index; start = s; events = events } in x)
           (ap₂ (λ (core : Core) (words : List ℕ). let x : State = record { core = core; words = words } in x) agree.1
-          (sym words ∙ (c.same_words.ensures.0 equal ∙ c.memory-2.ensures)))
+          (sym words ∙ (c.same_words.ensures.0 equal ∙ c.memory-2.ensures.words)))
           agree.0,
-      λ same. c.same_words.ensures.1 (words ∙ (ap (λ (s : Span). s.start.words) same ∙ sym c.memory-2.ensures)),
+      λ same. c.same_words.ensures.1 (words ∙ (ap (λ (s : Span). s.start.words) same ∙ sym c.memory-2.ensures.words)),
     )
