@@ -6,7 +6,7 @@ use Rattle.std.proofs.lemmas.List.{append-nil}
 use Rattle.std.proofs.lemmas.List.Elements.{filter_map-append}
 use Rattle.r3k_live.specs.declared.recorder.SentAt.{SentAt}
 use Rattle.timeline.specs.Console.{part_of, with_byte}
-use Rattle.timeline.specs.Sent.{bytes_on, on_line}
+use Rattle.span_index.specs.Sent.{bytes_on, on_line}
 
 -- nothing is shown of a console without bytes
 pub part_nil : (from count : ℕ) → part_of {A = ℕ} from count [] ≡ []
@@ -72,3 +72,10 @@ part_before zero count xs b early = absurd (omega (arith, early))
 part_before (suc zero) count [] b early = refl
 part_before (suc (suc from)) count [] b early = refl
 part_before (suc from) count (x ∷ xs) b early = part_before from count xs b (omega (arith, early))
+
+-- nothing is asked for of what comes too early
+pub part_short : (from count : ℕ) (xs : List ℕ) → length xs ≤ from → part_of from count xs ≡ []
+part_short zero count [] early = take-nil count
+part_short zero count (x ∷ xs) early = absurd (omega (arith, early))
+part_short (suc from) count [] early = part_nil (suc from) count
+part_short (suc from) count (x ∷ xs) early = part_short from count xs (omega (arith, early))

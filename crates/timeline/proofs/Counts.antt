@@ -1,13 +1,14 @@
--- How many spans have no record that applies, and what steps that costs.
+-- How many spans have no record that serves, and what steps that costs.
 use Rattle.std.proofs.Common.{◌≡◌, ◌⊎◌, inl, inr, ℕ, zero, suc, ◌+◌, ◌-◌, ◌*◌, ◌<◌, ◌≤◌, List, Option, Some, None, slice_index_or, refl, sym, ap, ◌∙◌, subst, arith}
 use Rattle.std.proofs.Math.Nat.{add-mul, le_trans, mul-le-mul_right}
 use Rattle.r3k_live.specs.Living.{counted}
 use Rattle.span_fact.specs.Span.{Span}
+use Rattle.checkpoints.specs.Kept.{IsNear}
 use Rattle.timeline.specs.History.{History}
-use Rattle.timeline.specs.Reuse.{Applies, Holding, Lacks, Reaches, Spends, kept_at, span_of}
+use Rattle.timeline.specs.Reuse.{Applies, Holding, Lacks, Reaches, Serves, Spends, kept_at, span_of}
 
--- where all apply, none is lacking
-pub lacks_none : (pages span : ℕ) (h : Holding) (count lacking : ℕ) → ((index : ℕ) → index < count → Applies pages span h index)
+-- where one serves for each, none is lacking
+pub lacks_none : (pages span : ℕ) (h : Holding) (count lacking : ℕ) → ((index : ℕ) → index < count → Serves pages span h index)
     → Lacks pages span h count lacking → lacking ≡ 0
 unfolding Lacks
 lacks_none pages span h zero lacking all none = none
@@ -15,15 +16,15 @@ lacks_none pages span h (suc index) lacking all (inl (here, before)) =
     lacks_none pages span h index lacking (λ i below. all i (omega (arith, below))) before
 lacks_none pages span h (suc index) lacking all (inr lacks) = absurd (lacks.0 (all index (omega arith)))
 
-pub lacks_all : (pages span : ℕ) (h : Holding) (count : ℕ) → ((index : ℕ) → index < count → Applies pages span h index) → Lacks pages span h count 0
+pub lacks_all : (pages span : ℕ) (h : Holding) (count : ℕ) → ((index : ℕ) → index < count → Serves pages span h index) → Lacks pages span h count 0
 unfolding Lacks
 lacks_all pages span h zero all = refl
 lacks_all pages span h (suc index) all = inl (all index (omega arith), lacks_all pages span h index (λ i below. all i (omega (arith, below))))
 
 -- one span more
 pub lacks_more : {P : Type 0} (pages span : ℕ) (h : Holding) (index lacking : ℕ) → Lacks pages span h (index + 1) lacking
-    → (Applies pages span h index → Lacks pages span h index lacking → P)
-    → (¬ Applies pages span h index → (before : ℕ) → lacking ≡ before + 1 → Lacks pages span h index before → P)
+    → (Serves pages span h index → Lacks pages span h index lacking → P)
+    → (¬ Serves pages span h index → (before : ℕ) → lacking ≡ before + 1 → Lacks pages span h index before → P)
     → P
 unfolding Lacks
 lacks_more {P} pages span h index lacking lacks there absent = cases (subst (λ (n : ℕ). Lacks pages span h n lacking) (let e : index + 1 ≡ suc index = omega arith in e) lacks)
@@ -89,6 +90,16 @@ kept_same : (pages span : ℕ) (old mid new : Holding) (index : ℕ) → new.his
 kept_same pages span old mid new index history spans (inl same) = inl (ap (λ (s : List (Option Span)). slice_index_or s index None) spans ∙ same)
 kept_same pages span old mid new index history spans (inr applies) = inr (applies_same pages span mid new index history spans applies)
 
+pub serves_same : (pages span : ℕ) (mid new : Holding) (index : ℕ) → new.history ≡ mid.history → kept_at new index ≡ kept_at mid index
+    → Serves pages span mid index → Serves pages span new index
+serves_same pages span mid new index history same serves =
+    subst (λ (o : Option Span). Near new.history o) (sym same) (subst (λ (h : History). Near h (kept_at mid index)) (sym history) serves)
+  where
+    Near : History → Option Span → Type 0
+    Near h o =
+        let s : Span = span_of pages span h.image h.log index in
+        IsNear pages span o s.start s.events
+
 -- what was kept, or replaced, stays so
 pub kept_on : (pages span : ℕ) (old mid new : Holding) (index : ℕ) → new.history ≡ mid.history → kept_at new index ≡ kept_at mid index
     → (kept_at mid index ≡ kept_at old index) ⊎ Applies pages span mid index
@@ -120,5 +131,5 @@ pub reaches_more : (pages span count : ℕ) (old mid new : Holding) → Reaches 
     → mid.steps ≤ new.steps → Reaches pages span count old new
 reaches_more pages span count old mid new reaches history spans steps = record {
   least = λ lacking lacks. le_trans (reaches.least lacking lacks) steps;
-  there = λ index below. applies_same pages span mid new index history spans (reaches.there index below);
+  there = λ index below. serves_same pages span mid new index history (ap (λ (s : List (Option Span)). slice_index_or s index None) spans) (reaches.there index below);
 }

@@ -1,7 +1,10 @@
 mod Answered
+mod Carry
 mod Consoles
 mod Counts
 mod Differ
+mod Joined
+mod Near
 mod Next
 mod Patches
 mod Steps

@@ -1,6 +1,6 @@
 -- An image that fits does so after a patch.
 use Rattle.std.proofs.Common.{◌≡◌, ◌≢◌, ℕ, ◌+◌, ◌-◌, ◌*◌, ◌/◌, ◌%◌, ◌<◌, ◌≤◌, ◌==◌, Bool, if◌then◌else◌, cond, ◌⊎◌, inl, inr, List, [], ◌∷◌, length, map, slice_index, slice_set, unwrap_or, Option, Some, None, Result, Ok, Err, IsSome, true, false, refl, sym, ap, subst, ◌∙◌, arith, zero-add, length-set}
-use Rattle.std.specs.Prelude.{nat_lt, nat_le, nat_eq, ◌&&◌}
+use Rattle.std.specs.Prelude.{nat_lt, nat_le, ◌&&◌}
 use Rattle.std.specs.Ordering.{nat_cmp}
 use Rattle.std.specs.Cmp.{unsigned_tied, nat_cmp_total}
 use Rattle.std.specs.FinMap as map_of
@@ -10,10 +10,9 @@ use Rattle.std.proofs.lemmas.Bool.{and_parts, cases_Bool, cases_eq, cases_lt, eq
 use Rattle.std.proofs.lemmas.List.{ext_get_or, get_or-set_other, get_or-set_same}
 use Rattle.std.proofs.lemmas.List.FromFn.{get_or-map-range_with_len, length-map-range_with_len}
 use Rattle.std.specs.Option.{is_some}
-use Rattle.std.specs.Result.{is_ok}
 use Rattle.std.proofs.lemmas.Bool.{true≢false}
 use Rattle.r3k_word.specs.Layout.{address_of_place, page_of_place, place_of_word, word_count_of}
-use Rattle.r3k_word.specs.declared.layout.TheConstants.{MAX_RAM_PAGES, PAGE_BYTES, PAGE_WORDS, ROM_BYTES, ROM_PAGES, ROM_START}
+use Rattle.r3k_word.specs.declared.layout.TheConstants.{MAX_RAM_PAGES, PAGE_BYTES, PAGE_WORDS, ROM_BYTES, ROM_START}
 use Rattle.r3k_machine.specs.Reset.{reset, reset_core, reset_word, reset_words}
 use Rattle.r3k_machine.specs.State.{State}
 use Rattle.r3k_pages.specs.Pages.{SameOutside, holds}
@@ -22,7 +21,6 @@ use Rattle.r3k_image.specs.Patch.{patched, patched_at, patching}
 use Rattle.r3k_image.proofs.Patched.{fits_patched, patch_taken_in}
 use Rattle.refusal.specs.declared.fault.Fault.{Fault}
 use Rattle.refusal.specs.declared.fault.Fault.TheVariants.{Unaligned}
-use Rattle.timeline.specs.Query.{of_place, of_word}
 use Rattle.timeline.proofs.Spans.{some_is}
 
 abbrev image_or : Boot → Result Boot Fault → Boot

@@ -1,6 +1,6 @@
 -- Bytes that steps sent, by their lines.
-use Rattle.std.proofs.Common.{◌≡◌, ◌≢◌, ℕ, zero, suc, ◌+◌, ◌≤◌, ◌==◌, Bool, true, false, List, [], ◌∷◌, ◌++◌, length, map, Option, Some, None, slice_get, refl, sym, ap, ◌∙◌, arith, inl, inr}
-use Rattle.std.specs.List.{cons_option, filter_map}
+use Rattle.std.proofs.Common.{◌≡◌, ◌≢◌, ℕ, suc, ◌+◌, ◌≤◌, ◌==◌, List, [], ◌∷◌, ◌++◌, length, map, Option, Some, None, refl, sym, ap, ◌∙◌, arith, inl, inr}
+use Rattle.std.specs.List.{cons_option}
 use Rattle.std.proofs.lemmas.Bool.{cases_Bool, eq-eqb, ne_eqb}
 use Rattle.std.proofs.lemmas.List.{append-nil}
 use Rattle.std.proofs.lemmas.List.Elements.{filter_map-append}
@@ -9,7 +9,7 @@ use Rattle.r3k_machine.specs.declared.step.Done.{Done}
 use Rattle.r3k_machine.specs.Run.{byte_on, console_of, senders_of, with_sender}
 use Rattle.r3k_live.specs.Record.{sent_from, with_sent}
 use Rattle.r3k_live.specs.declared.recorder.SentAt.{SentAt}
-use Rattle.timeline.specs.Sent.{bytes_on, on_line, steps_on}
+use Rattle.span_index.specs.Sent.{bytes_on, on_line, steps_on}
 
 -- the bytes of a line, with one more in front
 byte_first : (line step : ℕ) (sent : Option Sent) (later : List SentAt) → bytes_on line (with_sent step sent later) ≡ cons_option (byte_on line sent) (bytes_on line later)

@@ -1,5 +1,5 @@
 -- The run from reset by spans.
-use Rattle.std.proofs.Common.{◌≡◌, ℕ, zero, suc, ◌≤◌, ◌==◌, None, IfSome, inl, inr, ◌+◌, ◌-◌, ◌*◌, ◌<◌, List, Option, Some, unwrap_or, Result, Ok, Err, IfOk, OnErr, sym, ap, ◌∙◌, subst, arith, zero-add, refl}
+use Rattle.std.proofs.Common.{◌≡◌, ℕ, zero, suc, ◌≤◌, ◌==◌, None, IfSome, inl, inr, ◌+◌, ◌-◌, ◌*◌, List, Option, Some, unwrap_or, Result, Ok, Err, IfOk, MatchResult, OnErr, sym, ap, ◌∙◌, subst, arith, zero-add, refl}
 use Rattle.std.proofs.Math.Nat.{add-mul}
 use Rattle.std.proofs.Math.Path.{ap₂}
 use Rattle.std.proofs.lemmas.Bool.{cases_Bool}
@@ -62,6 +62,19 @@ span_is pages span image log index valid start events is start_is events_is =
 pub either : {A E P : Type 0} (X : A → Type 0) (Y : Type 0) (r : Result A E) → IfOk r X → OnErr r Y → ((x : A) → X x → P) → (Y → P) → P
 either X Y (Ok x) ok err f g = f x ok
 either X Y (Err e) ok err f g = g err
+
+pub map_ok : {A E : Type 0} (P Q : A → Type 0) (r : Result A E) → ((x : A) → P x → Q x) → IfOk r P → IfOk r Q
+map_ok P Q (Ok x) f p = f x p
+map_ok P Q (Err e) f p = tt
+
+pub on_err : {A E : Type 0} (X Y : Type 0) (r : Result A E) → (X → Y) → OnErr r X → OnErr r Y
+on_err X Y (Ok x) f p = tt
+on_err X Y (Err e) f p = f p
+
+-- a copy of a pointer
+pub copied : {A E : Type 0} (P Q : A → Type 0) (X : E → Type 0) (r : Result A E) → MatchResult r P X → ((x : A) → P x → Q x) → IfOk r Q
+copied P Q X (Ok x) p f = f x p
+copied P Q X (Err e) p f = tt
 
 -- what holds in any case
 pub ok_all : {A E : Type 0} (r : Result A E) (X : Type 0) → X → IfOk r (λ _. X)

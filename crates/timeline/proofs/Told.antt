@@ -14,7 +14,7 @@ use Rattle.r3k_live.specs.Record.{sent_from}
 use Rattle.span_fact.specs.Span.{steps_of}
 use Rattle.timeline.specs.Reuse.{span_of}
 use Rattle.timeline.specs.Runs.{steps_between}
-use Rattle.timeline.specs.Sent.{bytes_on, steps_on}
+use Rattle.span_index.specs.Sent.{bytes_on, steps_on}
 use Rattle.timeline.proofs.Sending.{console_sent, senders_sent}
 use Rattle.timeline.proofs.Spans.{next_start, some_is}
 use Rattle.timeline.proofs.Steps.{trace_front, trace_long}

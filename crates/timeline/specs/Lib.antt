@@ -7,7 +7,6 @@ pub use Rattle.refusal.specs.Given
 pub mod Sizes
 pub mod Console
 pub mod History
-pub mod Sent
 pub mod Seeking
 pub mod Query
 pub mod Reuse

@@ -6,6 +6,7 @@ use Rattle.r3k_image.specs.Boot.{Boot}
 use Rattle.r3k_machine.specs.Run.{state_at}
 use Rattle.r3k_live.specs.Living.{counted}
 use Rattle.span_fact.specs.Span.{Span}
+use Rattle.checkpoints.specs.Kept.{IsNear}
 use Rattle.refusal.specs.declared.fault.Fault.{Fault}
 use Rattle.refusal.specs.declared.fault.Fault.TheVariants.{Memory, NotFound}
 use Rattle.timeline.specs.History.{History}
@@ -32,24 +33,31 @@ kept_at h index = slice_index_or h.spans index None
 abbrev pub Applies : (pages span : ℕ) → Holding → ℕ → Type 0
 Applies pages span h index = kept_at h index ≡ Some (span_of pages span h.history.image h.history.log index)
 
--- of so many spans from the first on, this many have no record that applies
+-- a record is kept of a span that applies or nearly applies: its events are those of the log, and where it starts otherwise than the
+-- run from reset stands, it does so in words of pages that it does not touch
+abbrev pub Serves : (pages span : ℕ) → Holding → ℕ → Type 0
+Serves pages span h index =
+    let s : Span = span_of pages span h.history.image h.history.log index in
+    IsNear pages span (kept_at h index) s.start s.events
+
+-- for so many spans from the first on, this many have no record that serves
 unfoldable pub Lacks : (pages span : ℕ) → Holding → (count lacking : ℕ) → Type 0
 Lacks pages span h zero lacking = lacking ≡ 0
 Lacks pages span h (suc index) lacking =
-    (Applies pages span h index × Lacks pages span h index lacking)
-    ⊎ ((¬ Applies pages span h index) × (0 < lacking) × Lacks pages span h index (lacking - 1))
+    (Serves pages span h index × Lacks pages span h index lacking)
+    ⊎ ((¬ Serves pages span h index) × (0 < lacking) × Lacks pages span h index (lacking - 1))
 
 -- What a query does that needs so many spans from the first on, and then at most so many steps more: it runs a span only where
--- no record applies, and replaces records only by some that apply. The history stays.
+-- no record serves, and replaces records only by some that apply. The history stays.
 pub record Spends (pages span count more : ℕ) (old new : Holding) : Type 0 where
   pub history : new.history ≡ old.history
   pub most : (lacking : ℕ) → Lacks pages span old count lacking → new.steps ≤ old.steps + (lacking * span + more)
   pub kept : (index : ℕ) → (kept_at new index ≡ kept_at old index) ⊎ Applies pages span new index
 
--- What it has done where it answers: each span that lacked a record was run, and now all have one that applies.
+-- What it has done where it answers: each span that lacked a record was run, and now all have one that serves.
 pub record Reaches (pages span count : ℕ) (old new : Holding) : Type 0 where
   pub least : (lacking : ℕ) → Lacks pages span old count lacking → counted old.steps (lacking * span) ≤ new.steps
-  pub there : (index : ℕ) → index < count → Applies pages span new index
+  pub there : (index : ℕ) → index < count → Serves pages span new index
 
 -- What a query at a position does, whether it answers or is refused, where it may look so many steps beyond. Want of memory may
 -- cut it short. Any other refusal but that there is nothing to be found comes before a step is run.

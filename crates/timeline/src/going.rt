@@ -68,6 +68,9 @@ impl<const PAGES: u32, const SPAN: u32> Runs<PAGES, SPAN> {
         ensures same { holding_of inputs.now.image inputs.now.log self.new ≡ holding_of inputs.now.image inputs.now.log self.old }
     {
         let from = index * SPAN as u64;
+        if self.at == Some(from) {
+            return Ok(from);
+        }
         let start = self.start_of(index).clone()?;
         self.live.load(&start);
         self.at = Some(from);
@@ -88,6 +91,7 @@ impl<const PAGES: u32, const SPAN: u32> Runs<PAGES, SPAN> {
         ensures count { self.new.live.steps ≡ counted self.old.live.steps (position - time) }
         ensures least { self.old.live.steps ≤ self.new.live.steps }
     {
+        self.recorded = None;
         self.recorder.clear();
         self.live.run(
             time,
@@ -98,8 +102,7 @@ impl<const PAGES: u32, const SPAN: u32> Runs<PAGES, SPAN> {
         self.at = Some(position);
     }
 
-    /// Makes the machine stand at a position, and the recorder hold what the steps from the start of its span told. Gives the
-    /// number of that span.
+    /// Makes the recorder hold what the steps up to a position told, from the start of its span on. Gives the number of that span.
     pub(crate) fn record(
         &mut self,
         alloc: Global,
@@ -120,8 +123,12 @@ impl<const PAGES: u32, const SPAN: u32> Runs<PAGES, SPAN> {
     {
         let index = position / SPAN as u64;
         self.reach(alloc, inputs, index)?;
+        if self.recorded == Some(position) {
+            return Ok(index);
+        }
         let time = self.stand_at_start(inputs, index)?;
         self.go_on(inputs, time, position);
+        self.recorded = Some(position);
         Ok(index)
     }
 }
@@ -141,6 +148,7 @@ impl<const PAGES: u32, const SPAN: u32> Runs<PAGES, SPAN> {
         ensures count { self.new.live.steps ≤ self.old.live.steps + (last - time) }
         ensures least { self.old.live.steps ≤ self.new.live.steps }
     {
+        self.recorded = None;
         self.recorder.clear();
         let found = self.live.visit(
             time,

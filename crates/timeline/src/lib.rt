@@ -1,10 +1,10 @@
 //! A history that can be edited, an image and a log, and the answers of the run from reset that they determine.
 #![tactic(auto)]
 
-mod differing;
 mod edits;
 mod going;
 mod inputs;
+mod joining;
 mod queries;
 mod runs;
 mod sent;

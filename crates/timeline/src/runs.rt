@@ -1,6 +1,6 @@
 //! The present run of a history: the machine that runs, and the records of spans that are kept.
 
-ghost use Rattle.std.specs.Prelude.{◌≡◌, ◌↔◌, [], ◌∷◌, ℕ, ◌+◌, ◌-◌, ◌*◌, ◌^◌, ◌<◌, ◌≤◌, IfOk, IfSome, IsSome, IsTrue, List, OnErr, Some, slice_set};
+ghost use Rattle.std.specs.Prelude.{◌≡◌, ◌↔◌, ◌⊎◌, [], ◌∷◌, ℕ, ◌+◌, ◌-◌, ◌*◌, ◌^◌, ◌<◌, ◌≤◌, IfOk, IfSome, IsTrue, List, OnErr, Some, slice_set};
 ghost use Rattle.input_log.specs.Event.{TimedByte};
 ghost use Rattle.r3k_image.specs.Boot.{Boot};
 ghost use Rattle.r3k_word.specs.Layout.{word_count_of};
@@ -9,16 +9,18 @@ ghost use Rattle.r3k_machine.specs.Run.{state_at};
 ghost use Rattle.r3k_pages.specs.Pages.{SameOutside, page_count_of};
 ghost use Rattle.r3k_live.specs.Living.{counted};
 ghost use Rattle.checkpoints.specs.Kept.{Follows, span_at};
-ghost use Rattle.timeline.specs.Reuse.{Applies, Reaches, Spends, span_of};
-ghost use Rattle.timeline.specs.Runs.{AreOf, holding_of};
+ghost use Rattle.span_index.specs.Index.{Agrees};
+ghost use Rattle.timeline.specs.Reuse.{Applies, Reaches, Serves, Spends, span_of};
+ghost use Rattle.timeline.specs.Runs.{AreOf, IsJoined, holding_of};
 ghost use Rattle.timeline.specs.Sizes.{AreSizes};
 
-use crate::differing::Differing;
 use crate::inputs::Inputs;
+use crate::joining::{begin, carry, compare, pass, share};
 use checkpoints::Kept;
 use r3k_live::{Boundary, Live, Recorder};
 use r3k_pages::PageMarks;
 use span_fact::Fact;
+use span_index::SpanIndex;
 use std::alloc::{AllocError, Global};
 use std::rc::Rc;
 
@@ -28,12 +30,20 @@ pub(crate) struct Runs<const PAGES: u32, const SPAN: u32> {
     pub(crate) live: Live<PAGES>,
     pub(crate) recorder: Recorder<PAGES, SPAN>,
     pub(crate) kept: Kept<PAGES, SPAN>,
+    // What the records told, by page and by line.
+    pub(crate) told: SpanIndex,
     // Where the run starts, at reset.
     pub(crate) reset: Rc<Boundary<PAGES>>,
     // Where the machine stands in the run, if it does.
     pub(crate) at: Option<u64>,
+    // Up to where the recorder holds what the run tells, from the start of that span on, if it does.
+    pub(crate) recorded: Option<u64>,
+    // Where each span ends that is joined.
+    pub(crate) ends: Vec<Rc<Boundary<PAGES>>>,
+    // Whether the last record that is joined starts where its span does.
+    pub(crate) exact: bool,
     // Pages in which the next span may start otherwise than the record of its number.
-    pub(crate) differing: Differing<PAGES>,
+    pub(crate) differing: PageMarks<PAGES>,
     // Pages that were patched since the first record was made.
     pub(crate) patched: PageMarks<PAGES>,
 }
@@ -52,9 +62,13 @@ impl<const PAGES: u32, const SPAN: u32> Runs<PAGES, SPAN> {
             live,
             recorder: Recorder::new(alloc)?,
             kept: Kept::new(alloc),
+            told: SpanIndex::new(alloc),
             reset: share(alloc, reset)?,
             at: Some(0),
-            differing: Differing::new(alloc)?,
+            recorded: None,
+            ends: Vec::new(alloc),
+            exact: false,
+            differing: PageMarks::new(alloc)?,
             patched: PageMarks::new(alloc)?,
         })
     }
@@ -68,67 +82,77 @@ impl<const PAGES: u32, const SPAN: u32> Runs<PAGES, SPAN> {
         if index == 0 {
             return &self.reset;
         }
-        match self.kept.fact(index - 1) {
-            Some(fact) => fact.end(),
+        match self.ends.get(index as usize - 1) {
+            Some(end) => end,
             None => &self.reset,
         }
     }
 
-    // Whether the record that is kept of the first span that is not joined is that of this run.
-    fn applies(&self, inputs: &Inputs, start: &Boundary<PAGES>) -> bool
+    // Whether the record that is kept of the first span that is not joined serves for that of this run: its steps tell the same.
+    fn serves(&self, inputs: &Inputs, start: &Boundary<PAGES>) -> bool
         requires of { AreOf {pages = PAGES} {span = SPAN} inputs.now.image inputs.now.log self.now }
         requires start { start.now ≡ state_at PAGES inputs.now.image inputs.now.log (self.now.kept.valid * SPAN) }
         requires time { (self.now.kept.valid + 1) * SPAN < 2 ^ 64 }
-        ensures { IsTrue result ↔ Applies PAGES SPAN (holding_of inputs.now.image inputs.now.log self.now) self.now.kept.valid }
+        ensures { IsTrue result ↔ Serves PAGES SPAN (holding_of inputs.now.image inputs.now.log self.now) self.now.kept.valid }
     {
         let index = self.kept.valid();
         let events = inputs
             .log
             .window(index * SPAN as u64, (index + 1) * SPAN as u64);
-        if index > 0 && self.kept.applies_next(index - 1, events) {
+        let differing = self.differing.pages();
+        if index > 0 && self.kept.nearly_next(index - 1, start, events, differing) {
             return true;
         }
-        self.kept
-            .applies(index, start, events, self.differing.pages())
+        self.kept.nearly(index, start, events, differing)
     }
 
-    // Joins one more span. A span of which no record applies is run for it.
+    // Joins one more span. A span for which no record serves is run for it.
     fn extend(&mut self, alloc: Global, inputs: &Inputs) -> Result<(), AllocError>
         requires of { AreOf {pages = PAGES} {span = SPAN} inputs.now.image inputs.now.log self.old }
         requires time { (self.old.kept.valid + 1) * SPAN < 2 ^ 64 }
-        requires few { self.old.kept.valid < 2 ^ 64 - 1 }
+        requires few { self.old.kept.valid < 2 ^ 26 }
         ensures of { AreOf {pages = PAGES} {span = SPAN} inputs.now.image inputs.now.log self.new }
         ensures joined { IfOk result (λ _. self.new.kept.valid ≡ self.old.kept.valid + 1) }
         ensures others { (i : ℕ) → ¬ (i ≡ self.old.kept.valid) → span_at self.new.kept i ≡ span_at self.old.kept i }
-        ensures stays { OnErr result (span_at self.new.kept self.old.kept.valid ≡ span_at self.old.kept self.old.kept.valid) }
-        ensures free { Applies PAGES SPAN (holding_of inputs.now.image inputs.now.log self.old) self.old.kept.valid →
+        ensures kept { (span_at self.new.kept self.old.kept.valid ≡ span_at self.old.kept self.old.kept.valid)
+            ⊎ Applies PAGES SPAN (holding_of inputs.now.image inputs.now.log self.new) self.old.kept.valid }
+        ensures free { Serves PAGES SPAN (holding_of inputs.now.image inputs.now.log self.old) self.old.kept.valid →
             self.new.live.steps ≡ self.old.live.steps }
-        ensures count { IfOk result (λ _. ¬ Applies PAGES SPAN (holding_of inputs.now.image inputs.now.log self.old) self.old.kept.valid →
+        ensures count { IfOk result (λ _. ¬ Serves PAGES SPAN (holding_of inputs.now.image inputs.now.log self.old) self.old.kept.valid →
             self.new.live.steps ≡ counted self.old.live.steps SPAN) }
         ensures most { self.new.live.steps ≤ self.old.live.steps + SPAN }
     {
         let start = self.start_of(self.kept.valid()).clone()?;
-        if self.applies(inputs, &start) {
-            self.join_kept(inputs);
-            return Ok(());
+        if self.serves(inputs, &start) {
+            return self.join_kept(alloc, inputs, &start);
         }
         self.run_span(alloc, inputs, start)
     }
 
-    // Joins the record that is kept of the next span, as it applies.
-    fn join_kept(&mut self, inputs: &Inputs)
+    // Joins the record that is kept of the next span, as it serves.
+    fn join_kept(
+        &mut self,
+        alloc: Global,
+        inputs: &Inputs,
+        start: &Boundary<PAGES>,
+    ) -> Result<(), AllocError>
         requires of { AreOf {pages = PAGES} {span = SPAN} inputs.now.image inputs.now.log self.old }
-        requires applies { Applies PAGES SPAN (holding_of inputs.now.image inputs.now.log self.old) self.old.kept.valid }
-        requires few { self.old.kept.valid < 2 ^ 64 - 1 }
+        requires start { start.now ≡ state_at PAGES inputs.now.image inputs.now.log (self.old.kept.valid * SPAN) }
+        requires serves { Serves PAGES SPAN (holding_of inputs.now.image inputs.now.log self.old) self.old.kept.valid }
+        requires few { self.old.kept.valid < 2 ^ 26 }
         ensures of { AreOf {pages = PAGES} {span = SPAN} inputs.now.image inputs.now.log self.new }
-        ensures joined { self.new.kept.valid ≡ self.old.kept.valid + 1 }
+        ensures joined { IfOk result (λ _. self.new.kept.valid ≡ self.old.kept.valid + 1) }
         ensures spans { self.new.kept.spans ≡ self.old.kept.spans }
         ensures steps { self.new.live.steps ≡ self.old.live.steps }
     {
         let index = self.kept.valid();
         let follows = self.kept.continues(index);
-        join_next(&mut self.kept, &mut self.patched, index);
-        self.differing.restart(!follows);
+        let Some(fact) = self.kept.fact(index) else {
+            return Ok(());
+        };
+        let end = carry(alloc, fact, start, &mut self.differing)?;
+        let exact = self.differing.pages().is_empty();
+        self.join(inputs, end, exact, follows)
     }
 
     // Runs the next span, keeps its record and joins it.
@@ -141,22 +165,74 @@ impl<const PAGES: u32, const SPAN: u32> Runs<PAGES, SPAN> {
         requires of { AreOf {pages = PAGES} {span = SPAN} inputs.now.image inputs.now.log self.old }
         requires start { start.value ≡ state_at PAGES inputs.now.image inputs.now.log (self.old.kept.valid * SPAN) }
         requires time { (self.old.kept.valid + 1) * SPAN < 2 ^ 64 }
-        requires few { self.old.kept.valid < 2 ^ 64 - 1 }
+        requires few { self.old.kept.valid < 2 ^ 26 }
         ensures of { AreOf {pages = PAGES} {span = SPAN} inputs.now.image inputs.now.log self.new }
         ensures joined { IfOk result (λ _. self.new.kept.valid ≡ self.old.kept.valid + 1) }
         ensures others { (i : ℕ) → ¬ (i ≡ self.old.kept.valid) → span_at self.new.kept i ≡ span_at self.old.kept i }
-        ensures stays { OnErr result (span_at self.new.kept self.old.kept.valid ≡ span_at self.old.kept self.old.kept.valid) }
+        ensures kept { (span_at self.new.kept self.old.kept.valid ≡ span_at self.old.kept self.old.kept.valid)
+            ⊎ Applies PAGES SPAN (holding_of inputs.now.image inputs.now.log self.new) self.old.kept.valid }
         ensures count { IfOk result (λ _. self.new.live.steps ≡ counted self.old.live.steps SPAN) }
         ensures most { self.new.live.steps ≤ self.old.live.steps + SPAN }
     {
-        let index = self.kept.valid();
         let fact = self.make_record(alloc, inputs, start)?;
-        let follows = self.kept.continues(index);
-        self.differing.pass_kept(self.kept.fact(index));
-        self.differing.pass_run(&fact);
-        self.differing.any |= !follows;
+        let end = fact.end().clone()?;
+        let follows = self.kept.continues(fact.index());
+        self.keep(inputs, fact)?;
+        self.join(inputs, end, true, follows)
+    }
+
+    // Keeps the record of the next span, which was run, in place of the one of its number.
+    fn keep(&mut self, inputs: &Inputs, fact: Fact<PAGES, SPAN>) -> Result<(), AllocError>
+        requires of { AreOf {pages = PAGES} {span = SPAN} inputs.now.image inputs.now.log self.old }
+        requires few { self.old.kept.valid < 2 ^ 26 }
+        requires fact { fact ≡ span_of PAGES SPAN inputs.now.image inputs.now.log self.old.kept.valid }
+        ensures of { AreOf {pages = PAGES} {span = SPAN} inputs.now.image inputs.now.log self.new }
+        ensures applies { IfOk result (λ _. Applies PAGES SPAN (holding_of inputs.now.image inputs.now.log self.new) self.old.kept.valid) }
+        ensures others { (i : ℕ) → ¬ (i ≡ self.old.kept.valid) → span_at self.new.kept i ≡ span_at self.old.kept i }
+        ensures same { OnErr result (span_at self.new.kept self.old.kept.valid ≡ span_at self.old.kept self.old.kept.valid) }
+        ensures next { IfOk result (λ _. Follows PAGES SPAN (span_at self.old.kept self.old.kept.valid) (span_at self.old.kept (self.old.kept.valid + 1)) →
+            IfSome (span_at self.new.kept (self.old.kept.valid + 1)) (λ s.
+            SameOutside self.new.differing s.start.words (state_at PAGES inputs.now.image inputs.now.log ((self.old.kept.valid + 1) * SPAN)).words)) }
+        ensures valid { self.new.kept.valid ≡ self.old.kept.valid }
+        ensures steps { self.new.live.steps ≡ self.old.live.steps }
+    {
+        let index = fact.index();
+        self.told.settle(&self.kept)?;
+        pass(&mut self.differing, self.kept.fact(index), &fact);
         self.kept.put(fact)?;
-        join_next(&mut self.kept, &mut self.patched, index);
+        self.told.note(index);
+        Ok(())
+    }
+
+    // Joins the record of the next span, which is there. Whether it starts where the span does, and whether the differing pages are
+    // those at the start of the record behind it, is known.
+    fn join(
+        &mut self,
+        inputs: &Inputs,
+        end: Rc<Boundary<PAGES>>,
+        exact: bool,
+        follows: bool,
+    ) -> Result<(), AllocError>
+        requires of { AreOf {pages = PAGES} {span = SPAN} inputs.now.image inputs.now.log self.old }
+        requires there { IsJoined PAGES SPAN self.old.kept.valid (span_at self.old.kept self.old.kept.valid)
+            (span_of PAGES SPAN inputs.now.image inputs.now.log self.old.kept.valid) }
+        requires end { end.value ≡ state_at PAGES inputs.now.image inputs.now.log ((self.old.kept.valid + 1) * SPAN) }
+        requires exact { IsTrue exact → Applies PAGES SPAN (holding_of inputs.now.image inputs.now.log self.old) self.old.kept.valid }
+        requires follows { IsTrue follows → IfSome (span_at self.old.kept (self.old.kept.valid + 1))
+            (λ s. SameOutside self.old.differing s.start.words (state_at PAGES inputs.now.image inputs.now.log ((self.old.kept.valid + 1) * SPAN)).words) }
+        requires few { self.old.kept.valid < 2 ^ 26 }
+        ensures of { AreOf {pages = PAGES} {span = SPAN} inputs.now.image inputs.now.log self.new }
+        ensures joined { IfOk result (λ _. self.new.kept.valid ≡ self.old.kept.valid + 1) }
+        ensures spans { self.new.kept.spans ≡ self.old.kept.spans }
+        ensures steps { self.new.live.steps ≡ self.old.live.steps }
+    {
+        let index = self.kept.valid();
+        self.told.settle(&self.kept)?;
+        self.ends.push(end.clone()?)?;
+        begin(&mut self.kept, &mut self.patched, index, exact, self.exact);
+        self.exact = exact;
+        self.kept.join();
+        compare(&self.kept, index + 1, &end, follows, &mut self.differing);
         Ok(())
     }
 
@@ -173,8 +249,6 @@ impl<const PAGES: u32, const SPAN: u32> Runs<PAGES, SPAN> {
         ensures of { AreOf {pages = PAGES} {span = SPAN} inputs.now.image inputs.now.log self.new }
         ensures made { IfOk result (λ fact. fact ≡ span_of PAGES SPAN inputs.now.image inputs.now.log self.old.kept.valid) }
         ensures kept { self.new.kept ≡ self.old.kept }
-        ensures differing { self.new.differing ≡ self.old.differing }
-        ensures patched { self.new.patched ≡ self.old.patched }
         ensures count { IfOk result (λ _. self.new.live.steps ≡ counted self.old.live.steps SPAN) }
         ensures most { self.new.live.steps ≤ self.old.live.steps + SPAN }
     {
@@ -183,6 +257,7 @@ impl<const PAGES: u32, const SPAN: u32> Runs<PAGES, SPAN> {
         let to = (index + 1) * SPAN as u64;
         stand_at(&mut self.live, self.at, from, &start);
         self.at = None;
+        self.recorded = None;
         let events = inputs.log.window(from, to);
         let fact = Fact::make(
             alloc,
@@ -205,6 +280,7 @@ impl<const PAGES: u32, const SPAN: u32> Runs<PAGES, SPAN> {
     ) -> Result<(), AllocError>
         requires of { AreOf {pages = PAGES} {span = SPAN} inputs.now.image inputs.now.log self.old }
         requires time { (index + 1) * SPAN < 2 ^ 64 }
+        requires few { index ≤ 2 ^ 26 }
         ensures of { AreOf {pages = PAGES} {span = SPAN} inputs.now.image inputs.now.log self.new }
         ensures joined { IfOk result (λ _. index ≤ self.new.kept.valid) }
         ensures spends { Spends PAGES SPAN index 0 (holding_of inputs.now.image inputs.now.log self.old)
@@ -223,14 +299,16 @@ impl<const PAGES: u32, const SPAN: u32> Runs<PAGES, SPAN> {
     pub(crate) fn forget(&mut self)
         ensures of { (image : Boot) (log : List TimedByte) → AreSizes PAGES SPAN → self.old.reset.value ≡ reset PAGES image →
             IfSome (span_at self.old.kept 0) (λ s. SameOutside self.old.patched s.start.words (reset PAGES image).words) →
-            AreOf {pages = PAGES} {span = SPAN} image log self.new }
+            Agrees PAGES SPAN self.old.told self.old.kept.spans → AreOf {pages = PAGES} {span = SPAN} image log self.new }
         ensures spans { self.new.kept.spans ≡ self.old.kept.spans }
         ensures steps { self.new.live.steps ≡ self.old.live.steps }
     {
         self.kept.truncate_valid(0);
+        self.ends.clear();
         self.at = None;
-        self.differing.restart(false);
-        self.differing.marked.add(self.patched.pages());
+        self.recorded = None;
+        self.differing.clear();
+        self.differing.add(self.patched.pages());
     }
 
     /// Where the run starts once the image sets a word to this.
@@ -275,36 +353,4 @@ fn stand_at<const PAGES: u32>(
         return;
     }
     live.load(start);
-}
-
-// Joins the next record. It starts where the one before it ends, and the first one at reset.
-fn join_next<const PAGES: u32, const SPAN: u32>(
-    kept: &mut Kept<PAGES, SPAN>,
-    patched: &mut PageMarks<PAGES>,
-    index: u64,
-)
-    requires index { index ≡ kept.old.valid }
-    requires there { IsSome (span_at kept.old index) }
-    requires few { index < 2 ^ 64 - 1 }
-    requires follows { 0 < index → Follows PAGES SPAN (span_at kept.old (index - 1)) (span_at kept.old (index - 1 + 1)) }
-    ensures spans { kept.new.spans ≡ kept.old.spans }
-    ensures valid { kept.new.valid ≡ kept.old.valid + 1 }
-    ensures patched { 0 < index → patched.new ≡ patched.old }
-{
-    if index > 0 {
-        kept.tie(index - 1);
-    } else {
-        patched.clear();
-    }
-    kept.join();
-}
-
-// A boundary that several spans can hold.
-fn share<const PAGES: u32>(
-    alloc: Global,
-    boundary: Boundary<PAGES>,
-) -> Result<Rc<Boundary<PAGES>>, AllocError>
-    ensures { IfOk result (λ shared. shared.value ≡ boundary.entry) }
-{
-    Rc::new(alloc, boundary).map_err(|_| AllocError)
 }

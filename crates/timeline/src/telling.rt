@@ -1,7 +1,7 @@
 //! What the present run holds and tells, up to a position: by the records of its spans, and for the rest by the machine and its
 //! recorder.
 
-ghost use Rattle.std.specs.Prelude.{◌≡◌, ℕ, ◌+◌, ◌-◌, ◌*◌, ◌/◌, ◌%◌, ◌^◌, ◌<◌, ◌≤◌, [], IfOk, List, slice_get, slice_index};
+ghost use Rattle.std.specs.Prelude.{◌≡◌, ℕ, ◌+◌, ◌-◌, ◌*◌, ◌/◌, ◌%◌, ◌^◌, ◌<◌, ◌≤◌, [], IfOk, List, length, slice_get, slice_index};
 ghost use Rattle.input_log.specs.Event.{TimedByte};
 ghost use Rattle.r3k_image.specs.Boot.{Boot};
 ghost use Rattle.r3k_word.specs.Layout.{word_count_of};
@@ -102,6 +102,7 @@ impl<const PAGES: u32, const SPAN: u32> Runs<PAGES, SPAN> {
     ) -> Result<Shown, AllocError>
         requires of { AreOf {pages = PAGES} {span = SPAN} inputs.now.image inputs.now.log self.old }
         requires position { position ≤ max_position }
+        requires line { line ≤ 3 }
         requires count { count ≤ 256 }
         ensures of { AreOf {pages = PAGES} {span = SPAN} inputs.now.image inputs.now.log self.new }
         ensures shown { IfOk result (Shows from count (console_of line (trace_at PAGES inputs.now.image inputs.now.log position))) }
@@ -127,6 +128,7 @@ impl<const PAGES: u32, const SPAN: u32> Runs<PAGES, SPAN> {
     ) -> Result<Option<u64>, AllocError>
         requires of { AreOf {pages = PAGES} {span = SPAN} inputs.now.image inputs.now.log self.old }
         requires position { position ≤ max_position }
+        requires line { line ≤ 3 }
         ensures of { AreOf {pages = PAGES} {span = SPAN} inputs.now.image inputs.now.log self.new }
         ensures sender { IfOk result (λ step. step ≡
             slice_get (senders_of line 0 (trace_at PAGES inputs.now.image inputs.now.log position)) place) }
@@ -154,27 +156,8 @@ impl<const PAGES: u32, const SPAN: u32> Runs<PAGES, SPAN> {
         requires near { count * SPAN ≤ max_position }
         ensures { result ≡ last_writer address (trace_at PAGES inputs.now.image inputs.now.log (count * SPAN)) }
     {
-        let mut index = count;
-        while index > 0 {
-            index -= 1;
-            if let Some(step) = self.writer_in(inputs, index, address) {
-                return Some(index * SPAN as u64 + step as u64);
-            }
-        }
-        None
-    }
-
-    // The last step of a span that stored into a word, counted from its start.
-    fn writer_in(&self, inputs: &Inputs, index: u64, address: u32) -> Option<u32>
-        requires of { AreOf {pages = PAGES} {span = SPAN} inputs.now.image inputs.now.log self.now }
-        requires joined { index < self.now.kept.valid }
-        ensures { result ≡ last_writer address
-            (steps_between PAGES inputs.now.image inputs.now.log (index * SPAN) ((index + 1) * SPAN)) }
-    {
-        match self.kept.fact(index) {
-            Some(fact) => fact.writer(address),
-            None => None,
-        }
+        let (index, step) = self.told.last_writer(&self.kept, count, address)?;
+        Some(index * SPAN as u64 + step as u64)
     }
 
     // The bytes that a span's steps sent, each with its step, counted from its start.
@@ -190,22 +173,51 @@ impl<const PAGES: u32, const SPAN: u32> Runs<PAGES, SPAN> {
         }
     }
 
+    // Which of so many spans sent the byte of a line at a place, or their number where they sent fewer.
+    fn sender_of(&self, inputs: &Inputs, spans: u64, line: u8, place: u64) -> u64
+        requires of { AreOf {pages = PAGES} {span = SPAN} inputs.now.image inputs.now.log self.now }
+        requires joined { spans ≤ self.now.kept.valid }
+        requires line { line ≤ 3 }
+        ensures within { result ≤ spans }
+        ensures from { length (console_of line (trace_at PAGES inputs.now.image inputs.now.log (result * SPAN))) ≤ place }
+        ensures to { result < spans → place < length (console_of line (trace_at PAGES inputs.now.image inputs.now.log ((result + 1) * SPAN))) }
+    {
+        match self.told.find(line, place, spans) {
+            Some((index, _)) => index,
+            None => spans,
+        }
+    }
+
+    // How many bytes of a line so many spans sent.
+    fn count_of(&self, inputs: &Inputs, spans: u64, line: u8) -> u64
+        requires of { AreOf {pages = PAGES} {span = SPAN} inputs.now.image inputs.now.log self.now }
+        requires joined { spans ≤ self.now.kept.valid }
+        requires line { line ≤ 3 }
+        ensures { result ≡ length (console_of line (trace_at PAGES inputs.now.image inputs.now.log (spans * SPAN))) }
+    {
+        self.told.count(line, spans)
+    }
+
     // What is shown of the console of a line by the steps of so many spans.
     fn shown_before(&self, inputs: &Inputs, spans: u64, line: u8, from: u64, count: usize) -> Shown
         requires of { AreOf {pages = PAGES} {span = SPAN} inputs.now.image inputs.now.log self.now }
         requires joined { spans ≤ self.now.kept.valid }
         requires near { spans * SPAN ≤ max_position }
+        requires line { line ≤ 3 }
         requires count { count ≤ 256 }
         ensures shown { Shows from count (console_of line (trace_at PAGES inputs.now.image inputs.now.log (spans * SPAN))) result }
         ensures few { result.total ≤ spans * SPAN }
     {
+        let mut index = self.sender_of(inputs, spans, line, from);
         let mut shown = Shown {
-            total: 0,
+            total: self.count_of(inputs, index, line),
             bytes: ArrayVec::new(),
         };
-        for index in 0..spans {
+        while index < spans && shown.bytes.len() < count {
             shown.take_of(line, self.sent_in(inputs, index), from, count);
+            index = self.sender_of(inputs, spans, line, shown.total);
         }
+        shown.total = self.count_of(inputs, spans, line);
         shown
     }
 
@@ -214,15 +226,17 @@ impl<const PAGES: u32, const SPAN: u32> Runs<PAGES, SPAN> {
         requires of { AreOf {pages = PAGES} {span = SPAN} inputs.now.image inputs.now.log self.now }
         requires joined { spans ≤ self.now.kept.valid }
         requires near { spans * SPAN ≤ max_position }
+        requires line { line ≤ 3 }
         ensures { Seeks (senders_of line 0 (trace_at PAGES inputs.now.image inputs.now.log (spans * SPAN))) place result }
     {
-        let mut left = place;
-        for index in 0..spans {
-            match seek(line, self.sent_in(inputs, index), left) {
-                Sought::At(step) => return Sought::At(index * SPAN as u64 + step),
-                Sought::Behind(rest) => left = rest,
-            }
+        let index = self.sender_of(inputs, spans, line, place);
+        let left = place - self.count_of(inputs, index, line);
+        if index == spans {
+            return Sought::Behind(left);
         }
-        Sought::Behind(left)
+        match seek(line, self.sent_in(inputs, index), left) {
+            Sought::At(step) => Sought::At(index * SPAN as u64 + step),
+            Sought::Behind(left) => Sought::Behind(left),
+        }
     }
 }

@@ -1,7 +1,7 @@
-use Rattle.std.proofs.Common.{◌≡◌, ℕ, ◌+◌, ◌++◌, ◌∷◌, [], List, length, length-append, take, drop, slice_get, slice_index_or, Some, sym, ap, ◌∙◌, arith}
+use Rattle.std.proofs.Common.{◌≡◌, ℕ, ◌+◌, ◌++◌, ◌∷◌, [], List, length, length-append, take, drop, slice_get, slice_index_or, sym, ap, ◌∙◌, arith}
 use Rattle.std.proofs.lemmas.List.{take_more, take-append-drop}
 use Rattle.r3k_live.specs.declared.recorder.SentAt.{SentAt}
-use Rattle.timeline.specs.Sent.{steps_on}
+use Rattle.span_index.specs.Sent.{steps_on}
 use Rattle.timeline.proofs.Seeks.{at_seam}
 use Rattle.timeline.proofs.Sending.{steps_more, steps_none, steps_split}
 use Rattle.timeline.proofs.sent.seek.Goals as goal

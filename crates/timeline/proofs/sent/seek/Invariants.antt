@@ -1,5 +1,5 @@
 use Rattle.std.proofs.Common.{◌≡◌, ◌+◌, length, take}
-use Rattle.timeline.specs.Sent.{steps_on}
+use Rattle.span_index.specs.Sent.{steps_on}
 use Rattle.timeline.proofs.sent.seek.Given as goal
 
 -- so many places are left behind those that were searched

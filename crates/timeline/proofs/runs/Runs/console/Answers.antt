@@ -1,10 +1,10 @@
-use Rattle.std.proofs.Common.{◌≡◌, ℕ, ◌*◌, ◌≤◌, ◌++◌, List, ap, subst, ◌∙◌, arith}
+use Rattle.std.proofs.Common.{ℕ, ◌*◌, ◌≤◌, ◌++◌, List, ap, subst, ◌∙◌, arith}
 use Rattle.std.proofs.Math.Nat.{div-mul-le_self}
 use Rattle.r3k_live.specs.declared.recorder.SentAt.{SentAt}
 use Rattle.r3k_machine.specs.Run.{console_of, trace_at}
 use Rattle.timeline.specs.Console.{Shows}
 use Rattle.timeline.specs.Runs.{steps_between}
-use Rattle.timeline.specs.Sent.{bytes_on}
+use Rattle.span_index.specs.Sent.{bytes_on}
 use Rattle.timeline.proofs.Told.{console_front}
 use Rattle.timeline.proofs.runs.Runs.console.Goals as goal
 

@@ -1,9 +1,9 @@
-use Rattle.std.proofs.Common.{◌-◌, List, ap, ◌∙◌, subst}
+use Rattle.std.proofs.Common.{◌-◌, List, ◌∙◌, subst}
 use Rattle.std.proofs.Math.Path.{ap₂}
 use Rattle.input_log.specs.Event.{TimedByte}
 use Rattle.r3k_machine.specs.declared.step.Done.{Done}
 use Rattle.r3k_machine.specs.State.{State}
-use Rattle.r3k_machine.specs.Run.{run, state_at}
+use Rattle.r3k_machine.specs.Run.{run}
 use Rattle.r3k_live.specs.Recording.{Records}
 use Rattle.timeline.proofs.Spans.{gone_on, if_some}
 use Rattle.timeline.proofs.Told.{own_steps}
@@ -22,9 +22,14 @@ returns-clause-of g c =
           c.run.ensures.state
           ∙ (ap₂ (λ (events : List TimedByte) (s : State). run pages events time s (c.args.position - time)) c.window.ensures.events stood
           ∙ gone_on pages image log time c.args.position c.requires.before);
+      recorded = tt;
       joined = c.requires.of.joined;
+      ends = c.requires.of.ends;
+      exact = c.requires.of.exact;
       differ = c.requires.of.differ;
       patches = c.requires.of.patches;
+      agrees = c.requires.of.agrees;
+      settled = c.requires.of.settled;
     }
 
 pub returns-clause-recorded : goal.returns-clause-recorded

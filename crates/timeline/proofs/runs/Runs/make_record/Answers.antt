@@ -1,4 +1,4 @@
-use Rattle.std.proofs.Common.{◌≡◌, ℕ, ◌+◌, ◌*◌, ap, sym, ◌∙◌, arith}
+use Rattle.std.proofs.Common.{ℕ, ◌+◌, ◌*◌, ap, sym, ◌∙◌, arith}
 use Rattle.r3k_machine.specs.Run.{state_at}
 use Rattle.r3k_live.specs.Living.{counted}
 use Rattle.span_fact.specs.Span.{Span, end_of}
@@ -20,9 +20,14 @@ returns-clause-of g c =
           made.stands
           ∙ (ap (λ (s : Span). end_of pages span s) is
           ∙ (ends pages span image log valid ∙ ap (λ (n : ℕ). state_at pages image log ((n + 1) * span)) (sym c.valid-index.ensures)));
+      recorded = tt;
       joined = c.requires.of.joined;
+      ends = c.requires.of.ends;
+      exact = c.requires.of.exact;
       differ = c.requires.of.differ;
       patches = c.requires.of.patches;
+      agrees = c.requires.of.agrees;
+      settled = c.requires.of.settled;
     }
 
 pub returns-clause-made : goal.returns-clause-made

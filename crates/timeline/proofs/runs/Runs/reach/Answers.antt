@@ -1,10 +1,16 @@
 use Rattle.std.proofs.Common.{◌≡◌, ◌⊎◌, inl, inr, ℕ, ◌+◌, ◌-◌, ◌<◌, ◌≤◌, refl, sym, subst, ◌∙◌, arith}
-use Rattle.std.proofs.lemmas.Bool.{cases_eq, cases_lt}
-use Rattle.checkpoints.specs.Kept.{span_at}
-use Rattle.timeline.specs.Reuse.{Applies, Holding, Lacks, kept_at}
+use Rattle.std.proofs.lemmas.Bool.{cases_eq}
+use Rattle.timeline.specs.Reuse.{Applies, Holding, Lacks, Serves, kept_at}
 use Rattle.timeline.specs.Runs.{holding_of}
-use Rattle.timeline.proofs.Counts.{Within, count_more, count_most, count_same, kept_on, lacks_all, lacks_below, lacks_more, lacks_none, none_run}
+use Rattle.timeline.proofs.Counts.{Within, count_more, count_most, count_same, kept_on, lacks_all, lacks_below, lacks_more, lacks_none, none_run, serves_same}
 use Rattle.timeline.proofs.runs.Runs.reach.Goals as goal
+
+-- the record of the span that was joined stayed, or one that applies took its place
+replaced : (pages span : ℕ) (old mid new : Holding) (i valid : ℕ) → i ≡ valid → kept_at mid valid ≡ kept_at old valid
+    → (kept_at new valid ≡ kept_at mid valid) ⊎ Applies pages span new valid
+    → (kept_at new i ≡ kept_at old i) ⊎ Applies pages span new i
+replaced pages span old mid new i valid here later (inl same) = inl (subst (λ (n : ℕ). kept_at new n ≡ kept_at old n) (sym here) (same ∙ later))
+replaced pages span old mid new i valid here later (inr applies) = inr (subst (λ (n : ℕ). Applies pages span new n) (sym here) applies)
 
 pub loop-alloc-init : goal.loop-alloc-init
 loop-alloc-init g c =
@@ -15,7 +21,7 @@ loop-alloc-init g c =
       later = λ i _. refl;
       kept = λ i. inl refl;
       count = λ lacking lacks.
-          subst (λ (n : ℕ). Within span old.steps n old.steps) (sym (lacks_none pages span old c.args.self.now.kept.valid lacking c.requires.of.joined lacks))
+          subst (λ (n : ℕ). Within span old.steps n old.steps) (sym (lacks_none pages span old c.args.self.now.kept.valid lacking (λ i below. (c.requires.of.joined i below).near) lacks))
           (none_run span old.steps);
       bound = inr refl;
     }
@@ -38,16 +44,16 @@ loop-alloc-preserved g c =
           ∙ so_far.later i (omega (arith, past, joined));
       kept = λ i.
           elim (cases_eq i valid) [
-            | inl here ↦ inr (c.extend.ensures.of.joined i (omega (arith, here, joined)))
+            | inl here ↦ replaced pages span old mid new i valid here (so_far.later valid (omega arith)) c.extend.ensures.kept
             | inr other ↦ kept_on pages span old mid new i refl (c.extend.ensures.others i other) (so_far.kept i)
           ];
       count = λ lacking lacks.
           lacks_more pages span old valid lacking (subst (λ (n : ℕ). Lacks pages span old n lacking) joined lacks)
           (λ there rest.
-          subst (λ (n : ℕ). Within span old.steps lacking n) (sym (c.extend.ensures.free (so_far.later valid (omega arith) ∙ there))) (so_far.count lacking rest))
+          subst (λ (n : ℕ). Within span old.steps lacking n) (sym (c.extend.ensures.free (serves_same pages span old mid valid refl (so_far.later valid (omega arith)) there))) (so_far.count lacking rest))
           (λ absent before is rest.
           count_more span before lacking old.steps mid.steps new.steps is (so_far.count before rest)
-          ((c.in_ok-extend.ensures {u = tt}).count (λ applies. absent (sym (so_far.later valid (omega arith)) ∙ applies))));
+          ((c.in_ok-extend.ensures {u = tt}).count (λ serves. absent (serves_same pages span mid old valid refl (sym (so_far.later valid (omega arith))) serves))));
       bound = inl (omega (arith, joined, c.loop-alloc-test.true));
     }
 
@@ -71,20 +77,19 @@ returns-in_err-extend-clause-spends g c =
           lacks_more pages span old valid fewer here
           (λ there rest.
           count_same span fewer lacking old.steps mid.steps new.steps less (so_far.count fewer rest).1
-          (let same : new.steps ≡ mid.steps = c.extend.ensures.free (so_far.later valid (omega arith) ∙ there) in omega (arith, same)))
+          (let same : new.steps ≡ mid.steps = c.extend.ensures.free (serves_same pages span old mid valid refl (so_far.later valid (omega arith)) there) in omega (arith, same)))
           (λ absent before is rest.
           count_most span before lacking old.steps mid.steps new.steps (omega (arith, less, is)) (so_far.count before rest).1 c.extend.ensures.most));
       kept = λ i.
           elim (cases_eq i valid) [
-            | inl here ↦ inl (subst (λ (n : ℕ). kept_at new n ≡ kept_at old n) (sym here)
-                ((c.in_err-extend.ensures {u = tt}).stays ∙ so_far.later valid (omega arith)))
+            | inl here ↦ replaced pages span old mid new i valid here (so_far.later valid (omega arith)) c.extend.ensures.kept
             | inr other ↦ kept_on pages span old mid new i refl (c.extend.ensures.others i other) (so_far.kept i)
           ];
     }
 
 -- the spans up to the last one are all that were needed
 within : (pages span : ℕ) (old now : Holding) (index valid first lacking : ℕ) → index ≤ valid → (valid ≤ index) ⊎ (valid ≡ first)
-    → ((i : ℕ) → i < first → Applies pages span old i) → ((lacking : ℕ) → Lacks pages span old valid lacking → Within span old.steps lacking now.steps)
+    → ((i : ℕ) → i < first → Serves pages span old i) → ((lacking : ℕ) → Lacks pages span old valid lacking → Within span old.steps lacking now.steps)
     → Lacks pages span old index lacking → Within span old.steps lacking now.steps
 within pages span old now index valid first lacking reached (inl bound) all count lacks =
     count lacking (subst (λ (n : ℕ). Lacks pages span old n lacking) (let e : index ≡ valid = omega (arith, reached, bound) in e) lacks)
@@ -102,7 +107,7 @@ returns-clause-spends g c =
       history = refl;
       most = λ lacking lacks.
           let cost = within pages span old now c.args.index c.loop-alloc.self.kept.valid c.args.self.now.kept.valid lacking
-          (omega (arith, c.loop-alloc-test.false)) so_far.bound c.requires.of.joined so_far.count lacks in
+          (omega (arith, c.loop-alloc-test.false)) so_far.bound (λ i below. (c.requires.of.joined i below).near) so_far.count lacks in
           omega (arith, cost.1);
       kept = so_far.kept;
     }
@@ -116,6 +121,6 @@ returns-clause-reaches g c =
     let so_far = c.loop-alloc.invariant in record {
       least = λ lacking lacks.
           (within pages span old now c.args.index c.loop-alloc.self.kept.valid c.args.self.now.kept.valid lacking
-          (omega (arith, c.loop-alloc-test.false)) so_far.bound c.requires.of.joined so_far.count lacks).0;
-      there = λ i below. so_far.of.joined i (omega (arith, below, c.loop-alloc-test.false));
+          (omega (arith, c.loop-alloc-test.false)) so_far.bound (λ i below. (c.requires.of.joined i below).near) so_far.count lacks).0;
+      there = λ i below. (so_far.of.joined i (omega (arith, below, c.loop-alloc-test.false))).near;
     }

@@ -14,3 +14,4 @@ returns-clause-of g c =
     c.forget.ensures.of changed log of.sizes is
     (map_some (λ s. SameOutside patched s.start.words (reset pages image).words) (λ s. SameOutside c.add.new.self s.start.words (reset pages changed).words)
     (span_at c.args.self.now.kept 0) (λ s was. both patched (c.args.page ∷ []) c.add.new.self _ _ _ c.add.ensures was same) of.patches)
+    of.agrees

@@ -1,11 +1,11 @@
-use Rattle.std.proofs.Common.{◌≡◌, ℕ, ◌*◌, ◌+◌, ◌≤◌, List, length, slice_get, sym, ap, ◌∙◌, arith}
+use Rattle.std.proofs.Common.{ℕ, ◌*◌, ◌+◌, ◌≤◌, List, length, slice_get, sym, ap, ◌∙◌, arith}
 use Rattle.std.proofs.Math.Nat.{div-mul-le_self}
 use Rattle.std.proofs.lemmas.Option.{slice_get_past}
 use Rattle.r3k_live.specs.Record.{sent_from}
 use Rattle.r3k_live.specs.declared.recorder.SentAt.{SentAt}
 use Rattle.r3k_machine.specs.Run.{senders_of, trace_at}
 use Rattle.timeline.specs.Runs.{steps_between}
-use Rattle.timeline.specs.Sent.{steps_on}
+use Rattle.span_index.specs.Sent.{steps_on}
 use Rattle.timeline.proofs.Seeks.{found_behind, found_front, left_behind}
 use Rattle.timeline.proofs.Told.{senders_front}
 use Rattle.timeline.proofs.runs.Runs.sender.Goals as goal

@@ -1,9 +1,7 @@
-use Rattle.std.proofs.Common.{ap, sym, ◌∙◌}
-use Rattle.r3k_machine.specs.Run.{last_writer}
+use Rattle.std.proofs.Common.{ap, refl, ◌∙◌}
 use Rattle.r3k_live.specs.Record.{sent_from}
-use Rattle.span_fact.specs.Span.{Span, steps_of}
 use Rattle.timeline.specs.Reuse.{span_of}
-use Rattle.timeline.proofs.Spans.{some_is}
+use Rattle.timeline.proofs.Near.{same_steps}
 use Rattle.timeline.proofs.Told.{span_steps}
 use Rattle.timeline.proofs.runs.Runs.sent_in.Goals as goal
 
@@ -14,6 +12,7 @@ returns-in-Some g c =
     let image = c.args.inputs.now.image in
     let log = c.args.inputs.now.log in
     let index = c.args.index in
-    let is = some_is c.in-Some.fact.now (span_of pages span image log index) (sym (c.in-Some.ensures {u = tt}).fact ∙ c.requires.of.joined index c.requires.joined) in
+    let joined = c.requires.of.joined index c.requires.joined in
+    let is = (c.in-Some.ensures {u = tt}).fact in
     c.sent.ensures
-    ∙ ap (sent_from 0) (ap (λ (s : Span). steps_of pages span s) is ∙ span_steps pages span image log index)
+    ∙ ap (sent_from 0) (same_steps pages span index _ c.in-Some.fact.now (span_of pages span image log index) is refl joined ∙ span_steps pages span image log index)

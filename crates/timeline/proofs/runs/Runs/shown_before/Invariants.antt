@@ -1,4 +1,4 @@
-use Rattle.std.proofs.Common.{◌*◌, ◌≤◌}
+use Rattle.std.proofs.Common.{◌-◌, ◌*◌, ◌≤◌}
 use Rattle.r3k_machine.specs.Run.{console_of, trace_at}
 use Rattle.timeline.specs.Console.{Shows}
 use Rattle.timeline.proofs.runs.Runs.shown_before.Given as goal
@@ -7,5 +7,8 @@ use Rattle.timeline.proofs.runs.Runs.shown_before.Given as goal
 abbrev pub invariant-loop-index : goal.invariant-loop-index
 invariant-loop-index g l = record {
   shown : Shows l.from l.count (console_of l.line (trace_at g.row.PAGES l.inputs.image l.inputs.log (l.index * g.row.SPAN))) l.shown;
-  few : l.shown.total ≤ l.index * g.row.SPAN;
+  within : l.index ≤ l.spans;
 }
+
+abbrev pub decreases-loop-index : goal.decreases-loop-index
+decreases-loop-index g l = l.spans - l.index

@@ -1,5 +1,4 @@
-use Rattle.std.proofs.Common.{◌≡◌, ℕ, ◌+◌, ◌-◌, ◌<◌, ◌≤◌, Option, Some, None, unwrap_or, sym, ap, ◌∙◌, arith}
-use Rattle.input_log.specs.Event.{TimedByte}
+use Rattle.std.proofs.Common.{◌≡◌, ℕ, ◌+◌, ◌-◌, Option, Some, unwrap_or, sym, ap, ◌∙◌, arith}
 use Rattle.r3k_machine.specs.Run.{next_visit}
 use Rattle.timeline.proofs.Spans.{or_behind, visit_split}
 use Rattle.timeline.proofs.Visits.{visit_end}

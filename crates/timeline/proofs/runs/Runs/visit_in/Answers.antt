@@ -1,9 +1,8 @@
-use Rattle.std.proofs.Common.{◌≡◌, ℕ, ◌+◌, ◌-◌, ◌≤◌, List, Option, Some, None, unwrap_or, sym, ap, ◌∙◌, arith, subst}
+use Rattle.std.proofs.Common.{◌≡◌, ℕ, ◌+◌, ◌-◌, ◌≤◌, List, Option, unwrap_or, sym, ap, ◌∙◌, arith, subst}
 use Rattle.std.proofs.Math.Path.{ap₂}
 use Rattle.input_log.specs.Event.{TimedByte}
-use Rattle.input_log.specs.Log.{window_of}
 use Rattle.r3k_machine.specs.State.{State}
-use Rattle.r3k_machine.specs.Run.{next_visit, run, state_at}
+use Rattle.r3k_machine.specs.Run.{next_visit, run}
 use Rattle.r3k_live.specs.Visits.{first_visit}
 use Rattle.timeline.proofs.Spans.{behind_time, gone_on, gone_within, if_some, seen}
 use Rattle.timeline.proofs.runs.Runs.visit_in.Goals as goal
@@ -36,9 +35,14 @@ returns-in-Some-clause-of g c =
           ∙ (ap (λ (o : Option ℕ). run pages c.window.result.now time c.args.self.now.live.state (unwrap_or o steps)) c.in-Some.is
           ∙ (ap₂ (λ (events : List TimedByte) (s : State). run pages events time s c.in-Some.steps) c.window.ensures.events stood
           ∙ gone_within pages image log time c.args.last c.in-Some.steps (omega (arith, bound, c.requires.before))));
+      recorded = tt;
       joined = c.requires.of.joined;
+      ends = c.requires.of.ends;
+      exact = c.requires.of.exact;
       differ = c.requires.of.differ;
       patches = c.requires.of.patches;
+      agrees = c.requires.of.agrees;
+      settled = c.requires.of.settled;
     }
 
 pub returns-in-Some-clause-found : goal.returns-in-Some-clause-found
@@ -74,9 +78,14 @@ returns-in-None-clause-of g c =
           ∙ (ap (λ (o : Option ℕ). run pages c.window.result.now time c.args.self.now.live.state (unwrap_or o steps)) c.in-None.is
           ∙ (ap₂ (λ (events : List TimedByte) (s : State). run pages events time s steps) c.window.ensures.events stood
           ∙ gone_on pages image log time c.args.last c.requires.before));
+      recorded = tt;
       joined = c.requires.of.joined;
+      ends = c.requires.of.ends;
+      exact = c.requires.of.exact;
       differ = c.requires.of.differ;
       patches = c.requires.of.patches;
+      agrees = c.requires.of.agrees;
+      settled = c.requires.of.settled;
     }
 
 pub returns-in-None-clause-found : goal.returns-in-None-clause-found

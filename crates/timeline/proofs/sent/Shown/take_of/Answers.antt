@@ -1,8 +1,8 @@
-use Rattle.std.proofs.Common.{ℕ, ◌+◌, ◌++◌, List, Option, length, take, slice_index_or, sym, ap, subst, ◌∙◌, arith}
+use Rattle.std.proofs.Common.{ℕ, ◌++◌, List, take, slice_index_or, sym, ap, subst, ◌∙◌, arith}
 use Rattle.std.proofs.lemmas.List.{take_more}
 use Rattle.r3k_live.specs.declared.recorder.SentAt.{SentAt}
 use Rattle.timeline.specs.Console.{Shows, with_byte}
-use Rattle.timeline.specs.Sent.{bytes_on}
+use Rattle.span_index.specs.Sent.{bytes_on}
 use Rattle.timeline.proofs.Consoles.{bytes_more, take_past}
 use Rattle.timeline.proofs.sent.Shown.take_of.Goals as goal
 

@@ -1,6 +1,6 @@
 use Rattle.std.proofs.Common.{ℕ, ◌+◌, ◌≤◌, ◌++◌, List, take}
 use Rattle.timeline.specs.Console.{Shows}
-use Rattle.timeline.specs.Sent.{bytes_on}
+use Rattle.span_index.specs.Sent.{bytes_on}
 use Rattle.timeline.proofs.sent.Shown.take_of.Given as goal
 
 -- those so far are taken

@@ -1,4 +1,4 @@
-use Rattle.std.proofs.Common.{ℕ, List, Option, ap}
+use Rattle.std.proofs.Common.{ℕ, List, Option}
 use Rattle.std.proofs.Math.Path.{ap₂}
 use Rattle.span_fact.specs.Span.{Span}
 use Rattle.timeline.specs.Reuse.{Holding}

@@ -1,0 +1,92 @@
+-- The pages that are recorded of a run as stored into are all that it stored into: where the page of a word is not among them, no
+-- step stored into the word.
+use Rattle.std.proofs.Common.{◌≡◌, ℕ, zero, suc, ◌+◌, ◌*◌, ◌/◌, ◌<◌, ◌≤◌, ◌==◌, false, List, [], ◌∷◌, length, All, Option, Some, None, IfSome, nat_eq, slice_index_or, inl, inr, refl, sym, ap, ◌∙◌, arith}
+use Rattle.std.proofs.lemmas.Bool.{cases_Bool, cases_lt, eq-eqb, eqb-true, or_from, or_parts, true≢false}
+use Rattle.std.proofs.lemmas.List.{get_or_past}
+use Rattle.input_log.specs.Event.{TimedByte}
+use Rattle.r3k_word.specs.declared.layout.TheConstants.{PAGE_BYTES}
+use Rattle.r3k_machine.specs.declared.step.Done.{Done}
+use Rattle.r3k_machine.specs.State.{State}
+use Rattle.r3k_machine.specs.Step.{told}
+use Rattle.r3k_machine.specs.Run.{arriving, last_writer, later, run, stores_into, trace}
+use Rattle.r3k_machine.specs.Told.{IsPage}
+use Rattle.r3k_machine.proofs.Within.{pages_within}
+use Rattle.r3k_pages.specs.Pages.{holds, page_count_of}
+use Rattle.r3k_live.specs.Record.{dirty_pages, is_dirty, stores_in}
+use Rattle.r3k_live.proofs.Marks.{holds_where}
+use Rattle.r3k_live.proofs.Recorded.{any_more}
+use Rattle.span_fact.specs.Span.{Span}
+use Rattle.span_index.specs.Index.{steps_in}
+use Rattle.span_index.proofs.Stored.{TouchesStored, step_touches}
+
+not_equal : (a b : ℕ) → ¬ (a ≡ b) → nat_eq a b ≡ false
+not_equal a b other = elim (cases_Bool (nat_eq a b)) [ inl same ↦ absurd (other (eqb-true a b same)) | inr apart ↦ apart ]
+
+-- no step stores into a page past the last one
+told_within : (pages : ℕ) (touched : List (Option ℕ)) (page : ℕ) → All (λ one. IfSome one (IsPage pages)) touched → slice_index_or touched 1 None ≡ Some page
+    → page < page_count_of pages
+told_within pages touched page all is =
+    elim (cases_lt 1 (length touched)) [
+      | inl told ↦ within (slice_index_or touched 1 None) (all 1 None told) is
+      | inr over ↦ absurd (none (sym (get_or_past touched 1 None over) ∙ is))
+    ]
+  where
+    none : None ≡ Some page → ⊥
+    none is = cc
+
+    within : (one : Option ℕ) → IfSome one (IsPage pages) → one ≡ Some page → page < page_count_of pages
+    within None here is = absurd (none is)
+    within (Some other) here is = let same : other ≡ page = cc in omega (arith, same, here)
+
+step_not_past : (pages page : ℕ) (done : Done) → page_count_of pages ≤ page → All (λ one. IfSome one (IsPage pages)) done.touched → TouchesStored done
+    → stores_in page done.stored ≡ false
+step_not_past pages page done past all touches = at_store done.stored touches
+  where
+    at_store : (stored : Option ℕ) → IfSome stored (λ address. slice_index_or done.touched 1 None ≡ Some (address / PAGE_BYTES)) → stores_in page stored ≡ false
+    at_store None touches = refl
+    at_store (Some address) touches =
+        let within = told_within pages done.touched (address / PAGE_BYTES) all touches in
+        not_equal (address / PAGE_BYTES) page (λ same. absurd (let e : ⊥ = omega (arith, same, within, past) in e))
+
+none_past : (pages : ℕ) (log : List TimedByte) (time : ℕ) (s : State) (n page : ℕ) → page_count_of pages ≤ page → is_dirty (trace pages log time s n) page ≡ false
+unfolding trace
+none_past pages log time s zero page past = refl
+none_past pages log time s (suc n) page past =
+    let events = arriving log (time + n) in
+    let here = run pages log time s n in
+    let done = told pages events here in
+    any_more (λ done. stores_in page done.stored) (trace pages log time s n) done
+    ∙ or_from (is_dirty (trace pages log time s n) page) (stores_in page done.stored) (none_past pages log time s n page past)
+    (step_not_past pages page done past (pages_within pages events here) (step_touches pages events here))
+
+clean : (pages : ℕ) (log : List TimedByte) (time : ℕ) (s : State) (n page : ℕ) → holds (dirty_pages pages (trace pages log time s n)) page ≡ false
+    → is_dirty (trace pages log time s n) page ≡ false
+clean pages log time s n page free =
+    elim (cases_lt page (page_count_of pages)) [
+      | inl within ↦ sym (holds_where pages (is_dirty (trace pages log time s n)) page within) ∙ free
+      | inr past ↦ none_past pages log time s n page past
+    ]
+
+-- steps that do not store into a page store into no word of it
+not_here : (address : ℕ) (stored : Option ℕ) → stores_in (address / PAGE_BYTES) stored ≡ false → stores_into address stored ≡ None
+not_here address None free = refl
+not_here address (Some there) free =
+    elim (cases_Bool (there == address)) [
+      | inl here ↦
+          let same = eqb-true there address here in
+          absurd (true≢false (sym (eq-eqb (there / PAGE_BYTES) (address / PAGE_BYTES) (ap (λ (a : ℕ). a / PAGE_BYTES) same)) ∙ free))
+      | inr apart ↦ rw apart refl
+    ]
+
+none_stored : (address : ℕ) (steps : List Done) → is_dirty steps (address / PAGE_BYTES) ≡ false → last_writer address steps ≡ None
+none_stored address [] free = refl
+none_stored address (done ∷ steps) free =
+    let parts = or_parts (stores_in (address / PAGE_BYTES) done.stored) (is_dirty steps (address / PAGE_BYTES)) free in
+    ap (λ (o : Option ℕ). later 1 o (stores_into address done.stored)) (none_stored address steps parts.1)
+    ∙ not_here address done.stored parts.0
+
+pub none_in_page : (pages span : ℕ) (s : Option Span) (address : ℕ) → holds (dirty_pages pages (steps_in pages span s)) (address / PAGE_BYTES) ≡ false
+    → last_writer address (steps_in pages span s) ≡ None
+none_in_page pages span None address free = refl
+none_in_page pages span (Some s) address free =
+    none_stored address (steps_in pages span (Some s)) (clean pages s.events (s.index * span) s.start span (address / PAGE_BYTES) free)

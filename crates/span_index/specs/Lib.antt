@@ -1,0 +1,3 @@
+pub use Rattle.checkpoints.specs.Kept
+pub mod Sent
+pub mod Index
