@@ -1,0 +1,6 @@
+//! States of the present run at positions inside spans: those that were used last.
+#![tactic(auto)]
+
+mod landings;
+
+pub use landings::Landings;
