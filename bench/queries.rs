@@ -56,17 +56,30 @@ impl Asked {
         line.split_whitespace().nth(1).and_then(|n| n.parse().ok()).expect("a number")
     }
 
-    // Steps a second that keep nothing.
-    fn plain(&mut self) -> f64 {
+    // The seconds that so many steps take that keep nothing.
+    fn plain(&mut self, steps: u64) -> f64 {
         let mut seconds = 0.0;
-        for _ in 0..32 {
+        for _ in 0..steps / VISIT {
             // The machine stands there, so that no start is laid out while it is timed.
             self.at(0);
             let (reply, time) = self.ask(&format!("visit 0 {VISIT}"));
             assert_eq!(reply, "error 8 NotFound");
             seconds += time;
         }
-        32.0 * VISIT as f64 / seconds
+        seconds * steps as f64 / (steps / VISIT * VISIT) as f64
+    }
+
+    // The seconds of the first query at a position, made in pieces, and those of as many steps that keep nothing, measured between
+    // them: the machine's own speed may move.
+    fn first(&mut self, steps: u64) -> (f64, f64) {
+        const PIECES: u64 = 16;
+        let (mut kept, mut plain) = (0.0, 0.0);
+        for piece in 1..=PIECES {
+            kept += self.at(steps / PIECES * piece);
+            plain += self.plain((steps / PIECES).clamp(VISIT, 8 * VISIT)) * (steps / PIECES) as f64
+                / (steps / PIECES).clamp(VISIT, 8 * VISIT) as f64;
+        }
+        (kept, plain)
     }
 
     fn end(mut self) {
@@ -90,13 +103,11 @@ fn main() {
     let steps: u64 = steps.parse().expect("a number of steps");
     println!("{path}, {} million steps", steps / 1_000_000);
     let mut asked = Asked::start(program, kind, &image);
-    let plain = asked.plain();
     asked.at(0);
     let before = asked.memory();
-    let first = asked.at(steps);
-    let speed = steps as f64 / first;
-    line("first query, by the loop that keeps nothing", speed / plain, "", "0.8");
-    line("first query, steps a second", speed / 1e6, "mio", "");
+    let (first, plain) = asked.first(steps);
+    line("first query, by the loop that keeps nothing", plain / first, "", "0.8");
+    line("first query, steps a second", steps as f64 / first / 1e6, "mio", "");
     let spans = steps / SPAN;
     line("memory a kept span", asked.memory().saturating_sub(before) as f64 / spans as f64, "KB", "16");
     let inside = steps / SPAN * SPAN + SPAN / 2;
@@ -107,15 +118,17 @@ fn main() {
     asked.at(steps);
     asked.ask("add 1000 0 0x41");
     line("after a byte was added at step 1000", asked.at(steps) * 1e3, "ms", "50");
-    let (_, seconds) = asked.ask("console 0 0 16");
-    line("console", seconds * 1e3, "ms", "");
-    let (_, seconds) = asked.ask("find 0 0");
-    line("find", seconds * 1e3, "ms", "");
-    for (what, address) in [("writer of a word that is stored often", 0x100), ("of one that is not", 0x8000)] {
-        let (_, seconds) = asked.ask(&format!("writer {address}"));
-        line(what, seconds * 1e3, "ms", "");
+    for (what, command) in [
+        ("what happened before, asked first: console", "console 0 0 16"),
+        ("console in the middle of what was sent", "console 0 50000 16"),
+        ("find of the last byte of so many", "find 0 99999"),
+        ("writer of a word that is stored often", "writer 0x1000"),
+        ("writer of one that is stored once, at the start", "writer 0x2000"),
+        ("writer of one that is not stored", "writer 0x8000"),
+    ] {
+        line(what, asked.ask(command).1 * 1e3, "ms", if command == "writer 0x2000" { "1" } else { "" });
     }
     asked.ask("patch 0x1fc3f000 1");
-    line("after a patch of a page that is not touched", asked.at(steps) * 1e3, "ms", "");
+    line("after a patch of a page that is not touched", asked.at(steps) * 1e3, "ms", "50");
     asked.end();
 }

@@ -8,6 +8,8 @@ mod bus;
 #[cfg(test)]
 mod caches;
 #[cfg(test)]
+mod carried;
+#[cfg(test)]
 mod clock;
 #[cfg(test)]
 mod command_line;
@@ -30,6 +32,8 @@ mod examples;
 #[cfg(test)]
 mod exceptions;
 #[cfg(test)]
+mod facts;
+#[cfg(test)]
 mod image_format;
 #[cfg(test)]
 mod image_patches;
@@ -51,6 +55,8 @@ mod log_format;
 mod logs;
 #[cfg(test)]
 mod machine;
+#[cfg(test)]
+mod meets;
 #[cfg(test)]
 mod pages;
 #[cfg(test)]

@@ -4,36 +4,46 @@ ghost use Rattle.timeline.specs.Sizes.{AreSizes};
 
 use crate::running::echo;
 use input_log::Log;
+use r3k_image::Image;
 use refusal::Fault;
 use std::alloc::Global;
 use std::process::Abort;
 use std::test::Fail;
 use timeline::{Timeline, Writer};
 
-// The word that each turn stores RBUF in, and the one that a turn stores 0 in for a byte.
-const RECEIVED: u32 = 0x100;
+/// The word that each turn stores RBUF in.
+pub const RECEIVED: u32 = 0x100;
 
-const TAKEN: u32 = 0x104;
+/// The word that a turn stores 0 in for a byte.
+pub const TAKEN: u32 = 0x104;
 
-// The timeline, and how many steps it has run.
+/// The timeline, and how many steps it has run.
 #[derive(Drop)]
-struct Asked<const PAGES: u32, const SPAN: u32> {
+pub struct Asked<const PAGES: u32, const SPAN: u32> {
     timeline: Timeline<PAGES, SPAN>,
     steps: u64,
 }
 
 impl<const PAGES: u32, const SPAN: u32> Asked<PAGES, SPAN> {
-    fn boot(alloc: Global) -> Result<Asked<PAGES, SPAN>, Fail>
+    /// Of the echo program, with no events.
+    pub fn boot(alloc: Global) -> Result<Asked<PAGES, SPAN>, Fail>
+        requires { AreSizes PAGES SPAN }
+    {
+        Asked::of(alloc, echo(alloc)?)
+    }
+
+    /// Of another program, with no events.
+    pub fn of(alloc: Global, image: Image) -> Result<Asked<PAGES, SPAN>, Fail>
         requires { AreSizes PAGES SPAN }
     {
         Ok(Asked {
-            timeline: Timeline::new(alloc, echo(alloc)?, Log::new(alloc))?,
+            timeline: Timeline::new(alloc, image, Log::new(alloc))?,
             steps: 0,
         })
     }
 
-    // So many steps were run since it was asked last.
-    fn costs(&mut self, rt: &impl Abort, steps: u64) {
+    /// So many steps were run since it was asked last.
+    pub fn costs(&mut self, rt: &impl Abort, steps: u64) {
         let now = self.timeline.steps_run();
         assert_eq!(rt; now, self.steps.saturating_add(steps));
         self.steps = now;
@@ -46,22 +56,26 @@ impl<const PAGES: u32, const SPAN: u32> Asked<PAGES, SPAN> {
         self.steps = now;
     }
 
-    fn writer(&mut self, rt: &impl Abort, position: u64, address: u32, want: Writer) {
+    /// Who wrote a word last before a position.
+    pub fn writer(&mut self, rt: &impl Abort, position: u64, address: u32, want: Writer) {
         let writer = self.timeline.writer_at(position, address);
         assert!(rt; writer == Ok(want));
     }
 
-    fn word(&mut self, rt: &impl Abort, position: u64, address: u32, want: u32) {
+    /// The word at a physical address, at a position.
+    pub fn word(&mut self, rt: &impl Abort, position: u64, address: u32, want: u32) {
         let word = self.timeline.word_at(position, address);
         assert!(rt; word == Ok(want));
     }
 
-    fn sent(&mut self, rt: &impl Abort, position: u64, place: u64, want: Result<u64, Fault>) {
+    /// The step that sent the byte at a place of line 0.
+    pub fn sent(&mut self, rt: &impl Abort, position: u64, place: u64, want: Result<u64, Fault>) {
         let sent = self.timeline.sent_at(position, 0, place);
         assert!(rt; sent == want);
     }
 
-    fn console(&mut self, rt: &impl Abort, position: u64, want: &[u8]) {
+    /// The bytes of line 0 that were sent before a position, eight at most.
+    pub fn console(&mut self, rt: &impl Abort, position: u64, want: &[u8]) {
         let told = match self.timeline.console_at(position, 0, 0, 8) {
             Ok((total, bytes)) => total == want.len() as u64 && bytes.as_slice() == want,
             Err(_) => false,
@@ -69,14 +83,22 @@ impl<const PAGES: u32, const SPAN: u32> Asked<PAGES, SPAN> {
         assert!(rt; told);
     }
 
-    fn add(&mut self, rt: &impl Abort, time: u64, byte: u8) {
+    /// A byte on line 0.
+    pub fn add(&mut self, rt: &impl Abort, time: u64, byte: u8) {
         let added = self.timeline.add(time, 0, byte).is_ok();
         assert!(rt; added);
     }
 
-    fn del(&mut self, rt: &impl Abort, place: u64) {
+    /// An event is deleted.
+    pub fn del(&mut self, rt: &impl Abort, place: u64) {
         let deleted = self.timeline.del(place).is_ok();
         assert!(rt; deleted);
+    }
+
+    /// An event has another byte.
+    pub fn set(&mut self, rt: &impl Abort, place: u64, byte: u8) {
+        let set = self.timeline.set(place, byte).is_ok();
+        assert!(rt; set);
     }
 
     // An address that is none, and numbers out of their ranges.
@@ -91,7 +113,8 @@ impl<const PAGES: u32, const SPAN: u32> Asked<PAGES, SPAN> {
         assert!(rt; limit);
     }
 
-    fn patch(&mut self, rt: &impl Abort, address: u32, word: u32) {
+    /// A word of the image is set.
+    pub fn patch(&mut self, rt: &impl Abort, address: u32, word: u32) {
         let patched = self.timeline.patch(address, word).is_ok();
         assert!(rt; patched);
     }

@@ -1,0 +1,21 @@
+-- Records that start where a state is, and states that differ from it in one word.
+use Rattle.std.proofs.Common.{◌≡◌, ◌||◌, ℕ, Bool, false, List, [], ◌∷◌, Option, Some, None, IfSome, IsTrue, slice_set, ap, sym, subst}
+use Rattle.std.proofs.lemmas.Bool.{eq-eqb}
+use Rattle.r3k_word.specs.Layout.{page_of_place}
+use Rattle.r3k_machine.specs.State.{State}
+use Rattle.r3k_pages.specs.Pages.{SameOutside, holds}
+use Rattle.span_fact.specs.Span.{Span}
+
+-- a record that starts there has the state's words, and so those of another memory outside the pages in which that one differs
+pub same_start : (o : Option Span) (start : State) (set words : List ℕ) → IfSome o (λ s. s.start ≡ start) → SameOutside set start.words words
+    → IfSome o (λ s. SameOutside set s.start.words words)
+same_start None start set words same outside = tt
+same_start (Some s) start set words same outside = subst (λ (state : State). SameOutside set state.words words) (sym same) outside
+
+-- outside the word's page it has the same words
+pub other_word : (start other : State) (page place word : ℕ) → ((set words : List ℕ) (place word : ℕ) → IsTrue (holds set (page_of_place place))
+    → SameOutside set words (slice_set words place word)) → page ≡ page_of_place place → other ≡ record start { words = slice_set start.words place word }
+    → SameOutside (page ∷ []) start.words other.words
+other_word start other page place word stored here is =
+    subst (λ (state : State). SameOutside (page ∷ []) start.words state.words) (sym is)
+    (stored (page ∷ []) start.words place word (ap (λ (found : Bool). found || false) (eq-eqb page (page_of_place place) here)))

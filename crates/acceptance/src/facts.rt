@@ -1,0 +1,597 @@
+//! The record of a span and the records that are kept, by direct calls: values by hand. In the echo program turn i of the loop
+//! begins at step 9 + 11 * i, stores RBUF in its third step, and for a byte 0 in its seventh, and sends it in its ninth.
+ghost use Rattle.std.specs.Prelude.{◌≡◌, [], ◌∷◌, ◌+◌, ◌*◌, ◌^◌, ◌<◌, ◌≤◌, IfOk, IfSome};
+ghost use Rattle.r3k_word.specs.declared.layout.TheConstants.{MAX_RAM_PAGES};
+ghost use Rattle.r3k_pages.specs.Pages.{SameOutside};
+ghost use Rattle.checkpoints.specs.Kept.{span_at};
+
+use crate::running::{FIRST, LOOP, Running, SECOND, differ_in, is_sent};
+use checkpoints::Kept;
+use input_log::{Event, Log};
+use r3k_asm::assemble;
+use r3k_live::{Boundary, counted};
+use r3k_pages::page_laws;
+use r3k_word::layout::{ROM_PAGES, page_of, word_count};
+use span_fact::Fact;
+use std::alloc::{AllocError, Global};
+use std::process::Abort;
+use std::rc::Rc;
+use std::test::Fail;
+
+/// Where a machine stands, kept for several spans.
+pub fn shared<const PAGES: u32, const SPAN: u32>(
+    alloc: Global,
+    machine: &Running<PAGES, SPAN>,
+) -> Result<Rc<Boundary<PAGES>>, AllocError> {
+    Rc::new(alloc, machine.keep(alloc)?).map_err(|_| AllocError)
+}
+
+/// The record of the span of a number from a boundary on, with the events of its times.
+pub fn record_of<const PAGES: u32, const SPAN: u32>(
+    alloc: Global,
+    machine: &mut Running<PAGES, SPAN>,
+    start: &Rc<Boundary<PAGES>>,
+    index: u64,
+    log: &Log,
+) -> Result<Fact<PAGES, SPAN>, AllocError>
+    requires few { index < 2 ^ 31 }
+    requires time { (index + 1) * SPAN < 2 ^ 64 }
+    ensures index { IfOk result (λ fact. fact.index ≡ index) }
+    ensures start { IfOk result (λ fact. fact.start ≡ start.now.value) }
+{
+    let start = start.clone()?;
+    machine.live.load(&start);
+    let events = log.window(index * SPAN as u64, (index + 1) * SPAN as u64);
+    Fact::make(
+        alloc,
+        &mut machine.live,
+        &mut machine.recorder,
+        start,
+        index,
+        events,
+    )
+}
+
+// What a record tells: words by their addresses, each with its last step, if there is one; bytes with the steps that sent them;
+// pages stored into, and pages touched.
+fn tells<const PAGES: u32, const SPAN: u32>(
+    rt: &impl Abort,
+    fact: &Fact<PAGES, SPAN>,
+    writers: &[(u32, Option<u32>)],
+    sent: &[(u8, u32)],
+    dirty: &[u32],
+    touched: &[u32],
+) {
+    for (address, step) in writers {
+        assert_eq!(rt; fact.writer(*address), *step, "at {address:x}");
+    }
+    assert!(rt; is_sent(fact.sent(), sent));
+    assert!(rt; fact.dirty() == dirty);
+    assert!(rt; fact.touched() == touched);
+}
+
+/// The first span of the echo program, without events: turn 4 stores in step 55, and turn 5 begins behind the span.
+#[test]
+fn first_span(rt: HostRuntime) -> Result<(), Fail> {
+    first_span_tells::<16, 64>(&rt, rt.alloc())
+}
+
+fn first_span_tells<const PAGES: u32, const SPAN: u32>(
+    rt: &impl Abort,
+    alloc: Global,
+) -> Result<(), Fail>
+    requires { PAGES ≤ MAX_RAM_PAGES }
+{
+    let mut machine = Running::<PAGES, SPAN>::boot(alloc)?;
+    let start = shared(alloc, &machine)?;
+    let fact = record_of(alloc, &mut machine, &start, 0, &Log::new(alloc))?;
+    machine.stands(rt, LOOP, 64);
+    assert_eq!(rt; fact.index(), 0);
+    assert!(rt; fact.events().is_empty());
+    assert!(rt; fact.start().core() == start.core());
+    differ_in(rt, fact.start(), &start, &[]);
+    // The words beside it, an address of no word, one of ROM, and the first one past RAM have no writer.
+    let writers = [
+        (0x100, Some(55)),
+        (0xFC, None),
+        (0x104, None),
+        (0x102, None),
+        (0x1FC0_0000, None),
+        (0x1_0000, None),
+    ];
+    tells(rt, &fact, &writers, &[], &[0], &[0, 16, 17]);
+    machine.load(&start);
+    machine.stands(rt, 0xBFC0_0000, 64);
+    machine.load(fact.end());
+    machine.stands(rt, LOOP, 64);
+    // What it stored was 0, as before.
+    differ_in(rt, fact.end(), &start, &[]);
+    Ok(())
+}
+
+/// Spans that start where others end, with bytes of steps 70 and 200. By hand: the second span has the stores of step 121, its
+/// last one of RBUF, and 81, and the byte sent in step 83; the third has the store of step 187 and no event; the fourth those of
+/// steps 253 and 213, and the byte of step 215.
+#[test]
+fn spans_with_bytes(rt: HostRuntime) -> Result<(), Fail> {
+    spans_with_bytes_tell::<16, 64>(&rt, rt.alloc())
+}
+
+fn spans_with_bytes_tell<const PAGES: u32, const SPAN: u32>(
+    rt: &impl Abort,
+    alloc: Global,
+) -> Result<(), Fail>
+    requires { PAGES ≤ MAX_RAM_PAGES }
+{
+    let mut log = Log::new(alloc);
+    log.add(FIRST.time, 0, FIRST.byte)?;
+    log.add(SECOND.time, 0, SECOND.byte)?;
+    let mut machine = Running::<PAGES, SPAN>::boot(alloc)?;
+    let start = shared(alloc, &machine)?;
+    let zero = record_of(alloc, &mut machine, &start, 0, &log)?;
+    assert!(rt; zero.events().is_empty());
+    let one = record_of(alloc, &mut machine, zero.end(), 1, &log)?;
+    machine.stands(rt, 0xBFC0_1030, 128);
+    assert!(rt; one.events() == [FIRST].as_slice());
+    let writers = [(0x100, Some(57)), (0x104, Some(17))];
+    tells(rt, &one, &writers, &[(0x41, 19)], &[0], &[0, 17]);
+    let two = record_of(alloc, &mut machine, one.end(), 2, &log)?;
+    assert!(rt; two.events().is_empty());
+    let writers = [(0x100, Some(59)), (0x104, None)];
+    tells(rt, &two, &writers, &[], &[0], &[0, 17]);
+    let three = record_of(alloc, &mut machine, two.end(), 3, &log)?;
+    assert_eq!(rt; three.index(), 3);
+    assert!(rt; three.events() == [SECOND].as_slice());
+    let writers = [(0x100, Some(61)), (0x104, Some(21))];
+    tells(rt, &three, &writers, &[(0x42, 23)], &[0], &[0, 17]);
+    Ok(())
+}
+
+// Steps 4 to 10 store into page 15, page 3, byte 3 of a word of page 1, load from page 5, store into ROM, which has no effect,
+// into page 3 again, and into bytes 2 and 3 of the word of page 1. r8 has zeros in its low half.
+const STORES: &str = "lui r8, 0xa000
+ori r9, r8, 0x5000
+ori r10, r8, 0xf000
+lui r11, 0xbfc0
+sw r8, 0(r10)
+sw r8, 0x3000(r8)
+sb r8, 0x1003(r8)
+lw r2, 0(r9)
+sw r8, 0(r11)
+sw r8, 0x3000(r8)
+sh r8, 0x1002(r8)
+";
+
+/// Stores into several pages: the page that is only loaded from is touched, and one that is stored into is dirty though its
+/// words stay. Behind the program there is no word, which is no operation.
+#[test]
+fn stores_into_pages(rt: HostRuntime) -> Result<(), Fail> {
+    stores_into_pages_tell::<16, 64>(&rt, rt.alloc())
+}
+
+fn stores_into_pages_tell<const PAGES: u32, const SPAN: u32>(
+    rt: &impl Abort,
+    alloc: Global,
+) -> Result<(), Fail>
+    requires { PAGES ≤ MAX_RAM_PAGES }
+{
+    let image = assemble(alloc, STORES.as_bytes())?;
+    let mut machine = Running::<PAGES, SPAN>::of(alloc, image)?;
+    let start = shared(alloc, &machine)?;
+    let fact = record_of(alloc, &mut machine, &start, 0, &Log::new(alloc))?;
+    machine.stands(rt, 0xBFC0_0100, 64);
+    let writers = [
+        (0x1000, Some(10)),
+        (0x3000, Some(9)),
+        (0x5000, None),
+        (0xF000, Some(4)),
+        (0x1FC0_0000, None),
+    ];
+    tells(rt, &fact, &writers, &[], &[1, 3, 15], &[1, 3, 5, 15, 16]);
+    machine.holds(rt, &[(0xC00, 0xA000_0000), (0x3C00, 0xA000_0000)]);
+    differ_in(rt, &start, fact.end(), &[3, 15]);
+    Ok(())
+}
+
+// An event of step 5, where the echo program has not turned its receiver on: nothing comes of it, but the events differ.
+const EARLY: Event = Event {
+    time: 5,
+    line: 0,
+    byte: 0x41,
+};
+
+/// A record is taken for its own span alone: not with an event more, and not from a start with another core.
+#[test]
+fn record_of_the_first_span(rt: HostRuntime) -> Result<(), Fail> {
+    record_of_the_first_span_applies::<16, 64>(&rt, rt.alloc())
+}
+
+fn record_of_the_first_span_applies<const PAGES: u32, const SPAN: u32>(
+    rt: &impl Abort,
+    alloc: Global,
+) -> Result<(), Fail>
+    requires { PAGES ≤ MAX_RAM_PAGES }
+{
+    let mut machine = Running::<PAGES, SPAN>::boot(alloc)?;
+    let start = shared(alloc, &machine)?;
+    let fact = record_of(alloc, &mut machine, &start, 0, &Log::new(alloc))?;
+    let end = fact.end().clone()?;
+    let mut kept = Kept::<PAGES, SPAN>::new(alloc);
+    assert!(rt; kept.fact(0).is_none());
+    assert!(rt; !kept.applies(0, &start, &[], None));
+    kept.put(fact)?;
+    assert!(rt; kept.fact(0).is_some_and(|fact| fact.index() == 0));
+    assert!(rt; kept.fact(1).is_none());
+    assert!(rt; kept.applies(0, &start, &[], None));
+    assert!(rt; !kept.applies(1, &start, &[], None));
+    assert!(rt; !kept.applies(0, &start, &[EARLY], None));
+    // All words are the same where the span ends, and the core is not.
+    differ_in(rt, &start, &end, &[]);
+    assert!(rt; !kept.applies(0, &end, &[], None));
+    // A machine that is made anew stands where this one did.
+    let again = Running::<PAGES, SPAN>::boot(alloc)?.keep(alloc)?;
+    assert!(rt; kept.applies(0, &again, &[], None));
+    Ok(())
+}
+
+/// A record with an event is taken for that event alone.
+#[test]
+fn record_with_an_event(rt: HostRuntime) -> Result<(), Fail> {
+    record_with_an_event_applies::<16, 64>(&rt, rt.alloc())
+}
+
+fn record_with_an_event_applies<const PAGES: u32, const SPAN: u32>(
+    rt: &impl Abort,
+    alloc: Global,
+) -> Result<(), Fail>
+    requires { PAGES ≤ MAX_RAM_PAGES }
+{
+    let mut log = Log::new(alloc);
+    log.add(FIRST.time, 0, FIRST.byte)?;
+    let mut machine = Running::<PAGES, SPAN>::boot(alloc)?;
+    let reset = shared(alloc, &machine)?;
+    let start = record_of(alloc, &mut machine, &reset, 0, &log)?
+        .end()
+        .clone()?;
+    let fact = record_of(alloc, &mut machine, &start, 1, &log)?;
+    let mut kept = Kept::<PAGES, SPAN>::new(alloc);
+    kept.put(fact)?;
+    assert!(rt; kept.applies(1, &start, &[FIRST], None));
+    assert!(rt; !kept.applies(1, &start, &[], None));
+    assert!(rt; !kept.applies(1, &start, &[FIRST, FIRST], None));
+    for other in [
+        Event { time: 71, ..FIRST },
+        Event { line: 1, ..FIRST },
+        Event {
+            byte: 0x42,
+            ..FIRST
+        },
+    ] {
+        assert!(rt; !kept.applies(1, &start, &[other], None));
+    }
+    Ok(())
+}
+
+// A start with one word set, at a place of this page: what is outside the page stays.
+#[tactic(auto, using(crate::proofs::Starts::other_word))]
+fn with_word<const PAGES: u32>(
+    rt: &impl Abort,
+    alloc: Global,
+    start: &Boundary<PAGES>,
+    page: u32,
+    place: usize,
+    word: u32,
+) -> Result<Boundary<PAGES>, AllocError>
+    requires { PAGES ≤ MAX_RAM_PAGES }
+    ensures { IfOk result (λ other. SameOutside (page ∷ []) start.now.words other.words) }
+{
+    let of_place = page_of(place);
+    assert!(rt; page as usize == of_place);
+    assert!(rt; place < word_count(PAGES));
+    page_laws();
+    let other = start.with_word(alloc, place, word)?;
+    Ok(other)
+}
+
+// Whether a record of the first span is taken for a start with one word set, whether it is where the word's page is named as
+// the one that may differ, and whether it nearly applies there.
+#[tactic(auto, using(crate::proofs::Starts::same_start))]
+fn taken_with_word<const PAGES: u32, const SPAN: u32>(
+    rt: &impl Abort,
+    alloc: Global,
+    kept: &Kept<PAGES, SPAN>,
+    start: &Boundary<PAGES>,
+    at: (u32, usize),
+    word: u32,
+) -> Result<(bool, bool, bool), Fail>
+    requires pages { PAGES ≤ MAX_RAM_PAGES }
+    requires same { IfSome (span_at kept.now 0) (λ s. s.start ≡ start.now) }
+{
+    let set = [at.0];
+    assert!(rt; at.0 < PAGES + ROM_PAGES);
+    let other = with_word(rt, alloc, start, at.0, at.1, word)?;
+    Ok((
+        kept.applies(0, &other, &[], None),
+        kept.applies(0, &other, &[], Some(&set)),
+        kept.nearly(0, &other, &[], &set),
+    ))
+}
+
+/// A start that differs in one word: the echo program's first span touches pages 0, 16 and 17.
+#[test]
+fn one_other_word(rt: HostRuntime) -> Result<(), Fail> {
+    one_other_word_applies::<16, 64>(&rt, rt.alloc())
+}
+
+fn one_other_word_applies<const PAGES: u32, const SPAN: u32>(
+    rt: &impl Abort,
+    alloc: Global,
+) -> Result<(), Fail>
+    requires { PAGES ≤ MAX_RAM_PAGES }
+{
+    let mut machine = Running::<PAGES, SPAN>::boot(alloc)?;
+    let start = shared(alloc, &machine)?;
+    let fact = record_of(alloc, &mut machine, &start, 0, &Log::new(alloc))?;
+    let mut kept = Kept::<PAGES, SPAN>::new(alloc);
+    kept.put(fact)?;
+    // Pages and places of words of the touched pages, also words that the span neither reads nor writes.
+    for at in [
+        (0, 0),
+        (0, 0x80),
+        (0, 1023),
+        (16, 16 * 1024),
+        (16, 17 * 1024 - 1),
+        (17, 17 * 1024),
+        (17, 18 * 1024 - 1),
+    ] {
+        let taken = taken_with_word(rt, alloc, &kept, &start, at, 7)?;
+        assert_eq!(rt; taken, (false, false, false), "at {}", at.1);
+    }
+    // Those of pages beside them, and the last ones of RAM and of ROM, where 0 stands.
+    for at in [
+        (1, 1024),
+        (5, 5 * 1024),
+        (15, 16 * 1024 - 1),
+        (18, 18 * 1024),
+        (79, 80 * 1024 - 1),
+    ] {
+        let taken = taken_with_word(rt, alloc, &kept, &start, at, 7)?;
+        assert_eq!(rt; taken, (false, false, true), "at {}", at.1);
+        let taken = taken_with_word(rt, alloc, &kept, &start, at, 0)?;
+        assert_eq!(rt; taken, (true, true, true), "at {}", at.1);
+    }
+    Ok(())
+}
+
+/// A span nearly applies with its own events and core alone, and only where it is kept.
+#[test]
+fn nearly_and_not(rt: HostRuntime) -> Result<(), Fail> {
+    nearly_and_not_applies::<16, 64>(&rt, rt.alloc())
+}
+
+fn nearly_and_not_applies<const PAGES: u32, const SPAN: u32>(
+    rt: &impl Abort,
+    alloc: Global,
+) -> Result<(), Fail>
+    requires { PAGES ≤ MAX_RAM_PAGES }
+{
+    let mut machine = Running::<PAGES, SPAN>::boot(alloc)?;
+    let start = shared(alloc, &machine)?;
+    let silent = Log::new(alloc);
+    let fact = record_of(alloc, &mut machine, &start, 0, &silent)?;
+    let mut kept = Kept::<PAGES, SPAN>::new(alloc);
+    assert!(rt; !kept.nearly(0, &start, &[], &[]));
+    kept.put(fact)?;
+    assert!(rt; kept.nearly(0, &start, &[], &[]));
+    assert!(rt; !kept.nearly(1, &start, &[], &[]));
+    assert!(rt; !kept.nearly(0, &start, &[EARLY], &[]));
+    // Its end has the same words, and another core.
+    let Some(fact) = kept.fact(0) else {
+        return Err(AllocError.into());
+    };
+    assert!(rt; !kept.nearly(0, fact.end(), &[], fact.dirty()));
+    Ok(())
+}
+
+/// Two spans one behind the other are tied, until either is put anew.
+#[test]
+fn tied_records(rt: HostRuntime) -> Result<(), Fail> {
+    tied_records_continue::<16, 64>(&rt, rt.alloc())
+}
+
+fn tied_records_continue<const PAGES: u32, const SPAN: u32>(
+    rt: &impl Abort,
+    alloc: Global,
+) -> Result<(), Fail>
+    requires { PAGES ≤ MAX_RAM_PAGES }
+{
+    let mut machine = Running::<PAGES, SPAN>::boot(alloc)?;
+    let start = shared(alloc, &machine)?;
+    let mut kept = Kept::<PAGES, SPAN>::new(alloc);
+    for later in [false, true] {
+        put_and_tie(rt, alloc, &mut machine, &start, &mut kept)?;
+        put_again(alloc, &mut machine, &start, &mut kept, later)?;
+        assert!(rt; !kept.continues(0));
+        assert!(rt; kept.fact(0).is_some() && kept.fact(1).is_some());
+    }
+    Ok(())
+}
+
+// Keeps the first two records and ties them.
+fn put_and_tie<const PAGES: u32, const SPAN: u32>(
+    rt: &impl Abort,
+    alloc: Global,
+    machine: &mut Running<PAGES, SPAN>,
+    start: &Rc<Boundary<PAGES>>,
+    kept: &mut Kept<PAGES, SPAN>,
+) -> Result<(), Fail> {
+    let silent = Log::new(alloc);
+    let zero = record_of(alloc, machine, start, 0, &silent)?;
+    let one = record_of(alloc, machine, zero.end(), 1, &silent)?;
+    kept.put(zero)?;
+    kept.put(one)?;
+    assert!(rt; !kept.continues(0));
+    kept.tie(0);
+    assert!(rt; kept.continues(0));
+    assert!(rt; !kept.continues(1));
+    Ok(())
+}
+
+// Keeps the first record once more, or the one behind it.
+fn put_again<const PAGES: u32, const SPAN: u32>(
+    alloc: Global,
+    machine: &mut Running<PAGES, SPAN>,
+    start: &Rc<Boundary<PAGES>>,
+    kept: &mut Kept<PAGES, SPAN>,
+    later: bool,
+) -> Result<(), Fail> {
+    let silent = Log::new(alloc);
+    let zero = record_of(alloc, machine, start, 0, &silent)?;
+    if later {
+        let one = record_of(alloc, machine, zero.end(), 1, &silent)?;
+        kept.put(one)?;
+    } else {
+        kept.put(zero)?;
+    }
+    Ok(())
+}
+
+/// The valid records are counted from the first on. One that is no longer valid is kept.
+#[test]
+fn valid_records(rt: HostRuntime) -> Result<(), Fail> {
+    valid_records_stay::<16, 64>(&rt, rt.alloc())
+}
+
+fn valid_records_stay<const PAGES: u32, const SPAN: u32>(
+    rt: &impl Abort,
+    alloc: Global,
+) -> Result<(), Fail>
+    requires { PAGES ≤ MAX_RAM_PAGES }
+{
+    let mut machine = Running::<PAGES, SPAN>::boot(alloc)?;
+    let start = shared(alloc, &machine)?;
+    let silent = Log::new(alloc);
+    let zero = record_of(alloc, &mut machine, &start, 0, &silent)?;
+    let one = record_of(alloc, &mut machine, zero.end(), 1, &silent)?;
+    let mut kept = Kept::<PAGES, SPAN>::new(alloc);
+    kept.put(zero)?;
+    kept.put(one)?;
+    assert_eq!(rt; kept.valid(), 0);
+    kept.join();
+    assert_eq!(rt; kept.valid(), 1);
+    kept.join();
+    for (index, valid) in [(5, 2), (2, 2), (1, 1), (3, 1), (0, 0)] {
+        kept.truncate_valid(index);
+        assert_eq!(rt; kept.valid(), valid);
+        assert!(rt; kept.fact(0).is_some() && kept.fact(1).is_some());
+        assert!(rt; kept.applies(0, &start, &[], None));
+    }
+    Ok(())
+}
+
+/// Records of any order of numbers: none is kept between them.
+#[test]
+fn records_apart(rt: HostRuntime) -> Result<(), Fail> {
+    records_apart_are_kept::<16, 64>(&rt, rt.alloc())
+}
+
+fn records_apart_are_kept<const PAGES: u32, const SPAN: u32>(
+    rt: &impl Abort,
+    alloc: Global,
+) -> Result<(), Fail>
+    requires { PAGES ≤ MAX_RAM_PAGES }
+{
+    let mut machine = Running::<PAGES, SPAN>::boot(alloc)?;
+    let start = shared(alloc, &machine)?;
+    let silent = Log::new(alloc);
+    let mut kept = Kept::<PAGES, SPAN>::new(alloc);
+    kept.put(record_of(alloc, &mut machine, &start, 70, &silent)?)?;
+    kept.put(record_of(alloc, &mut machine, &start, 2, &silent)?)?;
+    for index in 0..72 {
+        let there = index == 2 || index == 70;
+        assert_eq!(rt; kept.applies(index, &start, &[], None), there, "at {index}");
+        assert_eq!(rt; kept.fact(index).is_some(), there, "at {index}");
+    }
+    assert!(rt; kept.fact(u64::MAX).is_none());
+    Ok(())
+}
+
+// The record of the first span, made again where memory was refused: then the machine made at most the span's steps.
+fn first_or_again<const PAGES: u32, const SPAN: u32>(
+    rt: &impl Abort,
+    alloc: Global,
+    machine: &mut Running<PAGES, SPAN>,
+    start: &Rc<Boundary<PAGES>>,
+) -> Result<Fact<PAGES, SPAN>, Fail> {
+    let silent = Log::new(alloc);
+    if let Ok(fact) = record_of(alloc, machine, start, 0, &silent) {
+        return Ok(fact);
+    }
+    assert!(rt; machine.live.steps() <= 64);
+    Ok(record_of(alloc, machine, start, 0, &silent)?)
+}
+
+// Keeps the record of span 70, with room up to there: where memory is refused all is as it was, and the next call keeps it.
+fn put_or_again<const PAGES: u32, const SPAN: u32>(
+    rt: &impl Abort,
+    alloc: Global,
+    machine: &mut Running<PAGES, SPAN>,
+    start: &Rc<Boundary<PAGES>>,
+    kept: &mut Kept<PAGES, SPAN>,
+) -> Result<(), Fail> {
+    let silent = Log::new(alloc);
+    let far = record_of(alloc, machine, start, 70, &silent)?;
+    if kept.put(far).is_ok() {
+        return Ok(());
+    }
+    for index in 1..72 {
+        assert!(rt; kept.fact(index).is_none());
+    }
+    assert!(rt; kept.applies(0, start, &[], None));
+    assert!(rt; !kept.applies(70, start, &[], None));
+    assert_eq!(rt; kept.valid(), 0);
+    kept.put(record_of(alloc, machine, start, 70, &silent)?)?;
+    Ok(())
+}
+
+/// Where an allocation fails, as in a run with failing ones, the next call succeeds, and all that is kept is as it was.
+#[test]
+fn refused_memory(rt: HostRuntime) -> Result<(), Fail> {
+    refused_memory_changes_nothing::<16, 64>(&rt, rt.alloc())
+}
+
+fn refused_memory_changes_nothing<const PAGES: u32, const SPAN: u32>(
+    rt: &impl Abort,
+    alloc: Global,
+) -> Result<(), Fail>
+    requires { PAGES ≤ MAX_RAM_PAGES }
+{
+    let mut machine = Running::<PAGES, SPAN>::boot(alloc)?;
+    let start = shared(alloc, &machine)?;
+    let fact = first_or_again(rt, alloc, &mut machine, &start)?;
+    let writers = [(0x100, Some(55)), (0x104, None)];
+    tells(rt, &fact, &writers, &[], &[0], &[0, 16, 17]);
+    let mut kept = Kept::<PAGES, SPAN>::new(alloc);
+    kept.put(fact)?;
+    put_or_again(rt, alloc, &mut machine, &start, &mut kept)?;
+    assert!(rt; kept.applies(0, &start, &[], None));
+    assert!(rt; kept.applies(70, &start, &[], None));
+    Ok(())
+}
+
+/// The count of steps stands at its greatest value once it is reached. A machine that has made so many steps can not be had by
+/// a public call, so the sum stands for it.
+#[test]
+fn greatest_count(rt: HostRuntime) {
+    for (before, steps, after) in [
+        (0, 64, 64),
+        (u64::MAX - 65, 64, u64::MAX - 1),
+        (u64::MAX - 64, 64, u64::MAX),
+        (u64::MAX - 63, 64, u64::MAX),
+        (u64::MAX, 1, u64::MAX),
+        (u64::MAX, 0, u64::MAX),
+        (u64::MAX, u32::MAX, u64::MAX),
+    ] {
+        assert_eq!(rt; counted(before, steps), after);
+    }
+}
