@@ -1,6 +1,6 @@
 //! Moves, and queries of the processor: the worked examples, and values by hand.
-use crate::image_format::LOAD_SLOT;
 use crate::served::run_program;
+use samples::LOAD_SLOT;
 use std::alloc::Global;
 use std::str;
 use std::test::Fail;

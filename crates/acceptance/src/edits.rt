@@ -1,6 +1,6 @@
 //! Edits of the log, patches of the image, and questions about the past.
-use crate::devices::ECHO;
 use crate::logs::run;
+use samples::ECHO;
 use std::alloc::Global;
 use std::process::Abort;
 use std::test::Fail;

@@ -1,7 +1,7 @@
 //! Boot images that are large, or that do not fit the machine.
-use crate::image_format::EMPTY_IMAGE;
 use crate::served::{run_on, run_program};
 use r3k_image::read_image;
+use samples::EMPTY_IMAGE;
 use std::test::Fail;
 
 /// One segment of 8,388,608 words: all of the RAM that a machine may have.

@@ -1,6 +1,6 @@
 //! Logs that the program takes: their events reach the serial part, and what is no log is refused.
-use crate::devices::ECHO;
 use crate::served::{Served, run_on};
+use samples::ECHO;
 use std::alloc::Global;
 use std::test::Fail;
 

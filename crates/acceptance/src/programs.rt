@@ -1,6 +1,6 @@
 //! The program's worked runs.
-use crate::image_format::{EMPTY_IMAGE, LOAD_SLOT};
 use crate::served::run_program;
+use samples::{EMPTY_IMAGE, LOAD_SLOT};
 use std::test::Fail;
 
 #[test]

@@ -1,11 +1,11 @@
 //! The assembler on its own: words of source, every fault alone and before those that come after it, numbers and targets at
 //! their bounds, places, lines and their ends.
-use crate::image_format::LOAD_SLOT;
 use asm_line::kind::AsmKind;
 use r3k_asm::{AsmFault, assemble};
 use r3k_disasm::text;
 use r3k_image::{Image, write_image};
 use r3k_table::rows::table;
+use samples::LOAD_SLOT;
 use std::alloc::{AllocError, Global};
 use std::process::Abort;
 use std::test::Fail;

@@ -3,12 +3,12 @@ ghost use Rattle.std.specs.Prelude.{◌+◌, ◌^◌, ◌<◌, ◌≤◌};
 ghost use Rattle.r3k_word.specs.declared.layout.TheConstants.{MAX_RAM_PAGES};
 ghost use Rattle.input_log.specs.Log.{AreInOrder};
 
-use crate::devices::ECHO;
 use input_log::Event;
 use r3k_asm::{AsmFault, assemble};
 use r3k_image::Image;
 use r3k_live::{Boundary, Live, Recorder, SentAt, Written};
 use r3k_word::layout::{PAGE_WORDS, ROM_PAGES, word_count};
+use samples::ECHO;
 use std::alloc::{AllocError, Global};
 use std::process::Abort;
 use std::test::Fail;

@@ -3,19 +3,8 @@ use r3k_image::{
     ClockStart, Constant, ImageFault, ImageKind, WordAddress, WordMap, raw_rom, read_image,
     write_image,
 };
+use samples::{EMPTY_IMAGE, LOAD_SLOT};
 use std::test::Fail;
-
-/// No segments; byte time 16, unit 1, and the clock of a raw ROM.
-pub const EMPTY_IMAGE: [u8; 32] = *b"R3KIMG1\n\x10\0\0\0\x01\0\0\0\
-\0\0\0\0\0\0\x01\x01\x01\0\x20\x06\
-\0\0\0\0";
-
-/// Word 0x100 is 5, and the first four words of ROM are lui r1, 0xa000; lw r2, 256(r1); addu r3, r2, r0; addu r4, r2, r0.
-pub const LOAD_SLOT: [u8; 68] = *b"R3KIMG1\n\x10\0\0\0\x01\0\0\0\
-\0\0\0\0\0\0\x01\x01\x01\0\x20\x06\
-\x02\0\0\0\
-\0\x01\0\0\x01\0\0\0\x05\0\0\0\
-\0\0\xc0\x1f\x04\0\0\0\0\xa0\x01\x3c\0\x01\x22\x8c\x21\x18\x40\0\x21\x20\x40\0";
 
 const CLOCK: [u8; 12] = [0, 0, 0, 0, 0, 0, 1, 1, 1, 0, 0x20, 6];
 

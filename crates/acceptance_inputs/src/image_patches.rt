@@ -1,7 +1,7 @@
 //! Patches of an image.
-use crate::image_format::{EMPTY_IMAGE, LOAD_SLOT};
 use r3k_image::{read_image, write_image};
 use refusal::Fault;
+use samples::{EMPTY_IMAGE, LOAD_SLOT};
 use std::test::Fail;
 
 // The image of `LOAD_SLOT` after patches of 0xfc, 0x104, 0x200 and 0x1fc00010: words 0xfc, 0x100 and 0x104 are one run.

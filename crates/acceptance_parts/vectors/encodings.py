@@ -2,7 +2,7 @@
 """Prints the table of src/encodings.rt: for each instruction the word that GNU as makes of it, and the operands that it was
 given. It wants Debian's binutils-mipsel-linux-gnu; the test itself wants nothing.
 
-    crates/acceptance/vectors/encodings.py
+    crates/acceptance_parts/vectors/encodings.py
 
 Each line is assembled for an R3000, little-endian, without reordering or macros, and linked at address 0x1000.
 """

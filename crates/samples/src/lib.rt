@@ -1,0 +1,42 @@
+//! Images and a program that several tests use.
+#![tactic(auto)]
+
+/// No segments; byte time 16, unit 1, and the clock of a raw ROM.
+pub const EMPTY_IMAGE: [u8; 32] = *b"R3KIMG1\n\x10\0\0\0\x01\0\0\0\
+\0\0\0\0\0\0\x01\x01\x01\0\x20\x06\
+\0\0\0\0";
+
+/// Word 0x100 is 5, and the first four words of ROM are lui r1, 0xa000; lw r2, 256(r1); addu r3, r2, r0; addu r4, r2, r0.
+pub const LOAD_SLOT: [u8; 68] = *b"R3KIMG1\n\x10\0\0\0\x01\0\0\0\
+\0\0\0\0\0\0\x01\x01\x01\0\x20\x06\
+\x02\0\0\0\
+\0\x01\0\0\x01\0\0\0\x05\0\0\0\
+\0\0\xc0\x1f\x04\0\0\0\0\xa0\x01\x3c\0\x01\x22\x8c\x21\x18\x40\0\x21\x20\x40\0";
+
+/// The echo program: its loop of 11 steps begins at step 9, stores RBUF in word 0x100, and where a byte was there stores 0 in
+/// word 0x104 and sends the byte.
+pub const ECHO: &str = "lui r1, 0xbfe0
+lui r8, 0xa000
+addiu r4, r0, 4096
+sw r4, 8(r1)
+addiu r5, r0, 1
+sw r5, 16(r1)
+addiu r5, r0, 32
+j 0x1fc01000
+sw r5, 0(r1)
+.org 0x1fc01000
+lw r6, 8(r1)
+sll r0, r0, 0
+sw r6, 256(r8)
+sll r7, r6, 16
+bgez r7, 0x1fc01024
+sll r0, r0, 0
+sw r0, 260(r8)
+j 0x1fc01030
+sw r6, 24(r1)
+sll r0, r0, 0
+sll r0, r0, 0
+sll r0, r0, 0
+j 0x1fc01000
+sll r0, r0, 0
+";
