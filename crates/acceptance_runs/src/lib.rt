@@ -13,3 +13,5 @@ mod meets;
 mod reuse;
 #[cfg(test)]
 mod running;
+#[cfg(test)]
+mod states;

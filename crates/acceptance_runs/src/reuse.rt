@@ -68,6 +68,18 @@ impl<const PAGES: u32, const SPAN: u32> Asked<PAGES, SPAN> {
         assert!(rt; word == Ok(want));
     }
 
+    /// The PC at a position.
+    pub fn pc(&mut self, rt: &impl Abort, position: u64, want: u32) {
+        let pc = self.timeline.core_at(position).map(|core| core.pc());
+        assert!(rt; pc == Ok(want));
+    }
+
+    /// The next position after one, at most 20 steps behind it, at which the PC holds an address.
+    pub fn next_pc(&mut self, rt: &impl Abort, position: u64, address: u32, want: u64) {
+        let found = self.timeline.next_pc(position, address, 20);
+        assert!(rt; found == Ok(want));
+    }
+
     /// The step that sent the byte at a place of line 0.
     pub fn sent(&mut self, rt: &impl Abort, position: u64, place: u64, want: Result<u64, Fault>) {
         let sent = self.timeline.sent_at(position, 0, place);

@@ -4,6 +4,7 @@ mod Consoles
 mod Counts
 mod Differ
 mod Joined
+mod Landings
 mod Near
 mod Next
 mod Patches

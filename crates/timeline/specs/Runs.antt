@@ -1,5 +1,5 @@
 -- The present run of a history, as it is kept (own).
-use Rattle.std.specs.Prelude.{◌≡◌, ℕ, ◌+◌, ◌-◌, ◌*◌, ◌/◌, ◌<◌, IfSome, IsTrue, List, Option, Some, length, map, slice_get}
+use Rattle.std.specs.Prelude.{◌≡◌, ℕ, ◌+◌, ◌-◌, ◌*◌, ◌/◌, ◌<◌, ◌≤◌, IfSome, IsTrue, List, Option, Some, length, map, slice_get}
 use Rattle.input_log.specs.Event.{TimedByte}
 use Rattle.r3k_image.specs.Boot.{Boot}
 use Rattle.r3k_machine.specs.Reset.{reset}
@@ -22,6 +22,12 @@ steps_between pages image log from to = trace pages log from (state_at pages ima
 -- what is held with the run of a history
 abbrev pub holding_of : {pages span : ℕ} → Boot → List TimedByte → Runs pages span → Holding
 holding_of image log runs = record { history = record { image = image; log = log }; spans = runs.kept.spans; steps = runs.live.steps }
+
+-- a state of the run between two positions
+pub record IsOnTheWay (pages : ℕ) (image : Boot) (log : List TimedByte) (from to position : ℕ) (state : State) : Type 0 where
+  pub is : state ≡ state_at pages image log position
+  pub least : from ≤ position
+  pub most : position ≤ to
 
 -- a record that is joined nearly is that of a span of the run
 pub record IsJoined (pages span index : ℕ) (o : Option Span) (s : Span) : Type 0 where

@@ -20,6 +20,7 @@ impl<const PAGES: u32, const SPAN: u32> Timeline<PAGES, SPAN> {
     {
         let place = self.inputs.log.add(time, line, byte)?;
         self.runs.forget();
+        self.landings.clear();
         Ok(place)
     }
 
@@ -29,6 +30,7 @@ impl<const PAGES: u32, const SPAN: u32> Timeline<PAGES, SPAN> {
     {
         self.inputs.log.del(place)?;
         self.runs.forget();
+        self.landings.clear();
         Ok(())
     }
 
@@ -38,6 +40,7 @@ impl<const PAGES: u32, const SPAN: u32> Timeline<PAGES, SPAN> {
     {
         self.inputs.log.set(place, byte)?;
         self.runs.forget();
+        self.landings.clear();
         Ok(())
     }
 
@@ -49,6 +52,7 @@ impl<const PAGES: u32, const SPAN: u32> Timeline<PAGES, SPAN> {
     {
         let place = self.inputs.log.move_to(place, time)?;
         self.runs.forget();
+        self.landings.clear();
         Ok(place)
     }
 
@@ -71,6 +75,7 @@ impl<const PAGES: u32, const SPAN: u32> Timeline<PAGES, SPAN> {
             return Err(Fault::Memory);
         };
         self.runs.restart(reset, page_of(place) as u32);
+        self.landings.clear();
         Ok(())
     }
 }

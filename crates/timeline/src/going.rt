@@ -6,11 +6,13 @@ ghost use Rattle.r3k_live.specs.Living.{counted};
 ghost use Rattle.r3k_live.specs.Recording.{Records};
 ghost use Rattle.timeline.specs.Query.{max_position};
 ghost use Rattle.timeline.specs.Reuse.{Reaches, Spends};
-ghost use Rattle.timeline.specs.Runs.{AreOf, holding_of, steps_between};
+ghost use Rattle.timeline.specs.Runs.{AreOf, IsOnTheWay, holding_of, steps_between};
 
 use crate::inputs::Inputs;
 use crate::runs::Runs;
+use r3k_live::Boundary;
 use std::alloc::{AllocError, Global};
+use std::rc::Rc;
 
 impl<const PAGES: u32, const SPAN: u32> Runs<PAGES, SPAN> {
     /// Makes the machine stand at a position.
@@ -19,9 +21,11 @@ impl<const PAGES: u32, const SPAN: u32> Runs<PAGES, SPAN> {
         alloc: Global,
         inputs: &Inputs,
         position: u64,
+        near: Option<(u64, &Rc<Boundary<PAGES>>)>,
     ) -> Result<(), AllocError>
         requires of { AreOf {pages = PAGES} {span = SPAN} inputs.now.image inputs.now.log self.old }
         requires position { position ≤ max_position }
+        requires near { IfSome near (λ n. IsOnTheWay PAGES inputs.now.image inputs.now.log (position / SPAN * SPAN) position n.0 n.1.now.value) }
         ensures of { AreOf {pages = PAGES} {span = SPAN} inputs.now.image inputs.now.log self.new }
         ensures stands { IfOk result (λ _. self.new.at ≡ Some position) }
         ensures spends { Spends PAGES SPAN (position / SPAN) (position % SPAN)
@@ -31,40 +35,57 @@ impl<const PAGES: u32, const SPAN: u32> Runs<PAGES, SPAN> {
     {
         let index = position / SPAN as u64;
         self.reach(alloc, inputs, index)?;
-        let time = self.stand_in(inputs, index, position)?;
-        self.go_on(inputs, time, position);
+        let time = self.stand_in(inputs, index, position, near)?;
+        self.go_on(alloc, inputs, time, position);
         Ok(())
     }
 
-    // Makes the machine stand in a span, at a position or before it, and gives the time there.
-    fn stand_in(&mut self, inputs: &Inputs, index: u64, position: u64) -> Result<u64, AllocError>
+    // Makes the machine stand in a span, at a position or before it, and gives the time there: where it stands or where a state is
+    // kept, whichever is nearer, or else where the span starts.
+    fn stand_in(
+        &mut self,
+        inputs: &Inputs,
+        index: u64,
+        position: u64,
+        near: Option<(u64, &Rc<Boundary<PAGES>>)>,
+    ) -> Result<u64, AllocError>
         requires of { AreOf {pages = PAGES} {span = SPAN} inputs.now.image inputs.now.log self.old }
         requires joined { index ≤ self.old.kept.valid }
         requires in_span { index * SPAN ≤ position }
         requires time { position < 2 ^ 64 }
+        requires near { IfSome near (λ n. IsOnTheWay PAGES inputs.now.image inputs.now.log (index * SPAN) position n.0 n.1.now.value) }
         ensures of { AreOf {pages = PAGES} {span = SPAN} inputs.now.image inputs.now.log self.new }
         ensures stands { IfOk result (λ time. self.new.at ≡ Some time) }
         ensures in_span { IfOk result (λ time. index * SPAN ≤ time) }
         ensures before { IfOk result (λ time. time ≤ position) }
         ensures same { holding_of inputs.now.image inputs.now.log self.new ≡ holding_of inputs.now.image inputs.now.log self.old }
     {
+        let from = match near {
+            Some((time, _)) => time,
+            None => index * SPAN as u64,
+        };
         if let Some(time) = self.at {
-            if index * SPAN as u64 <= time && time <= position {
+            if from <= time && time <= position {
                 return Ok(time);
             }
         }
-        self.stand_at_start(inputs, index)
+        let Some((time, state)) = near else {
+            return self.stand_at_start(inputs, index);
+        };
+        self.live.load(state.clone()?);
+        self.at = Some(time);
+        Ok(time)
     }
 
     // Makes the machine stand where a span starts, and gives the time there.
-    fn stand_at_start(&mut self, inputs: &Inputs, index: u64) -> Result<u64, AllocError>
+    pub(crate) fn stand_at_start(&mut self, inputs: &Inputs, index: u64) -> Result<u64, AllocError>
         requires of { AreOf {pages = PAGES} {span = SPAN} inputs.now.image inputs.now.log self.old }
         requires joined { index ≤ self.old.kept.valid }
         requires time { index * SPAN < 2 ^ 64 }
         ensures of { AreOf {pages = PAGES} {span = SPAN} inputs.now.image inputs.now.log self.new }
         ensures stands { IfOk result (λ time. self.new.at ≡ Some time) }
         ensures start { IfOk result (λ time. time ≡ index * SPAN) }
-        ensures valid { self.new.kept.valid ≡ self.old.kept.valid }
+        ensures kept { self.new.kept ≡ self.old.kept }
         ensures same { holding_of inputs.now.image inputs.now.log self.new ≡ holding_of inputs.now.image inputs.now.log self.old }
     {
         let from = index * SPAN as u64;
@@ -72,13 +93,13 @@ impl<const PAGES: u32, const SPAN: u32> Runs<PAGES, SPAN> {
             return Ok(from);
         }
         let start = self.start_of(index).clone()?;
-        self.live.load(&start);
+        self.live.load(start);
         self.at = Some(from);
         Ok(from)
     }
 
     // Goes on to a position, at most a span's steps away. The recorder then holds what these steps told.
-    fn go_on(&mut self, inputs: &Inputs, time: u64, position: u64)
+    fn go_on(&mut self, alloc: Global, inputs: &Inputs, time: u64, position: u64)
         requires of { AreOf {pages = PAGES} {span = SPAN} inputs.now.image inputs.now.log self.old }
         requires stands { self.old.at ≡ Some time }
         requires before { time ≤ position }
@@ -94,6 +115,7 @@ impl<const PAGES: u32, const SPAN: u32> Runs<PAGES, SPAN> {
         self.recorded = None;
         self.recorder.clear();
         self.live.run(
+            alloc,
             time,
             inputs.log.window(time, position),
             (position - time) as u32,
@@ -127,7 +149,7 @@ impl<const PAGES: u32, const SPAN: u32> Runs<PAGES, SPAN> {
             return Ok(index);
         }
         let time = self.stand_at_start(inputs, index)?;
-        self.go_on(inputs, time, position);
+        self.go_on(alloc, inputs, time, position);
         self.recorded = Some(position);
         Ok(index)
     }
@@ -135,7 +157,14 @@ impl<const PAGES: u32, const SPAN: u32> Runs<PAGES, SPAN> {
 
 impl<const PAGES: u32, const SPAN: u32> Runs<PAGES, SPAN> {
     // Goes on to the next position at which the PC holds an address, or to a position, at most a span's steps away.
-    fn visit_in(&mut self, inputs: &Inputs, time: u64, address: u32, last: u64) -> Option<u64>
+    fn visit_in(
+        &mut self,
+        alloc: Global,
+        inputs: &Inputs,
+        time: u64,
+        address: u32,
+        last: u64,
+    ) -> Option<u64>
         requires of { AreOf {pages = PAGES} {span = SPAN} inputs.now.image inputs.now.log self.old }
         requires stands { self.old.at ≡ Some time }
         requires before { time ≤ last }
@@ -151,6 +180,7 @@ impl<const PAGES: u32, const SPAN: u32> Runs<PAGES, SPAN> {
         self.recorded = None;
         self.recorder.clear();
         let found = self.live.visit(
+            alloc,
             time,
             inputs.log.window(time, last),
             (last - time) as u32,
@@ -170,7 +200,14 @@ impl<const PAGES: u32, const SPAN: u32> Runs<PAGES, SPAN> {
     }
 
     // Goes on from a position to the next one at which the PC holds an address, if there is one up to a last one.
-    fn visit(&mut self, inputs: &Inputs, position: u64, address: u32, last: u64) -> Option<u64>
+    fn visit(
+        &mut self,
+        alloc: Global,
+        inputs: &Inputs,
+        position: u64,
+        address: u32,
+        last: u64,
+    ) -> Option<u64>
         requires of { AreOf {pages = PAGES} {span = SPAN} inputs.now.image inputs.now.log self.old }
         requires stands { self.old.at ≡ Some position }
         requires before { position ≤ last }
@@ -185,7 +222,7 @@ impl<const PAGES: u32, const SPAN: u32> Runs<PAGES, SPAN> {
         let mut time = position;
         while time < last {
             let to = last.min(time + SPAN as u64);
-            if let Some(found) = self.visit_in(inputs, time, address, to) {
+            if let Some(found) = self.visit_in(alloc, inputs, time, address, to) {
                 return Some(found);
             }
             time = to;
@@ -201,8 +238,10 @@ impl<const PAGES: u32, const SPAN: u32> Runs<PAGES, SPAN> {
         position: u64,
         address: u32,
         last: u64,
+        near: Option<(u64, &Rc<Boundary<PAGES>>)>,
     ) -> Result<Option<u64>, AllocError>
         requires of { AreOf {pages = PAGES} {span = SPAN} inputs.now.image inputs.now.log self.old }
+        requires near { IfSome near (λ n. IsOnTheWay PAGES inputs.now.image inputs.now.log (position / SPAN * SPAN) position n.0 n.1.now.value) }
         requires before { position ≤ last }
         requires bound { last ≤ max_position }
         ensures of { AreOf {pages = PAGES} {span = SPAN} inputs.now.image inputs.now.log self.new }
@@ -213,7 +252,7 @@ impl<const PAGES: u32, const SPAN: u32> Runs<PAGES, SPAN> {
         ensures reaches { IfOk result (λ _. Reaches PAGES SPAN (position / SPAN)
             (holding_of inputs.now.image inputs.now.log self.old) (holding_of inputs.now.image inputs.now.log self.new)) }
     {
-        self.stand(alloc, inputs, position)?;
-        Ok(self.visit(inputs, position, address, last))
+        self.stand(alloc, inputs, position, near)?;
+        Ok(self.visit(alloc, inputs, position, address, last))
     }
 }

@@ -5,6 +5,7 @@ mod edits;
 mod going;
 mod inputs;
 mod joining;
+mod landed;
 mod queries;
 mod runs;
 mod sent;

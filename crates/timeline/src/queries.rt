@@ -4,14 +4,15 @@
 //! neither RAM nor ROM `NotMemory`, a position above the greatest `TooFar`, want of memory `Memory`, and a search that was made
 //! whole and found nothing `NotFound`.
 //!
-//! Up to a position a query needs a record that applies of each whole span, and then goes the rest of the way. It runs a span
-//! only where no record applies that is kept.
+//! Up to a position a query needs a record that serves of each whole span, and then goes the rest of the way. It runs a span
+//! only where no record serves that is kept. The states that were asked for inside spans are kept too, the last 8 of them.
 
 ghost use Rattle.std.specs.Prelude.{◌≡◌, ◌≤◌, IfOk, MatchResult, Ok};
 ghost use Rattle.refusal.specs.Given.{Gives, GivesFault};
 ghost use Rattle.timeline.specs.Query.{console_at, core_at, max_position, next_pc, sent_at, word_at, writer_at, writer_of};
-ghost use Rattle.timeline.specs.Reuse.{Asks};
+ghost use Rattle.timeline.specs.Reuse.{Asks, Lands};
 
+use crate::landed::nearest_in_span;
 use crate::timeline::{MAX_POSITION, Timeline};
 use crate::writer::Writer;
 use arrayvec::ArrayVec;
@@ -28,12 +29,13 @@ impl<const PAGES: u32, const SPAN: u32> Timeline<PAGES, SPAN> {
         ensures core { MatchResult result (λ core. core_at PAGES self.old.history position ≡ Ok core.value)
             (GivesFault (core_at PAGES self.old.history position)) }
         ensures asks { Asks PAGES SPAN position 0 self.old self.new result }
+        ensures lands { Lands SPAN position self.old self.new result }
         ensures same { self.new.history ≡ self.old.history }
     {
         if position > MAX_POSITION {
             return Err(Fault::TooFar);
         }
-        match self.runs.core_at(self.alloc, &self.inputs, position) {
+        match self.core_of(position) {
             Ok(core) => Ok(core),
             Err(_) => Err(Fault::Memory),
         }
@@ -43,6 +45,7 @@ impl<const PAGES: u32, const SPAN: u32> Timeline<PAGES, SPAN> {
     pub fn word_at(&mut self, position: u64, address: u32) -> Result<u32, Fault>
         ensures word { Gives (word_at PAGES self.old.history position address) result }
         ensures asks { Asks PAGES SPAN position 0 self.old self.new result }
+        ensures lands { Lands SPAN position self.old self.new result }
         ensures same { self.new.history ≡ self.old.history }
     {
         if address % 4 != 0 {
@@ -54,7 +57,7 @@ impl<const PAGES: u32, const SPAN: u32> Timeline<PAGES, SPAN> {
         if position > MAX_POSITION {
             return Err(Fault::TooFar);
         }
-        match self.runs.word_at(self.alloc, &self.inputs, position, place) {
+        match self.word_of(position, place) {
             Ok(word) => Ok(word),
             Err(_) => Err(Fault::Memory),
         }
@@ -73,6 +76,7 @@ impl<const PAGES: u32, const SPAN: u32> Timeline<PAGES, SPAN> {
             (λ shown. console_at PAGES self.old.history position line from count ≡ Ok (shown.0, shown.1.items))
             (GivesFault (console_at PAGES self.old.history position line from count)) }
         ensures asks { Asks PAGES SPAN position 0 self.old self.new result }
+        ensures landings { self.new.landings ≡ self.old.landings }
         ensures same { self.new.history ≡ self.old.history }
     {
         if line > 3 || count == 0 || count > 256 {
@@ -94,6 +98,7 @@ impl<const PAGES: u32, const SPAN: u32> Timeline<PAGES, SPAN> {
     pub fn writer_at(&mut self, position: u64, address: u32) -> Result<Writer, Fault>
         ensures writer { Gives (writer_at PAGES self.old.history position address) result }
         ensures asks { Asks PAGES SPAN position 0 self.old self.new result }
+        ensures landings { self.new.landings ≡ self.old.landings }
         ensures same { self.new.history ≡ self.old.history }
     {
         if address % 4 != 0 {
@@ -120,6 +125,7 @@ impl<const PAGES: u32, const SPAN: u32> Timeline<PAGES, SPAN> {
     pub fn sent_at(&mut self, position: u64, line: u8, place: u64) -> Result<u64, Fault>
         ensures step { Gives (sent_at PAGES self.old.history position line place) result }
         ensures asks { Asks PAGES SPAN position 0 self.old self.new result }
+        ensures landings { self.new.landings ≡ self.old.landings }
         ensures same { self.new.history ≡ self.old.history }
     {
         if line > 3 {
@@ -144,6 +150,7 @@ impl<const PAGES: u32, const SPAN: u32> Timeline<PAGES, SPAN> {
         ensures found { Gives (next_pc PAGES self.old.history position address limit) result }
         ensures bound { IfOk result (λ found. found ≤ max_position) }
         ensures asks { Asks PAGES SPAN position limit self.old self.new result }
+        ensures landings { self.new.landings ≡ self.old.landings }
         ensures same { self.new.history ≡ self.old.history }
     {
         if limit == 0 || limit > MAX_VISIT {
@@ -156,9 +163,10 @@ impl<const PAGES: u32, const SPAN: u32> Timeline<PAGES, SPAN> {
         if last > MAX_POSITION {
             return Err(Fault::TooFar);
         }
+        let near = nearest_in_span::<PAGES, SPAN>(&self.landings, position);
         match self
             .runs
-            .next_visit(self.alloc, &self.inputs, position, address, last)
+            .next_visit(self.alloc, &self.inputs, position, address, last, near)
         {
             Ok(Some(found)) => Ok(found),
             Ok(None) => Err(Fault::NotFound),

@@ -17,7 +17,8 @@ ghost use Rattle.timeline.specs.Sizes.{AreSizes};
 use crate::inputs::Inputs;
 use crate::joining::{begin, carry, compare, pass, share};
 use checkpoints::Kept;
-use r3k_live::{Boundary, Live, Recorder};
+use landings::Standing;
+use r3k_live::{Boundary, Recorder};
 use r3k_pages::PageMarks;
 use span_fact::Fact;
 use span_index::SpanIndex;
@@ -27,7 +28,7 @@ use std::rc::Rc;
 /// The machine that runs, a recorder of its steps, and the records of spans, of this run and of earlier ones.
 #[derive(Drop)]
 pub(crate) struct Runs<const PAGES: u32, const SPAN: u32> {
-    pub(crate) live: Live<PAGES>,
+    pub(crate) live: Standing<PAGES>,
     pub(crate) recorder: Recorder<PAGES, SPAN>,
     pub(crate) kept: Kept<PAGES, SPAN>,
     // What the records told, by page and by line.
@@ -56,14 +57,14 @@ impl<const PAGES: u32, const SPAN: u32> Runs<PAGES, SPAN> {
         ensures spans { IfOk result (λ runs. runs.kept.spans ≡ []) }
         ensures steps { IfOk result (λ runs. runs.live.steps ≡ 0) }
     {
-        let live = Live::new(alloc, &inputs.image)?;
-        let reset = live.keep(alloc, None, &[])?;
+        let mut live = Standing::new(alloc, &inputs.image)?;
+        let reset = live.keep(alloc)?;
         Ok(Runs {
             live,
             recorder: Recorder::new(alloc)?,
             kept: Kept::new(alloc),
             told: SpanIndex::new(alloc),
-            reset: share(alloc, reset)?,
+            reset,
             at: Some(0),
             recorded: None,
             ends: Vec::new(alloc),
@@ -253,20 +254,14 @@ impl<const PAGES: u32, const SPAN: u32> Runs<PAGES, SPAN> {
         ensures most { self.new.live.steps ≤ self.old.live.steps + SPAN }
     {
         let index = self.kept.valid();
-        let from = index * SPAN as u64;
-        let to = (index + 1) * SPAN as u64;
-        stand_at(&mut self.live, self.at, from, &start);
+        let from = self.stand_at_start(inputs, index)?;
+        let to = from + SPAN as u64;
         self.at = None;
         self.recorded = None;
         let events = inputs.log.window(from, to);
-        let fact = Fact::make(
-            alloc,
-            &mut self.live,
-            &mut self.recorder,
-            start,
-            index,
-            events,
-        )?;
+        let fact = self
+            .live
+            .make_record(alloc, &mut self.recorder, start, index, events)?;
         self.at = Some(to);
         Ok(fact)
     }
@@ -337,20 +332,4 @@ impl<const PAGES: u32, const SPAN: u32> Runs<PAGES, SPAN> {
         self.patched.add(&[page]);
         self.forget();
     }
-}
-
-// Makes the machine stand where a span starts, if it does not.
-fn stand_at<const PAGES: u32>(
-    live: &mut Live<PAGES>,
-    at: Option<u64>,
-    from: u64,
-    start: &Boundary<PAGES>,
-)
-    ensures stands { (at ≡ Some from → live.old.state ≡ start.now) → live.new.state ≡ start.now }
-    ensures steps { live.new.steps ≡ live.old.steps }
-{
-    if at == Some(from) {
-        return;
-    }
-    live.load(start);
 }

@@ -1,7 +1,7 @@
 //! What the present run holds and tells, up to a position: by the records of its spans, and for the rest by the machine and its
 //! recorder.
 
-ghost use Rattle.std.specs.Prelude.{◌≡◌, ℕ, ◌+◌, ◌-◌, ◌*◌, ◌/◌, ◌%◌, ◌^◌, ◌<◌, ◌≤◌, [], IfOk, List, length, slice_get, slice_index};
+ghost use Rattle.std.specs.Prelude.{◌≡◌, ℕ, ◌+◌, ◌-◌, ◌*◌, ◌/◌, ◌%◌, ◌^◌, ◌<◌, ◌≤◌, [], IfOk, IfSome, List, Some, length, slice_get, slice_index};
 ghost use Rattle.input_log.specs.Event.{TimedByte};
 ghost use Rattle.r3k_image.specs.Boot.{Boot};
 ghost use Rattle.r3k_word.specs.Layout.{word_count_of};
@@ -10,16 +10,17 @@ ghost use Rattle.r3k_live.specs.Record.{sent_from};
 ghost use Rattle.timeline.specs.Console.{Shows};
 ghost use Rattle.timeline.specs.Query.{max_position};
 ghost use Rattle.timeline.specs.Reuse.{Reaches, Spends};
-ghost use Rattle.timeline.specs.Runs.{AreOf, holding_of, steps_between};
+ghost use Rattle.timeline.specs.Runs.{AreOf, IsOnTheWay, holding_of, steps_between};
 ghost use Rattle.timeline.specs.Seeking.{Seeks};
 
 use crate::inputs::Inputs;
 use crate::runs::Runs;
 use crate::sent::{Shown, Sought, seek};
 use arrayvec::ArrayVec;
-use r3k_live::SentAt;
+use r3k_live::{Boundary, SentAt};
 use r3k_machine::Core;
 use std::alloc::{AllocError, Global};
+use std::rc::Rc;
 
 impl<const PAGES: u32, const SPAN: u32> Runs<PAGES, SPAN> {
     /// The processor at a position.
@@ -28,17 +29,20 @@ impl<const PAGES: u32, const SPAN: u32> Runs<PAGES, SPAN> {
         alloc: Global,
         inputs: &Inputs,
         position: u64,
+        near: Option<(u64, &Rc<Boundary<PAGES>>)>,
     ) -> Result<Box<Core>, AllocError>
         requires of { AreOf {pages = PAGES} {span = SPAN} inputs.now.image inputs.now.log self.old }
         requires position { position ≤ max_position }
+        requires near { IfSome near (λ n. IsOnTheWay PAGES inputs.now.image inputs.now.log (position / SPAN * SPAN) position n.0 n.1.now.value) }
         ensures of { AreOf {pages = PAGES} {span = SPAN} inputs.now.image inputs.now.log self.new }
+        ensures stands { IfOk result (λ _. self.new.at ≡ Some position) }
         ensures core { IfOk result (λ core. core.value ≡ (state_at PAGES inputs.now.image inputs.now.log position).core) }
         ensures spends { Spends PAGES SPAN (position / SPAN) (position % SPAN)
             (holding_of inputs.now.image inputs.now.log self.old) (holding_of inputs.now.image inputs.now.log self.new) }
         ensures reaches { IfOk result (λ _. Reaches PAGES SPAN (position / SPAN)
             (holding_of inputs.now.image inputs.now.log self.old) (holding_of inputs.now.image inputs.now.log self.new)) }
     {
-        self.stand(alloc, inputs, position)?;
+        self.stand(alloc, inputs, position, near)?;
         let core = self.live.core().copy(alloc)?;
         Box::new(alloc, core).map_err(|_| AllocError)
     }
@@ -50,18 +54,21 @@ impl<const PAGES: u32, const SPAN: u32> Runs<PAGES, SPAN> {
         inputs: &Inputs,
         position: u64,
         place: usize,
+        near: Option<(u64, &Rc<Boundary<PAGES>>)>,
     ) -> Result<u32, AllocError>
         requires of { AreOf {pages = PAGES} {span = SPAN} inputs.now.image inputs.now.log self.old }
         requires position { position ≤ max_position }
+        requires near { IfSome near (λ n. IsOnTheWay PAGES inputs.now.image inputs.now.log (position / SPAN * SPAN) position n.0 n.1.now.value) }
         requires place { place < word_count_of PAGES }
         ensures of { AreOf {pages = PAGES} {span = SPAN} inputs.now.image inputs.now.log self.new }
+        ensures stands { IfOk result (λ _. self.new.at ≡ Some position) }
         ensures word { IfOk result (λ word. word ≡ slice_index (state_at PAGES inputs.now.image inputs.now.log position).words place) }
         ensures spends { Spends PAGES SPAN (position / SPAN) (position % SPAN)
             (holding_of inputs.now.image inputs.now.log self.old) (holding_of inputs.now.image inputs.now.log self.new) }
         ensures reaches { IfOk result (λ _. Reaches PAGES SPAN (position / SPAN)
             (holding_of inputs.now.image inputs.now.log self.old) (holding_of inputs.now.image inputs.now.log self.new)) }
     {
-        self.stand(alloc, inputs, position)?;
+        self.stand(alloc, inputs, position, near)?;
         Ok(self.live.word(place))
     }
 

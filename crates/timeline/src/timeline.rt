@@ -9,6 +9,7 @@ ghost use Rattle.timeline.specs.Sizes.{AreSizes};
 use crate::inputs::Inputs;
 use crate::runs::Runs;
 use input_log::Log;
+use landings::Landings;
 use r3k_image::{Image, ImageFault, ImageKind};
 use std::alloc::Global;
 use std::marker::Model;
@@ -17,28 +18,40 @@ use std::marker::Model;
 pub const MAX_POSITION: u64 = 4_294_967_295;
 
 /// An image and a log that can be edited, on a machine with `PAGES` pages of RAM. Queries are answered as if the machine was
-/// run from reset for each. What was run is kept in spans of `SPAN` steps, and run again only where it no longer applies.
+/// run from reset for each. What was run is kept in spans of `SPAN` steps, and run again only where it no longer applies; and so are
+/// the last 8 states inside spans that were asked for, up to the next edit.
 #[derive(Drop)]
 pub struct Timeline<const PAGES: u32, const SPAN: u32> {
     pub(crate) alloc: Global,
     pub(crate) inputs: Inputs,
     pub(crate) runs: Runs<PAGES, SPAN>,
+    // States of the present run inside spans.
+    pub(crate) landings: Landings<PAGES>,
 }
 
 impl<const PAGES: u32, const SPAN: u32> Model for Timeline<PAGES, SPAN> {
     ghost use Rattle.std.specs.Coded.{codes};
     ghost use Rattle.timeline.specs.History.{IsHistory, history_code};
-    ghost use Rattle.timeline.specs.Reuse.{Holding};
+    ghost use Rattle.std.specs.Prelude.{ℕ, Contains};
+    ghost use Rattle.r3k_machine.specs.State.{State};
+    ghost use Rattle.landings.specs.Landings.{positions_of};
+    ghost use Rattle.timeline.specs.Reuse.{IsLanding, Landed};
     ghost use Rattle.timeline.specs.Runs.{AreOf, holding_of};
 
-    ghost Value = { Holding };
+    ghost Value = { Landed };
 
     ghost coded = { Prim.hlevel (history_code, codes) };
 
-    ghost view = { λ t. holding_of t.inputs.image t.inputs.log t.runs };
+    ghost view = { λ t. record {
+      history = record { image = t.inputs.image; log = t.inputs.log };
+      spans = t.runs.kept.spans;
+      steps = t.runs.live.steps;
+      landings = positions_of t.landings;
+    } };
 
     ghost invariant = { λ t. IsHistory PAGES SPAN (record { image = t.inputs.image; log = t.inputs.log })
-        × AreOf {pages = PAGES} {span = SPAN} t.inputs.image t.inputs.log t.runs };
+        × AreOf {pages = PAGES} {span = SPAN} t.inputs.image t.inputs.log t.runs
+        × ((e : ℕ × State) → Contains t.landings e → IsLanding PAGES SPAN (holding_of t.inputs.image t.inputs.log t.runs) e.0 e.1) };
 }
 
 impl<const PAGES: u32, const SPAN: u32> Timeline<PAGES, SPAN> {
@@ -47,7 +60,7 @@ impl<const PAGES: u32, const SPAN: u32> Timeline<PAGES, SPAN> {
     pub fn new(alloc: Global, image: Image, log: Log) -> Result<Timeline<PAGES, SPAN>, ImageFault>
         requires sizes { AreSizes PAGES SPAN }
         ensures { MatchResult result
-            (λ t. FitsRam PAGES image × (t ≡ record { history = record { image = image; log = log }; spans = []; steps = 0 }))
+            (λ t. FitsRam PAGES image × (t ≡ record { history = record { image = image; log = log }; spans = []; steps = 0; landings = [] }))
             (λ fault. ((fault ≡ Memory) × FitsRam PAGES image) ⊎ ((fault ≡ Bad Pages) × ¬ FitsRam PAGES image)) }
     {
         if !image.fits(PAGES) {
@@ -55,10 +68,14 @@ impl<const PAGES: u32, const SPAN: u32> Timeline<PAGES, SPAN> {
         }
         let inputs = Inputs { image, log };
         let runs = Runs::boot(alloc, &inputs)?;
+        let Ok(landings) = Landings::new(alloc) else {
+            return Err(ImageFault::Memory);
+        };
         Ok(Timeline {
             alloc,
             inputs,
             runs,
+            landings,
         })
     }
 

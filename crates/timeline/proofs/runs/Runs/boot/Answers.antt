@@ -12,8 +12,8 @@ use Rattle.timeline.proofs.runs.Runs.boot.Goals as goal
 pub returns-clause-of : goal.returns-clause-of
 returns-clause-of g c = record {
   sizes = c.requires;
-  start = c.in_ok-share.ensures {u = tt} ∙ (c.in_ok-reset.ensures {u = tt} ∙ ap (λ (l : Living). l.state) (c.in_ok-live.ensures {u = tt}));
-  stands = ap (λ (l : Living). l.state) (c.live.view_is ∙ c.in_ok-live.ensures {u = tt}) ∙ sym (at_reset g.row.PAGES c.args.inputs.now.image c.args.inputs.now.log);
+  start = (c.in_ok-reset.ensures {u = tt}).kept ∙ ap (λ (l : Living). l.state) (c.in_ok-live.ensures {u = tt});
+  stands = ap (λ (l : Living). l.state) (c.live.view_is ∙ (c.keep.ensures.same ∙ c.in_ok-live.ensures {u = tt})) ∙ sym (at_reset g.row.PAGES c.args.inputs.now.image c.args.inputs.now.log);
   recorded = tt;
   joined = λ index within. absurd (let e : ⊥ = omega (arith, ap (λ (k : Kept). k.valid) c.new-3.ensures, within) in e);
   ends = no_ends g.row.PAGES g.row.SPAN c.args.inputs.now.image c.args.inputs.now.log _ _ (ap (λ (k : Kept). k.valid) c.new-3.ensures) (ap (map (λ end. end.value)) c.new-5.ensures.items);

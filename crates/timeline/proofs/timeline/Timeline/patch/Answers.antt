@@ -3,6 +3,7 @@ use Rattle.r3k_image.specs.Boot.{Boot}
 use Rattle.r3k_machine.specs.Reset.{reset, reset_words}
 use Rattle.r3k_machine.specs.State.{State}
 use Rattle.r3k_pages.specs.Pages.{SameOutside}
+use Rattle.timeline.proofs.Landings.{none}
 use Rattle.timeline.proofs.Patches.{fits_after, reset_patched, set_outside, taken_by_most}
 use Rattle.timeline.proofs.timeline.Timeline.patch.Goals as goal
 
@@ -24,6 +25,7 @@ invariant_of-self-2 g c =
           (subst (λ (words : List ℕ). SameOutside (c.page_of.result ∷ []) (reset_words pages image) words) (ap (λ (s : State). s.words) anew)
           (subst (λ (page : ℕ). SameOutside (page ∷ []) (reset_words pages image) (slice_set (reset_words pages image) place word)) (sym c.page_of.ensures)
           (set_outside (reset_words pages image) place word))),
+      λ e there. absurd (none _ e c.clear.ensures there),
     )
 
 pub returns-clause-fits : goal.returns-clause-fits

@@ -1,12 +1,12 @@
 use Rattle.std.proofs.Common.{sym, subst, arith}
 use Rattle.r3k_image.specs.Boot.{FitsRam}
-use Rattle.timeline.specs.Reuse.{Holding}
+use Rattle.timeline.specs.Reuse.{Landed}
 use Rattle.wb_session.proofs.session.Session.new.Goals as goal
 
 pub invariant_of-result : goal.invariant_of-result
 invariant_of-result g c =
     let made = c.in_ok-new.ensures {u = tt} in record {
       sizes = c.requires.sizes;
-      fits = subst (λ (h : Holding). FitsRam g.row.PAGES h.history.image) (sym made.1) made.0;
+      fits = subst (λ (h : Landed). FitsRam g.row.PAGES h.history.image) (sym made.1) made.0;
       position = omega arith;
     }

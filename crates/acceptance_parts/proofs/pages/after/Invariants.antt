@@ -1,7 +1,7 @@
 use Rattle.std.proofs.Common.{◌≡◌, length}
 use Rattle.r3k_word.specs.Layout.{word_count_of}
 use Rattle.r3k_pages.specs.Pages.{SameOutside}
-use Rattle.acceptance.proofs.pages.after.Given as goal
+use Rattle.acceptance_parts.proofs.pages.after.Given as goal
 
 -- only pages of the set are written
 abbrev pub invariant-loop-page : goal.invariant-loop-page
