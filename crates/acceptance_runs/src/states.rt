@@ -6,13 +6,14 @@ use std::alloc::Global;
 use std::process::Abort;
 use std::test::Fail;
 
-/// A second query of the state at a position inside a span runs no step. By hand: a turn begins at position 97, and another at 64.
+/// A second query of the state at a position inside a span runs no step, as it would if none were kept. By hand: a turn begins at
+/// position 97, and another at 64.
 #[test]
-fn second_query(rt: HostRuntime) -> Result<(), Fail> {
-    second_query_costs::<16, 64>(&rt, rt.alloc())
+fn keeps_no_landings(rt: HostRuntime) -> Result<(), Fail> {
+    keeps_no_landings_costs::<16, 64>(&rt, rt.alloc())
 }
 
-fn second_query_costs<const PAGES: u32, const SPAN: u32>(
+fn keeps_no_landings_costs<const PAGES: u32, const SPAN: u32>(
     rt: &impl Abort,
     alloc: Global,
 ) -> Result<(), Fail>
