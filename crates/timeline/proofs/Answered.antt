@@ -6,7 +6,8 @@ use Rattle.r3k_word.specs.Layout.{place_of_word}
 use Rattle.refusal.specs.declared.fault.Fault.{Fault}
 use Rattle.refusal.specs.declared.fault.Fault.TheVariants.{Unaligned}
 use Rattle.refusal.specs.Given.{MayLackMemory}
-use Rattle.timeline.specs.Query.{max_position, of_place, of_word, up_to_max}
+use Rattle.present_run.specs.History.{max_position}
+use Rattle.timeline.specs.Query.{of_place, of_word, up_to_max}
 
 pub near : {A : Type 0} (position : ℕ) (answer : Result A Fault) (told : Result (Unit {0}) Fault) → told ≡ up_to_max position (Ok tt) → is_ok told ≡ true
     → up_to_max position answer ≡ answer

@@ -5,11 +5,12 @@ use Rattle.r3k_machine.specs.Run.{state_at}
 use Rattle.r3k_machine.specs.State.{State}
 use Rattle.span_fact.specs.Span.{Span}
 use Rattle.landings.specs.Landings.{HasNone, IsNearest, positions_of}
-use Rattle.timeline.specs.History.{History}
-use Rattle.timeline.specs.Reuse.{Applies, Holding, IsLanding, Landed, Lands, Reaches, Serves, Spends, kept_at}
-use Rattle.timeline.proofs.Counts.{lacks_none, serves_same}
-use Rattle.timeline.proofs.Near.{is_joined}
-use Rattle.timeline.proofs.Spans.{ok_all}
+use Rattle.present_run.specs.History.{History}
+use Rattle.present_run.specs.Reuse.{Applies, Holding, Reaches, Serves, Spends, kept_at}
+use Rattle.timeline.specs.Landed.{IsLanding, Landed, Lands}
+use Rattle.present_run.proofs.Counts.{lacks_none, serves_same}
+use Rattle.present_run.proofs.Near.{is_joined}
+use Rattle.present_run.proofs.Spans.{ok_all}
 
 -- nothing is kept
 pub none : {A : Type 0} (states : List A) (e : A) → states ≡ [] → ¬ Contains states e

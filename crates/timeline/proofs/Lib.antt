@@ -1,16 +1,3 @@
 mod Answered
-mod Carry
-mod Consoles
-mod Counts
-mod Differ
-mod Joined
 mod Landings
-mod Near
-mod Next
 mod Patches
-mod Steps
-mod Seeks
-mod Sending
-mod Spans
-mod Told
-mod Visits

@@ -21,7 +21,7 @@ use Rattle.r3k_image.specs.Patch.{patched, patched_at, patching}
 use Rattle.r3k_image.proofs.Patched.{fits_patched, patch_taken_in}
 use Rattle.refusal.specs.declared.fault.Fault.{Fault}
 use Rattle.refusal.specs.declared.fault.Fault.TheVariants.{Unaligned}
-use Rattle.timeline.proofs.Spans.{some_is}
+use Rattle.present_run.proofs.Spans.{some_is}
 
 abbrev image_or : Boot → Result Boot Fault → Boot
 image_or other (Ok image) = image

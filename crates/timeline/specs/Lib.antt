@@ -4,10 +4,9 @@ pub use Rattle.input_log.specs.Event
 pub use Rattle.input_log.specs.Edits
 pub use Rattle.r3k_machine.specs.Run
 pub use Rattle.refusal.specs.Given
-pub mod Sizes
-pub mod Console
-pub mod History
-pub mod Seeking
+pub use Rattle.present_run.specs.Sizes
+pub use Rattle.present_run.specs.Console
+pub use Rattle.present_run.specs.History
+pub use Rattle.present_run.specs.Reuse
 pub mod Query
-pub mod Reuse
-pub mod Runs
+pub mod Landed

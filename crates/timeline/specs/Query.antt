@@ -8,14 +8,10 @@ use Rattle.r3k_machine.specs.Run.{console_of, last_writer, next_visit, senders_o
 use Rattle.r3k_word.specs.Layout.{place_of_word}
 use Rattle.refusal.specs.declared.fault.Fault.{Fault}
 use Rattle.refusal.specs.declared.fault.Fault.TheVariants.{NotFound, NotMemory, Range, TooFar, Unaligned}
-use Rattle.timeline.specs.Console.{shown_of}
-use Rattle.timeline.specs.History.{History}
+use Rattle.present_run.specs.Console.{shown_of}
+use Rattle.present_run.specs.History.{History, max_position}
 use Rattle.timeline.specs.declared.writer.Writer.{Writer}
 use Rattle.timeline.specs.declared.writer.Writer.TheVariants.{Step, Image, Never}
-
--- the greatest position
-abbrev pub max_position : ℕ
-max_position = 4294967295
 
 -- an answer at a position
 abbrev pub up_to_max : {A : Type 0} → (position : ℕ) → Result A Fault → Result A Fault

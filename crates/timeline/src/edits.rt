@@ -5,7 +5,7 @@ ghost use Rattle.input_log.specs.Edits.{adding, deleting, moving, setting, up_to
 ghost use Rattle.r3k_image.specs.Boot.{FitsRam};
 ghost use Rattle.r3k_image.specs.Patch.{patching};
 ghost use Rattle.refusal.specs.Given.{Changes, ChangesOrLacks};
-ghost use Rattle.timeline.specs.Reuse.{with_image, with_log};
+ghost use Rattle.timeline.specs.Landed.{with_image, with_log};
 
 use crate::timeline::Timeline;
 use r3k_word::layout::{page_of, place_of};

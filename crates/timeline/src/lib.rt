@@ -2,14 +2,8 @@
 #![tactic(auto)]
 
 mod edits;
-mod going;
-mod inputs;
-mod joining;
 mod landed;
 mod queries;
-mod runs;
-mod sent;
-mod telling;
 mod timeline;
 mod writer;
 

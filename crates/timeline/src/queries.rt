@@ -9,8 +9,9 @@
 
 ghost use Rattle.std.specs.Prelude.{◌≡◌, ◌≤◌, IfOk, MatchResult, Ok};
 ghost use Rattle.refusal.specs.Given.{Gives, GivesFault};
-ghost use Rattle.timeline.specs.Query.{console_at, core_at, max_position, next_pc, sent_at, word_at, writer_at, writer_of};
-ghost use Rattle.timeline.specs.Reuse.{Asks, Lands};
+ghost use Rattle.present_run.specs.History.{max_position};
+ghost use Rattle.timeline.specs.Query.{console_at, core_at, next_pc, sent_at, word_at, writer_at, writer_of};
+ghost use Rattle.timeline.specs.Landed.{Asks, Lands};
 
 use crate::landed::nearest_in_span;
 use crate::timeline::{MAX_POSITION, Timeline};

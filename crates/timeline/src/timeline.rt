@@ -4,12 +4,11 @@ ghost use Rattle.std.specs.Prelude.{◌≡◌, ◌⊎◌, [], MatchResult};
 ghost use Rattle.r3k_image.specs.Boot.{FitsRam};
 ghost use Rattle.r3k_image.specs.declared.fault.ImageFault.TheVariants.{Bad, Memory};
 ghost use Rattle.r3k_image.specs.declared.fault.ImageKind.TheVariants.{Pages};
-ghost use Rattle.timeline.specs.Sizes.{AreSizes};
+ghost use Rattle.present_run.specs.Sizes.{AreSizes};
 
-use crate::inputs::Inputs;
-use crate::runs::Runs;
 use input_log::Log;
 use landings::Landings;
+use present_run::{Inputs, Runs};
 use r3k_image::{Image, ImageFault, ImageKind};
 use std::alloc::Global;
 use std::marker::Model;
@@ -31,12 +30,12 @@ pub struct Timeline<const PAGES: u32, const SPAN: u32> {
 
 impl<const PAGES: u32, const SPAN: u32> Model for Timeline<PAGES, SPAN> {
     ghost use Rattle.std.specs.Coded.{codes};
-    ghost use Rattle.timeline.specs.History.{IsHistory, history_code};
+    ghost use Rattle.present_run.specs.History.{IsHistory, history_code};
     ghost use Rattle.std.specs.Prelude.{ℕ, Contains};
     ghost use Rattle.r3k_machine.specs.State.{State};
     ghost use Rattle.landings.specs.Landings.{positions_of};
-    ghost use Rattle.timeline.specs.Reuse.{IsLanding, Landed};
-    ghost use Rattle.timeline.specs.Runs.{AreOf, holding_of};
+    ghost use Rattle.timeline.specs.Landed.{IsLanding, Landed};
+    ghost use Rattle.present_run.specs.Runs.{AreOf, holding_of};
 
     ghost Value = { Landed };
 

@@ -8,8 +8,8 @@ use Rattle.r3k_machine.specs.Run.{state_at}
 use Rattle.refusal.specs.Given.{GivesFault}
 use Rattle.refusal.specs.declared.fault.Fault.{Fault}
 use Rattle.refusal.specs.declared.fault.Fault.TheVariants.{Memory, NotMemory, TooFar, Unaligned}
-use Rattle.timeline.specs.History.{History}
-use Rattle.timeline.specs.Query.{max_position, of_place, up_to_max, word_at}
+use Rattle.timeline.specs.History.{History, max_position}
+use Rattle.timeline.specs.Query.{of_place, up_to_max, word_at}
 use Rattle.wb_session.specs.Memory.{places_from, place_behind, places_of}
 
 pub places_from-zero : (pages address : ℕ) → places_from pages address 0 ≡ Some []

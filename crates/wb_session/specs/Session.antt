@@ -16,8 +16,8 @@ use Rattle.r3k_machine.specs.Run.{state_at}
 use Rattle.tlb64.specs.Entries.{empty_entry}
 use Rattle.tlb64.specs.declared.entry.Entry.{Entry}
 use Rattle.timeline.specs.Console.{part_of}
-use Rattle.timeline.specs.History.{History, timed_byte_code}
-use Rattle.timeline.specs.Query.{console_at, core_at, max_position, next_pc, sent_at, writer_at}
+use Rattle.timeline.specs.History.{History, max_position, timed_byte_code}
+use Rattle.timeline.specs.Query.{console_at, core_at, next_pc, sent_at, writer_at}
 use Rattle.timeline.specs.Sizes.{AreSizes}
 use Rattle.timeline.specs.declared.writer.Writer.{Writer as LastWriter}
 use Rattle.timeline.specs.declared.writer.Writer.TheVariants as last

@@ -1,7 +1,7 @@
 use Rattle.std.proofs.Common.{inl, inr, ap, subst, ◌∙◌, Contains}
 use Rattle.r3k_machine.specs.State.{State}
 use Rattle.timeline.proofs.Landings.{on}
-use Rattle.timeline.proofs.Spans.{if_some}
+use Rattle.present_run.proofs.Spans.{if_some}
 use Rattle.timeline.proofs.landed.land.Goals as goal
 
 pub returns-in-Ok-clause-among : goal.returns-in-Ok-clause-among

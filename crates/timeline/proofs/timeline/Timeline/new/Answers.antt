@@ -2,7 +2,7 @@ use Rattle.std.proofs.Common.{ℕ, List, Option, ap}
 use Rattle.std.proofs.Math.Path.{ap₂}
 use Rattle.span_fact.specs.Span.{Span}
 use Rattle.landings.specs.Landings.{positions_of}
-use Rattle.timeline.specs.Reuse.{Landed}
+use Rattle.timeline.specs.Landed.{Landed}
 use Rattle.timeline.proofs.Landings.{none}
 use Rattle.timeline.proofs.timeline.Timeline.new.Goals as goal
 

@@ -1,5 +1,5 @@
 use Rattle.std.proofs.Common.{◌/◌, ◌%◌}
-use Rattle.timeline.specs.Runs.{holding_of}
+use Rattle.present_run.specs.Runs.{holding_of}
 use Rattle.timeline.proofs.Landings.{over_query}
 use Rattle.timeline.proofs.timeline.Timeline.sent_at.Goals as goal
 

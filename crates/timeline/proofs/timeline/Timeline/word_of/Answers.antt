@@ -3,8 +3,9 @@ use Rattle.checkpoints.specs.Kept.{Kept}
 use Rattle.landings.specs.Landings.{positions_of}
 use Rattle.r3k_machine.specs.Run.{state_at}
 use Rattle.r3k_machine.specs.State.{State}
-use Rattle.timeline.specs.Reuse.{Landed, Reaches, holding}
-use Rattle.timeline.specs.Runs.{holding_of}
+use Rattle.present_run.specs.Reuse.{Reaches}
+use Rattle.timeline.specs.Landed.{Landed, holding}
+use Rattle.present_run.specs.Runs.{holding_of}
 use Rattle.timeline.proofs.Landings.{kept_here, landing_here, lands_new, lands_not, lands_there, new_landing, none_here, over_query, same_landing, there_are}
 use Rattle.timeline.proofs.timeline.Timeline.word_of.Goals as goal
 

@@ -1,6 +1,6 @@
 use Rattle.std.proofs.Common.{sym, subst, arith}
 use Rattle.r3k_image.specs.Boot.{FitsRam}
-use Rattle.timeline.specs.Reuse.{Landed}
+use Rattle.timeline.specs.Landed.{Landed}
 use Rattle.wb_session.proofs.session.Session.new.Goals as goal
 
 pub invariant_of-result : goal.invariant_of-result

@@ -1,0 +1,181 @@
+-- What the joined records tell together is what the run from reset tells.
+use Rattle.std.proofs.Common.{◌≡◌, ℕ, suc, ◌+◌, ◌-◌, ◌*◌, ◌<◌, ◌≤◌, ◌++◌, inl, inr, List, [], ◌∷◌, length, length-append, map, Option, Some, None, slice_index_or, append_assoc, refl, sym, ap, subst, ◌∙◌, arith}
+use Rattle.std.proofs.Math.Nat.{mul-le-mul_right}
+use Rattle.std.proofs.lemmas.Bool.{cases_lt}
+use Rattle.std.proofs.lemmas.List.{append-nil, length-map}
+use Rattle.std.specs.List.{cons_option}
+use Rattle.input_log.specs.Event.{TimedByte}
+use Rattle.r3k_image.specs.Boot.{Boot}
+use Rattle.r3k_machine.specs.declared.step.Done.{Done}
+use Rattle.r3k_machine.specs.Run.{byte_on, console_of, last_writer, later, senders_of, trace_at}
+use Rattle.r3k_machine.proofs.Splits.{senders_count}
+use Rattle.r3k_live.specs.Record.{sent_from}
+use Rattle.span_fact.specs.Span.{Span}
+use Rattle.span_index.specs.Index.{IsLastWriter, IsSender, bytes_at, sent_below, steps_in}
+use Rattle.span_index.specs.Sent.{bytes_on, steps_on}
+use Rattle.span_index.proofs.Joined.{sent_joined, step_of, writer_joined}
+use Rattle.present_run.specs.Console.{Shows, part_of}
+use Rattle.present_run.specs.Reuse.{span_of}
+use Rattle.present_run.specs.Runs.{IsJoined, steps_between}
+use Rattle.present_run.proofs.Consoles.{part_enough}
+use Rattle.present_run.specs.declared.sent.Shown.{Shown}
+use Rattle.present_run.proofs.Near.{same_steps}
+use Rattle.present_run.proofs.Steps.{trace_long}
+use Rattle.present_run.proofs.Told.{console_front, senders_front, span_steps, trace_none, up_to_next, writer_span}
+
+-- so many records are joined
+abbrev pub AreJoined : (pages span : ℕ) → Boot → List TimedByte → List (Option Span) → ℕ → Type 0
+AreJoined pages span image log spans count = (i : ℕ) → i < count → IsJoined pages span i (slice_index_or spans i None) (span_of pages span image log i)
+
+steps_joined : (pages span : ℕ) (image : Boot) (log : List TimedByte) (i : ℕ) (o : Option Span) → IsJoined pages span i o (span_of pages span image log i)
+    → steps_in pages span o ≡ steps_between pages image log (i * span) ((i + 1) * span)
+steps_joined pages span image log i None joined = absurd joined.near
+steps_joined pages span image log i (Some r) joined =
+    same_steps pages span i (Some r) r (span_of pages span image log i) refl refl joined ∙ span_steps pages span image log i
+
+pub writer_told : (pages span : ℕ) (image : Boot) (log : List TimedByte) (spans : List (Option Span)) (count address : ℕ) (found : Option (ℕ × ℕ))
+    → AreJoined pages span image log spans count → IsLastWriter pages span spans count address found
+    → last_writer address (trace_at pages image log (count * span)) ≡ step_of span found
+writer_told pages span image log spans count address found joined last =
+    writer_joined pages span spans count address (λ i. last_writer address (trace_at pages image log (i * span)))
+    (ap (last_writer address) (trace_none pages span image log 0 refl))
+    (λ i within.
+    writer_span pages span image log address i (i + 1) refl
+    ∙ ap (λ (steps : List Done). later (i * span) (last_writer address steps) (last_writer address (trace_at pages image log (i * span))))
+    (sym (steps_joined pages span image log i (slice_index_or spans i None) (joined i within))))
+    found last
+
+-- how many bytes a line had where a span starts
+abbrev pub length_at : (pages span : ℕ) → Boot → List TimedByte → (line index : ℕ) → ℕ
+length_at pages span image log line index = length (console_of line (trace_at pages image log (index * span)))
+
+pub count_told : (pages span : ℕ) (image : Boot) (log : List TimedByte) (spans : List (Option Span)) (line count : ℕ)
+    → AreJoined pages span image log spans count → sent_below pages span spans line count ≡ length_at pages span image log line count
+count_told pages span image log spans line count joined =
+    sent_joined pages span spans line count (length_at pages span image log line)
+    (ap (λ (steps : List Done). length (console_of line steps)) (trace_none pages span image log 0 refl))
+    (λ i within.
+    ap (λ (bytes : List ℕ). length bytes) (sym (console_front pages image log line (i * span) ((i + 1) * span) (up_to_next i span)))
+    ∙ (length-append (console_of line (trace_at pages image log (i * span))) (bytes_on line (sent_from 0 (steps_between pages image log (i * span) ((i + 1) * span))))
+    ∙ ap (λ (steps : List Done). length_at pages span image log line i + length (bytes_on line (sent_from 0 steps)))
+    (sym (steps_joined pages span image log i (slice_index_or spans i None) (joined i within)))))
+
+-- a console goes on
+pub goes_on : (pages : ℕ) (image : Boot) (log : List TimedByte) (line from to : ℕ) → from ≤ to
+    → length (console_of line (trace_at pages image log from)) ≤ length (console_of line (trace_at pages image log to))
+goes_on pages image log line from to before =
+    let front = console_of line (trace_at pages image log from) in
+    let more = bytes_on line (sent_from 0 (steps_between pages image log from to)) in
+    let long = ap (λ (bytes : List ℕ). length bytes) (sym (console_front pages image log line from to before)) ∙ length-append front more in
+    omega (arith, long)
+
+-- and does not, where no byte was sent
+none : (bytes : List ℕ) → length bytes ≡ 0 → bytes ≡ []
+none [] empty = refl
+none (byte ∷ rest) empty = absurd (let e : ⊥ = omega (arith, empty) in e)
+
+pub same_console : (pages : ℕ) (image : Boot) (log : List TimedByte) (line from to : ℕ) → from ≤ to
+    → length (console_of line (trace_at pages image log to)) ≤ length (console_of line (trace_at pages image log from))
+    → console_of line (trace_at pages image log to) ≡ console_of line (trace_at pages image log from)
+same_console pages image log line from to before few =
+    let front = console_of line (trace_at pages image log from) in
+    let more = bytes_on line (sent_from 0 (steps_between pages image log from to)) in
+    let whole = sym (console_front pages image log line from to before) in
+    let long = ap (λ (bytes : List ℕ). length bytes) whole ∙ length-append front more in
+    whole ∙ (ap (λ (bytes : List ℕ). front ++ bytes) (none more (omega (arith, long, few))) ∙ append-nil front)
+
+-- the span that sent the byte at a place
+abbrev pub span_or : ℕ → Option (ℕ × ℕ) → ℕ
+span_or count None = count
+span_or count (Some found) = found.0
+
+-- there are enough bytes already
+enough : (from count : ℕ) (console more : List ℕ) → count ≤ length (part_of from count console) → part_of from count (console ++ more) ≡ part_of from count console
+enough from count console [] full = ap (part_of from count) (append-nil console)
+enough from count console (byte ∷ more) full =
+    let next = part_enough from count console byte full in
+    ap (part_of from count) (sym (append_assoc console (byte ∷ []) more))
+    ∙ (enough from count (console ++ byte ∷ []) more (subst (λ (part : List ℕ). count ≤ length part) (sym next) full) ∙ next)
+
+pub shown_enough : (pages : ℕ) (image : Boot) (log : List TimedByte) (line from count begin end : ℕ) (bytes : List ℕ) → begin ≤ end
+    → bytes ≡ part_of from count (console_of line (trace_at pages image log begin)) → count ≤ length bytes
+    → bytes ≡ part_of from count (console_of line (trace_at pages image log end))
+shown_enough pages image log line from count begin end bytes before is full =
+    let front = console_of line (trace_at pages image log begin) in
+    let more = bytes_on line (sent_from 0 (steps_between pages image log begin end)) in
+    is
+    ∙ (sym (enough from count front more (subst (λ (part : List ℕ). count ≤ length part) is full))
+    ∙ ap (part_of from count) (console_front pages image log line begin end before))
+
+below_next : (pages span : ℕ) (spans : List (Option Span)) (line i : ℕ)
+    → sent_below pages span spans line (i + 1) ≡ sent_below pages span spans line i + length (bytes_at pages span spans line i)
+unfolding sent_below
+below_next pages span spans line i = ap (sent_below pages span spans line) (let e : i + 1 ≡ suc i = omega arith in e)
+
+-- where the byte at a place was sent
+pub sender_from : (pages span : ℕ) (image : Boot) (log : List TimedByte) (spans : List (Option Span)) (line place count : ℕ) (found : Option (ℕ × ℕ))
+    → AreJoined pages span image log spans count → IsSender pages span spans line place count found
+    → length_at pages span image log line (span_or count found) ≤ place
+sender_from pages span image log spans line place count None joined is = omega (arith, is, count_told pages span image log spans line count joined)
+sender_from pages span image log spans line place count (Some found) joined is =
+    omega (arith, is.0, is.1, count_told pages span image log spans line (found.0) (λ i below. joined i (omega (arith, below, is.0))))
+
+pub sender_to : (pages span : ℕ) (image : Boot) (log : List TimedByte) (spans : List (Option Span)) (line place count : ℕ) (found : ℕ × ℕ)
+    → AreJoined pages span image log spans count → IsSender pages span spans line place count (Some found)
+    → place < length_at pages span image log line (found.0 + 1)
+sender_to pages span image log spans line place count found joined is =
+    omega (
+      arith,
+      is.1,
+      is.2,
+      below_next pages span spans line (found.0),
+      count_told pages span image log spans line (found.0 + 1) (λ i below. joined i (omega (arith, below, is.0))),
+    )
+
+-- at most one byte a step
+few_more : (byte : Option ℕ) (bytes : List ℕ) (n : ℕ) → length bytes ≤ n → length (cons_option byte bytes) ≤ suc n
+few_more None bytes n few = omega (arith, few)
+few_more (Some byte) bytes n few = omega (arith, few)
+
+few_bytes : (line : ℕ) (steps : List Done) → length (console_of line steps) ≤ length steps
+few_bytes line [] = omega arith
+few_bytes line (done ∷ steps) = few_more (byte_on line done.sent) (console_of line steps) (length steps) (few_bytes line steps)
+
+pub few_at : (pages span : ℕ) (image : Boot) (log : List TimedByte) (line index : ℕ) → length_at pages span image log line index ≤ index * span
+few_at pages span image log line index =
+    omega (arith, few_bytes line (trace_at pages image log (index * span)), trace_long pages image log (index * span))
+
+-- the next span that sent a byte
+pub later_sender : (pages span : ℕ) (image : Boot) (log : List TimedByte) (line index next spans total : ℕ) → index < spans
+    → total ≡ length_at pages span image log line (index + 1) → (next < spans → total < length_at pages span image log line (next + 1)) → index + 1 ≤ next
+later_sender pages span image log line index next spans total within is to =
+    elim (cases_lt next (index + 1)) [
+      | inl before ↦
+          let more = goes_on pages image log line ((next + 1) * span) ((index + 1) * span) (mul-le-mul_right span (omega (arith, before))) in
+          absurd (let e : ⊥ = omega (arith, to (omega (arith, before, within)), is, more) in e)
+      | inr behind ↦ behind
+    ]
+
+pub shows_next : (pages span : ℕ) (image : Boot) (log : List TimedByte) (line from count index next : ℕ) (shown : Shown) → index + 1 ≤ next
+    → length_at pages span image log line next ≤ shown.total
+    → Shows from count (console_of line (trace_at pages image log ((index + 1) * span))) shown
+    → Shows from count (console_of line (trace_at pages image log (next * span))) shown
+shows_next pages span image log line from count index next shown behind few shows =
+    subst (λ (bytes : List ℕ). Shows from count bytes shown)
+    (sym (same_console pages image log line ((index + 1) * span) (next * span) (mul-le-mul_right span behind) (subst (λ (n : ℕ). length_at pages span image log line next ≤ n) shows.0 few)))
+    shows
+
+-- a byte that a span sent is not behind all of that span's
+pub not_behind : (pages span : ℕ) (image : Boot) (log : List TimedByte) (line index place more : ℕ)
+    → length_at pages span image log line index ≤ place → place < length_at pages span image log line (index + 1)
+    → ¬ (length (steps_on line (sent_from 0 (steps_between pages image log (index * span) ((index + 1) * span)))) + more ≡ place - length_at pages span image log line index)
+not_behind pages span image log line index place more low high behind =
+    let from = index * span in
+    let to = (index + 1) * span in
+    let steps = steps_between pages image log from to in
+    let here = steps_on line (sent_from 0 steps) in
+    let front = senders_of line 0 (trace_at pages image log from) in
+    let whole = ap (λ (xs : List ℕ). length xs) (senders_front pages image log line from to (up_to_next index span)) in
+    let long : length (front ++ map (λ k. from + k) here) ≡ length front + length here =
+    length-append front (map (λ k. from + k) here) ∙ ap (λ (n : ℕ). length front + n) (length-map here (λ k. from + k)) in
+    (let e : ⊥ = omega (arith, behind, low, high, whole, long, senders_count line 0 (trace_at pages image log from), senders_count line 0 (trace_at pages image log to)) in e)

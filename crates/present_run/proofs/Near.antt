@@ -1,0 +1,83 @@
+-- Records that nearly are those of spans of the run.
+use Rattle.std.proofs.Common.{◌≡◌, ℕ, ◌+◌, ◌*◌, not, IfSome, List, length, Option, None, Some, refl, sym, ap, subst, ◌∙◌}
+use Rattle.std.proofs.Math.Path.{ap₂}
+use Rattle.input_log.specs.Event.{TimedByte}
+use Rattle.r3k_image.specs.Boot.{Boot}
+use Rattle.r3k_machine.specs.State.{State}
+use Rattle.r3k_machine.specs.Run.{run, state_at, trace}
+use Rattle.r3k_machine.proofs.Elsewhere.{run_elsewhere}
+use Rattle.r3k_pages.specs.Pages.{holds}
+use Rattle.r3k_live.specs.Record.{touched_pages}
+use Rattle.r3k_live.proofs.Apart.{apart_from_all}
+use Rattle.r3k_live.proofs.Overlaid.{no_page_of_both, same_on}
+use Rattle.span_fact.specs.Span.{Span, end_of, steps_of}
+use Rattle.checkpoints.specs.Kept.{IsNear, NearlyApplies}
+use Rattle.checkpoints.proofs.Near.{near_steps}
+use Rattle.present_run.specs.Reuse.{span_of}
+use Rattle.present_run.specs.Runs.{IsJoined}
+use Rattle.present_run.proofs.Spans.{ends, if_some}
+
+-- a record that is there
+pub nearly : (pages span : ℕ) (o : Option Span) (r : Span) (start : State) (events : List TimedByte) → o ≡ Some r → IsNear pages span o start events
+    → NearlyApplies pages span r start events
+nearly pages span o r start events is near = subst (λ (o : Option Span). IsNear pages span o start events) is near
+
+-- the same said otherwise
+pub moved : (pages span : ℕ) (o p : Option Span) (a b : State) (x y : List TimedByte) → o ≡ p → a ≡ b → x ≡ y → IsNear pages span o a x → IsNear pages span p b y
+moved pages span o p a b x y op ab xy near =
+    subst (λ (y : List TimedByte). IsNear pages span p b y) xy
+    (subst (λ (b : State). IsNear pages span p b x) ab
+    (subst (λ (p : Option Span). IsNear pages span p a x) op near))
+
+-- its steps tell what those of the span do
+pub same_steps : (pages span index : ℕ) (o : Option Span) (r s : Span) → o ≡ Some r → s.index ≡ index → IsJoined pages span index o s
+    → steps_of pages span r ≡ steps_of pages span s
+same_steps pages span index o r s is number joined =
+    sym (near_steps pages span r s.start s.events (nearly pages span o r s.start s.events is joined.near) (if_some _ o r is joined.long))
+    ∙ ap (λ (n : ℕ). trace pages s.events (n * span) s.start span) (if_some _ o r is joined.number ∙ sym number)
+
+-- it ends with the same core
+same_core : (pages span : ℕ) (r s : Span) → NearlyApplies pages span r s.start s.events → length s.start.words ≡ length r.start.words → r.index ≡ s.index
+    → (end_of pages span r).core ≡ (end_of pages span s).core
+same_core pages span r s near long number =
+    let touched = touched_pages pages (steps_of pages span r) in
+    let none = apart_from_all pages r.events (r.index * span) (λ page. not (holds touched page)) r.start span (no_page_of_both touched) in
+    let same = run_elsewhere pages r.events (r.index * span) (λ page. not (holds touched page)) r.start s.start s.start.words span
+    (same_on touched r.start s.start (sym near.same_core) long near.same_touched) none
+    in
+    sym (subst (λ (log : List TimedByte). (run pages log (s.index * span) s.start span).core ≡ (end_of pages span r).core) near.same_events
+    (subst (λ (n : ℕ). (run pages r.events (n * span) s.start span).core ≡ (end_of pages span r).core) number same.1.core))
+
+pub core_behind : (pages span : ℕ) (image : Boot) (log : List TimedByte) (index : ℕ) (o : Option Span) → IsJoined pages span index o (span_of pages span image log index)
+    → IfSome o (λ r. (end_of pages span r).core ≡ (state_at pages image log ((index + 1) * span)).core)
+core_behind pages span image log index o joined = by_cases o joined.near joined.number joined.long
+  where
+    s : Span
+    s = span_of pages span image log index
+
+    by_cases : (o : Option Span) → IsNear pages span o s.start s.events → IfSome o (λ r. r.index ≡ index) → IfSome o (λ r. length s.start.words ≡ length r.start.words)
+        → IfSome o (λ r. (end_of pages span r).core ≡ (state_at pages image log ((index + 1) * span)).core)
+    by_cases None near number long = tt
+    by_cases (Some r) near number long =
+        same_core pages span r s near long number ∙ ap (λ (state : State). state.core) (ends pages span image log index)
+
+-- the end of a span that has another start
+pub end_from : (pages span : ℕ) (r s : Span) (start : State) → start ≡ s.start → r.index ≡ s.index → r.events ≡ s.events
+    → end_of pages span (record r { start = start }) ≡ end_of pages span s
+end_from pages span r s start same number events =
+    ap (λ (start : State). run pages r.events (r.index * span) start span) same
+    ∙ (ap (λ (n : ℕ). run pages r.events (n * span) s.start span) number
+    ∙ ap (λ (log : List TimedByte). run pages log (s.index * span) s.start span) events)
+
+-- a record of the span itself
+pub is_joined : (pages span : ℕ) (image : Boot) (log : List TimedByte) (index : ℕ) (o : Option Span) → o ≡ Some (span_of pages span image log index)
+    → IsJoined pages span index o (span_of pages span image log index)
+is_joined pages span image log index o is =
+    let s : Span = span_of pages span image log index in
+    subst (λ (o : Option Span). IsJoined pages span index o s) (sym is)
+    (record { near = record { same_events = refl; same_core = refl; same_touched = λ page held place of. refl }; number = refl; long = refl })
+
+pub same_span : (r s : Span) → r.index ≡ s.index → r.start ≡ s.start → r.events ≡ s.events → r ≡ s
+same_span r s number start events =
+    ap (λ (n : ℕ). let t : Span = record { index = n; start = r.start; events = r.events } in t) number
+    ∙ ap₂ (λ (start : State) (events : List TimedByte). let t : Span = record { index = s.index; start = start; events = events } in t) start events

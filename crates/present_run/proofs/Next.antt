@@ -1,0 +1,145 @@
+-- The next span, and the record of its number that is kept.
+use Rattle.std.proofs.Common.{◌≡◌, ◌⊎◌, inl, inr, ℕ, zero, suc, ◌+◌, ◌*◌, ◌<◌, ◌≤◌, Bool, true, false, IsTrue, IfSome, MatchOption, List, [], ◌∷◌, ◌++◌, length, length-append, map, slice_get, slice_index_or, Option, Some, None, refl, sym, ap, subst, ◌∙◌, arith}
+use Rattle.std.proofs.lemmas.Bool.{cases_lt, true≢false}
+use Rattle.input_log.specs.Event.{TimedByte}
+use Rattle.r3k_image.specs.Boot.{Boot}
+use Rattle.r3k_machine.specs.State.{State}
+use Rattle.r3k_machine.specs.Reset.{reset}
+use Rattle.r3k_machine.specs.Run.{state_at}
+use Rattle.r3k_pages.specs.Pages.{SameOutside}
+use Rattle.span_fact.specs.Span.{Span, end_of}
+use Rattle.checkpoints.specs.Kept.{Follows}
+use Rattle.span_index.specs.Index.{Index, IsSettled}
+use Rattle.present_run.specs.Reuse.{span_of}
+use Rattle.present_run.specs.Runs.{AreEnds}
+use Rattle.present_run.proofs.Differ.{same_all}
+use Rattle.present_run.proofs.Spans.{at_reset, ends, some_is}
+
+-- a record as it is handed out
+pub as_kept : {R : Type 0} (now : R → Span) (r : Option R) (o : Option Span) (P : Span → Type 0) → MatchOption r (o ≡ None) (λ f. o ≡ Some (now f)) → IfSome r (λ f. P (now f)) → IfSome o P
+as_kept now None o P none p = subst (λ o. IfSome o P) (sym none) tt
+as_kept now (Some f) o P is p = subst (λ o. IfSome o P) (sym is) p
+
+pub into_some : {A : Type 0} (P : A → Type 0) (o : Option A) (x : A) → o ≡ Some x → P x → IfSome o P
+into_some P o x is p = subst (λ o. IfSome o P) (sym is) p
+
+pub map_some : {A : Type 0} (P Q : A → Type 0) (o : Option A) → ((x : A) → P x → Q x) → IfSome o P → IfSome o Q
+map_some P Q None f p = tt
+map_some P Q (Some x) f p = f x p
+
+-- behind a span that was run
+pub behind_run : (pages span : ℕ) (image : Boot) (log : List TimedByte) (valid : ℕ) (old new : List ℕ) (n : Span) (o s : Option Span)
+    → Follows pages span o s
+    → IfSome o (λ o. SameOutside old o.start.words (state_at pages image log (valid * span)).words)
+    → IfSome o (λ o. SameOutside old o.start.words n.start.words → SameOutside new (end_of pages span o).words (end_of pages span n).words)
+    → n ≡ span_of pages span image log valid
+    → IfSome s (λ s. SameOutside new s.start.words (state_at pages image log ((valid + 1) * span)).words)
+behind_run pages span image log valid old new n o None follows was passed is = tt
+behind_run pages span image log valid old new n None (Some s) follows was passed is = absurd follows
+behind_run pages span image log valid old new n (Some o) (Some s) follows was passed is =
+    let after = passed (subst (λ (n : Span). SameOutside old o.start.words n.start.words) (sym is) was) in
+    subst (λ (start : State). SameOutside new start.words (state_at pages image log ((valid + 1) * span)).words) (sym follows)
+    (subst (λ (end : State). SameOutside new (end_of pages span o).words end.words)
+    (ap (λ (n : Span). end_of pages span n) is ∙ ends pages span image log valid) after)
+
+-- behind a record that nearly applies
+pub behind_kept : (pages span : ℕ) (set words : List ℕ) (r : Span) (o s : Option Span) → o ≡ Some r → Follows pages span o s
+    → SameOutside set (end_of pages span r).words words → IfSome s (λ s. SameOutside set s.start.words words)
+behind_kept pages span set words r o None is follows same = tt
+behind_kept pages span set words r o (Some s) is follows same =
+    subst (λ (start : State). SameOutside set start.words words) (sym (subst (λ (o : Option Span). Follows pages span o (Some s)) is follows)) same
+
+-- the first record, once it is that of the run
+pub from_reset : (pages span : ℕ) (image : Boot) (log : List TimedByte) (patched : List ℕ) (o : Option Span) → o ≡ Some (span_of pages span image log 0)
+    → IfSome o (λ s. SameOutside patched s.start.words (reset pages image).words)
+from_reset pages span image log patched o is =
+    into_some _ o (span_of pages span image log 0) is
+    (same_all patched _ _ (ap (λ (s : State). s.words)
+    (ap (state_at pages image log) (let e : 0 * span ≡ 0 = omega arith in e) ∙ at_reset pages image log)))
+
+-- the first record after one was put, or was not
+pub first_put : (pages span : ℕ) (image : Boot) (log : List TimedByte) (valid : ℕ) (patched : List ℕ) (before after : Option Span)
+    → (¬ (0 ≡ valid) → after ≡ before) → (valid ≡ 0 → (after ≡ Some (span_of pages span image log 0)) ⊎ (after ≡ before))
+    → IfSome before (λ s. SameOutside patched s.start.words (reset pages image).words)
+    → IfSome after (λ s. SameOutside patched s.start.words (reset pages image).words)
+first_put pages span image log zero patched before after others there was =
+    elim (there refl) [
+      | inl is ↦ from_reset pages span image log patched after is
+      | inr same ↦ subst (λ (o : Option Span). IfSome o (λ s. SameOutside patched s.start.words (reset pages image).words)) (sym same) was
+    ]
+first_put pages span image log (suc k) patched before after others there was =
+    subst (λ (o : Option Span). IfSome o (λ s. SameOutside patched s.start.words (reset pages image).words)) (sym (others (λ e. let x : ⊥ = omega (arith, e) in x))) was
+
+-- the first record after the join of one that may start where its span does
+pub first_joined : (pages span : ℕ) (image : Boot) (log : List TimedByte) (valid : ℕ) (exact : Bool) (old new : List ℕ) (o : Option Span)
+    → (valid ≡ 0 → IsTrue exact → o ≡ Some (span_of pages span image log 0)) → ((IsTrue exact → 0 < valid) → new ≡ old)
+    → IfSome o (λ s. SameOutside old s.start.words (reset pages image).words)
+    → IfSome o (λ s. SameOutside new s.start.words (reset pages image).words)
+first_joined pages span image log zero true old new o there same was = from_reset pages span image log new o (there refl refl)
+first_joined pages span image log zero false old new o there same was =
+    subst (λ (set : List ℕ). IfSome o (λ s. SameOutside set s.start.words (reset pages image).words)) (sym (same (λ e. absurd (true≢false (sym e))))) was
+first_joined pages span image log (suc k) exact old new o there same was =
+    subst (λ (set : List ℕ). IfSome o (λ s. SameOutside set s.start.words (reset pages image).words)) (sym (same (λ _. omega arith))) was
+
+-- what holds of all before one, and of that one
+pub and_last : (P : ℕ → Type 0) (valid : ℕ) → ((i : ℕ) → i < valid → P i) → P valid → (i : ℕ) → i < valid + 1 → P i
+and_last P valid before here i within =
+    elim (cases_lt i valid) [
+      | inl below ↦ before i below
+      | inr above ↦ subst P (let same : valid ≡ i = omega (arith, within, above) in same) here
+    ]
+
+-- where spans end, at first
+pub no_ends : (pages span : ℕ) (image : Boot) (log : List TimedByte) (count : ℕ) (ends : List State) → count ≡ 0 → ends ≡ [] → AreEnds pages span image log count ends
+no_ends pages span image log count ends none empty = record {
+  many = ap (λ (e : List State). length e) empty ∙ sym none;
+  each = λ index within. absurd (let e : ⊥ = omega (arith, none, within) in e);
+}
+
+-- and with one more
+pub more_ends : (pages span : ℕ) (image : Boot) (log : List TimedByte) (count : ℕ) (ends : List State) (end : State) → AreEnds pages span image log count ends
+    → end ≡ state_at pages image log ((count + 1) * span) → AreEnds pages span image log (count + 1) (ends ++ end ∷ [])
+more_ends pages span image log count ends end are is = record {
+  many = length-append ends (end ∷ []) ∙ ap (λ (n : ℕ). n + 1) are.many;
+  each = and_last (λ index. slice_get (ends ++ end ∷ []) index ≡ Some (state_at pages image log ((index + 1) * span))) count
+      (λ index within. before ends index (subst (λ (n : ℕ). index < n) (sym are.many) within) ∙ are.each index within)
+      (ap (slice_get (ends ++ end ∷ [])) (sym are.many) ∙ (behind ends ∙ ap Some is));
+}
+  where
+    before : (ends : List State) (index : ℕ) → index < length ends → slice_get (ends ++ end ∷ []) index ≡ slice_get ends index
+    before [] index within = absurd (let e : ⊥ = omega (arith, within) in e)
+    before (first ∷ rest) zero within = refl
+    before (first ∷ rest) (suc index) within = before rest index (omega (arith, within))
+
+    behind : (ends : List State) → slice_get (ends ++ end ∷ []) (length ends) ≡ Some end
+    behind [] = refl
+    behind (first ∷ rest) = behind rest
+
+-- an end by its place
+pub end_at : {A : Type 0} (value : A → State) (ends : List A) (index : ℕ) (end : A) (state : State) → index < length ends → end ≡ slice_index_or ends index end
+    → slice_get (map value ends) index ≡ Some state → value end ≡ state
+end_at value [] index end state within is got = absurd (let e : ⊥ = omega (arith, within) in e)
+end_at value (first ∷ rest) zero end state within is got = ap value is ∙ some_is (value first) state got
+end_at value (first ∷ rest) (suc index) end state within is got = end_at value rest index end state (omega (arith, within)) is got
+
+pub values_more : {A : Type 0} (value : A → State) (ends : List A) (end : A) → map value (ends ++ end ∷ []) ≡ map value ends ++ value end ∷ []
+values_more value [] end = refl
+values_more value (first ∷ rest) end = ap (λ (states : List State). value first ∷ states) (values_more value rest end)
+
+pub value_count : {A : Type 0} (value : A → State) (ends : List A) → length (map value ends) ≡ length ends
+value_count value [] = refl
+value_count value (first ∷ rest) = ap (λ (n : ℕ). suc n) (value_count value rest)
+
+-- none of the first no records has changed
+not_before : (stale : Option ℕ) → IfSome stale (λ i. 0 ≤ i)
+not_before None = tt
+not_before (Some i) = omega arith
+
+pub settled_first : (index : Index) → IsSettled index 0
+settled_first index = not_before index.stale
+
+pub settled_none : (index : Index) (count : ℕ) → index.stale ≡ None → IsSettled index count
+settled_none index count none = subst (λ (o : Option ℕ). IfSome o (λ i. count ≤ i)) (sym none) tt
+
+pub settled_at : (index : Index) (i count : ℕ) → index.stale ≡ Some i → count ≤ i → IsSettled index count
+settled_at index i count is behind = subst (λ (o : Option ℕ). IfSome o (λ i. count ≤ i)) (sym is) behind

@@ -1,0 +1,141 @@
+-- The run from reset by spans.
+use Rattle.std.proofs.Common.{◌≡◌, ℕ, zero, suc, ◌≤◌, ◌==◌, None, IfSome, inl, inr, ◌+◌, ◌-◌, ◌*◌, List, Option, Some, unwrap_or, Result, Ok, Err, IfOk, MatchResult, OnErr, sym, ap, ◌∙◌, subst, arith, zero-add, refl}
+use Rattle.std.proofs.Math.Nat.{add-mul}
+use Rattle.std.proofs.Math.Path.{ap₂}
+use Rattle.std.proofs.lemmas.Bool.{cases_Bool}
+use Rattle.r3k_live.specs.Visits.{first_visit}
+use Rattle.input_log.specs.Event.{TimedByte}
+use Rattle.input_log.specs.Log.{window_of}
+use Rattle.r3k_image.specs.Boot.{Boot}
+use Rattle.r3k_machine.specs.Reset.{reset}
+use Rattle.r3k_machine.specs.Run.{next_visit, run, state_at}
+use Rattle.r3k_machine.proofs.Splits.{run_own, run_split, run_within}
+use Rattle.r3k_machine.specs.State.{State}
+use Rattle.span_fact.specs.Span.{Span, end_of}
+use Rattle.checkpoints.specs.Kept.{Follows}
+use Rattle.present_run.specs.Reuse.{span_of}
+
+pub next_start : (index span : ℕ) → (index + 1) * span ≡ index * span + span
+next_start index span = add-mul index 1 span ∙ ap (λ (n : ℕ). index * span + n) (let e : 1 * span ≡ span = omega arith in e)
+
+-- a span of the run ends where the next one starts
+pub ends : (pages span : ℕ) (image : Boot) (log : List TimedByte) (index : ℕ)
+    → end_of pages span (span_of pages span image log index) ≡ state_at pages image log ((index + 1) * span)
+ends pages span image log index =
+    let from = index * span in
+    let start = state_at pages image log from in
+    ap (λ (to : ℕ). run pages (window_of from to log) from start span) (next_start index span)
+    ∙ (run_own pages log from start span
+    ∙ (ap (λ (t : ℕ). run pages log t start span) (sym (zero-add from))
+    ∙ (sym (run_split pages log 0 (reset pages image) from span)
+    ∙ ap (state_at pages image log) (sym (next_start index span)))))
+
+pub follow : (pages span : ℕ) (image : Boot) (log : List TimedByte) (a b : Option Span) (index : ℕ)
+    → a ≡ Some (span_of pages span image log index) → b ≡ Some (span_of pages span image log (index + 1)) → Follows pages span a b
+follow pages span image log a b index is_a is_b =
+    subst (λ (o : Option Span). Follows pages span o b) (sym is_a)
+    (subst (λ (o : Option Span). Follows pages span (Some (span_of pages span image log index)) o) (sym is_b) (sym (ends pages span image log index)))
+
+pub at_reset : (pages : ℕ) (image : Boot) (log : List TimedByte) → state_at pages image log 0 ≡ reset pages image
+unfolding run
+at_reset pages image log = refl
+
+pub some_is : {A : Type 0} (a b : A) → Some a ≡ Some b → a ≡ b
+some_is a b same = ap (λ (o : Option _). unwrap_or o a) same
+
+-- the span behind another one of the run
+pub behind : (pages span : ℕ) (image : Boot) (log : List TimedByte) (index next : ℕ) → next ≡ index + 1 →
+    (let s : Span = record { index = next; start = end_of pages span (span_of pages span image log index); events = window_of (next * span) ((next + 1) * span) log } in s)
+    ≡ span_of pages span image log next
+behind pages span image log index next is =
+    ap (λ (start : State). let s : Span = record { index = next; start = start; events = window_of (next * span) ((next + 1) * span) log } in s)
+    (ends pages span image log index ∙ ap (λ (n : ℕ). state_at pages image log (n * span)) (sym is))
+
+pub span_is : (pages span : ℕ) (image : Boot) (log : List TimedByte) (index valid : ℕ) (start : State) (events : List TimedByte) → index ≡ valid
+    → start ≡ state_at pages image log (valid * span) → events ≡ window_of (index * span) ((index + 1) * span) log
+    → (let s : Span = record { index = index; start = start; events = events } in s) ≡ span_of pages span image log valid
+span_is pages span image log index valid start events is start_is events_is =
+    ap₂ (λ (start : State) (events : List TimedByte). let s : Span = record { index = index; start = start; events = events } in s) start_is events_is
+    ∙ ap (λ (n : ℕ). let s : Span = record { index = n; start = state_at pages image log (valid * span); events = window_of (n * span) ((n + 1) * span) log } in s) is
+
+-- what a call leaves, whether it fails or not
+pub either : {A E P : Type 0} (X : A → Type 0) (Y : Type 0) (r : Result A E) → IfOk r X → OnErr r Y → ((x : A) → X x → P) → (Y → P) → P
+either X Y (Ok x) ok err f g = f x ok
+either X Y (Err e) ok err f g = g err
+
+pub map_ok : {A E : Type 0} (P Q : A → Type 0) (r : Result A E) → ((x : A) → P x → Q x) → IfOk r P → IfOk r Q
+map_ok P Q (Ok x) f p = f x p
+map_ok P Q (Err e) f p = tt
+
+pub on_err : {A E : Type 0} (X Y : Type 0) (r : Result A E) → (X → Y) → OnErr r X → OnErr r Y
+on_err X Y (Ok x) f p = tt
+on_err X Y (Err e) f p = f p
+
+-- a copy of a pointer
+pub copied : {A E : Type 0} (P Q : A → Type 0) (X : E → Type 0) (r : Result A E) → MatchResult r P X → ((x : A) → P x → Q x) → IfOk r Q
+copied P Q X (Ok x) p f = f x p
+copied P Q X (Err e) p f = tt
+
+-- what holds in any case
+pub ok_all : {A E : Type 0} (r : Result A E) (X : Type 0) → X → IfOk r (λ _. X)
+ok_all (Ok x) X there = there
+ok_all (Err e) X there = tt
+
+-- the value of an option that is known
+pub if_some : {A : Type 0} (P : A → Type 0) (o : Option A) (x : A) → o ≡ Some x → IfSome o P → P x
+if_some P o x is p = subst (λ o. IfSome o P) is p
+
+-- going on from a position
+pub gone_within : (pages : ℕ) (image : Boot) (log : List TimedByte) (time to n : ℕ) → time + n ≤ to
+    → run pages (window_of time to log) time (state_at pages image log time) n ≡ state_at pages image log (time + n)
+gone_within pages image log time to n within =
+    let s = state_at pages image log time in
+    run_within pages to log time s n within
+    ∙ (ap (λ (t : ℕ). run pages log t s n) (sym (zero-add time)) ∙ sym (run_split pages log 0 (reset pages image) time n))
+
+pub gone_on : (pages : ℕ) (image : Boot) (log : List TimedByte) (time position : ℕ) → time ≤ position
+    → run pages (window_of time position log) time (state_at pages image log time) (position - time) ≡ state_at pages image log position
+gone_on pages image log time position before =
+    gone_within pages image log time position (position - time) (omega (arith, before))
+    ∙ ap (state_at pages image log) (let e : time + (position - time) ≡ position = omega (arith, before) in e)
+
+-- a visit, by its steps and by its position
+abbrev pub behind_time : ℕ → Option ℕ → Option ℕ
+behind_time time None = None
+behind_time time (Some steps) = Some (time + steps)
+
+pub seen : (pages : ℕ) (image : Boot) (log : List TimedByte) (address time to k limit : ℕ) → time + (k + limit) ≤ to
+    → behind_time time (first_visit pages (window_of time to log) time (state_at pages image log time) address k limit)
+    ≡ next_visit pages image log address (time + k) limit
+unfolding first_visit next_visit
+seen pages image log address time to k zero within = refl
+seen pages image log address time to k (suc limit) within =
+    let state = gone_within pages image log time to (suc k) (omega (arith, within)) in
+    let here : time + suc k ≡ suc (time + k) = omega arith in
+    let pc = ap (λ (s : State). s.core.pc) state ∙ ap (λ (t : ℕ). (state_at pages image log t).core.pc) here in
+    elim (cases_Bool ((run pages (window_of time to log) time (state_at pages image log time) (suc k)).core.pc == address)) [
+      | inl found ↦ rw (found, sym (ap (λ (n : ℕ). n == address) pc) ∙ found) (ap Some here)
+      | inr other ↦ rw (other, sym (ap (λ (n : ℕ). n == address) pc) ∙ other)
+          (seen pages image log address time to (suc k) limit (omega (arith, within)) ∙ ap (λ (t : ℕ). next_visit pages image log address t limit) here)
+    ]
+
+-- a search that goes on behind another one
+abbrev pub or_behind : Option ℕ → Option ℕ → Option ℕ
+or_behind None later = later
+or_behind (Some found) later = Some found
+
+pub visit_split : (pages : ℕ) (image : Boot) (log : List TimedByte) (address position m n : ℕ)
+    → next_visit pages image log address position (m + n) ≡ or_behind (next_visit pages image log address position m) (next_visit pages image log address (position + m) n)
+unfolding next_visit
+visit_split pages image log address position zero n =
+    ap (next_visit pages image log address position) (let e : 0 + n ≡ n = omega arith in e)
+    ∙ ap (λ (t : ℕ). next_visit pages image log address t n) (let e : position ≡ position + 0 = omega arith in e)
+visit_split pages image log address position (suc m) n =
+    ap (next_visit pages image log address position) (let e : suc m + n ≡ suc (m + n) = omega arith in e)
+    ∙ elim (cases_Bool ((state_at pages image log (suc position)).core.pc == address)) [
+      | inl found ↦ rw found refl
+      | inr other ↦ rw other
+          (visit_split pages image log address (suc position) m n
+          ∙ ap (λ (t : ℕ). or_behind (next_visit pages image log address (suc position) m) (next_visit pages image log address t n))
+          (let e : suc position + m ≡ position + suc m = omega arith in e))
+    ]

@@ -1,0 +1,103 @@
+-- What the run from reset tells up to a position, by a front of it and the steps behind.
+use Rattle.std.proofs.Common.{◌≡◌, ℕ, suc, ◌+◌, ◌-◌, ◌*◌, ◌≤◌, ◌++◌, sym, ap, ◌∙◌, arith, zero-add, List, length, map, Option, Some, None, [], ◌∷◌, ◌<◌, ◌==◌, Bool, if◌then◌else◌, add-zero, refl, true, false}
+use Rattle.std.specs.Option.{is_some}
+use Rattle.std.proofs.lemmas.Bool.{true≢false}
+use Rattle.std.proofs.Math.Path.{ap₂}
+use Rattle.input_log.specs.Event.{TimedByte}
+use Rattle.input_log.specs.Log.{window_of}
+use Rattle.r3k_image.specs.Boot.{Boot}
+use Rattle.r3k_machine.specs.declared.step.Done.{Done}
+use Rattle.r3k_machine.specs.State.{State}
+use Rattle.r3k_machine.specs.Run.{console_of, last_writer, later, senders_of, state_at, stores_into, trace, trace_at}
+use Rattle.r3k_machine.proofs.Splits.{console_split, senders_split, trace_count, trace_own, writer_split}
+use Rattle.r3k_live.specs.Record.{sent_from}
+use Rattle.span_fact.specs.Span.{steps_of}
+use Rattle.present_run.specs.Reuse.{span_of}
+use Rattle.present_run.specs.Runs.{steps_between}
+use Rattle.span_index.specs.Sent.{bytes_on, steps_on}
+use Rattle.present_run.proofs.Sending.{console_sent, senders_sent}
+use Rattle.present_run.proofs.Spans.{next_start, some_is}
+use Rattle.present_run.proofs.Steps.{trace_front, trace_long}
+
+-- the steps of a span
+pub span_steps : (pages span : ℕ) (image : Boot) (log : List TimedByte) (index : ℕ)
+    → steps_of pages span (span_of pages span image log index) ≡ steps_between pages image log (index * span) ((index + 1) * span)
+span_steps pages span image log index =
+    let from = index * span in
+    let start = state_at pages image log from in
+    ap (λ (to : ℕ). trace pages (window_of from to log) from start span) (next_start index span)
+    ∙ (trace_own pages log from start span
+    ∙ ap (trace pages log from start) (let e : span ≡ (index + 1) * span - from = omega (arith, next_start index span) in e))
+
+-- the steps up to a position, with the events of their times
+pub own_steps : (pages : ℕ) (image : Boot) (log events : List TimedByte) (s : State) (from position : ℕ) → from ≤ position → events ≡ window_of from position log
+    → s ≡ state_at pages image log from → trace pages events from s (position - from) ≡ steps_between pages image log from position
+own_steps pages image log events s from position before events_are stands =
+    ap₂ (λ (events : List TimedByte) (s : State). trace pages events from s (position - from)) events_are stands
+    ∙ (ap (λ (to : ℕ). trace pages (window_of from to log) from (state_at pages image log from) (position - from)) (let e : position ≡ from + (position - from) = omega (arith, before) in e)
+    ∙ trace_own pages log from (state_at pages image log from) (position - from))
+
+pub between_count : (pages : ℕ) (image : Boot) (log : List TimedByte) (from to : ℕ) → length (steps_between pages image log from to) ≡ to - from
+between_count pages image log from to = trace_count pages log from (state_at pages image log from) (to - from)
+
+pub writer_front : (pages : ℕ) (image : Boot) (log : List TimedByte) (address from position : ℕ) → from ≤ position
+    → last_writer address (trace_at pages image log position)
+    ≡ later from (last_writer address (steps_between pages image log from position)) (last_writer address (trace_at pages image log from))
+writer_front pages image log address from position before =
+    ap (last_writer address) (trace_front pages image log from position before)
+    ∙ (writer_split address (trace_at pages image log from) (steps_between pages image log from position)
+    ∙ ap (λ (n : ℕ). later n (last_writer address (steps_between pages image log from position)) (last_writer address (trace_at pages image log from)))
+    (trace_long pages image log from))
+
+pub console_front : (pages : ℕ) (image : Boot) (log : List TimedByte) (line from position : ℕ) → from ≤ position
+    → console_of line (trace_at pages image log from) ++ bytes_on line (sent_from 0 (steps_between pages image log from position))
+    ≡ console_of line (trace_at pages image log position)
+console_front pages image log line from position before =
+    let steps = steps_between pages image log from position in
+    ap (λ (bytes : List ℕ). console_of line (trace_at pages image log from) ++ bytes) (console_sent line 0 steps)
+    ∙ (sym (console_split line (trace_at pages image log from) steps)
+    ∙ ap (console_of line) (sym (trace_front pages image log from position before)))
+
+pub senders_front : (pages : ℕ) (image : Boot) (log : List TimedByte) (line from position : ℕ) → from ≤ position
+    → senders_of line 0 (trace_at pages image log position)
+    ≡ senders_of line 0 (trace_at pages image log from) ++ map (λ k. from + k) (steps_on line (sent_from 0 (steps_between pages image log from position)))
+senders_front pages image log line from position before =
+    let steps = steps_between pages image log from position in
+    let front = senders_of line 0 (trace_at pages image log from) in
+    ap (senders_of line 0) (trace_front pages image log from position before)
+    ∙ (senders_split line 0 (trace_at pages image log from) steps
+    ∙ ap (λ (rest : List ℕ). front ++ rest)
+    (ap (λ (t : ℕ). senders_of line t steps) (zero-add (length (trace_at pages image log from)) ∙ (trace_long pages image log from ∙ sym (add-zero from)))
+    ∙ senders_sent line from 0 steps))
+
+-- a span and the next one
+pub up_to_next : (index span : ℕ) → index * span ≤ (index + 1) * span
+up_to_next index span = omega (arith, next_start index span)
+
+pub writer_span : (pages span : ℕ) (image : Boot) (log : List TimedByte) (address index next : ℕ) → next ≡ index + 1
+    → last_writer address (trace_at pages image log (next * span))
+    ≡ later (index * span) (last_writer address (steps_between pages image log (index * span) ((index + 1) * span))) (last_writer address (trace_at pages image log (index * span)))
+writer_span pages span image log address index next is =
+    ap (λ (n : ℕ). last_writer address (trace_at pages image log (n * span))) is
+    ∙ writer_front pages image log address (index * span) ((index + 1) * span) (up_to_next index span)
+
+pub trace_none : (pages span : ℕ) (image : Boot) (log : List TimedByte) (index : ℕ) → index ≡ 0 → trace_at pages image log (index * span) ≡ []
+unfolding trace
+trace_none pages span image log index is = ap (λ (n : ℕ). trace_at pages image log (n * span)) is ∙ ap (trace_at pages image log) (let e : 0 * span ≡ 0 = omega arith in e)
+
+-- a last writer is one of the steps
+here_within : (here : Bool) (k n : ℕ) → (if here then Some 0 else None) ≡ Some k → k < suc n
+here_within true k n is = (let zero_is : 0 ≡ k = some_is 0 k is in omega (arith, zero_is))
+here_within false k n is = absurd (true≢false (ap (λ (o : Option ℕ). is_some o) (sym is)))
+
+first_within : (address : ℕ) (stored : Option ℕ) (k n : ℕ) → stores_into address stored ≡ Some k → k < suc n
+first_within address None k n is = absurd (true≢false (ap (λ (o : Option ℕ). is_some o) (sym is)))
+first_within address (Some stored) k n is = here_within (stored == address) k n is
+
+pub writer_within : (address : ℕ) (steps : List Done) (k : ℕ) → last_writer address steps ≡ Some k → k < length steps
+writer_within address [] k is = absurd (true≢false (ap (λ (o : Option ℕ). is_some o) (sym is)))
+writer_within address (done ∷ steps) k is = by_rest (last_writer address steps) (λ p. writer_within address steps p) is
+  where
+    by_rest : (rest : Option ℕ) → ((p : ℕ) → rest ≡ Some p → p < length steps) → later 1 rest (stores_into address done.stored) ≡ Some k → k < suc (length steps)
+    by_rest None before is = first_within address done.stored k (length steps) is
+    by_rest (Some p) before is = omega (arith, before p refl, some_is (1 + p) k is)

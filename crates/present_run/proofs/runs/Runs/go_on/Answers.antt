@@ -1,0 +1,44 @@
+use Rattle.std.proofs.Common.{◌-◌, List, ◌∙◌, subst}
+use Rattle.std.proofs.Math.Path.{ap₂}
+use Rattle.input_log.specs.Event.{TimedByte}
+use Rattle.r3k_machine.specs.declared.step.Done.{Done}
+use Rattle.r3k_machine.specs.State.{State}
+use Rattle.r3k_machine.specs.Run.{run}
+use Rattle.r3k_live.specs.Recording.{Records}
+use Rattle.present_run.proofs.Spans.{gone_on, if_some}
+use Rattle.present_run.proofs.Told.{own_steps}
+use Rattle.present_run.proofs.runs.Runs.go_on.Goals as goal
+
+pub returns-clause-of : goal.returns-clause-of
+returns-clause-of g c =
+    let pages = g.row.PAGES in
+    let image = c.args.inputs.now.image in
+    let log = c.args.inputs.now.log in
+    let time = c.args.time in
+    let stood = if_some _ c.args.self.now.at time c.requires.stands c.requires.of.stands in record {
+      sizes = c.requires.of.sizes;
+      start = c.requires.of.start;
+      stands =
+          c.run.ensures.state
+          ∙ (ap₂ (λ (events : List TimedByte) (s : State). run pages events time s (c.args.position - time)) c.window.ensures.events stood
+          ∙ gone_on pages image log time c.args.position c.requires.before);
+      recorded = tt;
+      joined = c.requires.of.joined;
+      ends = c.requires.of.ends;
+      exact = c.requires.of.exact;
+      differ = c.requires.of.differ;
+      patches = c.requires.of.patches;
+      agrees = c.requires.of.agrees;
+      settled = c.requires.of.settled;
+    }
+
+pub returns-clause-recorded : goal.returns-clause-recorded
+returns-clause-recorded g c =
+    let pages = g.row.PAGES in
+    let image = c.args.inputs.now.image in
+    let log = c.args.inputs.now.log in
+    let time = c.args.time in
+    let stood = if_some _ c.args.self.now.at time c.requires.stands c.requires.of.stands in
+    subst (λ (steps : List Done). Records pages steps c.run.new.recorder)
+    (own_steps pages image log c.window.result.now c.args.self.now.live.state time c.args.position c.requires.before c.window.ensures.events stood)
+    c.run.ensures.recorded

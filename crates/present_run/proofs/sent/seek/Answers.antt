@@ -1,0 +1,47 @@
+use Rattle.std.proofs.Common.{◌≡◌, ℕ, ◌+◌, ◌++◌, ◌∷◌, [], List, length, length-append, take, drop, slice_get, slice_index_or, sym, ap, ◌∙◌, arith}
+use Rattle.std.proofs.lemmas.List.{take_more, take-append-drop}
+use Rattle.r3k_live.specs.declared.recorder.SentAt.{SentAt}
+use Rattle.span_index.specs.Sent.{steps_on}
+use Rattle.present_run.proofs.Seeks.{at_seam}
+use Rattle.present_run.proofs.Sending.{steps_more, steps_none, steps_split}
+use Rattle.present_run.proofs.sent.seek.Goals as goal
+
+pub loop-one-preserved-then-one-line : goal.loop-one-preserved-then-one-line
+loop-one-preserved-then-one-line c =
+    let line = c.args.line in
+    let sent = c.args.sent.now in
+    let i = c.loop-one.one-index in
+    let none : SentAt = record { line = 0; byte = 0; step = 0 } in
+    ap (λ (steps : List ℕ). length steps + c.loop-one.left)
+    (ap (steps_on line) (take_more sent i none c.loop-one-test.true) ∙ steps_none line (take i sent) (slice_index_or sent i none) c.if-one-line.true)
+    ∙ c.loop-one.invariant
+
+pub loop-one-preserved : goal.loop-one-preserved
+loop-one-preserved c =
+    let line = c.args.line in
+    let sent = c.args.sent.now in
+    let i = c.loop-one.one-index in
+    let none : SentAt = record { line = 0; byte = 0; step = 0 } in
+    let one = slice_index_or sent i none in
+    let long : length (steps_on line (take (i + 1) sent)) ≡ length (steps_on line (take i sent)) + 1 =
+    ap (λ (front : List SentAt). length (steps_on line front)) (take_more sent i none c.loop-one-test.true)
+    ∙ (ap (λ (steps : List ℕ). length steps) (steps_more line (take i sent) one c.if-one-line.false)
+    ∙ length-append (steps_on line (take i sent)) (one.step ∷ [])) in
+    omega (arith, long, c.loop-one.invariant, c.if-left-eq0.false)
+
+pub returns-then-left-eq0-clause-found : goal.returns-then-left-eq0-clause-found
+returns-then-left-eq0-clause-found c =
+    let line = c.args.line in
+    let sent = c.args.sent.now in
+    let i = c.loop-one.one-index in
+    let none : SentAt = record { line = 0; byte = 0; step = 0 } in
+    let one = slice_index_or sent i none in
+    let front = steps_on line (take i sent) in
+    let whole : steps_on line sent ≡ (front ++ one.step ∷ []) ++ steps_on line (drop (i + 1) sent) =
+    ap (steps_on line) (sym (take-append-drop (i + 1) sent))
+    ∙ (steps_split line (take (i + 1) sent) (drop (i + 1) sent)
+    ∙ ap (λ (steps : List ℕ). steps ++ steps_on line (drop (i + 1) sent))
+    (ap (steps_on line) (take_more sent i none c.loop-one-test.true) ∙ steps_more line (take i sent) one c.if-one-line.false)) in
+    ap (λ (steps : List ℕ). slice_get steps c.args.place) whole
+    ∙ (ap (slice_get ((front ++ one.step ∷ []) ++ steps_on line (drop (i + 1) sent))) (let e : c.args.place ≡ length front = omega (arith, c.loop-one.invariant, c.if-left-eq0.true) in e)
+    ∙ at_seam front one.step (steps_on line (drop (i + 1) sent)))

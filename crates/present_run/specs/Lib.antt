@@ -1,0 +1,9 @@
+pub use Rattle.r3k_image.specs.Boot
+pub use Rattle.input_log.specs.Event
+pub use Rattle.r3k_machine.specs.Run
+pub mod History
+pub mod Sizes
+pub mod Console
+pub mod Seeking
+pub mod Reuse
+pub mod Runs

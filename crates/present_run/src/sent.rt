@@ -1,0 +1,84 @@
+//! Bytes that were sent: those of a line that are shown, and the step that sent one of them.
+
+ghost use Rattle.std.specs.Prelude.{◌≡◌, ℕ, ◌+◌, ◌-◌, ◌^◌, ◌<◌, ◌≤◌, ◌++◌, List, Some, length, slice_get};
+ghost use Rattle.present_run.specs.Console.{Shows, with_byte};
+ghost use Rattle.span_index.specs.Sent.{bytes_on, on_line, steps_on};
+ghost use Rattle.present_run.specs.Seeking.{IsNear, Seeks};
+
+use arrayvec::ArrayVec;
+use r3k_live::SentAt;
+
+/// What is shown of a console: how many bytes were sent, and those from a place on.
+#[derive(Drop)]
+pub struct Shown {
+    pub total: u64,
+    pub bytes: ArrayVec<u8, 256>,
+}
+
+impl Shown {
+    /// Takes the bytes of a line among those that were sent next.
+    pub(crate) fn take_of(&mut self, line: u8, sent: &[SentAt], from: u64, count: usize)
+        requires room { self.old.total + length sent.now < 2 ^ 64 }
+        requires count { count ≤ 256 }
+        ensures shows { (console : List ℕ) → Shows from count console self.old →
+            Shows from count (console ++ bytes_on line sent.now) self.new }
+        ensures few { self.new.total ≤ self.old.total + length sent.now }
+    {
+        for one in sent {
+            self.take(byte_on(line, *one), from, count);
+        }
+    }
+
+    // Takes the next byte of the console, if there is one.
+    #[tactic(auto, using(crate::proofs::Consoles::part_more, crate::proofs::Consoles::part_enough, crate::proofs::Consoles::part_before))]
+    fn take(&mut self, byte: Option<u8>, from: u64, count: usize)
+        requires room { self.old.total < 2 ^ 64 - 1 }
+        requires count { count ≤ 256 }
+        ensures shows { (console : List ℕ) → Shows from count console self.old →
+            Shows from count (with_byte console byte) self.new }
+        ensures one_more { self.new.total ≤ self.old.total + 1 }
+    {
+        let Some(byte) = byte else {
+            return;
+        };
+        if self.total >= from && self.bytes.len() < count {
+            self.bytes.push(byte);
+        }
+        self.total += 1;
+    }
+}
+
+// A byte, if it was sent on this line.
+fn byte_on(line: u8, sent: SentAt) -> Option<u8>
+    ensures { result ≡ on_line line (λ one. one.byte) sent }
+{
+    if sent.line == line {
+        return Some(sent.byte);
+    }
+    None
+}
+
+/// The step that sent a byte, or how many places are left behind those that were searched.
+#[derive(Clone, Copy, Debug, PartialEq, Eq)]
+pub(crate) enum Sought {
+    At(u64),
+    Behind(u64),
+}
+
+/// Searches for the byte of a line at a place, among bytes that were sent from a time on.
+pub(crate) fn seek(line: u8, sent: &[SentAt], place: u64) -> Sought
+    ensures found { Seeks (steps_on line sent.now) place result }
+    ensures near { IsNear result }
+{
+    let mut left = place;
+    for one in sent {
+        if one.line != line {
+            continue;
+        }
+        if left == 0 {
+            return Sought::At(one.step as u64);
+        }
+        left -= 1;
+    }
+    Sought::Behind(left)
+}

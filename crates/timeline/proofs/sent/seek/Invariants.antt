@@ -1,7 +1,0 @@
-use Rattle.std.proofs.Common.{◌≡◌, ◌+◌, length, take}
-use Rattle.span_index.specs.Sent.{steps_on}
-use Rattle.timeline.proofs.sent.seek.Given as goal
-
--- so many places are left behind those that were searched
-abbrev pub invariant-loop-one : goal.invariant-loop-one
-invariant-loop-one l = length (steps_on l.line (take l.one-index l.sent)) + l.left ≡ l.place

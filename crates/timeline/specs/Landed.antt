@@ -1,0 +1,60 @@
+-- What a timeline holds, and what its queries and edits do with that (own).
+use Rattle.std.specs.Prelude.{◌≡◌, ◌⊎◌, ℕ, ◌+◌, ◌/◌, ◌%◌, ◌<◌, List, [], ◌∷◌, take, Contains, Option, Result, Ok, Err, IfOk, OnErr, nat_eq}
+use Rattle.std.specs.Set.{remove_key}
+use Rattle.input_log.specs.Event.{TimedByte}
+use Rattle.r3k_image.specs.Boot.{Boot}
+use Rattle.r3k_machine.specs.Run.{state_at}
+use Rattle.r3k_machine.specs.State.{State}
+use Rattle.span_fact.specs.Span.{Span}
+use Rattle.refusal.specs.declared.fault.Fault.{Fault}
+use Rattle.refusal.specs.declared.fault.Fault.TheVariants.{Memory, NotFound}
+use Rattle.present_run.specs.History.{History}
+use Rattle.present_run.specs.Reuse.{Holding, Reaches, Serves, Spends}
+
+-- what a timeline holds: that, and the positions of the states that it keeps, the one that was used last first
+pub record Landed : Type 0 where
+  pub history : History
+  pub spans : List (Option Span)
+  pub steps : ℕ
+  pub landings : List ℕ
+
+abbrev pub holding : Landed → Holding
+holding h = record { history = h.history; spans = h.spans; steps = h.steps }
+
+-- What a query at a position does, whether it answers or is refused, where it may look so many steps beyond. Want of memory may
+-- cut it short. Any other refusal but that there is nothing to be found comes before a step is run.
+abbrev pub AsksFault : (pages span position beyond : ℕ) → (old new : Landed) → Fault → Type 0
+AsksFault pages span position beyond old new Memory = Spends pages span (position / span) (position % span + beyond) (holding old) (holding new)
+AsksFault pages span position beyond old new NotFound =
+    Spends pages span (position / span) (position % span + beyond) (holding old) (holding new) × Reaches pages span (position / span) (holding old) (holding new)
+AsksFault pages span position beyond old new fault = new ≡ old
+
+abbrev pub Asks : {A : Type 0} → (pages span position beyond : ℕ) → (old new : Landed) → Result A Fault → Type 0
+Asks pages span position beyond old new (Ok answer) =
+    Spends pages span (position / span) (position % span + beyond) (holding old) (holding new) × Reaches pages span (position / span) (holding old) (holding new)
+Asks pages span position beyond old new (Err fault) = AsksFault pages span position beyond old new fault
+
+-- What a query of the state at a position does with the states that are kept. Where one is kept at the position no step is run, and it
+-- is then the first of them. Elsewhere it comes to be kept, at most 8 with it, if the position is not where a span starts and memory
+-- for it is not refused. A query that is refused leaves them.
+pub record Lands {A E : Type 0} (span position : ℕ) (old new : Landed) (result : Result A E) : Type 0 where
+  pub free : Contains old.landings position → new.steps ≡ old.steps
+  pub again : Contains old.landings position → IfOk result (λ _. new.landings ≡ position ∷ remove_key (nat_eq position) old.landings)
+  pub first : ¬ Contains old.landings position → IfOk result (λ _. (new.landings ≡ take 8 (position ∷ old.landings)) ⊎ (new.landings ≡ old.landings))
+  pub start : position % span ≡ 0 → new.landings ≡ old.landings
+  pub refused : OnErr result (new.landings ≡ old.landings)
+
+-- A state that is kept is that of the run at its position, and each span before that one has a record that serves.
+pub record IsLanding (pages span : ℕ) (h : Holding) (position : ℕ) (state : State) : Type 0 where
+  pub is : state ≡ state_at pages h.history.image h.history.log position
+  pub inside : ¬ (position % span ≡ 0)
+  pub served : (index : ℕ) → index < position / span → Serves pages span h index
+
+-- what is held with the log, or the image, that an edit leaves: the records stay, and no state is kept
+abbrev pub with_log : Landed → Result (List TimedByte) Fault → Result Landed Fault
+with_log h (Ok log) = Ok (record { history = record { image = h.history.image; log = log }; spans = h.spans; steps = h.steps; landings = [] })
+with_log h (Err fault) = Err fault
+
+abbrev pub with_image : Landed → Result Boot Fault → Result Landed Fault
+with_image h (Ok image) = Ok (record { history = record { image = image; log = h.history.log }; spans = h.spans; steps = h.steps; landings = [] })
+with_image h (Err fault) = Err fault
