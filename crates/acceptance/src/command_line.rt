@@ -1,4 +1,5 @@
 //! The program's line: good and wrong words, the texts of usage and help, and the line of a fault.
+use crate::same::same;
 use crate::served::run_program;
 use asm_line::kind::AsmKind;
 use r3k_image::ImageKind;
@@ -18,37 +19,42 @@ fn asked<'a>(alloc: Global, words: &'a [&'a str]) -> Result<(Kind, u32, u32), u8
 #[test]
 fn good_lines(rt: HostRuntime) {
     let alloc = rt.alloc();
-    assert_eq!(rt; asked(alloc, &["r3kwb"]), Ok((Kind::Rom, 0, 0)));
-    assert_eq!(rt; asked(alloc, &[]), Ok((Kind::Rom, 0, 0)));
+    same(&rt, &asked(alloc, &["r3kwb"]), &Ok((Kind::Rom, 0, 0)));
+    same(&rt, &asked(alloc, &[]), &Ok((Kind::Rom, 0, 0)));
     let words = ["r3kwb", "--kind", "image", "--size", "32"];
-    assert_eq!(rt; asked(alloc, &words), Ok((Kind::Image, 32, 0)));
+    same(&rt, &asked(alloc, &words), &Ok((Kind::Image, 32, 0)));
     let words = ["r3kwb", "--kind", "source", "--size", "7"];
-    assert_eq!(rt; asked(alloc, &words), Ok((Kind::Source, 7, 0)));
+    same(&rt, &asked(alloc, &words), &Ok((Kind::Source, 7, 0)));
     let words = ["r3kwb", "--size=5", "--kind=rom"];
-    assert_eq!(rt; asked(alloc, &words), Ok((Kind::Rom, 5, 0)));
+    same(&rt, &asked(alloc, &words), &Ok((Kind::Rom, 5, 0)));
     let words = ["r3kwb", "--log", "18", "--size", "7"];
-    assert_eq!(rt; asked(alloc, &words), Ok((Kind::Rom, 7, 18)));
+    same(&rt, &asked(alloc, &words), &Ok((Kind::Rom, 7, 18)));
     let words = ["r3kwb", "--log=67108864"];
-    assert_eq!(rt; asked(alloc, &words), Ok((Kind::Rom, 0, 67_108_864)));
+    same(&rt, &asked(alloc, &words), &Ok((Kind::Rom, 0, 67_108_864)));
     let words = ["r3kwb", "--size", "67108864"];
-    assert_eq!(rt; asked(alloc, &words), Ok((Kind::Rom, 67_108_864, 0)));
+    same(&rt, &asked(alloc, &words), &Ok((Kind::Rom, 67_108_864, 0)));
 }
 
 #[test]
 fn wrong_lines(rt: HostRuntime) {
     let alloc = rt.alloc();
-    assert_eq!(rt; asked(alloc, &["r3kwb", "--size", "67108865"]), Err(2));
-    assert_eq!(rt; asked(alloc, &["r3kwb", "--size", "-1"]), Err(2));
-    assert_eq!(rt; asked(alloc, &["r3kwb", "--size="]), Err(2));
-    assert_eq!(rt; asked(alloc, &["r3kwb", "--size"]), Err(2));
-    assert_eq!(rt; asked(alloc, &["r3kwb", "--size", "+5"]), Err(2));
-    assert_eq!(rt;
-        asked(alloc, &["r3kwb", "--size", "1", "--size", "1"]),
-        Err(2)
+    same(
+        &rt,
+        &asked(alloc, &["r3kwb", "--size", "67108865"]),
+        &Err(2),
     );
-    assert_eq!(rt; asked(alloc, &["r3kwb", "--kind", "sources"]), Err(2));
-    assert_eq!(rt; asked(alloc, &["r3kwb", "--kind="]), Err(2));
-    assert_eq!(rt; asked(alloc, &["r3kwb", "image"]), Err(2));
+    same(&rt, &asked(alloc, &["r3kwb", "--size", "-1"]), &Err(2));
+    same(&rt, &asked(alloc, &["r3kwb", "--size="]), &Err(2));
+    same(&rt, &asked(alloc, &["r3kwb", "--size"]), &Err(2));
+    same(&rt, &asked(alloc, &["r3kwb", "--size", "+5"]), &Err(2));
+    same(
+        &rt,
+        &asked(alloc, &["r3kwb", "--size", "1", "--size", "1"]),
+        &Err(2),
+    );
+    same(&rt, &asked(alloc, &["r3kwb", "--kind", "sources"]), &Err(2));
+    same(&rt, &asked(alloc, &["r3kwb", "--kind="]), &Err(2));
+    same(&rt, &asked(alloc, &["r3kwb", "image"]), &Err(2));
     for words in [
         ["r3kwb", "--log"].as_slice(),
         &["r3kwb", "--log="],
@@ -80,17 +86,17 @@ fn help_and_usage(rt: HostRuntime) -> Result<(), Fail> {
         assert!(rt; help.contains(part), "{part:?} in {help:?}");
     }
     assert!(rt; !help.contains("pos 0"));
-    assert_eq!(rt; run.told.len(), 0);
-    assert_eq!(rt; run.status, 0);
+    same(&rt, &run.told.len(), &0);
+    same(&rt, &run.status, &0);
     let run = run_program(alloc, &["r3kwb", "--size", "67108865"], b"pos\n", 1)?;
     let usage = str::from_utf8(run.told.as_slice())?;
     assert!(rt; usage.contains("--size is a number from 0 to 67108864"));
-    assert_eq!(rt; run.output.len(), 0);
-    assert_eq!(rt; run.status, 2);
+    same(&rt, &run.output.len(), &0);
+    same(&rt, &run.status, &2);
     let run = run_program(alloc, &["r3kwb", "--log", "67108865"], b"pos\n", 1)?;
     let usage = str::from_utf8(run.told.as_slice())?;
     assert!(rt; usage.contains("--log is a number from 0 to 67108864"));
-    assert_eq!(rt; run.status, 2);
+    same(&rt, &run.status, &2);
     Ok(())
 }
 
@@ -108,33 +114,39 @@ fn no_words(rt: HostRuntime) -> Result<(), Fail> {
         &mut output,
         &mut errors,
     );
-    assert_eq!(rt; status, 4);
-    assert_eq!(rt; input.left().len(), 4);
-    assert_eq!(rt; output.written().len(), 0);
-    assert_eq!(rt; errors.written(), b"r3kwb: error 1 Memory\n".as_slice());
+    same(&rt, &status, &4);
+    same(&rt, &input.left().len(), &4);
+    same(&rt, &output.written().len(), &0);
+    same(
+        &rt,
+        &errors.written(),
+        &b"r3kwb: error 1 Memory\n".as_slice(),
+    );
     Ok(())
 }
 
 #[test]
 fn fault_lines(rt: HostRuntime) {
     let short = RunFault::BadImage(ImageKind::Short);
-    assert_eq!(rt;
-        fault_line(&short).as_slice(),
-        b"r3kwb: error 9 BadImage Short\n".as_slice()
+    same(
+        &rt,
+        &fault_line(&short).as_slice(),
+        &b"r3kwb: error 9 BadImage Short\n".as_slice(),
     );
     let longest = RunFault::BadSource {
         line: u64::MAX,
         kind: AsmKind::Overlap,
     };
-    assert_eq!(rt;
-        fault_line(&longest).as_slice(),
-        b"r3kwb: error 13 BadSource 18446744073709551615 Overlap\n".as_slice()
+    same(
+        &rt,
+        &fault_line(&longest).as_slice(),
+        &b"r3kwb: error 13 BadSource 18446744073709551615 Overlap\n".as_slice(),
     );
-    assert_eq!(rt; status(&Err(longest)), 1);
+    same(&rt, &status(&Err(longest)), &1);
     let line = b"r3kwb: error 11 ReadFault\n".as_slice();
-    assert_eq!(rt; fault_line(&RunFault::ReadFault).as_slice(), line);
-    assert_eq!(rt; status(&Err(short)), 1);
-    assert_eq!(rt; status(&Err(RunFault::WriteFault)), 3);
-    assert_eq!(rt; status(&Err(RunFault::Memory)), 4);
-    assert_eq!(rt; status(&Ok(())), 0);
+    same(&rt, &fault_line(&RunFault::ReadFault).as_slice(), &line);
+    same(&rt, &status(&Err(short)), &1);
+    same(&rt, &status(&Err(RunFault::WriteFault)), &3);
+    same(&rt, &status(&Err(RunFault::Memory)), &4);
+    same(&rt, &status(&Ok(())), &0);
 }

@@ -1,4 +1,5 @@
 //! Moves, and queries of the processor: the worked examples, and values by hand.
+use crate::same::same;
 use crate::served::run_program;
 use samples::LOAD_SLOT;
 use std::alloc::Global;
@@ -53,7 +54,7 @@ fn load_slot(rt: HostRuntime) -> Result<(), Fail> {
     let script = b"goto 3\nreg 2\nreg 3\nstep 1\nreg 4\n";
     let output = replies(rt.alloc(), "image", &LOAD_SLOT, script)?;
     let want = b"pos 3\nr2 0x00000005\nr3 0x00000000\npos 4\nr4 0x00000005\n".as_slice();
-    assert_eq!(rt; output.as_slice(), want);
+    same(&rt, &output.as_slice(), &want);
     Ok(())
 }
 
@@ -64,7 +65,11 @@ fn load_slot_loses_to_its_own_write(rt: HostRuntime) -> Result<(), Fail> {
     // addiu r2, r2, 1
     image[60..64].copy_from_slice(&[1, 0, 0x42, 0x24]);
     let output = replies(rt.alloc(), "image", &image, b"goto 3\nreg 2\n")?;
-    assert_eq!(rt; output.as_slice(), b"pos 3\nr2 0x00000001\n".as_slice());
+    same(
+        &rt,
+        &output.as_slice(),
+        &b"pos 3\nr2 0x00000001\n".as_slice(),
+    );
     Ok(())
 }
 
@@ -110,7 +115,7 @@ fn registers_by_number(rt: HostRuntime) -> Result<(), Fail> {
         b"pos 2\nr31 0x12340000\nr31 0x12340000\nr0 0x00000000\nerror 2 Syntax\nerror 3 Range\n\
         error 2 Syntax\nerror 2 Syntax\npos 2\n"
             .as_slice();
-    assert_eq!(rt; output.as_slice(), want);
+    same(&rt, &output.as_slice(), &want);
     Ok(())
 }
 
@@ -121,7 +126,7 @@ fn control_registers_at_reset(rt: HostRuntime) -> Result<(), Fail> {
         badvaddr 0x00000000 entryhi 0x00000000 status 0x00400000 cause 0x00000000 epc 0x00000000 \
         prid 0x00000220\n"
         .as_slice();
-    assert_eq!(rt; output.as_slice(), want);
+    same(&rt, &output.as_slice(), &want);
     Ok(())
 }
 
@@ -142,7 +147,7 @@ fn system_call_in_a_delay_slot(rt: HostRuntime) -> Result<(), Fail> {
         badvaddr 0x00000000 entryhi 0x00000000 status 0x00400004 cause 0x80000020 epc 0xbfc0000c \
         prid 0x00000220\n"
         .as_slice();
-    assert_eq!(rt; output.as_slice(), want);
+    same(&rt, &output.as_slice(), &want);
     Ok(())
 }
 
@@ -161,7 +166,7 @@ fn misaligned_load(rt: HostRuntime) -> Result<(), Fail> {
         badvaddr 0xa0000002 entryhi 0x00000000 status 0x00400000 cause 0x00000010 epc 0xbfc00004 \
         prid 0x00000220\n";
     let want = format!(in rt.alloc(); "pos 2\n{shown}pos 1\npos 2\n{shown}")?;
-    assert_eq!(rt; output.as_slice(), want.as_bytes());
+    same(&rt, &output.as_slice(), &want.as_bytes());
     Ok(())
 }
 
@@ -196,7 +201,7 @@ fn translation_at_reset(rt: HostRuntime) -> Result<(), Fail> {
         b"where 0x00000010 cached\nwhere 0x1fc00000 uncached\nwhere tlbl refill\nwhere tlbl\n\
         where tlbl\ntlb 63 0x00000000 0x00000000\n"
             .as_slice();
-    assert_eq!(rt; output.as_slice(), want);
+    same(&rt, &output.as_slice(), &want);
     Ok(())
 }
 
@@ -210,7 +215,7 @@ fn words_of_memory(rt: HostRuntime) -> Result<(), Fail> {
     let want = b"0x00000008 0x00000000\npos 2\n0x00000004 0x00000000\n0x00000008 0xa0000000\n\
         0x0000000c 0x00000000\npos 1\n0x00000008 0x00000000\n"
         .as_slice();
-    assert_eq!(rt; output.as_slice(), want);
+    same(&rt, &output.as_slice(), &want);
     Ok(())
 }
 
@@ -223,7 +228,7 @@ fn words_as_instructions(rt: HostRuntime) -> Result<(), Fail> {
     let want = b"0x1fc00000 0x04e10004 bgez r7, 0x1fc00014\n\
         0x1fc00004 0x0bf00000 j 0x1fc00000\n0x1fc00008 0xffffffff .word 0xffffffff\n"
         .as_slice();
-    assert_eq!(rt; output.as_slice(), want);
+    same(&rt, &output.as_slice(), &want);
     Ok(())
 }
 
@@ -255,7 +260,7 @@ fn limits_of_memory(rt: HostRuntime) -> Result<(), Fail> {
         want.extend_from_slice(b"\n")?;
     }
     let output = replies(rt.alloc(), "rom", &[], &script)?;
-    assert_eq!(rt; output.as_slice(), want.as_slice());
+    same(&rt, &output.as_slice(), &want.as_slice());
     Ok(())
 }
 
@@ -263,9 +268,10 @@ fn limits_of_memory(rt: HostRuntime) -> Result<(), Fail> {
 #[test]
 fn query_at_twenty_million(rt: HostRuntime) -> Result<(), Fail> {
     let output = replies(rt.alloc(), "rom", &[], b"goto 20000000\nreg 0\n")?;
-    assert_eq!(rt;
-        output.as_slice(),
-        b"pos 20000000\nr0 0x00000000\n".as_slice()
+    same(
+        &rt,
+        &output.as_slice(),
+        &b"pos 20000000\nr0 0x00000000\n".as_slice(),
     );
     Ok(())
 }

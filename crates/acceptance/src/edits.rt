@@ -1,5 +1,6 @@
 //! Edits of the log, patches of the image, and questions about the past.
 use crate::logs::run;
+use crate::same::same;
 use samples::ECHO;
 use std::alloc::Global;
 use std::process::Abort;
@@ -14,8 +15,8 @@ fn says(
     want: &str,
 ) -> Result<(), Fail> {
     let run = run(alloc, source, &[], script)?;
-    assert_eq!(rt; run.output.as_slice(), want.as_bytes());
-    assert_eq!(rt; run.status, 0);
+    same(rt, &run.output.as_slice(), &want.as_bytes());
+    same(rt, &run.status, &0);
     Ok(())
 }
 

@@ -1,4 +1,5 @@
 //! Boot images that are large, or that do not fit the machine.
+use crate::same::same;
 use crate::served::{run_on, run_program};
 use r3k_image::read_image;
 use samples::EMPTY_IMAGE;
@@ -20,12 +21,13 @@ fn large_image(rt: HostRuntime) -> Result<(), Fail> {
     let image = read_image(alloc, &bytes)?;
     for turn in 0..1000u32 {
         let place = turn * 8388;
-        assert_eq!(rt;
-            image.word(4 * place),
-            Some(place.wrapping_mul(2_654_435_769))
+        same(
+            &rt,
+            &image.word(4 * place),
+            &Some(place.wrapping_mul(2_654_435_769)),
         );
     }
-    assert_eq!(rt; image.word(0x0200_0000), None);
+    same(&rt, &image.word(0x0200_0000), &None);
     assert!(rt; image.fits(8192));
     assert!(rt; !image.fits(8191));
     Ok(())
@@ -40,15 +42,16 @@ fn image_that_does_not_fit(rt: HostRuntime) -> Result<(), Fail> {
     input.extend_from_slice(b"pos\n")?;
     let words = ["r3kwb", "--kind", "image", "--size", "44"];
     let run = run_on::<16, 64>(alloc, &words, &input, 4096)?;
-    assert_eq!(rt; run.output.len(), 0);
-    assert_eq!(rt;
-        run.told.as_slice(),
-        b"r3kwb: error 9 BadImage Pages\n".as_slice()
+    same(&rt, &run.output.len(), &0);
+    same(
+        &rt,
+        &run.told.as_slice(),
+        &b"r3kwb: error 9 BadImage Pages\n".as_slice(),
     );
-    assert_eq!(rt; run.status, 1);
+    same(&rt, &run.status, &1);
     let run = run_on::<17, 64>(alloc, &words, &input, 4096)?;
-    assert_eq!(rt; run.output.as_slice(), b"pos 0\n".as_slice());
-    assert_eq!(rt; run.status, 0);
+    same(&rt, &run.output.as_slice(), &b"pos 0\n".as_slice());
+    same(&rt, &run.status, &0);
     Ok(())
 }
 
@@ -112,9 +115,9 @@ fn image_of_all_reads(rt: HostRuntime) -> Result<(), Fail> {
     ];
     for (size, fault, status) in cases {
         let run = run_program(alloc, &["r3kwb", "--size", size], &input, 1)?;
-        assert_eq!(rt; run.output.len(), 0);
-        assert_eq!(rt; run.told.as_slice(), fault.as_bytes());
-        assert_eq!(rt; run.status, status);
+        same(&rt, &run.output.len(), &0);
+        same(&rt, &run.told.as_slice(), &fault.as_bytes());
+        same(&rt, &run.status, &status);
     }
     Ok(())
 }

@@ -20,6 +20,8 @@ mod programs;
 #[cfg(test)]
 mod readers;
 #[cfg(test)]
+mod same;
+#[cfg(test)]
 mod scripts;
 #[cfg(test)]
 mod served;

@@ -1,4 +1,5 @@
 //! Logs that the program takes: their events reach the serial part, and what is no log is refused.
+use crate::same::same;
 use crate::served::{Served, run_on};
 use samples::ECHO;
 use std::alloc::Global;
@@ -38,11 +39,11 @@ fn echo_of_a_byte(rt: HostRuntime) -> Result<(), Fail> {
     let with = run(rt.alloc(), ECHO, &ONE, script)?;
     let want =
         "pos 83\nconsole 0 0 none\npos 84\nconsole 0 1 41\nconsole 0 1 none\nconsole 1 0 none\npos 256\nconsole 0 1 41\nlog 1\n0 70 0 0x41\n";
-    assert_eq!(rt; with.output.as_slice(), want.as_bytes());
-    assert_eq!(rt; with.status, 0);
+    same(&rt, &with.output.as_slice(), &want.as_bytes());
+    same(&rt, &with.status, &0);
     let without = run(rt.alloc(), ECHO, &[], "goto 256\nconsole 0 0 8\nlog 0 8\n")?;
     let want = "pos 256\nconsole 0 0 none\nlog 0\n";
-    assert_eq!(rt; without.output.as_slice(), want.as_bytes());
+    same(&rt, &without.output.as_slice(), &want.as_bytes());
     Ok(())
 }
 
@@ -69,7 +70,7 @@ fn interrupt_by_a_log(rt: HostRuntime) -> Result<(), Fail> {
         want.push_str(before)?;
         want.push_str("pos 11\n")?;
         want.push_str(at_11)?;
-        assert_eq!(rt; run.output.as_slice(), want.as_bytes());
+        same(&rt, &run.output.as_slice(), &want.as_bytes());
     }
     Ok(())
 }
@@ -86,7 +87,7 @@ fn events_of_a_log(rt: HostRuntime) -> Result<(), Fail> {
     let run = run(rt.alloc(), "", &log, script)?;
     let want =
         "log 3\n0 4 0 0x03\n1 5 3 0x01\n2 5 0 0xfe\nlog 3\n1 5 3 0x01\nlog 3\n2 5 0 0xfe\nlog 3\nlog 3\nerror 3 Range\nerror 2 Syntax\n";
-    assert_eq!(rt; run.output.as_slice(), want.as_bytes());
+    same(&rt, &run.output.as_slice(), &want.as_bytes());
     Ok(())
 }
 
@@ -122,17 +123,18 @@ fn bad_logs(rt: HostRuntime) -> Result<(), Fail> {
     ];
     for (source, log, fault) in cases {
         let run = run(rt.alloc(), source, log, "pos\n")?;
-        assert_eq!(rt; run.output.len(), 0);
-        assert_eq!(rt; run.told.as_slice(), fault.as_bytes());
-        assert_eq!(rt; run.status, 1);
+        same(&rt, &run.output.len(), &0);
+        same(&rt, &run.told.as_slice(), &fault.as_bytes());
+        same(&rt, &run.status, &1);
     }
     let words = ["r3kwb", "--log", "19"];
     let run = run_on::<16, 64>(rt.alloc(), &words, &ONE, 7)?;
-    assert_eq!(rt;
-        run.told.as_slice(),
-        b"r3kwb: error 11 ReadFault\n".as_slice()
+    same(
+        &rt,
+        &run.told.as_slice(),
+        &b"r3kwb: error 11 ReadFault\n".as_slice(),
     );
-    assert_eq!(rt; run.output.len(), 0);
-    assert_eq!(rt; run.status, 3);
+    same(&rt, &run.output.len(), &0);
+    same(&rt, &run.status, &3);
     Ok(())
 }

@@ -1,4 +1,5 @@
 //! The program's worked runs.
+use crate::same::same;
 use crate::served::run_program;
 use samples::{EMPTY_IMAGE, LOAD_SLOT};
 use std::test::Fail;
@@ -11,8 +12,8 @@ fn empty_image(rt: HostRuntime) -> Result<(), Fail> {
         &EMPTY_IMAGE,
         4096,
     )?;
-    assert_eq!(rt; run.output.len(), 0);
-    assert_eq!(rt; run.status, 0);
+    same(&rt, &run.output.len(), &0);
+    same(&rt, &run.status, &0);
     Ok(())
 }
 
@@ -25,8 +26,8 @@ fn reset_registers(rt: HostRuntime) -> Result<(), Fail> {
         r8 0x00000000 0x00000000 0x00000000 0x00000000\nr12 0x00000000 0x00000000 0x00000000 0x00000000\n\
         r16 0x00000000 0x00000000 0x00000000 0x00000000\nr20 0x00000000 0x00000000 0x00000000 0x00000000\n\
         r24 0x00000000 0x00000000 0x00000000 0x00000000\nr28 0x00000000 0x00000000 0x00000000 0x00000000\n";
-    assert_eq!(rt; run.output.as_slice(), want.as_bytes());
-    assert_eq!(rt; run.status, 0);
+    same(&rt, &run.output.as_slice(), &want.as_bytes());
+    same(&rt, &run.status, &0);
     Ok(())
 }
 
@@ -68,7 +69,7 @@ fn load_slot(rt: HostRuntime) -> Result<(), Fail> {
             want.as_bytes(),
             "in pieces of {piece}"
         );
-        assert_eq!(rt; run.status, 0);
+        same(&rt, &run.status, &0);
     }
     Ok(())
 }
@@ -120,7 +121,7 @@ fn formats_and_the_program(rt: HostRuntime) -> Result<(), Fail> {
         )?;
         assert_eq!(rt; run.told.as_slice(), fault.as_bytes(), "at size {size}");
         assert_eq!(rt; run.status, status, "at size {size}");
-        assert_eq!(rt; run.output.len(), 0);
+        same(&rt, &run.output.len(), &0);
     }
     Ok(())
 }

@@ -1,4 +1,5 @@
 //! Readers and writers: pieces, calls that fail, and what is asked of std's.
+use crate::same::same;
 use std::alloc::{AllocError, Global};
 use std::io;
 use std::io::{ErrorKind, Read, Write};
@@ -17,13 +18,13 @@ const NO_IMAGE: Options = Options {
 fn plan_moves_pieces(rt: HostRuntime) -> Result<(), Fail> {
     let mut plan = Plan::new(rt.alloc(), b"abcde", 2, 3)?;
     let mut buffer = *b"....";
-    assert_eq!(rt; plan.read(&mut buffer), Ok(2));
-    assert_eq!(rt; buffer, *b"ab..");
-    assert_eq!(rt; plan.left(), b"cde".as_slice());
-    assert_eq!(rt; plan.write(b"xyz"), Ok(2));
-    assert_eq!(rt; plan.write(b"xyz"), Ok(1));
-    assert_eq!(rt; plan.write(b"xyz"), Ok(0));
-    assert_eq!(rt; plan.written(), b"xyx".as_slice());
+    same(&rt, &plan.read(&mut buffer), &Ok(2));
+    same(&rt, &buffer, &*b"ab..");
+    same(&rt, &plan.left(), &b"cde".as_slice());
+    same(&rt, &plan.write(b"xyz"), &Ok(2));
+    same(&rt, &plan.write(b"xyz"), &Ok(1));
+    same(&rt, &plan.write(b"xyz"), &Ok(0));
+    same(&rt, &plan.written(), &b"xyx".as_slice());
     Ok(())
 }
 
@@ -98,23 +99,27 @@ fn one_call_for_one(rt: HostRuntime) -> Result<(), Fail> {
     let alloc = rt.alloc();
     let mut reader = Counting::new(alloc, b"abcde", 2, 2)?;
     let mut buffer = *b"....";
-    assert_eq!(rt; FromRead::new(&mut reader).read(&mut buffer), Ok(2));
-    assert_eq!(rt; buffer, *b"ab..");
-    assert_eq!(rt; reader.calls, 1);
-    assert_eq!(rt; FromRead::new(&mut reader).read(&mut buffer), Err(Failed));
-    assert_eq!(rt; buffer, *b"ab..");
-    assert_eq!(rt; reader.calls, 2);
+    same(&rt, &FromRead::new(&mut reader).read(&mut buffer), &Ok(2));
+    same(&rt, &buffer, &*b"ab..");
+    same(&rt, &reader.calls, &1);
+    same(
+        &rt,
+        &FromRead::new(&mut reader).read(&mut buffer),
+        &Err(Failed),
+    );
+    same(&rt, &buffer, &*b"ab..");
+    same(&rt, &reader.calls, &2);
     let mut source = FromRead::new(&mut reader);
-    assert_eq!(rt; source.read(&mut buffer), Ok(2));
-    assert_eq!(rt; source.read(&mut buffer), Ok(1));
-    assert_eq!(rt; source.read(&mut buffer), Ok(0));
+    same(&rt, &source.read(&mut buffer), &Ok(2));
+    same(&rt, &source.read(&mut buffer), &Ok(1));
+    same(&rt, &source.read(&mut buffer), &Ok(0));
     let mut writer = Counting::new(alloc, b"", 2, 2)?;
-    assert_eq!(rt; ToWrite::new(&mut writer).write(b"xyz"), Ok(2));
-    assert_eq!(rt; writer.calls, 1);
-    assert_eq!(rt; ToWrite::new(&mut writer).write(b"z"), Err(Failed));
-    assert_eq!(rt; writer.calls, 2);
-    assert_eq!(rt; ToWrite::new(&mut writer).write(b"z"), Ok(1));
-    assert_eq!(rt; writer.written.as_slice(), b"xyz".as_slice());
+    same(&rt, &ToWrite::new(&mut writer).write(b"xyz"), &Ok(2));
+    same(&rt, &writer.calls, &1);
+    same(&rt, &ToWrite::new(&mut writer).write(b"z"), &Err(Failed));
+    same(&rt, &writer.calls, &2);
+    same(&rt, &ToWrite::new(&mut writer).write(b"z"), &Ok(1));
+    same(&rt, &writer.written.as_slice(), &b"xyz".as_slice());
     Ok(())
 }
 
@@ -139,16 +144,16 @@ fn each_read_failing(rt: HostRuntime) -> Result<(), Fail> {
         // The line feeds are the bytes 4 and 11, the read of the end is the 16th.
         let lines = usize::from(call > 4) + usize::from(call > 11);
         assert_eq!(rt; writer.written(), &TEXT[..6 * lines], "at call {call}");
-        assert_eq!(rt; reader.calls, call);
+        same(&rt, &reader.calls, &call);
     }
     for call in 1..3u32 {
         let mut reader = Counting::new(alloc, SCRIPT, 4096, call)?;
         let mut writer = Plan::new(alloc, &[], 4096, 100)?;
         let mut source = FromRead::new(&mut reader);
         let outcome = serve::<16, 64, _, Plan>(alloc, NO_IMAGE, &mut source, &mut writer);
-        assert_eq!(rt; status(&outcome), 3);
+        same(&rt, &status(&outcome), &3);
         let out: &[u8] = if call == 1 { b"" } else { b"pos 0\npos 7\n" };
-        assert_eq!(rt; writer.written(), out);
+        same(&rt, &writer.written(), &out);
     }
     Ok(())
 }
@@ -166,8 +171,8 @@ fn each_write_failing(rt: HostRuntime) -> Result<(), Fail> {
             matches!(&outcome, Err(RunFault::WriteFault)),
             "at call {call}"
         );
-        assert_eq!(rt; writer.written.as_slice(), &TEXT[..call as usize - 1]);
-        assert_eq!(rt; writer.calls, call);
+        same(&rt, &writer.written.as_slice(), &&TEXT[..call as usize - 1]);
+        same(&rt, &writer.calls, &call);
     }
     Ok(())
 }
@@ -180,8 +185,8 @@ fn writer_that_is_full(rt: HostRuntime) -> Result<(), Fail> {
         let mut reader = Plan::new(alloc, SCRIPT, 3, 0)?;
         let mut writer = Plan::new(alloc, &[], 4, room)?;
         let outcome = serve::<16, 64, Plan, Plan>(alloc, NO_IMAGE, &mut reader, &mut writer);
-        assert_eq!(rt; status(&outcome), fault);
-        assert_eq!(rt; writer.written(), &TEXT[..room.min(18)]);
+        same(&rt, &status(&outcome), &fault);
+        same(&rt, &writer.written(), &&TEXT[..room.min(18)]);
     }
     Ok(())
 }
@@ -195,8 +200,8 @@ fn long_script(rt: HostRuntime) -> Result<(), Fail> {
     let mut reader = Plan::new(alloc, &script, 4096, 0)?;
     let mut writer = Plan::new(alloc, &[], 4096, 100)?;
     let outcome = serve::<16, 64, Plan, Plan>(alloc, NO_IMAGE, &mut reader, &mut writer);
-    assert_eq!(rt; status(&outcome), 0);
-    assert_eq!(rt; writer.written(), b"pos 0\n".as_slice());
+    same(&rt, &status(&outcome), &0);
+    same(&rt, &writer.written(), &b"pos 0\n".as_slice());
     Ok(())
 }
 
@@ -208,7 +213,7 @@ fn half_a_line(rt: HostRuntime) -> Result<(), Fail> {
         let mut reader = Plan::new(alloc, b"pos\nquits\npos\n", piece, 0)?;
         let mut writer = Plan::new(alloc, &[], 4096, 100)?;
         let outcome = serve::<16, 64, Plan, Plan>(alloc, NO_IMAGE, &mut reader, &mut writer);
-        assert_eq!(rt; status(&outcome), 0);
+        same(&rt, &status(&outcome), &0);
         let text = b"pos 0\nerror 2 Syntax\npos 0\n".as_slice();
         assert_eq!(rt; writer.written(), text, "in pieces of {piece}");
     }

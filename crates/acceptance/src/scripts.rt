@@ -1,4 +1,5 @@
 //! Scripts, good and hostile.
+use crate::same::same;
 use crate::served::run_program;
 use std::test::Fail;
 
@@ -35,7 +36,7 @@ fn replies(rt: HostRuntime) -> Result<(), Fail> {
                 want.as_bytes(),
                 "at {script:?} in pieces of {piece}"
             );
-            assert_eq!(rt; run.status, 0);
+            same(&rt, &run.status, &0);
         }
     }
     Ok(())

@@ -1,5 +1,6 @@
 //! The assembler on its own: words of source, every fault alone and before those that come after it, numbers and targets at
 //! their bounds, places, lines and their ends.
+use crate::same::same;
 use asm_line::kind::AsmKind;
 use r3k_asm::{AsmFault, assemble};
 use r3k_disasm::text;
@@ -36,9 +37,10 @@ fn load_slot(rt: HostRuntime) -> Result<(), Fail> {
         ".org 0x100\n.word 5\n.org 0x1fc00000\nlui r1, 0xa000\nlw r2, 256(r1)\naddu r3, r2, r0\n\
 addu r4, r2, r0\n";
     let image = image(&rt, rt.alloc(), source);
-    assert_eq!(rt;
-        write_image(rt.alloc(), &image)?.as_slice(),
-        LOAD_SLOT.as_slice()
+    same(
+        &rt,
+        &write_image(rt.alloc(), &image)?.as_slice(),
+        &LOAD_SLOT.as_slice(),
     );
     Ok(())
 }
@@ -437,11 +439,12 @@ fn places_and_constants(rt: HostRuntime) {
     ] {
         assert_eq!(rt; image.word(address), word, "at {address:x}");
     }
-    assert_eq!(rt; image.byte_time(), 65535);
-    assert_eq!(rt; image.unit(), 65535);
-    assert_eq!(rt;
-        image.clock_start(),
-        [1, 2, 3, 4, 5, 6, 7, 8, 9, 255, 0x7F, 254]
+    same(&rt, &image.byte_time(), &65535);
+    same(&rt, &image.unit(), &65535);
+    same(
+        &rt,
+        &image.clock_start(),
+        &[1, 2, 3, 4, 5, 6, 7, 8, 9, 255, 0x7F, 254],
     );
 }
 
@@ -450,11 +453,12 @@ fn places_and_constants(rt: HostRuntime) {
 fn empty_source(rt: HostRuntime) {
     for source in ["", "\n", "#", "x:", " \t\r\n\r\n", ".org 0x1fc40000"] {
         let image = image(&rt, rt.alloc(), source);
-        assert_eq!(rt; image.word(START), None);
-        assert_eq!(rt; (image.byte_time(), image.unit()), (16, 1));
-        assert_eq!(rt;
-            image.clock_start(),
-            [0, 0, 0, 0, 0, 0, 1, 1, 1, 0, 0x20, 6]
+        same(&rt, &image.word(START), &None);
+        same(&rt, &(image.byte_time(), image.unit()), &(16, 1));
+        same(
+            &rt,
+            &image.clock_start(),
+            &[0, 0, 0, 0, 0, 0, 1, 1, 1, 0, 0x20, 6],
         );
     }
 }
@@ -465,8 +469,8 @@ fn reach_of_labels(rt: HostRuntime) {
     let source =
         ".org 0x1fbe0008\nlow:\n.org 0x1fc00004\nbltz r1, low\nbgtz r1, high\n.org 0x1fc20008\nhigh:";
     let image = image(&rt, rt.alloc(), source);
-    assert_eq!(rt; image.word(0x1FC0_0004), Some(0x0420_8000));
-    assert_eq!(rt; image.word(0x1FC0_0008), Some(0x1C20_7FFF));
+    same(&rt, &image.word(0x1FC0_0004), &Some(0x0420_8000));
+    same(&rt, &image.word(0x1FC0_0008), &Some(0x1C20_7FFF));
 }
 
 /// Words that fill ROM, and one more.
@@ -481,11 +485,11 @@ fn full_rom(rt: HostRuntime) -> Result<(), Fail> {
         })?;
     }
     let image = image(&rt, rt.alloc(), source.as_str());
-    assert_eq!(rt; image.word(0x1FC3_FFF8), Some(1));
-    assert_eq!(rt; image.word(0x1FC3_FFFC), Some(0x4200_0001));
+    same(&rt, &image.word(0x1FC3_FFF8), &Some(1));
+    same(&rt, &image.word(0x1FC3_FFFC), &Some(0x4200_0001));
     source.push_str("rfe\n")?;
     let found = fault(rt.alloc(), source.as_str());
-    assert_eq!(rt; found, Some((65_537, AsmKind::Place)));
+    same(&rt, &found, &Some((65_537, AsmKind::Place)));
     Ok(())
 }
 

@@ -1,4 +1,5 @@
 //! The image format, raw ROMs, and images made word by word.
+use crate::same::same;
 use r3k_image::{
     ClockStart, Constant, ImageFault, ImageKind, WordAddress, WordMap, raw_rom, read_image,
     write_image,
@@ -11,10 +12,10 @@ const CLOCK: [u8; 12] = [0, 0, 0, 0, 0, 0, 1, 1, 1, 0, 0x20, 6];
 #[test]
 fn empty_image(rt: HostRuntime) -> Result<(), Fail> {
     let image = read_image(rt.alloc(), &EMPTY_IMAGE)?;
-    assert_eq!(rt; image.byte_time(), 16);
-    assert_eq!(rt; image.unit(), 1);
-    assert_eq!(rt; image.clock_start(), CLOCK);
-    assert_eq!(rt; image.word(0), None);
+    same(&rt, &image.byte_time(), &16);
+    same(&rt, &image.unit(), &1);
+    same(&rt, &image.clock_start(), &CLOCK);
+    same(&rt, &image.word(0), &None);
     assert!(rt; image.fits(0));
     Ok(())
 }
@@ -51,7 +52,7 @@ fn load_slot(rt: HostRuntime) -> Result<(), Fail> {
 #[test]
 fn faults_of_the_header(rt: HostRuntime) {
     let short = read_image(rt.alloc(), b"another").err();
-    assert_eq!(rt; short, Some(ImageFault::Bad(ImageKind::Short)));
+    same(&rt, &short, &Some(ImageFault::Bad(ImageKind::Short)));
     for (place, byte, kind) in [
         (7, b'\r', Some(ImageKind::Magic)),
         (8, 0, Some(ImageKind::ByteTime)),
@@ -126,16 +127,16 @@ fn segments_may_touch(rt: HostRuntime) -> Result<(), Fail> {
 #[test]
 fn raw_roms(rt: HostRuntime) -> Result<(), Fail> {
     let image = raw_rom(rt.alloc(), &[0x11, 0x22, 0x33, 0x44, 0x55])?;
-    assert_eq!(rt; image.word(0x1FC0_0000), Some(0x4433_2211));
-    assert_eq!(rt; image.word(0x1FC0_0004), Some(0x55));
-    assert_eq!(rt; image.word(0x1FC0_0008), None);
-    assert_eq!(rt; image.byte_time(), 16);
-    assert_eq!(rt; image.unit(), 1);
-    assert_eq!(rt; image.clock_start(), CLOCK);
+    same(&rt, &image.word(0x1FC0_0000), &Some(0x4433_2211));
+    same(&rt, &image.word(0x1FC0_0004), &Some(0x55));
+    same(&rt, &image.word(0x1FC0_0008), &None);
+    same(&rt, &image.byte_time(), &16);
+    same(&rt, &image.unit(), &1);
+    same(&rt, &image.clock_start(), &CLOCK);
     assert!(rt; image.fits(0));
 
     let none = raw_rom(rt.alloc(), &[])?;
-    assert_eq!(rt; none.word(0x1FC0_0000), None);
+    same(&rt, &none.word(0x1FC0_0000), &None);
     Ok(())
 }
 
@@ -148,8 +149,8 @@ fn longest_raw_rom(rt: HostRuntime) -> Result<(), Fail> {
         let bytes = vec![in rt.alloc(); 0xA5u8; len]?;
         let image = raw_rom(rt.alloc(), &bytes);
         if let Ok(image) = &image {
-            assert_eq!(rt; image.word(0x1FC3_FFFC), last);
-            assert_eq!(rt; image.word(0x1FC4_0000), None);
+            same(&rt, &image.word(0x1FC3_FFFC), &last);
+            same(&rt, &image.word(0x1FC4_0000), &None);
         }
         assert_eq!(rt; image.err(), kind.map(ImageFault::Bad), "{len} bytes");
     }
@@ -160,7 +161,7 @@ fn longest_raw_rom(rt: HostRuntime) -> Result<(), Fail> {
 fn written_again(rt: HostRuntime) -> Result<(), Fail> {
     for bytes in [EMPTY_IMAGE.as_slice(), LOAD_SLOT.as_slice()] {
         let image = read_image(rt.alloc(), bytes)?;
-        assert_eq!(rt; write_image(rt.alloc(), &image)?.as_slice(), bytes);
+        same(&rt, &write_image(rt.alloc(), &image)?.as_slice(), &bytes);
     }
     Ok(())
 }
@@ -182,9 +183,10 @@ fn touching_segments_are_joined(rt: HostRuntime) -> Result<(), Fail> {
 \x10\x01\0\0\x01\0\0\0\x08\0\0\0\
 \xfc\xff\xff\x01\x01\0\0\0\x09\0\0\0";
     let image = read_image(rt.alloc(), &apart)?;
-    assert_eq!(rt;
-        write_image(rt.alloc(), &image)?.as_slice(),
-        joined.as_slice()
+    same(
+        &rt,
+        &write_image(rt.alloc(), &image)?.as_slice(),
+        &joined.as_slice(),
     );
     Ok(())
 }
@@ -203,21 +205,22 @@ fn image_of_words(rt: HostRuntime) -> Result<(), Fail> {
         assert!(rt; words.insert(address, 0)?);
         assert!(rt; !words.insert(address, word)?);
     }
-    assert_eq!(rt; WordAddress::new(0x101), None);
-    assert_eq!(rt; WordAddress::new(0x0200_0000), None);
+    same(&rt, &WordAddress::new(0x101), &None);
+    same(&rt, &WordAddress::new(0x0200_0000), &None);
     let image = words.image(
         rt.alloc(),
         Constant::plain_byte_time(),
         Constant::plain_unit(),
         ClockStart::plain(),
     )?;
-    assert_eq!(rt;
-        write_image(rt.alloc(), &image)?.as_slice(),
-        LOAD_SLOT.as_slice()
+    same(
+        &rt,
+        &write_image(rt.alloc(), &image)?.as_slice(),
+        &LOAD_SLOT.as_slice(),
     );
-    assert_eq!(rt; Constant::new(0), None);
-    assert_eq!(rt; Constant::new(65536), None);
+    same(&rt, &Constant::new(0), &None);
+    same(&rt, &Constant::new(65536), &None);
     let start = ClockStart::new(&CLOCK).ok_or("no start")?;
-    assert_eq!(rt; start.get(), CLOCK);
+    same(&rt, &start.get(), &CLOCK);
     Ok(())
 }

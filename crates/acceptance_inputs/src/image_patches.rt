@@ -1,4 +1,5 @@
 //! Patches of an image.
+use crate::same::same;
 use r3k_image::{read_image, write_image};
 use refusal::Fault;
 use samples::{EMPTY_IMAGE, LOAD_SLOT};
@@ -17,18 +18,20 @@ fn patches(rt: HostRuntime) -> Result<(), Fail> {
     let mut image = read_image(rt.alloc(), &LOAD_SLOT)?;
     // The value that the word has.
     image.patch(0x100, 5)?;
-    assert_eq!(rt;
-        write_image(rt.alloc(), &image)?.as_slice(),
-        LOAD_SLOT.as_slice()
+    same(
+        &rt,
+        &write_image(rt.alloc(), &image)?.as_slice(),
+        &LOAD_SLOT.as_slice(),
     );
     // Words of their own, one of them just before a segment, and words behind a segment, one of them with the value 0.
     image.patch(0x200, 0xFFFF_FFFF)?;
     image.patch(0xFC, 7)?;
     image.patch(0x104, 0)?;
     image.patch(0x1FC0_0010, 0x2405_0011)?;
-    assert_eq!(rt;
-        write_image(rt.alloc(), &image)?.as_slice(),
-        PATCHED.as_slice()
+    same(
+        &rt,
+        &write_image(rt.alloc(), &image)?.as_slice(),
+        &PATCHED.as_slice(),
     );
     // Set words have another value, and no other word is touched.
     image.patch(0x1FC0_0004, 1)?;
@@ -87,9 +90,10 @@ fn refused_patches(rt: HostRuntime) -> Result<(), Fail> {
             "at {address:x}"
         );
     }
-    assert_eq!(rt;
-        write_image(rt.alloc(), &image)?.as_slice(),
-        LOAD_SLOT.as_slice()
+    same(
+        &rt,
+        &write_image(rt.alloc(), &image)?.as_slice(),
+        &LOAD_SLOT.as_slice(),
     );
     Ok(())
 }
@@ -100,11 +104,11 @@ fn refused_growth(rt: HostRuntime) -> Result<(), Fail> {
     let mut image = read_image(rt.alloc(), &EMPTY_IMAGE)?;
     for address in [0, 4, 8, 12, 16, 0x100, 0x200, 0x300, 0x400, 0x404] {
         if let Err(fault) = image.patch(address, 1) {
-            assert_eq!(rt; fault, Fault::Memory);
-            assert_eq!(rt; image.word(address), None);
+            same(&rt, &fault, &Fault::Memory);
+            same(&rt, &image.word(address), &None);
             image.patch(address, 1)?;
         }
-        assert_eq!(rt; image.word(address), Some(1));
+        same(&rt, &image.word(address), &Some(1));
     }
     Ok(())
 }

@@ -14,6 +14,8 @@ mod log_format;
 #[cfg(test)]
 mod reply_texts;
 #[cfg(test)]
+mod same;
+#[cfg(test)]
 mod script_lines;
 #[cfg(test)]
 mod sources;

@@ -1,5 +1,6 @@
 //! Edits of a log.
 use crate::log_format::{FIRST, SECOND, THIRD, THREE};
+use crate::same::same;
 use input_log::{Log, read_log};
 use refusal::Fault;
 use std::test::Fail;
@@ -17,12 +18,12 @@ fn has(log: &Log, events: &[(u64, u8, u8)]) -> bool {
 #[test]
 fn adds_behind_its_time(rt: HostRuntime) -> Result<(), Fail> {
     let mut log = Log::new(rt.alloc());
-    assert_eq!(rt; log.add(5, 0, 1)?, 0);
-    assert_eq!(rt; log.add(5, 3, 2)?, 1);
-    assert_eq!(rt; log.add(4, 0, 3)?, 0);
-    assert_eq!(rt; log.add(4_294_967_294, 0, 255)?, 3);
-    assert_eq!(rt; log.add(0, 1, 0)?, 0);
-    assert_eq!(rt; log.add(5, 0, 4)?, 4);
+    same(&rt, &log.add(5, 0, 1)?, &0);
+    same(&rt, &log.add(5, 3, 2)?, &1);
+    same(&rt, &log.add(4, 0, 3)?, &0);
+    same(&rt, &log.add(4_294_967_294, 0, 255)?, &3);
+    same(&rt, &log.add(0, 1, 0)?, &0);
+    same(&rt, &log.add(5, 0, 4)?, &4);
     assert!(rt;
         has(
             &log,
@@ -61,13 +62,13 @@ fn moves(rt: HostRuntime) -> Result<(), Fail> {
         log.add(time, 0, byte)?;
     }
     // The last of its time stays.
-    assert_eq!(rt; log.move_to(2, 2)?, 2);
+    same(&rt, &log.move_to(2, 2)?, &2);
     assert!(rt; has(&log, &[(1, 0, 10), (2, 0, 20), (2, 0, 21), (3, 0, 30)]));
     // The first of its time comes behind the other.
-    assert_eq!(rt; log.move_to(1, 2)?, 2);
+    same(&rt, &log.move_to(1, 2)?, &2);
     assert!(rt; has(&log, &[(1, 0, 10), (2, 0, 21), (2, 0, 20), (3, 0, 30)]));
     // Forward to the end.
-    assert_eq!(rt; log.move_to(0, 4_294_967_294)?, 3);
+    same(&rt, &log.move_to(0, 4_294_967_294)?, &3);
     assert!(rt;
         has(
             &log,
@@ -75,12 +76,12 @@ fn moves(rt: HostRuntime) -> Result<(), Fail> {
         )
     );
     // Backward, behind the events of the new time.
-    assert_eq!(rt; log.move_to(3, 2)?, 2);
+    same(&rt, &log.move_to(3, 2)?, &2);
     assert!(rt; has(&log, &[(2, 0, 21), (2, 0, 20), (2, 0, 10), (3, 0, 30)]));
     // To another time between the same neighbours.
-    assert_eq!(rt; log.move_to(3, 7)?, 3);
+    same(&rt, &log.move_to(3, 7)?, &3);
     // To the front.
-    assert_eq!(rt; log.move_to(3, 0)?, 0);
+    same(&rt, &log.move_to(3, 0)?, &0);
     assert!(rt; has(&log, &[(0, 0, 30), (2, 0, 21), (2, 0, 20), (2, 0, 10)]));
     Ok(())
 }
@@ -88,21 +89,34 @@ fn moves(rt: HostRuntime) -> Result<(), Fail> {
 #[test]
 fn refused_edits(rt: HostRuntime) -> Result<(), Fail> {
     let mut log = read_log(rt.alloc(), &THREE)?;
-    assert_eq!(rt; log.add(0, 4, 0).err(), Some(Fault::Range));
-    assert_eq!(rt; log.add(4_294_967_295, 0, 0).err(), Some(Fault::Range));
-    assert_eq!(rt; log.add(u64::MAX, 255, 0).err(), Some(Fault::Range));
+    same(&rt, &log.add(0, 4, 0).err(), &Some(Fault::Range));
+    same(
+        &rt,
+        &log.add(4_294_967_295, 0, 0).err(),
+        &Some(Fault::Range),
+    );
+    same(&rt, &log.add(u64::MAX, 255, 0).err(), &Some(Fault::Range));
     for place in [3, 4_294_967_296, u64::MAX] {
-        assert_eq!(rt; log.del(place).err(), Some(Fault::NoEvent));
-        assert_eq!(rt; log.set(place, 0).err(), Some(Fault::NoEvent));
-        assert_eq!(rt;
-            log.move_to(place, 4_294_967_294).err(),
-            Some(Fault::NoEvent)
+        same(&rt, &log.del(place).err(), &Some(Fault::NoEvent));
+        same(&rt, &log.set(place, 0).err(), &Some(Fault::NoEvent));
+        same(
+            &rt,
+            &log.move_to(place, 4_294_967_294).err(),
+            &Some(Fault::NoEvent),
         );
         // The range comes first.
-        assert_eq!(rt; log.move_to(place, 4_294_967_295).err(), Some(Fault::Range));
+        same(
+            &rt,
+            &log.move_to(place, 4_294_967_295).err(),
+            &Some(Fault::Range),
+        );
     }
-    assert_eq!(rt; log.move_to(0, 4_294_967_295).err(), Some(Fault::Range));
-    assert_eq!(rt; log.events(), [FIRST, SECOND, THIRD].as_slice());
+    same(
+        &rt,
+        &log.move_to(0, 4_294_967_295).err(),
+        &Some(Fault::Range),
+    );
+    same(&rt, &log.events(), &[FIRST, SECOND, THIRD].as_slice());
     Ok(())
 }
 
@@ -114,13 +128,13 @@ fn full_log(rt: HostRuntime) -> Result<(), Fail> {
         bytes.extend_from_slice(&[0; 6])?;
     }
     let mut log = read_log(rt.alloc(), &bytes)?;
-    assert_eq!(rt; log.add(0, 0, 1).err(), Some(Fault::Range));
+    same(&rt, &log.add(0, 0, 1).err(), &Some(Fault::Range));
     // A move takes no room.
-    assert_eq!(rt; log.move_to(0, 1)?, 1_048_575);
+    same(&rt, &log.move_to(0, 1)?, &1_048_575);
     log.del(1_048_575)?;
-    assert_eq!(rt; log.add(0, 0, 1)?, 1_048_575);
-    assert_eq!(rt; log.add(0, 0, 1).err(), Some(Fault::Range));
-    assert_eq!(rt; log.events().len(), 1_048_576);
+    same(&rt, &log.add(0, 0, 1)?, &1_048_575);
+    same(&rt, &log.add(0, 0, 1).err(), &Some(Fault::Range));
+    same(&rt, &log.events().len(), &1_048_576);
     Ok(())
 }
 
@@ -132,12 +146,12 @@ fn refused_growth(rt: HostRuntime) -> Result<(), Fail> {
         let place = match log.add(time, 0, 7) {
             Ok(place) => place,
             Err(fault) => {
-                assert_eq!(rt; fault, Fault::Memory);
-                assert_eq!(rt; log.events().len() as u64, time);
+                same(&rt, &fault, &Fault::Memory);
+                same(&rt, &(log.events().len() as u64), &time);
                 log.add(time, 0, 7)?
             }
         };
-        assert_eq!(rt; place as u64, time);
+        same(&rt, &(place as u64), &time);
     }
     Ok(())
 }

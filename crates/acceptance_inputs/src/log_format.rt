@@ -1,4 +1,5 @@
 //! The log format, and windows of a log.
+use crate::same::same;
 use input_log::{Cursor, Event, Log, LogFault, LogKind, read_log, write_log};
 use std::test::Fail;
 
@@ -37,22 +38,38 @@ fn one_event(rt: HostRuntime) -> Result<(), Fail> {
         line: 0,
         byte: 0x41,
     };
-    assert_eq!(rt; log.events(), [event].as_slice());
-    assert_eq!(rt; write_log(rt.alloc(), &log)?.as_slice(), ONE.as_slice());
+    same(&rt, &log.events(), &[event].as_slice());
+    same(
+        &rt,
+        &write_log(rt.alloc(), &log)?.as_slice(),
+        &ONE.as_slice(),
+    );
     Ok(())
 }
 
 #[test]
 fn written_again(rt: HostRuntime) -> Result<(), Fail> {
     let log = read_log(rt.alloc(), &THREE)?;
-    assert_eq!(rt; log.events(), [FIRST, SECOND, THIRD].as_slice());
-    assert_eq!(rt; write_log(rt.alloc(), &log)?.as_slice(), THREE.as_slice());
+    same(&rt, &log.events(), &[FIRST, SECOND, THIRD].as_slice());
+    same(
+        &rt,
+        &write_log(rt.alloc(), &log)?.as_slice(),
+        &THREE.as_slice(),
+    );
     let none = *b"R3KLOG1\n\0\0\0\0";
     let log = read_log(rt.alloc(), &none)?;
-    assert_eq!(rt; log.events().len(), 0);
-    assert_eq!(rt; write_log(rt.alloc(), &log)?.as_slice(), none.as_slice());
+    same(&rt, &log.events().len(), &0);
+    same(
+        &rt,
+        &write_log(rt.alloc(), &log)?.as_slice(),
+        &none.as_slice(),
+    );
     let empty = Log::new(rt.alloc());
-    assert_eq!(rt; write_log(rt.alloc(), &empty)?.as_slice(), none.as_slice());
+    same(
+        &rt,
+        &write_log(rt.alloc(), &empty)?.as_slice(),
+        &none.as_slice(),
+    );
     Ok(())
 }
 
@@ -70,7 +87,7 @@ fn too_few_bytes_and_too_many(rt: HostRuntime) -> Result<(), Fail> {
         let mut longer = bytes.to_vec(rt.alloc())?;
         longer.push(0)?;
         let fault = read_log(rt.alloc(), &longer).err();
-        assert_eq!(rt; fault, Some(LogFault::Bad(LogKind::Extra)));
+        same(&rt, &fault, &Some(LogFault::Bad(LogKind::Extra)));
     }
     Ok(())
 }
@@ -142,11 +159,11 @@ fn limits(rt: HostRuntime) {
 #[test]
 fn windows(rt: HostRuntime) -> Result<(), Fail> {
     let log = read_log(rt.alloc(), &THREE)?;
-    assert_eq!(rt; log.window(4, 5), [FIRST].as_slice());
-    assert_eq!(rt; log.window(5, 6), [SECOND, THIRD].as_slice());
-    assert_eq!(rt; log.window(5, 5).len(), 0);
-    assert_eq!(rt; log.window(6, 4).len(), 0);
-    assert_eq!(rt; log.window(0, u64::MAX), log.events());
+    same(&rt, &log.window(4, 5), &[FIRST].as_slice());
+    same(&rt, &log.window(5, 6), &[SECOND, THIRD].as_slice());
+    same(&rt, &log.window(5, 5).len(), &0);
+    same(&rt, &log.window(6, 4).len(), &0);
+    same(&rt, &log.window(0, u64::MAX), &log.events());
     Ok(())
 }
 
@@ -154,16 +171,16 @@ fn windows(rt: HostRuntime) -> Result<(), Fail> {
 fn way_along_a_window(rt: HostRuntime) -> Result<(), Fail> {
     let log = read_log(rt.alloc(), &THREE)?;
     let mut cursor = Cursor::new(log.window(2, 9));
-    assert_eq!(rt; cursor.next(2).len(), 0);
-    assert_eq!(rt; cursor.next(3).len(), 0);
-    assert_eq!(rt; cursor.next(4), [FIRST].as_slice());
-    assert_eq!(rt; cursor.next(5), [SECOND, THIRD].as_slice());
-    assert_eq!(rt; cursor.next(5).len(), 0);
-    assert_eq!(rt; cursor.next(6).len(), 0);
-    assert_eq!(rt; cursor.next(u64::MAX).len(), 0);
+    same(&rt, &cursor.next(2).len(), &0);
+    same(&rt, &cursor.next(3).len(), &0);
+    same(&rt, &cursor.next(4), &[FIRST].as_slice());
+    same(&rt, &cursor.next(5), &[SECOND, THIRD].as_slice());
+    same(&rt, &cursor.next(5).len(), &0);
+    same(&rt, &cursor.next(6).len(), &0);
+    same(&rt, &cursor.next(u64::MAX).len(), &0);
     // What is before the time is left behind.
     let mut cursor = Cursor::new(log.events());
-    assert_eq!(rt; cursor.next(5), [SECOND, THIRD].as_slice());
-    assert_eq!(rt; cursor.next(4).len(), 0);
+    same(&rt, &cursor.next(5), &[SECOND, THIRD].as_slice());
+    same(&rt, &cursor.next(4).len(), &0);
     Ok(())
 }

@@ -1,4 +1,5 @@
 //! Texts of replies, by example.
+use crate::same::same;
 use arrayvec::ArrayVec;
 use input_log::Event;
 use refusal::Fault;
@@ -11,7 +12,7 @@ use wb_text::{
 
 fn shows(rt: &impl Abort, reply: &Reply, wanted: &[u8]) {
     let text = reply_text(reply);
-    assert_eq!(rt; text.as_slice(), wanted);
+    same(rt, &text.as_slice(), &wanted);
 }
 
 #[test]
@@ -190,7 +191,7 @@ fn bytes_of_a_line(rt: HostRuntime) -> Result<(), Fail> {
     let text = reply_text(&Reply::Console { line, total, bytes });
     assert!(rt; text.as_slice().starts_with(b"console 2 300 a5a5a5"));
     assert!(rt; text.as_slice().ends_with(b"a5\n"));
-    assert_eq!(rt; text.len(), 527);
+    same(&rt, &text.len(), &527);
     Ok(())
 }
 
@@ -285,6 +286,6 @@ fn refusals(rt: HostRuntime) {
     ] {
         let text = reply_text(&Reply::Fault(fault));
         let shown = format!(in rt.alloc(); "{fault}\n").expect(&rt, "memory");
-        assert_eq!(rt; text.as_slice(), shown.as_bytes());
+        same(&rt, &text.as_slice(), &shown.as_bytes());
     }
 }

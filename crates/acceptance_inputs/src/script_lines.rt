@@ -1,4 +1,5 @@
 //! Lines of a script, by example.
+use crate::same::same;
 use refusal::Fault;
 use std::process::Abort;
 use std::test::Fail;
@@ -88,8 +89,8 @@ fn queries_of_the_processor(rt: HostRuntime) -> Result<(), Fail> {
     says(&rt, b"reg 32 1", Err(Fault::Syntax));
     says(&rt, b"reg r2", Err(Fault::Syntax));
     says(&rt, b"cp0 1", Err(Fault::Syntax));
-    assert_eq!(rt; RegisterNumber::new(32), None);
-    assert_eq!(rt; last.get(), 31);
+    same(&rt, &RegisterNumber::new(32), &None);
+    same(&rt, &last.get(), &31);
     Ok(())
 }
 

@@ -1,4 +1,5 @@
 //! Source to an image, in short.
+use crate::same::same;
 use asm_line::kind::AsmKind;
 use r3k_asm::{AsmFault, assemble};
 use std::test::Fail;
@@ -20,10 +21,11 @@ beq r1, r0, start\nend:\naddiu r2, r2, -1\n.bytetime 2\n.unit 3\n.clock 1 2 3 4 
     ] {
         assert_eq!(rt; image.word(address), word, "at {address:x}");
     }
-    assert_eq!(rt; (image.byte_time(), image.unit()), (2, 3));
-    assert_eq!(rt;
-        image.clock_start(),
-        [1, 2, 3, 4, 5, 6, 7, 8, 9, 10, 0x20, 6]
+    same(&rt, &(image.byte_time(), image.unit()), &(2, 3));
+    same(
+        &rt,
+        &image.clock_start(),
+        &[1, 2, 3, 4, 5, 6, 7, 8, 9, 10, 0x20, 6],
     );
     Ok(())
 }

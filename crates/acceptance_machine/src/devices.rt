@@ -1,5 +1,6 @@
 //! Devices behind loads and stores, and their interrupts, step by step: values by hand from the papers of the parts.
 use crate::machine::Machine;
+use crate::same::same;
 use cop0::number::{CAUSE, EPC, STATUS};
 use dz_serial::Sent;
 use input_log::Event;
@@ -28,12 +29,12 @@ fn serial_interrupt(rt: HostRuntime) -> Result<(), Fail> {
     ];
     let mut machine = Machine::boot(rt.alloc(), &rom)?;
     machine.run(10);
-    assert_eq!(rt; machine.core.cop0().read(CAUSE), 0);
+    same(&rt, &machine.core.cop0().read(CAUSE), &0);
     machine.receive(&[BYTE]);
-    assert_eq!(rt; machine.core.cop0().read(CAUSE), 0x0000_0400);
+    same(&rt, &machine.core.cop0().read(CAUSE), &0x0000_0400);
     let mut machine = Machine::boot(rt.alloc(), &rom)?;
     machine.run(11);
-    assert_eq!(rt; machine.core.cop0().read(CAUSE), 0);
+    same(&rt, &machine.core.cop0().read(CAUSE), &0);
     Ok(())
 }
 
@@ -55,15 +56,15 @@ fn echo(rt: HostRuntime) -> Result<(), Fail> {
         } else {
             None
         };
-        assert_eq!(rt; done.sent, sent);
-        assert_eq!(rt; done.stored == Some(0x104), step == 81);
+        same(&rt, &done.sent, &sent);
+        same(&rt, &(done.stored == Some(0x104)), &(step == 81));
         let turn = step >= 11 && (step - 11) % 11 == 0;
-        assert_eq!(rt; done.stored == Some(0x100), turn);
+        same(&rt, &(done.stored == Some(0x100)), &turn);
         let quiet = silent.step();
-        assert_eq!(rt; quiet.sent, None);
-        assert_eq!(rt; quiet.stored == Some(0x100), turn);
+        same(&rt, &quiet.sent, &None);
+        same(&rt, &(quiet.stored == Some(0x100)), &turn);
     }
-    assert_eq!(rt; machine.ram(0x100), 0);
+    same(&rt, &machine.ram(0x100), &0);
     // The runs meet: nothing of the byte is left.
     assert!(rt; machine.core == silent.core);
     Ok(())
@@ -97,18 +98,18 @@ fn interrupt_in_a_delay_slot(rt: HostRuntime) -> Result<(), Fail> {
     waiting(&mut machine);
     machine.run(3);
     let done = machine.receive(&[BYTE]);
-    assert_eq!(rt; done.touched, [None, None]);
-    assert_eq!(rt; machine.core.pc(), 0xBFC0_0180);
-    assert_eq!(rt; machine.core.cop0().read(EPC), 0xBFC0_002C);
-    assert_eq!(rt; machine.core.cop0().read(CAUSE), 0x8000_0400);
-    assert_eq!(rt; machine.core.cop0().read(STATUS), 0x0040_0404);
+    same(&rt, &done.touched, &[None, None]);
+    same(&rt, &machine.core.pc(), &0xBFC0_0180);
+    same(&rt, &machine.core.cop0().read(EPC), &0xBFC0_002C);
+    same(&rt, &machine.core.cop0().read(CAUSE), &0x8000_0400);
+    same(&rt, &machine.core.cop0().read(STATUS), &0x0040_0404);
 
     let mut machine = Machine::boot_source(rt.alloc(), LISTENS)?;
     waiting(&mut machine);
     machine.run(2);
     machine.receive(&[BYTE]);
-    assert_eq!(rt; machine.core.cop0().read(EPC), 0xBFC0_002C);
-    assert_eq!(rt; machine.core.cop0().read(CAUSE), 0x0000_0400);
+    same(&rt, &machine.core.cop0().read(EPC), &0xBFC0_002C);
+    same(&rt, &machine.core.cop0().read(CAUSE), &0x0000_0400);
     assert!(rt; !machine.core.delay());
     Ok(())
 }
@@ -140,8 +141,8 @@ addiu r7, r0, 9
     assert!(rt; machine.core.load().is_some());
     machine.receive(&[BYTE]);
     assert!(rt; machine.core.load().is_none());
-    assert_eq!(rt; machine.core.registers()[7], 5);
-    assert_eq!(rt; machine.core.cop0().read(EPC), 0xBFC0_0034);
+    same(&rt, &machine.core.registers()[7], &5);
+    same(&rt, &machine.core.cop0().read(EPC), &0xBFC0_0034);
     Ok(())
 }
 
@@ -166,8 +167,8 @@ fn interrupt_held_back(rt: HostRuntime) -> Result<(), Fail> {
         waiting(&mut machine);
         machine.receive(&[BYTE]);
         machine.run(3);
-        assert_eq!(rt; machine.core.cop0().read(CAUSE), cause);
-        assert_eq!(rt; machine.core.pc(), 0xBFC0_002C);
+        same(&rt, &machine.core.cop0().read(CAUSE), &cause);
+        same(&rt, &machine.core.pc(), &0xBFC0_002C);
     }
     Ok(())
 }
@@ -203,19 +204,19 @@ sll r0, r0, 0
 ",
     )?;
     machine.run(22);
-    assert_eq!(rt; machine.register(4), 0x00A5_0000);
-    assert_eq!(rt; machine.register(5), 0xFFFF_FFA5);
-    assert_eq!(rt; machine.register(6), 0xA5);
-    assert_eq!(rt; machine.register(7), 0xA5);
-    assert_eq!(rt; machine.register(8), 0);
+    same(&rt, &machine.register(4), &0x00A5_0000);
+    same(&rt, &machine.register(5), &0xFFFF_FFA5);
+    same(&rt, &machine.register(6), &0xA5);
+    same(&rt, &machine.register(7), &0xA5);
+    same(&rt, &machine.register(8), &0);
     // lwl takes bytes 0 to 2 to the top; lwr takes bytes 2 and 3 to the bottom.
-    assert_eq!(rt; machine.register(9), 0xA500_0000);
-    assert_eq!(rt; machine.register(10), 0x0000_00A5);
-    assert_eq!(rt; machine.register(11), 0);
+    same(&rt, &machine.register(9), &0xA500_0000);
+    same(&rt, &machine.register(10), &0x0000_00A5);
+    same(&rt, &machine.register(11), &0);
     // r3 is 0x00ffffa5: swl at byte 2 puts its top three bytes into bytes 0 to 2, of which byte 2 is 0x00; swr at byte 2 puts its
     // low two bytes into bytes 2 and 3.
-    assert_eq!(rt; machine.register(12), 0);
-    assert_eq!(rt; machine.register(13), 0x00A5_0000);
+    same(&rt, &machine.register(12), &0);
+    same(&rt, &machine.register(13), &0x00A5_0000);
     Ok(())
 }
 
@@ -243,10 +244,10 @@ sll r0, r0, 0
     let third = Event { byte: 0xC3, ..BYTE };
     machine.receive(&[first, second, third]);
     machine.run(5);
-    assert_eq!(rt; machine.register(6), 0xFFFF_FFC1);
-    assert_eq!(rt; machine.register(7), 0x80C2);
-    assert_eq!(rt; machine.register(8), 0x80C3);
-    assert_eq!(rt; machine.register(9), 0);
+    same(&rt, &machine.register(6), &0xFFFF_FFC1);
+    same(&rt, &machine.register(7), &0x80C2);
+    same(&rt, &machine.register(8), &0x80C3);
+    same(&rt, &machine.register(9), &0);
     Ok(())
 }
 
@@ -270,10 +271,10 @@ sll r0, r0, 0
     )?;
     machine.run(8);
     let done = machine.receive(&[BYTE]);
-    assert_eq!(rt; done.touched, [Some(16), None]);
+    same(&rt, &done.touched, &[Some(16), None]);
     machine.run(2);
-    assert_eq!(rt; machine.register(7), 0);
-    assert_eq!(rt; machine.register(8), 0x8041);
+    same(&rt, &machine.register(7), &0);
+    same(&rt, &machine.register(8), &0x8041);
     Ok(())
 }
 
@@ -300,18 +301,18 @@ sw r6, 24(r1)
 ",
     )?;
     machine.run(8);
-    assert_eq!(rt; machine.core.cop0().read(CAUSE), 0);
+    same(&rt, &machine.core.cop0().read(CAUSE), &0);
     machine.run(1);
-    assert_eq!(rt; machine.core.cop0().read(CAUSE), 0x0000_0400);
+    same(&rt, &machine.core.cop0().read(CAUSE), &0x0000_0400);
     for line in [1, 2, 3, 0] {
-        assert_eq!(rt; machine.step().sent, Some(Sent { line, byte: 0x41 }));
+        same(&rt, &machine.step().sent, &Some(Sent { line, byte: 0x41 }));
     }
-    assert_eq!(rt; machine.step().sent, None);
-    assert_eq!(rt; machine.core.cop0().read(CAUSE), 0);
+    same(&rt, &machine.step().sent, &None);
+    same(&rt, &machine.core.cop0().read(CAUSE), &0);
     machine.run(11);
-    assert_eq!(rt; machine.core.cop0().read(CAUSE), 0);
+    same(&rt, &machine.core.cop0().read(CAUSE), &0);
     machine.run(1);
-    assert_eq!(rt; machine.core.cop0().read(CAUSE), 0x0000_0400);
+    same(&rt, &machine.core.cop0().read(CAUSE), &0x0000_0400);
     Ok(())
 }
 
@@ -331,11 +332,11 @@ sll r0, r0, 0
 ",
     )?;
     machine.run(8191);
-    assert_eq!(rt; machine.register(3), 22);
-    assert_eq!(rt; machine.register(4), 0);
-    assert_eq!(rt; machine.core.cop0().read(CAUSE), 0);
+    same(&rt, &machine.register(3), &22);
+    same(&rt, &machine.register(4), &0);
+    same(&rt, &machine.core.cop0().read(CAUSE), &0);
     machine.run(1);
-    assert_eq!(rt; machine.core.cop0().read(CAUSE), 0x0000_0800);
+    same(&rt, &machine.core.cop0().read(CAUSE), &0x0000_0800);
     Ok(())
 }
 
@@ -350,13 +351,13 @@ lw r2, 32(r1)
 ",
     )?;
     machine.run(2);
-    assert_eq!(rt; machine.core.pc(), 0xBFC0_0008);
+    same(&rt, &machine.core.pc(), &0xBFC0_0008);
     machine.run(1);
-    assert_eq!(rt; machine.core.cop0().read(CAUSE), 0x0000_001C);
-    assert_eq!(rt; machine.core.cop0().read(EPC), 0xBFC0_0008);
+    same(&rt, &machine.core.cop0().read(CAUSE), &0x0000_001C);
+    same(&rt, &machine.core.cop0().read(EPC), &0xBFC0_0008);
     let mut machine = Machine::boot_source(rt.alloc(), "lui r1, 0xbfe0\njr r1\nsll r0, r0, 0\n")?;
     machine.run(4);
-    assert_eq!(rt; machine.core.cop0().read(CAUSE), 0x0000_0018);
-    assert_eq!(rt; machine.core.cop0().read(EPC), 0xBFE0_0000);
+    same(&rt, &machine.core.cop0().read(CAUSE), &0x0000_0018);
+    same(&rt, &machine.core.cop0().read(EPC), &0xBFE0_0000);
     Ok(())
 }

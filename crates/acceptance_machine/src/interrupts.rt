@@ -1,6 +1,7 @@
 //! Interrupts of the serial part and of the clock, with handlers: values by hand from the papers of the parts and of the
 //! processor.
 use crate::machine::Machine;
+use crate::same::same;
 use cop0::number::{BAD_VADDR, CAUSE, EPC};
 use dz_serial::Sent;
 use input_log::Event;
@@ -48,16 +49,16 @@ mfc0 r12, c13
     )?;
     let mut machine = Machine::boot_source(rt.alloc(), source.as_str())?;
     machine.run(31);
-    assert_eq!(rt; machine.core.cop0().read(CAUSE), 0);
+    same(&rt, &machine.core.cop0().read(CAUSE), &0);
     machine.receive(&[BYTE]);
-    assert_eq!(rt; machine.core.pc(), 0xBFC0_0180);
-    assert_eq!(rt; machine.core.cop0().read(EPC), 0xBFC0_0030);
+    same(&rt, &machine.core.pc(), &0xBFC0_0180);
+    same(&rt, &machine.core.cop0().read(EPC), &0xBFC0_0030);
     machine.run(5);
-    assert_eq!(rt; machine.register(8), 0x8000_0C00);
-    assert_eq!(rt; machine.register(9), 0xC0);
-    assert_eq!(rt; machine.register(10), 0x8000_0400);
-    assert_eq!(rt; machine.register(11), 0x8041);
-    assert_eq!(rt; machine.register(12), 0x8000_0000);
+    same(&rt, &machine.register(8), &0x8000_0C00);
+    same(&rt, &machine.register(9), &0xC0);
+    same(&rt, &machine.register(10), &0x8000_0400);
+    same(&rt, &machine.register(11), &0x8041);
+    same(&rt, &machine.register(12), &0x8000_0000);
     Ok(())
 }
 
@@ -80,10 +81,10 @@ fn clock_held_back(rt: HostRuntime) -> Result<(), Fail> {
         )?;
         let mut machine = Machine::boot_source(rt.alloc(), source.as_str())?;
         machine.run(32);
-        assert_eq!(rt; machine.core.cop0().read(CAUSE), cause);
-        assert_eq!(rt; machine.core.pc(), pc);
+        same(&rt, &machine.core.cop0().read(CAUSE), &cause);
+        same(&rt, &machine.core.pc(), &pc);
         machine.run(1);
-        assert_eq!(rt; machine.register(5), flags);
+        same(&rt, &machine.register(5), &flags);
     }
     Ok(())
 }
@@ -124,7 +125,7 @@ rfe
         let mut machine = Machine::boot_source(rt.alloc(), source.as_str())?;
         machine.run(16_400);
         for (at, want) in wants.iter().enumerate() {
-            assert_eq!(rt; machine.ram(0x100 + 4 * at), *want);
+            same(&rt, &machine.ram(0x100 + 4 * at), &*want);
         }
     }
     Ok(())
@@ -153,14 +154,14 @@ fn interrupt_and_exception(rt: HostRuntime) -> Result<(), Fail> {
         let mut machine = Machine::boot_source(rt.alloc(), source.as_str())?;
         machine.run(12);
         let done = machine.receive(&[BYTE]);
-        assert_eq!(rt; done.touched, [None, None]);
-        assert_eq!(rt; machine.core.pc(), 0xBFC0_0180);
-        assert_eq!(rt; machine.core.cop0().read(CAUSE), 0x0400);
-        assert_eq!(rt; machine.core.cop0().read(EPC), 0xBFC0_0030);
-        assert_eq!(rt; machine.core.cop0().read(BAD_VADDR), 0);
+        same(&rt, &done.touched, &[None, None]);
+        same(&rt, &machine.core.pc(), &0xBFC0_0180);
+        same(&rt, &machine.core.cop0().read(CAUSE), &0x0400);
+        same(&rt, &machine.core.cop0().read(EPC), &0xBFC0_0030);
+        same(&rt, &machine.core.cop0().read(BAD_VADDR), &0);
         let mut silent = Machine::boot_source(rt.alloc(), source.as_str())?;
         silent.run(13);
-        assert_eq!(rt; silent.core.cop0().read(CAUSE), cause);
+        same(&rt, &silent.core.cop0().read(CAUSE), &cause);
     }
     Ok(())
 }
@@ -178,13 +179,13 @@ fn interrupt_and_bad_fetch(rt: HostRuntime) -> Result<(), Fail> {
         let mut machine = Machine::boot_source(rt.alloc(), source.as_str())?;
         machine.run(15);
         machine.receive(&[BYTE]);
-        assert_eq!(rt; machine.core.cop0().read(CAUSE), 0x0400);
-        assert_eq!(rt; machine.core.cop0().read(EPC), epc);
-        assert_eq!(rt; machine.core.cop0().read(BAD_VADDR), 0);
+        same(&rt, &machine.core.cop0().read(CAUSE), &0x0400);
+        same(&rt, &machine.core.cop0().read(EPC), &epc);
+        same(&rt, &machine.core.cop0().read(BAD_VADDR), &0);
         let mut silent = Machine::boot_source(rt.alloc(), source.as_str())?;
         silent.run(16);
-        assert_eq!(rt; silent.core.cop0().read(CAUSE), cause);
-        assert_eq!(rt; silent.core.cop0().read(EPC), epc);
+        same(&rt, &silent.core.cop0().read(CAUSE), &cause);
+        same(&rt, &silent.core.cop0().read(EPC), &epc);
     }
     Ok(())
 }
@@ -209,12 +210,12 @@ rfe
     )?;
     let mut machine = Machine::boot_source(rt.alloc(), source.as_str())?;
     machine.run(13);
-    assert_eq!(rt; machine.receive(&[BYTE]).sent, None);
-    assert_eq!(rt; machine.core.cop0().read(EPC), 0xBFC0_0034);
+    same(&rt, &machine.receive(&[BYTE]).sent, &None);
+    same(&rt, &machine.core.cop0().read(EPC), &0xBFC0_0034);
     for _ in 14..19 {
-        assert_eq!(rt; machine.step().sent, None);
+        same(&rt, &machine.step().sent, &None);
     }
-    assert_eq!(rt; machine.register(7), 0x8041);
-    assert_eq!(rt; machine.step().sent, Some(Sent { line: 0, byte: 0 }));
+    same(&rt, &machine.register(7), &0x8041);
+    same(&rt, &machine.step().sent, &Some(Sent { line: 0, byte: 0 }));
     Ok(())
 }

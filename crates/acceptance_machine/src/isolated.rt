@@ -1,5 +1,6 @@
 //! The isolated cache step by step, and copies of the processor: values by hand from the manual's rules.
 use crate::machine::Machine;
+use crate::same::same;
 use cop0::number::STATUS;
 use r3k_machine::Where;
 use std::test::Fail;
@@ -31,14 +32,18 @@ fn isolated_caches(rt: HostRuntime) -> Result<(), Fail> {
     let mut machine = Machine::boot(rt.alloc(), &rom)?;
     machine.run(4);
     let done = machine.step();
-    assert_eq!(rt; done.stored, None);
-    assert_eq!(rt; done.touched, [Some(16), None]);
+    same(&rt, &done.stored, &None);
+    same(&rt, &done.touched, &[Some(16), None]);
     machine.run(1);
-    assert_eq!(rt; machine.step().touched, [Some(16), None]);
-    assert_eq!(rt; machine.core.load().map(|load| load.register()), Some(5));
-    assert_eq!(rt; machine.core.load().map(|load| load.value()), Some(7));
-    assert_eq!(rt; machine.core.cop0().read(STATUS), BEV | CM | ISC);
-    assert_eq!(rt; machine.ram(0x40), 0);
+    same(&rt, &machine.step().touched, &[Some(16), None]);
+    same(
+        &rt,
+        &machine.core.load().map(|load| load.register()),
+        &Some(5),
+    );
+    same(&rt, &machine.core.load().map(|load| load.value()), &Some(7));
+    same(&rt, &machine.core.cop0().read(STATUS), &(BEV | CM | ISC));
+    same(&rt, &machine.ram(0x40), &0);
     Ok(())
 }
 
@@ -88,19 +93,27 @@ fn isolated_loads(rt: HostRuntime) -> Result<(), Fail> {
         let miss = *insn & !0x03E0_0000 | 0x0080_0000;
         let mut machine = Machine::boot(rt.alloc(), &program(&[miss, NOP, *insn]))?;
         machine.run(10);
-        assert_eq!(rt; machine.core.load().map(|load| load.value()), Some(*value));
-        assert_eq!(rt; machine.core.cop0().read(STATUS), BEV | CM | ISC);
+        same(
+            &rt,
+            &machine.core.load().map(|load| load.value()),
+            &Some(*value),
+        );
+        same(&rt, &machine.core.cop0().read(STATUS), &(BEV | CM | ISC));
         let mut hit = Machine::boot(rt.alloc(), &program(&[*insn]))?;
         hit.run(10);
-        assert_eq!(rt; hit.core.load().map(|load| load.value()), Some(*value));
-        assert_eq!(rt; hit.core.cop0().read(STATUS), BEV | ISC);
+        same(
+            &rt,
+            &hit.core.load().map(|load| load.value()),
+            &Some(*value),
+        );
+        same(&rt, &hit.core.cop0().read(STATUS), &(BEV | ISC));
     }
     // lw r0, 0x40(r4) and then lw r0, 0x40(r1): into r0 a load sets and clears CM too.
     let mut machine = Machine::boot(rt.alloc(), &program(&[0x8C80_0040, 0x8C20_0040]))?;
     machine.run(10);
-    assert_eq!(rt; machine.core.cop0().read(STATUS), BEV | CM | ISC);
+    same(&rt, &machine.core.cop0().read(STATUS), &(BEV | CM | ISC));
     machine.run(1);
-    assert_eq!(rt; machine.core.cop0().read(STATUS), BEV | ISC);
+    same(&rt, &machine.core.cop0().read(STATUS), &(BEV | ISC));
     Ok(())
 }
 
@@ -111,15 +124,16 @@ fn isolated_stores_of_a_part(rt: HostRuntime) -> Result<(), Fail> {
         let mut machine = Machine::boot(rt.alloc(), &program(&[insn, 0x8C26_0040]))?;
         machine.run(9);
         let done = machine.step();
-        assert_eq!(rt; done.stored, None);
-        assert_eq!(rt; machine.core.cop0().read(STATUS), BEV | ISC);
+        same(&rt, &done.stored, &None);
+        same(&rt, &machine.core.cop0().read(STATUS), &(BEV | ISC));
         machine.run(1);
-        assert_eq!(rt;
-            machine.core.load().map(|load| load.value()),
-            Some(0x4433_2211)
+        same(
+            &rt,
+            &machine.core.load().map(|load| load.value()),
+            &Some(0x4433_2211),
         );
-        assert_eq!(rt; machine.core.cop0().read(STATUS), BEV | CM | ISC);
-        assert_eq!(rt; machine.ram(0x40), 0);
+        same(&rt, &machine.core.cop0().read(STATUS), &(BEV | CM | ISC));
+        same(&rt, &machine.ram(0x40), &0);
     }
     Ok(())
 }
@@ -130,15 +144,16 @@ fn slot_of_two_tags(rt: HostRuntime) -> Result<(), Fail> {
     let rom = program(&[0xAC85_0040, 0x8C26_0040, 0x8C86_0040, 0x8C26_0041]);
     let mut machine = Machine::boot(rt.alloc(), &rom)?;
     machine.run(11);
-    assert_eq!(rt;
-        machine.core.load().map(|load| load.value()),
-        Some(0xAABB_CCDD)
+    same(
+        &rt,
+        &machine.core.load().map(|load| load.value()),
+        &Some(0xAABB_CCDD),
     );
-    assert_eq!(rt; machine.core.cop0().read(STATUS), BEV | CM | ISC);
+    same(&rt, &machine.core.cop0().read(STATUS), &(BEV | CM | ISC));
     machine.run(1);
-    assert_eq!(rt; machine.core.cop0().read(STATUS), BEV | ISC);
+    same(&rt, &machine.core.cop0().read(STATUS), &(BEV | ISC));
     machine.run(1);
-    assert_eq!(rt; machine.core.pc(), 0xBFC0_0180);
+    same(&rt, &machine.core.pc(), &0xBFC0_0180);
     Ok(())
 }
 
@@ -154,13 +169,17 @@ fn swapped_arrays(rt: HostRuntime) -> Result<(), Fail> {
     ]);
     let mut machine = Machine::boot(rt.alloc(), &rom)?;
     machine.run(12);
-    assert_eq!(rt; machine.core.load().map(|load| load.value()), Some(0));
-    assert_eq!(rt; machine.core.cop0().read(STATUS), BEV | CM | SWC | ISC);
+    same(&rt, &machine.core.load().map(|load| load.value()), &Some(0));
+    same(
+        &rt,
+        &machine.core.cop0().read(STATUS),
+        &(BEV | CM | SWC | ISC),
+    );
     machine.run(1);
     // The write mask leaves CM.
-    assert_eq!(rt; machine.core.cop0().read(STATUS), CM);
-    assert_eq!(rt; machine.step().stored, Some(0x40));
-    assert_eq!(rt; machine.ram(0x40), 0xAABB_CCDD);
+    same(&rt, &machine.core.cop0().read(STATUS), &CM);
+    same(&rt, &machine.step().stored, &Some(0x40));
+    same(&rt, &machine.ram(0x40), &0xAABB_CCDD);
     Ok(())
 }
 
@@ -170,14 +189,18 @@ fn uncached_accesses_and_fetches(rt: HostRuntime) -> Result<(), Fail> {
     let rom = program(&[0x3C06_A000, 0x8CC7_0040, 0x3C08_9FC0, 0x0100_0008, NOP]);
     let mut machine = Machine::boot(rt.alloc(), &rom)?;
     machine.run(10);
-    assert_eq!(rt; machine.step().touched, [Some(16), Some(0)]);
-    assert_eq!(rt; machine.core.load().map(|load| load.value()), Some(0));
-    assert_eq!(rt; machine.core.cop0().read(STATUS), BEV | ISC);
-    assert_eq!(rt; machine.core.where_is(0x8000_0040), Where::Cached(0x40));
+    same(&rt, &machine.step().touched, &[Some(16), Some(0)]);
+    same(&rt, &machine.core.load().map(|load| load.value()), &Some(0));
+    same(&rt, &machine.core.cop0().read(STATUS), &(BEV | ISC));
+    same(
+        &rt,
+        &machine.core.where_is(0x8000_0040),
+        &Where::Cached(0x40),
+    );
     machine.run(3);
-    assert_eq!(rt; machine.core.pc(), 0x9FC0_0000);
-    assert_eq!(rt; machine.step().touched, [Some(16), None]);
-    assert_eq!(rt; machine.core.pc(), 0x9FC0_0004);
+    same(&rt, &machine.core.pc(), &0x9FC0_0000);
+    same(&rt, &machine.step().touched, &[Some(16), None]);
+    same(&rt, &machine.core.pc(), &0x9FC0_0004);
     Ok(())
 }
 
@@ -197,6 +220,10 @@ fn copies(rt: HostRuntime) -> Result<(), Fail> {
     assert!(rt; copy != machine.core);
     copy.assign(&machine.core);
     assert!(rt; copy == machine.core);
-    assert_eq!(rt; copy.load().map(|load| load.value()), Some(0x4433_2211));
+    same(
+        &rt,
+        &copy.load().map(|load| load.value()),
+        &Some(0x4433_2211),
+    );
     Ok(())
 }

@@ -14,6 +14,8 @@ mod register_stores;
 #[cfg(test)]
 mod registers;
 #[cfg(test)]
+mod same;
+#[cfg(test)]
 mod silo;
 #[cfg(test)]
 mod steps;

@@ -1,6 +1,7 @@
 //! The registers of the serial part, of the board and of the clock, written by stores of each width at each byte: values by
 //! hand from the papers of the parts.
 use crate::machine::Machine;
+use crate::same::same;
 use dz_serial::Sent;
 use input_log::Event;
 use std::alloc::Global;
@@ -84,7 +85,7 @@ fn stores_of_the_serial_control(rt: HostRuntime) -> Result<(), Fail> {
     ] {
         let mut machine = machine_of(rt.alloc(), set_up, store, "lw r5, 0(r1)\n")?;
         machine.run(7);
-        assert_eq!(rt; machine.register(5), want);
+        same(&rt, &machine.register(5), &want);
     }
     Ok(())
 }
@@ -119,8 +120,8 @@ addiu r6, r0, -17
         let rest = "lw r8, 0(r1)\nlw r9, 16(r1)\n";
         let mut machine = machine_of(rt.alloc(), set_up, store, rest)?;
         machine.run(12);
-        assert_eq!(rt; machine.register(8), control);
-        assert_eq!(rt; machine.register(9), lines);
+        same(&rt, &machine.register(8), &control);
+        same(&rt, &machine.register(9), &lines);
     }
     Ok(())
 }
@@ -167,13 +168,14 @@ addiu r1, r1, 8
         machine.run(12);
         machine.receive(&ONE_EACH);
         machine.run(2);
-        assert_eq!(rt;
-            [
+        same(
+            &rt,
+            &[
                 machine.register(8),
                 machine.register(9),
-                machine.register(10)
+                machine.register(10),
             ],
-            wants
+            &wants,
         );
     }
     Ok(())
@@ -196,7 +198,7 @@ ori r3, r3, 0x4344
             Some(byte) => byte as u32 % 16,
             None => 8,
         };
-        assert_eq!(rt; machine.register(5), want);
+        same(&rt, &machine.register(5), &want);
     }
     Ok(())
 }
@@ -221,9 +223,9 @@ addiu r1, r4, 24
             Some(byte) => (Some(Sent { line: 3, byte }), 0x0320),
             None => (None, 0x8320),
         };
-        assert_eq!(rt; machine.step().sent, sent);
+        same(&rt, &machine.step().sent, &sent);
         machine.run(1);
-        assert_eq!(rt; machine.register(5), control);
+        same(&rt, &machine.register(5), &control);
     }
     Ok(())
 }
@@ -240,7 +242,7 @@ fn stores_of_the_board(rt: HostRuntime) -> Result<(), Fail> {
             Some(byte) => byte as u32 * 0x1_0000,
             None => 0x0011_0000,
         };
-        assert_eq!(rt; machine.register(5), want);
+        same(&rt, &machine.register(5), &want);
     }
     Ok(())
 }
@@ -262,7 +264,7 @@ ori r3, r3, 0x4344
             Some(byte) => byte as u32,
             None => 0x11,
         };
-        assert_eq!(rt; machine.register(5), want);
+        same(&rt, &machine.register(5), &want);
     }
     Ok(())
 }
@@ -309,13 +311,13 @@ lw r23, 44(r1)
     let mut machine = Machine::boot_source(rt.alloc(), source)?;
     machine.run(34);
     for register in 8..18 {
-        assert_eq!(rt; machine.register(register), 0xFF);
+        same(&rt, &machine.register(register), &0xFF);
     }
-    assert_eq!(rt; machine.register(18), 0x7F);
-    assert_eq!(rt; machine.register(19), 0xEE);
-    assert_eq!(rt; machine.register(20), 0);
-    assert_eq!(rt; machine.register(21), 0x80);
-    assert_eq!(rt; machine.register(22), 0xFF);
-    assert_eq!(rt; machine.register(23), 0xFE);
+    same(&rt, &machine.register(18), &0x7F);
+    same(&rt, &machine.register(19), &0xEE);
+    same(&rt, &machine.register(20), &0);
+    same(&rt, &machine.register(21), &0x80);
+    same(&rt, &machine.register(22), &0xFF);
+    same(&rt, &machine.register(23), &0xFE);
     Ok(())
 }

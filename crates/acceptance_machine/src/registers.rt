@@ -1,6 +1,7 @@
 //! The registers of the serial part, of the board and of the clock, read by loads of each width at each byte: values by hand
 //! from the papers of the parts.
 use crate::machine::Machine;
+use crate::same::same;
 use input_log::Event;
 use std::alloc::Global;
 use std::process::Abort;
@@ -68,7 +69,7 @@ fn loaded(
 // Holds r8 to r29 to what the loads of a word that stays give.
 fn holds(rt: &impl Abort, machine: &Machine, wants: &[u32; 22]) {
     for (at, want) in wants.iter().enumerate() {
-        assert_eq!(rt; machine.register(8 + at), *want);
+        same(rt, &machine.register(8 + at), &*want);
     }
 }
 
@@ -234,8 +235,8 @@ fn words_that_read_zero(rt: HostRuntime) -> Result<(), Fail> {
         source.push_str("\nsw r3, 0(r1)\nlw r30, 16(r2)\nlw r31, 0(r2)\n")?;
         let machine = loaded(rt.alloc(), source.as_str(), 8, &[])?;
         holds(&rt, &machine, &zeros);
-        assert_eq!(rt; machine.register(30), 5);
-        assert_eq!(rt; machine.register(31), 0);
+        same(&rt, &machine.register(30), &5);
+        same(&rt, &machine.register(31), &0);
     }
     Ok(())
 }
@@ -338,8 +339,8 @@ fn loads_of_the_flags(rt: HostRuntime) -> Result<(), Fail> {
         source.push_str("\nlw r6, 48(r1)\n")?;
         let mut machine = Machine::boot_source(rt.alloc(), source.as_str())?;
         machine.run(38);
-        assert_eq!(rt; machine.register(5), want);
-        assert_eq!(rt; machine.register(6), 0);
+        same(&rt, &machine.register(5), &want);
+        same(&rt, &machine.register(6), &0);
     }
     Ok(())
 }
@@ -356,9 +357,9 @@ lhu r8, 40(r1)
 ";
     let mut machine = Machine::boot_source(rt.alloc(), source)?;
     machine.run(8192);
-    assert_eq!(rt; machine.register(5), 0x20);
-    assert_eq!(rt; machine.register(6), 0xFFFF_FFA0);
-    assert_eq!(rt; machine.register(7), 0xA0);
-    assert_eq!(rt; machine.register(8), 0x20);
+    same(&rt, &machine.register(5), &0x20);
+    same(&rt, &machine.register(6), &0xFFFF_FFA0);
+    same(&rt, &machine.register(7), &0xA0);
+    same(&rt, &machine.register(8), &0x20);
     Ok(())
 }

@@ -1,6 +1,7 @@
 //! More bytes than the silo holds, and the serial part through each segment: values by hand from the papers of the serial part
 //! and of the processor.
 use crate::machine::Machine;
+use crate::same::same;
 use cop0::number::{BAD_VADDR, CAUSE};
 use dz_serial::Sent;
 use input_log::Event;
@@ -60,15 +61,15 @@ fn burst(rt: HostRuntime) -> Result<(), Fail> {
     for (step, arriving) in arrivals.iter().enumerate() {
         machine.receive(arriving);
         let want = if step == 0 { 0x8030 } else { 0x8041 };
-        assert_eq!(rt; machine.register(5), want);
+        same(&rt, &machine.register(5), &want);
     }
     for _ in 6..63 {
         machine.run(1);
-        assert_eq!(rt; machine.register(5), 0x8041);
+        same(&rt, &machine.register(5), &0x8041);
     }
     for want in [0x8031, 0x8241, 0xC033, 0xC134, 0x8135, 0x8036, 0, 0] {
         machine.run(1);
-        assert_eq!(rt; machine.register(5), want);
+        same(&rt, &machine.register(5), &want);
     }
     Ok(())
 }
@@ -95,9 +96,9 @@ lw r8, 8(r1)
     machine.run(3);
     machine.receive(&[BYTE]);
     machine.run(1);
-    assert_eq!(rt; machine.register(6), 0x8041);
-    assert_eq!(rt; machine.register(7), 0x8041);
-    assert_eq!(rt; machine.register(8), 0);
+    same(&rt, &machine.register(6), &0x8041);
+    same(&rt, &machine.register(7), &0x8041);
+    same(&rt, &machine.register(8), &0);
     Ok(())
 }
 
@@ -160,11 +161,11 @@ lw r16, 8(r7)
     let fourth = Event { byte: 0x44, ..BYTE };
     machine.receive(&[BYTE, second, third, fourth]);
     machine.run(5);
-    assert_eq!(rt; machine.register(12), 0x8041);
-    assert_eq!(rt; machine.register(13), 0x42);
-    assert_eq!(rt; machine.register(14), 0x8043);
-    assert_eq!(rt; machine.register(15), 0);
-    assert_eq!(rt; machine.register(16), 0x8044);
+    same(&rt, &machine.register(12), &0x8041);
+    same(&rt, &machine.register(13), &0x42);
+    same(&rt, &machine.register(14), &0x8043);
+    same(&rt, &machine.register(15), &0);
+    same(&rt, &machine.register(16), &0x8044);
     Ok(())
 }
 
@@ -199,10 +200,10 @@ sw r5, 24(r9)
         byte: 0x20,
     });
     for sent in [zero, zero, zero, zero, None, None, None, last, None] {
-        assert_eq!(rt; machine.step().sent, sent);
+        same(&rt, &machine.step().sent, &sent);
     }
-    assert_eq!(rt; machine.core.cop0().read(CAUSE), 4);
-    assert_eq!(rt; machine.core.cop0().read(BAD_VADDR), 0x4018);
+    same(&rt, &machine.core.cop0().read(CAUSE), &4);
+    same(&rt, &machine.core.cop0().read(BAD_VADDR), &0x4018);
     Ok(())
 }
 
@@ -224,10 +225,10 @@ lw r8, 8(r1)
     machine.run(5);
     machine.receive(&[BYTE, Event { byte: 0x42, ..BYTE }]);
     machine.run(1);
-    assert_eq!(rt; machine.core.cop0().read(CAUSE), 0x10);
-    assert_eq!(rt; machine.core.cop0().read(BAD_VADDR), 0xBFE0_000A);
+    same(&rt, &machine.core.cop0().read(CAUSE), &0x10);
+    same(&rt, &machine.core.cop0().read(BAD_VADDR), &0xBFE0_000A);
     machine.run(2);
-    assert_eq!(rt; machine.register(7), 0x8042);
-    assert_eq!(rt; machine.register(8), 0);
+    same(&rt, &machine.register(7), &0x8042);
+    same(&rt, &machine.register(8), &0);
     Ok(())
 }

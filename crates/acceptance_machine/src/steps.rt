@@ -1,5 +1,6 @@
 //! The machine step by step: values by hand from the manual's rules. In the comments words stand as the assembler writes them.
 use crate::machine::Machine;
+use crate::same::same;
 use cop0::number::{BAD_VADDR, CAUSE, CONTEXT, ENTRY_HI, EPC, RANDOM, STATUS};
 use r3k_machine::{DelayedLoad, Done};
 use std::process::Abort;
@@ -193,15 +194,23 @@ fn exceptions_of_fetches(rt: HostRuntime) -> Result<(), Fail> {
             ];
             let mut machine = Machine::boot(rt.alloc(), &rom)?;
             machine.run(6);
-            assert_eq!(rt; machine.core.pc(), r9);
+            same(&rt, &machine.core.pc(), &r9);
             let done = machine.step();
-            assert_eq!(rt; done.touched, [None, None]);
+            same(&rt, &done.touched, &[None, None]);
             let core = &machine.core;
-            assert_eq!(rt; core.pc(), if bev { 0xBFC0_0180u32 } else { 0x8000_0080 });
-            assert_eq!(rt; core.cop0().read(EPC), if delay { r9 - 4 } else { r9 });
+            same(
+                &rt,
+                &core.pc(),
+                &if bev { 0xBFC0_0180u32 } else { 0x8000_0080 },
+            );
+            same(
+                &rt,
+                &core.cop0().read(EPC),
+                &if delay { r9 - 4 } else { r9 },
+            );
             let bd = if delay { 0x8000_0000u32 } else { 0 };
-            assert_eq!(rt; core.cop0().read(CAUSE), bd | code << 2);
-            assert_eq!(rt; core.cop0().read(BAD_VADDR), bad);
+            same(&rt, &core.cop0().read(CAUSE), &(bd | code << 2));
+            same(&rt, &core.cop0().read(BAD_VADDR), &bad);
         }
     }
     Ok(())
@@ -222,16 +231,21 @@ fn interrupts(rt: HostRuntime) -> Result<(), Fail> {
         ];
         let mut machine = Machine::boot(rt.alloc(), &rom)?;
         machine.run(5);
-        assert_eq!(rt; machine.core.pc(), 0xBFC0_0014);
+        same(&rt, &machine.core.pc(), &0xBFC0_0014);
         let done = machine.step();
-        assert_eq!(rt; done.touched, [None, None]);
+        same(&rt, &done.touched, &[None, None]);
         let core = &machine.core;
-        assert_eq!(rt; core.pc(), if bev { 0xBFC0_0180u32 } else { 0x8000_0080 });
-        assert_eq!(rt; core.cop0().read(EPC), 0xBFC0_0014);
-        assert_eq!(rt; core.cop0().read(CAUSE), 0x0000_0300);
-        assert_eq!(rt;
-            core.cop0().read(STATUS),
-            if bev { 0x0040_0204u32 } else { 0x0000_0204 }
+        same(
+            &rt,
+            &core.pc(),
+            &if bev { 0xBFC0_0180u32 } else { 0x8000_0080 },
+        );
+        same(&rt, &core.cop0().read(EPC), &0xBFC0_0014);
+        same(&rt, &core.cop0().read(CAUSE), &0x0000_0300);
+        same(
+            &rt,
+            &core.cop0().read(STATUS),
+            &if bev { 0x0040_0204u32 } else { 0x0000_0204 },
         );
     }
     Ok(())
@@ -254,16 +268,16 @@ fn interrupt_and_return(rt: HostRuntime) -> Result<(), Fail> {
     rom[0x60..].copy_from_slice(&[0x4080_6800, 0x401A_7000, NOP, 0x0340_0008, 0x4200_0010]);
     let mut machine = Machine::boot(rt.alloc(), &rom)?;
     machine.run(6);
-    assert_eq!(rt; machine.core.pc(), 0xBFC0_0180);
-    assert_eq!(rt; machine.core.registers()[10], 0);
-    assert_eq!(rt; machine.core.cop0().read(STATUS), 0x0040_0104);
-    assert_eq!(rt; machine.core.cop0().read(EPC), 0xBFC0_0014);
+    same(&rt, &machine.core.pc(), &0xBFC0_0180);
+    same(&rt, &machine.core.registers()[10], &0);
+    same(&rt, &machine.core.cop0().read(STATUS), &0x0040_0104);
+    same(&rt, &machine.core.cop0().read(EPC), &0xBFC0_0014);
     machine.run(5);
-    assert_eq!(rt; machine.core.pc(), 0xBFC0_0014);
-    assert_eq!(rt; machine.core.cop0().read(STATUS), 0x0040_0101);
-    assert_eq!(rt; machine.core.cop0().read(CAUSE), 0);
+    same(&rt, &machine.core.pc(), &0xBFC0_0014);
+    same(&rt, &machine.core.cop0().read(STATUS), &0x0040_0101);
+    same(&rt, &machine.core.cop0().read(CAUSE), &0);
     machine.run(1);
-    assert_eq!(rt; machine.core.registers()[10], 7);
+    same(&rt, &machine.core.registers()[10], &7);
     Ok(())
 }
 
@@ -275,12 +289,16 @@ fn pending_load_lands_at_an_exception(rt: HostRuntime) -> Result<(), Fail> {
         let rom = [0x3C01_BFC0, 0x8C22_0000, insn];
         let mut machine = Machine::boot(rt.alloc(), &rom)?;
         machine.run(2);
-        assert_eq!(rt; machine.core.load(), Some(DelayedLoad::new(2, 0x3C01_BFC0)));
-        assert_eq!(rt; machine.core.registers()[2], 0);
+        same(
+            &rt,
+            &machine.core.load(),
+            &Some(DelayedLoad::new(2, 0x3C01_BFC0)),
+        );
+        same(&rt, &machine.core.registers()[2], &0);
         machine.run(1);
-        assert_eq!(rt; machine.core.pc(), 0xBFC0_0180);
-        assert_eq!(rt; machine.core.registers()[2], 0x3C01_BFC0);
-        assert_eq!(rt; machine.core.load(), None);
+        same(&rt, &machine.core.pc(), &0xBFC0_0180);
+        same(&rt, &machine.core.registers()[2], &0x3C01_BFC0);
+        same(&rt, &machine.core.load(), &None);
     }
     Ok(())
 }
@@ -291,13 +309,17 @@ fn slot_of_mfc0(rt: HostRuntime) -> Result<(), Fail> {
     let rom = [0x4002_7800, 0x0040_1821, 0x0040_2021, 0x4000_7800];
     let mut machine = Machine::boot(rt.alloc(), &rom)?;
     machine.run(1);
-    assert_eq!(rt; machine.core.load(), Some(DelayedLoad::new(2, 0x0000_0220)));
+    same(
+        &rt,
+        &machine.core.load(),
+        &Some(DelayedLoad::new(2, 0x0000_0220)),
+    );
     machine.run(2);
-    assert_eq!(rt; machine.core.registers()[3], 0);
-    assert_eq!(rt; machine.core.registers()[4], 0x0000_0220);
+    same(&rt, &machine.core.registers()[3], &0);
+    same(&rt, &machine.core.registers()[4], &0x0000_0220);
     // mfc0 r0, prid leaves the slot empty.
     machine.run(1);
-    assert_eq!(rt; machine.core.load(), None);
+    same(&rt, &machine.core.load(), &None);
     Ok(())
 }
 
@@ -307,18 +329,18 @@ fn mtc0_is_seen_by_the_next_step(rt: HostRuntime) -> Result<(), Fail> {
     let rom = [0x3C01_8000, 0x4081_2000, 0x4002_2000, NOP];
     let mut machine = Machine::boot(rt.alloc(), &rom)?;
     machine.run(2);
-    assert_eq!(rt; machine.core.cop0().read(CONTEXT), 0x8000_0000);
+    same(&rt, &machine.core.cop0().read(CONTEXT), &0x8000_0000);
     machine.run(2);
-    assert_eq!(rt; machine.core.registers()[2], 0x8000_0000);
+    same(&rt, &machine.core.registers()[2], &0x8000_0000);
     // Into user mode: the next fetch is an address error of kseg1. ori r1, r0, 2; mtc0 r1, status.
     let mut user = Machine::boot(rt.alloc(), &[0x3401_0002, 0x4081_6000, NOP])?;
     user.run(2);
-    assert_eq!(rt; user.core.pc(), 0xBFC0_0008);
+    same(&rt, &user.core.pc(), &0xBFC0_0008);
     user.run(1);
-    assert_eq!(rt; user.core.pc(), 0x8000_0080);
-    assert_eq!(rt; user.core.cop0().read(CAUSE), 4 << 2);
-    assert_eq!(rt; user.core.cop0().read(BAD_VADDR), 0xBFC0_0008);
-    assert_eq!(rt; user.core.cop0().read(STATUS), 0x0000_0008);
+    same(&rt, &user.core.pc(), &0x8000_0080);
+    same(&rt, &user.core.cop0().read(CAUSE), &(4 << 2));
+    same(&rt, &user.core.cop0().read(BAD_VADDR), &0xBFC0_0008);
+    same(&rt, &user.core.cop0().read(STATUS), &0x0000_0008);
     Ok(())
 }
 
@@ -326,14 +348,18 @@ fn mtc0_is_seen_by_the_next_step(rt: HostRuntime) -> Result<(), Fail> {
 #[test]
 fn random_falls(rt: HostRuntime) -> Result<(), Fail> {
     let mut machine = Machine::boot(rt.alloc(), &[0x4002_0800])?;
-    assert_eq!(rt; machine.core.cop0().read(RANDOM), 0x0000_3F00);
+    same(&rt, &machine.core.cop0().read(RANDOM), &0x0000_3F00);
     machine.run(1);
-    assert_eq!(rt; machine.core.load(), Some(DelayedLoad::new(2, 0x0000_3F00)));
-    assert_eq!(rt; machine.core.cop0().read(RANDOM), 0x0000_3E00);
+    same(
+        &rt,
+        &machine.core.load(),
+        &Some(DelayedLoad::new(2, 0x0000_3F00)),
+    );
+    same(&rt, &machine.core.cop0().read(RANDOM), &0x0000_3E00);
     machine.run(54);
-    assert_eq!(rt; machine.core.cop0().read(RANDOM), 0x0000_0800);
+    same(&rt, &machine.core.cop0().read(RANDOM), &0x0000_0800);
     machine.run(1);
-    assert_eq!(rt; machine.core.cop0().read(RANDOM), 0x0000_3F00);
+    same(&rt, &machine.core.cop0().read(RANDOM), &0x0000_3F00);
     Ok(())
 }
 
@@ -358,10 +384,10 @@ fn merging_with_a_pending_load(rt: HostRuntime) -> Result<(), Fail> {
         ];
         let mut machine = Machine::boot(rt.alloc(), &rom)?;
         machine.run(9);
-        assert_eq!(rt; machine.core.registers()[2], 0xAABB_CCDD);
-        assert_eq!(rt; machine.core.load(), Some(DelayedLoad::new(2, want)));
+        same(&rt, &machine.core.registers()[2], &0xAABB_CCDD);
+        same(&rt, &machine.core.load(), &Some(DelayedLoad::new(2, want)));
         machine.run(1);
-        assert_eq!(rt; machine.core.registers()[2], want);
+        same(&rt, &machine.core.registers()[2], &want);
     }
     Ok(())
 }
@@ -386,18 +412,18 @@ fn unaligned_word(rt: HostRuntime) -> Result<(), Fail> {
     ];
     let mut machine = Machine::boot(rt.alloc(), &rom)?;
     machine.run(8);
-    assert_eq!(rt; machine.core.registers()[2], 0x2211_4433);
+    same(&rt, &machine.core.registers()[2], &0x2211_4433);
     machine.run(2);
-    assert_eq!(rt; machine.ram(0x200), 0x4433_0000);
-    assert_eq!(rt; machine.ram(0x204), 0x0000_2211);
+    same(&rt, &machine.ram(0x200), &0x4433_0000);
+    same(&rt, &machine.ram(0x204), &0x0000_2211);
     Ok(())
 }
 
 // A step that fetched from the first page of ROM told that it stored into this word, and that it touched this other page.
 fn tells(rt: &impl Abort, done: &Done, stored: Option<u32>, page: Option<u32>) {
-    assert_eq!(rt; done.stored, stored);
-    assert_eq!(rt; done.touched[0], Some(16));
-    assert_eq!(rt; done.touched[1], page);
+    same(rt, &done.stored, &stored);
+    same(rt, &done.touched[0], &Some(16));
+    same(rt, &done.touched[1], &page);
 }
 
 // What stores tell: lui r1, 0xa000; lui r2, 0x1234; sb, sh and sw of r2 with 0x5678, to RAM, and sw to ROM and to nowhere.
@@ -423,16 +449,16 @@ fn stores_tell_their_word_and_page(rt: HostRuntime) -> Result<(), Fail> {
     let mut machine = Machine::boot(rt.alloc(), &rom)?;
     machine.run(3);
     tells(&rt, &machine.step(), Some(0x2000), Some(2));
-    assert_eq!(rt; machine.ram(0x2000), 0x7800_0000);
+    same(&rt, &machine.ram(0x2000), &0x7800_0000);
     tells(&rt, &machine.step(), Some(0x2000), Some(2));
-    assert_eq!(rt; machine.ram(0x2000), 0x5678_0000);
+    same(&rt, &machine.ram(0x2000), &0x5678_0000);
     tells(&rt, &machine.step(), Some(0x3004), Some(3));
-    assert_eq!(rt; machine.ram(0x3004), 0x1234_5678);
+    same(&rt, &machine.ram(0x3004), &0x1234_5678);
     for _ in 0..2 {
         machine.step();
         tells(&rt, &machine.step(), None, None);
     }
-    assert_eq!(rt; machine.core.pc(), 0xBFC0_0028);
+    same(&rt, &machine.core.pc(), &0xBFC0_0028);
     tells(&rt, &machine.step(), None, Some(3));
     // A fault of translation touches the page of its fetch alone.
     tells(&rt, &machine.step(), None, None);
@@ -444,17 +470,19 @@ fn stores_tell_their_word_and_page(rt: HostRuntime) -> Result<(), Fail> {
 fn branch_in_a_delay_slot(rt: HostRuntime) -> Result<(), Fail> {
     let mut machine = Machine::boot(rt.alloc(), &[0x1000_0003, 0x1000_0003])?;
     machine.run(2);
-    assert_eq!(rt;
-        (machine.core.pc(), machine.core.next_pc()),
-        (0xBFC0_0010, 0xBFC0_0014)
+    same(
+        &rt,
+        &(machine.core.pc(), machine.core.next_pc()),
+        &(0xBFC0_0010, 0xBFC0_0014),
     );
     assert!(rt; machine.core.delay());
     // bne r0, r0, .+16 isn't taken, and its successor is in a delay slot all the same.
     let mut through = Machine::boot(rt.alloc(), &[0x1400_0003, NOP])?;
     through.run(1);
-    assert_eq!(rt;
-        (through.core.pc(), through.core.next_pc()),
-        (0xBFC0_0004, 0xBFC0_0008)
+    same(
+        &rt,
+        &(through.core.pc(), through.core.next_pc()),
+        &(0xBFC0_0004, 0xBFC0_0008),
     );
     assert!(rt; through.core.delay());
     through.run(1);
@@ -468,14 +496,15 @@ fn branch_in_a_delay_slot(rt: HostRuntime) -> Result<(), Fail> {
 fn branch_in_the_delay_slot_of_a_jump_with_link(rt: HostRuntime) -> Result<(), Fail> {
     let mut machine = Machine::boot(rt.alloc(), &[0x0FF0_0004, 0x1000_0003])?;
     machine.run(2);
-    assert_eq!(rt; machine.core.registers()[31], 0xBFC0_0008);
-    assert_eq!(rt;
-        (machine.core.pc(), machine.core.next_pc()),
-        (0xBFC0_0010, 0xBFC0_0014)
+    same(&rt, &machine.core.registers()[31], &0xBFC0_0008);
+    same(
+        &rt,
+        &(machine.core.pc(), machine.core.next_pc()),
+        &(0xBFC0_0010, 0xBFC0_0014),
     );
     // The branch's target, by its own address: 0xbfc00004 + 4 + 12 = 0xbfc00014.
     machine.run(1);
-    assert_eq!(rt; machine.core.pc(), 0xBFC0_0014);
+    same(&rt, &machine.core.pc(), &0xBFC0_0014);
     assert!(rt; !machine.core.delay());
     Ok(())
 }
@@ -485,8 +514,8 @@ fn branch_in_the_delay_slot_of_a_jump_with_link(rt: HostRuntime) -> Result<(), F
 fn jalr_with_equal_registers(rt: HostRuntime) -> Result<(), Fail> {
     let mut machine = Machine::boot(rt.alloc(), &[0x3C04_BFC0, 0x3484_0040, 0x0080_2009, NOP])?;
     machine.run(4);
-    assert_eq!(rt; machine.core.pc(), 0xBFC0_0040);
-    assert_eq!(rt; machine.core.registers()[4], 0xBFC0_0010);
+    same(&rt, &machine.core.pc(), &0xBFC0_0040);
+    same(&rt, &machine.core.registers()[4], &0xBFC0_0010);
     Ok(())
 }
 
@@ -503,11 +532,11 @@ fn system_call_in_a_delay_slot(rt: HostRuntime) -> Result<(), Fail> {
     let mut machine = Machine::boot(rt.alloc(), &rom)?;
     machine.run(5);
     let core = &machine.core;
-    assert_eq!(rt; core.pc(), 0xBFC0_0180);
-    assert_eq!(rt; core.cop0().read(STATUS), 0x0040_0004);
-    assert_eq!(rt; core.cop0().read(CAUSE), 0x8000_0020);
-    assert_eq!(rt; core.cop0().read(EPC), 0xBFC0_000C);
-    assert_eq!(rt; core.cop0().read(RANDOM), 0x0000_3A00);
+    same(&rt, &core.pc(), &0xBFC0_0180);
+    same(&rt, &core.cop0().read(STATUS), &0x0040_0004);
+    same(&rt, &core.cop0().read(CAUSE), &0x8000_0020);
+    same(&rt, &core.cop0().read(EPC), &0xBFC0_000C);
+    same(&rt, &core.cop0().read(RANDOM), &0x0000_3A00);
     Ok(())
 }
 
@@ -516,7 +545,7 @@ fn system_call_in_a_delay_slot(rt: HostRuntime) -> Result<(), Fail> {
 fn reserved_word_of_coprocessor_0(rt: HostRuntime) -> Result<(), Fail> {
     let mut machine = Machine::boot(rt.alloc(), &[0x4200_0011])?;
     machine.run(1);
-    assert_eq!(rt; machine.core.pc(), 0xBFC0_0180);
-    assert_eq!(rt; machine.core.cop0().read(CAUSE), 10 << 2);
+    same(&rt, &machine.core.pc(), &0xBFC0_0180);
+    same(&rt, &machine.core.cop0().read(CAUSE), &(10 << 2));
     Ok(())
 }

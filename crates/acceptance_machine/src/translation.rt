@@ -2,6 +2,7 @@
 ghost use Rattle.std.specs.Prelude.{◌≤◌};
 
 use crate::machine::Machine;
+use crate::same::same;
 use cop0::number::{BAD_VADDR, CAUSE, CONTEXT, ENTRY_HI, ENTRY_LO, EPC, INDEX, STATUS};
 use r3k_machine::Where;
 use std::alloc::Global;
@@ -52,11 +53,11 @@ fn steps_of(entries: &[(u32, u32, u32)]) -> u32
 // Code, bad address, Context and EntryHi of an exception of translation, and where it leads.
 fn holds(rt: &impl Abort, machine: &Machine, code: u32, bad: u32, vector: u32) {
     let cop0 = machine.core.cop0();
-    assert_eq!(rt; machine.core.pc(), vector);
-    assert_eq!(rt; cop0.read(CAUSE) & 0x7C, code << 2);
-    assert_eq!(rt; cop0.read(BAD_VADDR), bad);
-    assert_eq!(rt; cop0.read(CONTEXT), (bad & 0x7FFF_F000) >> 10);
-    assert_eq!(rt; cop0.read(ENTRY_HI), bad & 0xFFFF_F000);
+    same(rt, &machine.core.pc(), &vector);
+    same(rt, &(cop0.read(CAUSE) & 0x7C), &(code << 2));
+    same(rt, &cop0.read(BAD_VADDR), &bad);
+    same(rt, &cop0.read(CONTEXT), &((bad & 0x7FFF_F000) >> 10));
+    same(rt, &cop0.read(ENTRY_HI), &(bad & 0xFFFF_F000));
 }
 
 // At reset all entries match page 0 and none is valid: lw r2, 0(r0) is TLBL at the general handler, and TS is set.
@@ -64,14 +65,14 @@ fn holds(rt: &impl Abort, machine: &Machine, code: u32, bad: u32, vector: u32) {
 fn several_matches_at_reset(rt: HostRuntime) -> Result<(), Fail> {
     let mut machine = Machine::boot(rt.alloc(), &[0x8C02_0000])?;
     let done = machine.step();
-    assert_eq!(rt; done.touched, [Some(16), None]);
+    same(&rt, &done.touched, &[Some(16), None]);
     holds(&rt, &machine, 2, 0, 0xBFC0_0180);
-    assert_eq!(rt; machine.core.cop0().read(STATUS), 0x0060_0000);
+    same(&rt, &machine.core.cop0().read(STATUS), &0x0060_0000);
     // sw r2, 0(r0)
     let mut store = Machine::boot(rt.alloc(), &[0xAC02_0000])?;
     store.run(1);
     holds(&rt, &store, 3, 0, 0xBFC0_0180);
-    assert_eq!(rt; store.core.cop0().read(STATUS), 0x0060_0000);
+    same(&rt, &store.core.cop0().read(STATUS), &0x0060_0000);
     // An instruction whose own fetch met several entries reads TS: jr r0; nop, with page 0 made valid in entry 0, and there
     // mfc0 r2, status; nop.
     let entries = [(0, 0, 0x0000_1000 | VALID)];
@@ -90,13 +91,14 @@ fn several_matches_at_reset(rt: HostRuntime) -> Result<(), Fail> {
     )?;
     let mut fetch = Machine::boot(rt.alloc(), &rom)?;
     fetch.run(steps_of(&entries) + 6);
-    assert_eq!(rt; fetch.core.pc(), 0);
-    assert_eq!(rt; fetch.core.cop0().read(STATUS), 0x0040_0000);
+    same(&rt, &fetch.core.pc(), &0);
+    same(&rt, &fetch.core.cop0().read(STATUS), &0x0040_0000);
     let done = fetch.step();
-    assert_eq!(rt; done.touched, [Some(1), None]);
-    assert_eq!(rt;
-        fetch.core.load().map(|load| load.value()),
-        Some(0x0060_0000)
+    same(&rt, &done.touched, &[Some(1), None]);
+    same(
+        &rt,
+        &fetch.core.load().map(|load| load.value()),
+        &Some(0x0060_0000),
     );
     Ok(())
 }
@@ -107,13 +109,13 @@ fn user_miss_and_kernel_miss(rt: HostRuntime) -> Result<(), Fail> {
     let mut user = Machine::boot(rt.alloc(), &[0x8C02_1000])?;
     user.run(1);
     holds(&rt, &user, 2, 0x1000, 0xBFC0_0100);
-    assert_eq!(rt; user.core.cop0().read(CONTEXT), 0x0000_0004);
-    assert_eq!(rt; user.core.cop0().read(EPC), 0xBFC0_0000);
+    same(&rt, &user.core.cop0().read(CONTEXT), &0x0000_0004);
+    same(&rt, &user.core.cop0().read(EPC), &0xBFC0_0000);
     let mut kernel = Machine::boot(rt.alloc(), &[0x3C01_C000, 0x8C22_0000])?;
     kernel.run(2);
     holds(&rt, &kernel, 2, 0xC000_0000, 0xBFC0_0180);
-    assert_eq!(rt; kernel.core.cop0().read(CONTEXT), 0x0010_0000);
-    assert_eq!(rt; kernel.core.cop0().read(EPC), 0xBFC0_0004);
+    same(&rt, &kernel.core.cop0().read(CONTEXT), &0x0010_0000);
+    same(&rt, &kernel.core.cop0().read(EPC), &0xBFC0_0004);
     Ok(())
 }
 
@@ -131,9 +133,9 @@ fn modified(rt: HostRuntime) -> Result<(), Fail> {
     let mut machine = Machine::boot(rt.alloc(), &rom)?;
     machine.run(6);
     holds(&rt, &machine, 1, 0x2000, 0xBFC0_0180);
-    assert_eq!(rt; machine.core.cop0().read(CAUSE), 0x0000_0004);
-    assert_eq!(rt; machine.core.cop0().read(CONTEXT), 0x0000_0008);
-    assert_eq!(rt; machine.core.cop0().read(EPC), 0xBFC0_0014);
+    same(&rt, &machine.core.cop0().read(CAUSE), &0x0000_0004);
+    same(&rt, &machine.core.cop0().read(CONTEXT), &0x0000_0008);
+    same(&rt, &machine.core.cop0().read(EPC), &0xBFC0_0014);
     Ok(())
 }
 
@@ -182,8 +184,8 @@ fn faults_of_data(rt: HostRuntime) -> Result<(), Fail> {
             let mut machine = Machine::boot(rt.alloc(), &rom)?;
             machine.run(steps_of(&ENTRIES) + 5);
             let done = machine.step();
-            assert_eq!(rt; done.touched, [Some(16), None]);
-            assert_eq!(rt; done.stored, None);
+            same(&rt, &done.touched, &[Some(16), None]);
+            same(&rt, &done.stored, &None);
             let vector = match (bev, *refill) {
                 (true, true) => 0xBFC0_0100,
                 (true, false) => 0xBFC0_0180,
@@ -193,11 +195,12 @@ fn faults_of_data(rt: HostRuntime) -> Result<(), Fail> {
             holds(&rt, &machine, *code, *address, vector);
             let cop0 = machine.core.cop0();
             // The fault stands at 0xBFC000A4, after 36 words of entries and 5 more.
-            assert_eq!(rt;
-                cop0.read(EPC),
-                if delay { 0xBFC0_00A0u32 } else { 0xBFC0_00A4 }
+            same(
+                &rt,
+                &cop0.read(EPC),
+                &if delay { 0xBFC0_00A0u32 } else { 0xBFC0_00A4 },
             );
-            assert_eq!(rt; cop0.read(CAUSE) >> 31, u32::from(delay));
+            same(&rt, &(cop0.read(CAUSE) >> 31), &u32::from(delay));
         }
     }
     Ok(())
@@ -210,11 +213,11 @@ fn address_errors_come_before_translation(rt: HostRuntime) -> Result<(), Fail> {
         let mut machine = Machine::boot(rt.alloc(), &[0x3409_5000, insn])?;
         machine.run(2);
         let cop0 = machine.core.cop0();
-        assert_eq!(rt; machine.core.pc(), 0xBFC0_0180);
-        assert_eq!(rt; cop0.read(CAUSE), code << 2);
-        assert_eq!(rt; cop0.read(BAD_VADDR), 0x5001);
-        assert_eq!(rt; cop0.read(CONTEXT), 0);
-        assert_eq!(rt; cop0.read(ENTRY_HI), 0);
+        same(&rt, &machine.core.pc(), &0xBFC0_0180);
+        same(&rt, &cop0.read(CAUSE), &(code << 2));
+        same(&rt, &cop0.read(BAD_VADDR), &0x5001);
+        same(&rt, &cop0.read(CONTEXT), &0);
+        same(&rt, &cop0.read(ENTRY_HI), &0);
     }
     Ok(())
 }
@@ -242,10 +245,10 @@ fn faults_of_fetches(rt: HostRuntime) -> Result<(), Fail> {
         let mut machine = Machine::boot(rt.alloc(), &rom)?;
         machine.run(steps_of(&ENTRIES) + 4);
         let done = machine.step();
-        assert_eq!(rt; done.touched, [None, None]);
+        same(&rt, &done.touched, &[None, None]);
         let vector = if refill { 0xBFC0_0100 } else { 0xBFC0_0180 };
         holds(&rt, &machine, 2, address, vector);
-        assert_eq!(rt; machine.core.cop0().read(EPC), address);
+        same(&rt, &machine.core.cop0().read(EPC), &address);
     }
     Ok(())
 }
@@ -261,12 +264,12 @@ fn mapped_load_and_store(rt: HostRuntime) -> Result<(), Fail> {
     let mut machine = Machine::boot(rt.alloc(), &rom)?;
     machine.run(steps_of(&ENTRIES) + 1);
     let done = machine.step();
-    assert_eq!(rt; done.stored, Some(0x1004));
-    assert_eq!(rt; done.touched, [Some(16), Some(1)]);
-    assert_eq!(rt; machine.step().touched, [Some(16), Some(1)]);
+    same(&rt, &done.stored, &Some(0x1004));
+    same(&rt, &done.touched, &[Some(16), Some(1)]);
+    same(&rt, &machine.step().touched, &[Some(16), Some(1)]);
     machine.run(1);
-    assert_eq!(rt; machine.ram(0x1004), 0x1234);
-    assert_eq!(rt; machine.core.registers()[11], 0x1234);
+    same(&rt, &machine.ram(0x1004), &0x1234);
+    same(&rt, &machine.core.registers()[11], &0x1234);
     Ok(())
 }
 
@@ -296,10 +299,10 @@ fn page_becomes_dirty(rt: HostRuntime) -> Result<(), Fail> {
     machine.run(steps_of(&entries) + 2);
     holds(&rt, &machine, 1, 0x3008, 0xBFC0_0180);
     machine.run(11);
-    assert_eq!(rt; machine.core.pc(), 0xBFC0_0028);
-    assert_eq!(rt; machine.core.entry(2).lo, 0x0000_2600);
-    assert_eq!(rt; machine.step().stored, Some(0x2008));
-    assert_eq!(rt; machine.ram(0x2008), 0x1234);
+    same(&rt, &machine.core.pc(), &0xBFC0_0028);
+    same(&rt, &machine.core.entry(2).lo, &0x0000_2600);
+    same(&rt, &machine.step().stored, &Some(0x2008));
+    same(&rt, &machine.ram(0x2008), &0x1234);
     Ok(())
 }
 
@@ -328,13 +331,13 @@ fn probes(rt: HostRuntime) -> Result<(), Fail> {
     )?;
     let mut machine = Machine::boot(rt.alloc(), &rom)?;
     machine.run(steps_of(&ENTRIES) + 3);
-    assert_eq!(rt; machine.core.cop0().read(INDEX), 0x0000_0100);
+    same(&rt, &machine.core.cop0().read(INDEX), &0x0000_0100);
     machine.run(3);
-    assert_eq!(rt; machine.core.cop0().read(INDEX), 0x8000_0000);
-    assert_eq!(rt; machine.core.cop0().read(STATUS), 0x0040_0000);
+    same(&rt, &machine.core.cop0().read(INDEX), &0x8000_0000);
+    same(&rt, &machine.core.cop0().read(STATUS), &0x0040_0000);
     machine.run(6);
-    assert_eq!(rt; machine.core.cop0().read(INDEX), 0x0000_0100);
-    assert_eq!(rt; machine.core.cop0().read(STATUS), 0x0060_0000);
+    same(&rt, &machine.core.cop0().read(INDEX), &0x0000_0100);
+    same(&rt, &machine.core.cop0().read(STATUS), &0x0060_0000);
     Ok(())
 }
 
@@ -355,16 +358,16 @@ fn random_entries(rt: HostRuntime) -> Result<(), Fail> {
     rom[59..].copy_from_slice(&[0x3403_003F, 0x4083_0000, 0x4200_0001]);
     let mut machine = Machine::boot(rt.alloc(), &rom)?;
     machine.run(5);
-    assert_eq!(rt; machine.core.entry(59).hi, 0x6FC0);
-    assert_eq!(rt; machine.core.entry(59).lo, 0x7F00);
-    assert_eq!(rt; machine.core.entry(61).hi, 0);
+    same(&rt, &machine.core.entry(59).hi, &0x6FC0);
+    same(&rt, &machine.core.entry(59).lo, &0x7F00);
+    same(&rt, &machine.core.entry(61).hi, &0);
     machine.run(54);
-    assert_eq!(rt; machine.core.entry(61).hi, 0x6FC0);
-    assert_eq!(rt; machine.core.entry(60).hi, 0);
-    assert_eq!(rt; machine.core.cop0().read(ENTRY_LO), 0x7F00);
+    same(&rt, &machine.core.entry(61).hi, &0x6FC0);
+    same(&rt, &machine.core.entry(60).hi, &0);
+    same(&rt, &machine.core.cop0().read(ENTRY_LO), &0x7F00);
     machine.run(3);
-    assert_eq!(rt; machine.core.cop0().read(ENTRY_HI), 0);
-    assert_eq!(rt; machine.core.cop0().read(ENTRY_LO), 0);
+    same(&rt, &machine.core.cop0().read(ENTRY_HI), &0);
+    same(&rt, &machine.core.cop0().read(ENTRY_LO), &0);
     Ok(())
 }
 
@@ -399,17 +402,17 @@ fn processes(rt: HostRuntime) -> Result<(), Fail> {
     )?;
     let mut machine = Machine::boot(rt.alloc(), &rom)?;
     machine.run(steps_of(&entries));
-    assert_eq!(rt; machine.step().touched, [Some(16), Some(3)]);
+    same(&rt, &machine.step().touched, &[Some(16), Some(3)]);
     machine.run(2);
-    assert_eq!(rt; machine.step().touched, [Some(16), Some(2)]);
+    same(&rt, &machine.step().touched, &[Some(16), Some(2)]);
     machine.run(2);
-    assert_eq!(rt; machine.step().touched, [Some(16), Some(1)]);
-    assert_eq!(rt; machine.step().touched, [Some(16), Some(3)]);
+    same(&rt, &machine.step().touched, &[Some(16), Some(1)]);
+    same(&rt, &machine.step().touched, &[Some(16), Some(3)]);
     machine.run(2);
-    assert_eq!(rt; machine.step().touched, [Some(16), Some(3)]);
-    assert_eq!(rt; machine.step().touched, [Some(16), None]);
-    assert_eq!(rt; machine.core.pc(), 0xBFC0_0100);
-    assert_eq!(rt; machine.core.cop0().read(ENTRY_HI), 0x20C0);
+    same(&rt, &machine.step().touched, &[Some(16), Some(3)]);
+    same(&rt, &machine.step().touched, &[Some(16), None]);
+    same(&rt, &machine.core.pc(), &0xBFC0_0100);
+    same(&rt, &machine.core.cop0().read(ENTRY_HI), &0x20C0);
     Ok(())
 }
 
@@ -450,23 +453,23 @@ fn user_programs(rt: HostRuntime) -> Result<(), Fail> {
         let rom = program(rt.alloc(), &ENTRIES, &entered(*word))?;
         let mut machine = Machine::boot(rt.alloc(), &rom)?;
         machine.run(steps_of(&ENTRIES) + 10);
-        assert_eq!(rt; machine.core.pc(), 0x2000);
-        assert_eq!(rt; machine.core.cop0().read(STATUS), 0x0000_0002);
-        assert_eq!(rt; machine.step().touched, [Some(1), None]);
+        same(&rt, &machine.core.pc(), &0x2000);
+        same(&rt, &machine.core.cop0().read(STATUS), &0x0000_0002);
+        same(&rt, &machine.step().touched, &[Some(1), None]);
         let cop0 = machine.core.cop0();
-        assert_eq!(rt; machine.core.pc(), 0x8000_0080);
-        assert_eq!(rt; cop0.read(CAUSE), *code << 2);
-        assert_eq!(rt; cop0.read(BAD_VADDR), *bad);
-        assert_eq!(rt; cop0.read(EPC), 0x2000);
-        assert_eq!(rt; cop0.read(STATUS), 0x0000_0008);
+        same(&rt, &machine.core.pc(), &0x8000_0080);
+        same(&rt, &cop0.read(CAUSE), &(*code << 2));
+        same(&rt, &cop0.read(BAD_VADDR), &*bad);
+        same(&rt, &cop0.read(EPC), &0x2000);
+        same(&rt, &cop0.read(STATUS), &0x0000_0008);
     }
     // jr r9; nop: the fetch in kseg0 is an address error.
     let rom = program(rt.alloc(), &ENTRIES, &entered(0x0120_0008))?;
     let mut machine = Machine::boot(rt.alloc(), &rom)?;
     machine.run(steps_of(&ENTRIES) + 13);
-    assert_eq!(rt; machine.core.cop0().read(CAUSE), 4 << 2);
-    assert_eq!(rt; machine.core.cop0().read(BAD_VADDR), 0x8000_0000);
-    assert_eq!(rt; machine.core.cop0().read(EPC), 0x8000_0000);
+    same(&rt, &machine.core.cop0().read(CAUSE), &(4 << 2));
+    same(&rt, &machine.core.cop0().read(BAD_VADDR), &0x8000_0000);
+    same(&rt, &machine.core.cop0().read(EPC), &0x8000_0000);
     Ok(())
 }
 
@@ -474,16 +477,17 @@ fn user_programs(rt: HostRuntime) -> Result<(), Fail> {
 #[test]
 fn places(rt: HostRuntime) -> Result<(), Fail> {
     let empty = Machine::boot(rt.alloc(), &[NOP])?;
-    assert_eq!(rt; empty.core.where_is(0x8000_0010), Where::Cached(0x10));
-    assert_eq!(rt;
-        empty.core.where_is(0xBFC0_0000),
-        Where::Uncached(0x1FC0_0000)
+    same(&rt, &empty.core.where_is(0x8000_0010), &Where::Cached(0x10));
+    same(
+        &rt,
+        &empty.core.where_is(0xBFC0_0000),
+        &Where::Uncached(0x1FC0_0000),
     );
-    assert_eq!(rt; empty.core.where_is(0x1000), Where::Refill);
-    assert_eq!(rt; empty.core.where_is(0xC000_0000), Where::Tlbl);
-    assert_eq!(rt; empty.core.where_is(0), Where::Tlbl);
-    assert_eq!(rt; empty.core.entry(63).hi, 0);
-    assert_eq!(rt; empty.core.entry(63).lo, 0);
+    same(&rt, &empty.core.where_is(0x1000), &Where::Refill);
+    same(&rt, &empty.core.where_is(0xC000_0000), &Where::Tlbl);
+    same(&rt, &empty.core.where_is(0), &Where::Tlbl);
+    same(&rt, &empty.core.entry(63).hi, &0);
+    same(&rt, &empty.core.entry(63).lo, &0);
     let entries = [
         (1, 0x2000, 0x0000_1000 | VALID),
         (2, 0x3000, 0x1234_5000 | VALID | UNCACHED),
@@ -492,16 +496,21 @@ fn places(rt: HostRuntime) -> Result<(), Fail> {
     let rom = program(rt.alloc(), &entries, &entered(NOP))?;
     let mut machine = Machine::boot(rt.alloc(), &rom)?;
     machine.run(steps_of(&entries));
-    assert_eq!(rt; machine.core.where_is(0x2003), Where::Cached(0x1003));
-    assert_eq!(rt; machine.core.where_is(0x3FFF), Where::Uncached(0x1234_5FFF));
-    assert_eq!(rt;
-        machine.core.where_is(0xC000_3001),
-        Where::Cached(0xFFFF_F001)
+    same(&rt, &machine.core.where_is(0x2003), &Where::Cached(0x1003));
+    same(
+        &rt,
+        &machine.core.where_is(0x3FFF),
+        &Where::Uncached(0x1234_5FFF),
+    );
+    same(
+        &rt,
+        &machine.core.where_is(0xC000_3001),
+        &Where::Cached(0xFFFF_F001),
     );
     machine.run(10);
-    assert_eq!(rt; machine.core.where_is(0x2003), Where::Cached(0x1003));
-    assert_eq!(rt; machine.core.where_is(0x8000_0010), Where::Adel);
-    assert_eq!(rt; machine.core.where_is(0xC000_3001), Where::Adel);
-    assert_eq!(rt; machine.core.where_is(0x5000), Where::Refill);
+    same(&rt, &machine.core.where_is(0x2003), &Where::Cached(0x1003));
+    same(&rt, &machine.core.where_is(0x8000_0010), &Where::Adel);
+    same(&rt, &machine.core.where_is(0xC000_3001), &Where::Adel);
+    same(&rt, &machine.core.where_is(0x5000), &Where::Refill);
     Ok(())
 }

@@ -1,4 +1,5 @@
 //! The bus on its own: its regions, and its devices by their registers.
+use crate::same::same;
 use dz_serial::Sent;
 use kn02_bus::{Bus, Device, Lines, Region};
 use std::test::Fail;
@@ -54,9 +55,10 @@ fn regions(rt: HostRuntime) {
         assert_eq!(rt; Region::of(pa, PAGES), Region::Rom, "{pa:x}");
     }
     for (pa, offset) in [(0x1FE0_0000, 0), (0x1FE0_000B, 8), (0x1FE0_001F, 28)] {
-        assert_eq!(rt;
-            Region::of(pa, PAGES),
-            Region::Device(Device::Serial(offset))
+        same(
+            &rt,
+            &Region::of(pa, PAGES),
+            &Region::Device(Device::Serial(offset)),
         );
     }
     for (pa, number) in [(0x1FE8_0000, 0), (0x1FE8_002A, 10), (0x1FE8_00FF, 63)] {
@@ -97,17 +99,17 @@ fn full_silo(rt: HostRuntime) {
     assert!(rt; bus != other);
     other.assign(&bus);
     assert!(rt; bus == other);
-    assert_eq!(rt; bus.load(SERIAL_CSR), 0x00A0);
-    assert_eq!(rt; bus.load(RBUF_LPR), 0x8000);
+    same(&rt, &bus.load(SERIAL_CSR), &0x00A0);
+    same(&rt, &bus.load(RBUF_LPR), &0x8000);
     assert!(rt; bus != other);
     bus.receive(0, 0x41);
     let mut last = 0;
     for _ in 0..63 {
         last = bus.load(RBUF_LPR);
     }
-    assert_eq!(rt; last, 0x803F);
-    assert_eq!(rt; bus.load(RBUF_LPR), 0xC041);
-    assert_eq!(rt; bus.load(RBUF_LPR), 0);
+    same(&rt, &last, &0x803F);
+    same(&rt, &bus.load(RBUF_LPR), &0xC041);
+    same(&rt, &bus.load(RBUF_LPR), &0);
 }
 
 // An update of the time at the end of a second, with its interrupt.
@@ -115,42 +117,45 @@ fn full_silo(rt: HostRuntime) {
 fn clock(rt: HostRuntime) {
     let mut bus = Bus::new(16, START, 1);
     tick(&mut bus, 8189);
-    assert_eq!(rt; bus.load(register(10)), 0x20);
+    same(&rt, &bus.load(register(10)), &0x20);
     bus.tick();
-    assert_eq!(rt; bus.load(register(10)), 0xA0);
+    same(&rt, &bus.load(register(10)), &0xA0);
     // UIE, by byte 0 alone
     bus.store(register(11), 0x12, 14);
-    assert_eq!(rt; bus.load(register(11)), 2);
+    same(&rt, &bus.load(register(11)), &2);
     bus.store(register(11), 0xFFFF_FF12, 1);
-    assert_eq!(rt; bus.load(register(11)), 0x12);
+    same(&rt, &bus.load(register(11)), &0x12);
     bus.tick();
-    assert_eq!(rt;
-        bus.lines(),
-        Lines {
+    same(
+        &rt,
+        &bus.lines(),
+        &Lines {
             board: false,
-            clock: false
-        }
+            clock: false,
+        },
     );
     bus.tick();
-    assert_eq!(rt;
-        bus.lines(),
-        Lines {
+    same(
+        &rt,
+        &bus.lines(),
+        &Lines {
             board: false,
-            clock: true
-        }
+            clock: true,
+        },
     );
     let want = [0, 0, 0, 0, 0, 0, 1, 0x29, 2, 4];
     for r in 0..10u32 {
         assert_eq!(rt; bus.load(register(r)), want[r as usize], "register {r}");
     }
-    assert_eq!(rt; bus.load(register(12)), 0xB0);
-    assert_eq!(rt; bus.load(register(12)), 0);
-    assert_eq!(rt;
-        bus.lines(),
-        Lines {
+    same(&rt, &bus.load(register(12)), &0xB0);
+    same(&rt, &bus.load(register(12)), &0);
+    same(
+        &rt,
+        &bus.lines(),
+        &Lines {
             board: false,
-            clock: false
-        }
+            clock: false,
+        },
     );
 }
 
@@ -159,36 +164,37 @@ fn clock(rt: HostRuntime) {
 fn csr(rt: HostRuntime) {
     let mut bus = Bus::new(3, START, 1);
     bus.store(Device::Csr, 0xFFFF_FFFF, 11);
-    assert_eq!(rt; bus.load(Device::Csr), 0);
+    same(&rt, &bus.load(Device::Csr), &0);
     bus.store(Device::Csr, 0xFFFF_FFFF, 15);
-    assert_eq!(rt; bus.load(Device::Csr), 0x00FF_0000);
+    same(&rt, &bus.load(Device::Csr), &0x00FF_0000);
     assert!(rt; !bus.lines().board);
     // TIE and MSE, and line 1
     bus.store(TCR, 2, 1);
     bus.store(SERIAL_CSR, 0x4020, 3);
-    assert_eq!(rt; bus.load(Device::Csr), 0x00FF_0000);
+    same(&rt, &bus.load(Device::Csr), &0x00FF_0000);
     bus.tick();
-    assert_eq!(rt; bus.load(Device::Csr), 0x00FF_0080);
+    same(&rt, &bus.load(Device::Csr), &0x00FF_0080);
     assert!(rt; bus.lines().board);
     bus.store(Device::Csr, 0x007F_0000, 4);
-    assert_eq!(rt; bus.load(Device::Csr), 0x007F_0080);
+    same(&rt, &bus.load(Device::Csr), &0x007F_0080);
     assert!(rt; !bus.lines().board);
     bus.store(Device::Csr, 0x0080_0000, 4);
     assert!(rt; bus.lines().board);
     // the byte goes out, and the line is busy for three ticks
-    assert_eq!(rt; bus.store(TDR, 0x1241, 14), None);
-    assert_eq!(rt;
-        bus.store(TDR, 0x1241, 1),
-        Some(Sent {
+    same(&rt, &bus.store(TDR, 0x1241, 14), &None);
+    same(
+        &rt,
+        &bus.store(TDR, 0x1241, 1),
+        &Some(Sent {
             line: 1,
-            byte: 0x41
-        })
+            byte: 0x41,
+        }),
     );
-    assert_eq!(rt; bus.load(Device::Csr), 0x0080_0000);
+    same(&rt, &bus.load(Device::Csr), &0x0080_0000);
     tick(&mut bus, 2);
     assert!(rt; !bus.lines().board);
     bus.tick();
-    assert_eq!(rt; bus.load(SERIAL_CSR), 0xC120);
+    same(&rt, &bus.load(SERIAL_CSR), &0xC120);
     assert!(rt; bus.lines().board);
 }
 
@@ -205,6 +211,6 @@ fn looks(rt: HostRuntime) -> Result<(), Fail> {
     other.tick();
     assert!(rt; bus == other);
     let printed = format!(in rt.alloc(); "{bus:?}")?;
-    assert_eq!(rt; printed, format!(in rt.alloc(); "{other:?}")?);
+    same(&rt, &printed, &format!(in rt.alloc(); "{other:?}")?);
     Ok(())
 }

@@ -1,4 +1,5 @@
 //! The isolated caches on their own.
+use crate::same::same;
 use dcache::Caches;
 use std::test::Fail;
 
@@ -7,12 +8,12 @@ use std::test::Fail;
 fn isolated_caches(rt: HostRuntime) -> Result<(), Fail> {
     let mut caches = Caches::new(rt.alloc())?;
     caches.store_word(false, 0x40, 7);
-    assert_eq!(rt; caches.load(false, 0x40), (7, true));
-    assert_eq!(rt; caches.load(false, 0x1_0040), (7, false));
-    assert_eq!(rt; caches.load(true, 0x40), (0, false));
+    same(&rt, &caches.load(false, 0x40), &(7, true));
+    same(&rt, &caches.load(false, 0x1_0040), &(7, false));
+    same(&rt, &caches.load(true, 0x40), &(0, false));
     caches.store_part(false, 0x40);
-    assert_eq!(rt; caches.load(false, 0x40), (7, false));
-    assert_eq!(rt; caches.load(true, 0x40), (0, false));
+    same(&rt, &caches.load(false, 0x40), &(7, false));
+    same(&rt, &caches.load(true, 0x40), &(0, false));
     Ok(())
 }
 
@@ -21,10 +22,10 @@ fn isolated_caches(rt: HostRuntime) -> Result<(), Fail> {
 fn last_slot(rt: HostRuntime) -> Result<(), Fail> {
     let mut caches = Caches::new(rt.alloc())?;
     caches.store_word(true, 0xFFFF_FFFC, 9);
-    assert_eq!(rt; caches.load(true, 0xFFFF_FFFC), (9, true));
-    assert_eq!(rt; caches.load(true, 0xFFFC), (9, false));
-    assert_eq!(rt; caches.load(true, 0), (0, false));
-    assert_eq!(rt; caches.load(false, 0xFFFF_FFFC), (0, false));
+    same(&rt, &caches.load(true, 0xFFFF_FFFC), &(9, true));
+    same(&rt, &caches.load(true, 0xFFFC), &(9, false));
+    same(&rt, &caches.load(true, 0), &(0, false));
+    same(&rt, &caches.load(false, 0xFFFF_FFFC), &(0, false));
     Ok(())
 }
 
@@ -39,6 +40,6 @@ fn copies(rt: HostRuntime) -> Result<(), Fail> {
     assert!(rt; copy != caches);
     caches.assign(&copy);
     assert!(rt; copy == caches);
-    assert_eq!(rt; caches.load(true, 0x44), (8, true));
+    same(&rt, &caches.load(true, 0x44), &(8, true));
     Ok(())
 }

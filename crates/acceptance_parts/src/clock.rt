@@ -1,4 +1,5 @@
 //! The clock on its own.
+use crate::same::same;
 use mc146818::Clock;
 use mc146818::registers::{
     AF, AIE, DAY, DM, HOURS, HOURS_ALARM, IRQF, MINUTES, MINUTES_ALARM, MONTH, PF, PM, RAM,
@@ -60,16 +61,16 @@ fn clock(rt: HostRuntime) {
     let start = [0x59, 0, 0x59, 0, 0x23, 0, 7, 0x28, 2, 4, 0x20, 2];
     let mut clock = Clock::new(start, 1);
     tick(&mut clock, 8189);
-    assert_eq!(rt; clock.read(REGISTER_A), 0x20);
+    same(&rt, &clock.read(REGISTER_A), &0x20);
     clock.tick();
-    assert_eq!(rt; clock.read(REGISTER_A), 0xA0);
+    same(&rt, &clock.read(REGISTER_A), &0xA0);
     tick(&mut clock, 2);
     let want = [0, 0, 0, 0, 0, 0, 1, 0x29, 2, 4];
     for r in 0..10u8 {
         assert_eq!(rt; clock.read(r), want[r as usize], "register {r}");
     }
-    assert_eq!(rt; clock.read(REGISTER_C), 0x30);
-    assert_eq!(rt; clock.read(REGISTER_C), 0);
+    same(&rt, &clock.read(REGISTER_C), &0x30);
+    same(&rt, &clock.read(REGISTER_C), &0);
 
     let start = [0x3b, 0, 0x3b, 0, 0x8b, 0, 7, 0x1f, 0x0c, 0x63, 0x20, 4];
     let mut clock = Clock::new(start, 1);
@@ -78,14 +79,14 @@ fn clock(rt: HostRuntime) {
     for r in 0..10u8 {
         assert_eq!(rt; clock.read(r), want[r as usize], "register {r}");
     }
-    assert_eq!(rt; clock.read(REGISTER_C), 0x10);
+    same(&rt, &clock.read(REGISTER_C), &0x10);
 
     let start = [0, 0, 0, 0, 0, 0, 1, 1, 1, 0, 0x23, 0x46];
     let mut clock = Clock::new(start, 1);
     clock.tick();
     assert!(rt; clock.line());
-    assert_eq!(rt; clock.read(REGISTER_C), 0xC0);
-    assert_eq!(rt; clock.read(REGISTER_C), 0);
+    same(&rt, &clock.read(REGISTER_C), &0xC0);
+    same(&rt, &clock.read(REGISTER_C), &0);
     assert!(rt; !clock.line());
 }
 
@@ -187,7 +188,7 @@ fn periodic_rates(rt: HostRuntime) {
     }
     let mut clock = clock_at(0x42, [0; 7]);
     tick(&mut clock, 8192);
-    assert_eq!(rt; clock.read(REGISTER_C), UF);
+    same(&rt, &clock.read(REGISTER_C), &UF);
 }
 
 // Each byte of the alarm: equal to the new time, "don't care", equal to another time (of the
@@ -223,7 +224,7 @@ fn alarms(rt: HostRuntime) {
                 let rings = rings_s && rings_m && rings_h;
                 assert_eq!(rt; clock.line(), rings, "{seconds:x} {minutes:x} {hours:x}");
                 let want = if rings { IRQF | AF | UF } else { UF };
-                assert_eq!(rt; clock.read(REGISTER_C), want);
+                same(&rt, &clock.read(REGISTER_C), &want);
             }
         }
     }
@@ -236,27 +237,27 @@ fn divider(rt: HostRuntime) {
         let mut clock = clock_at(BCD_24, [0x55, 0, 0, 1, 1, 1, 1]);
         tick(&mut clock, 8191);
         clock.write(REGISTER_A, held);
-        assert_eq!(rt; clock.read(REGISTER_A), held);
+        same(&rt, &clock.read(REGISTER_A), &held);
         tick(&mut clock, 10_000);
-        assert_eq!(rt; clock.read(REGISTER_C), 0);
+        same(&rt, &clock.read(REGISTER_C), &0);
         clock.write(REGISTER_A, 0x2F);
         tick(&mut clock, 8191);
-        assert_eq!(rt; clock.read(REGISTER_A), 0xAF);
-        assert_eq!(rt; clock.read(REGISTER_C), PF);
+        same(&rt, &clock.read(REGISTER_A), &0xAF);
+        same(&rt, &clock.read(REGISTER_C), &PF);
         clock.write(REGISTER_A, 0x20);
         clock.tick();
-        assert_eq!(rt; clock.read(REGISTER_C), UF);
-        assert_eq!(rt; clock.read(SECONDS), 0x56);
+        same(&rt, &clock.read(REGISTER_C), &UF);
+        same(&rt, &clock.read(SECONDS), &0x56);
     }
     let mut clock = Clock::new([0, 0, 0, 0, 0, 0, 1, 1, 1, 0, 0x20, 6], 3);
     tick(&mut clock, 24_569);
-    assert_eq!(rt; clock.read(REGISTER_A), 0x20);
+    same(&rt, &clock.read(REGISTER_A), &0x20);
     clock.tick();
-    assert_eq!(rt; clock.read(REGISTER_A), 0xA0);
+    same(&rt, &clock.read(REGISTER_A), &0xA0);
     tick(&mut clock, 5);
-    assert_eq!(rt; clock.read(REGISTER_C), 0);
+    same(&rt, &clock.read(REGISTER_C), &0);
     clock.tick();
-    assert_eq!(rt; clock.read(REGISTER_C), UF);
+    same(&rt, &clock.read(REGISTER_C), &UF);
 }
 
 // SET holds the time while the divider runs on, and clears UIE where it becomes 1.
@@ -265,19 +266,19 @@ fn set(rt: HostRuntime) {
     let mut clock = clock_at(UIE | BCD_24, [0x55, 0, 0, 1, 1, 1, 1]);
     tick(&mut clock, 8191);
     clock.write(REGISTER_B, SET | UIE | BCD_24);
-    assert_eq!(rt; clock.read(REGISTER_B), SET | BCD_24);
-    assert_eq!(rt; clock.read(REGISTER_A), 0x20);
+    same(&rt, &clock.read(REGISTER_B), &(SET | BCD_24));
+    same(&rt, &clock.read(REGISTER_A), &0x20);
     tick(&mut clock, 8192);
-    assert_eq!(rt; clock.read(SECONDS), 0x55);
-    assert_eq!(rt; clock.read(REGISTER_C), 0);
+    same(&rt, &clock.read(SECONDS), &0x55);
+    same(&rt, &clock.read(REGISTER_C), &0);
     clock.write(REGISTER_B, SET | UIE | BCD_24);
-    assert_eq!(rt; clock.read(REGISTER_B), SET | UIE | BCD_24);
+    same(&rt, &clock.read(REGISTER_B), &(SET | UIE | BCD_24));
     clock.write(REGISTER_B, UIE | BCD_24);
-    assert_eq!(rt; clock.read(REGISTER_A), 0xA0);
+    same(&rt, &clock.read(REGISTER_A), &0xA0);
     clock.tick();
-    assert_eq!(rt; clock.read(SECONDS), 0x56);
+    same(&rt, &clock.read(SECONDS), &0x56);
     assert!(rt; clock.line());
-    assert_eq!(rt; clock.read(REGISTER_C), IRQF | UF);
+    same(&rt, &clock.read(REGISTER_C), &(IRQF | UF));
 }
 
 // C and D are read only, as are UIP and daylight saving; the 50 bytes of RAM are all held.
@@ -285,16 +286,16 @@ fn set(rt: HostRuntime) {
 fn writes(rt: HostRuntime) {
     let mut clock = clock_at(BCD_24, [0; 7]);
     clock.write(REGISTER_C, 0xFF);
-    assert_eq!(rt; clock.read(REGISTER_C), 0);
+    same(&rt, &clock.read(REGISTER_C), &0);
     tick(&mut clock, 8192);
     clock.write(REGISTER_C, 0);
     clock.write(REGISTER_D, 0);
-    assert_eq!(rt; clock.read(REGISTER_C), UF);
-    assert_eq!(rt; clock.read(REGISTER_D), 0x80);
+    same(&rt, &clock.read(REGISTER_C), &UF);
+    same(&rt, &clock.read(REGISTER_D), &0x80);
     clock.write(REGISTER_A, 0xFF);
-    assert_eq!(rt; clock.read(REGISTER_A), 0x7F);
+    same(&rt, &clock.read(REGISTER_A), &0x7F);
     clock.write(REGISTER_B, 0xFF);
-    assert_eq!(rt; clock.read(REGISTER_B), 0xEE);
+    same(&rt, &clock.read(REGISTER_B), &0xEE);
     for r in RAM..64 {
         assert_eq!(rt; clock.read(r), 0, "register {r}");
         clock.write(r, r ^ 0xFF);
@@ -330,25 +331,25 @@ fn pass(clock: &mut Clock, ticks: u32) {
 #[test]
 fn quiet_seconds(rt: HostRuntime) {
     let mut clock = clock_at(BCD_24, [0x55, 0, 0, 1, 1, 1, 1]);
-    assert_eq!(rt; clock.quiet(), 8191);
+    same(&rt, &clock.quiet(), &8191);
     clock.tick();
-    assert_eq!(rt; clock.quiet(), 8190);
+    same(&rt, &clock.quiet(), &8190);
     pass(&mut clock, 8190);
-    assert_eq!(rt; clock.quiet(), 0);
-    assert_eq!(rt; clock.read(REGISTER_A), 0xA0);
-    assert_eq!(rt; clock.read(SECONDS), 0x55);
+    same(&rt, &clock.quiet(), &0);
+    same(&rt, &clock.read(REGISTER_A), &0xA0);
+    same(&rt, &clock.read(SECONDS), &0x55);
     clock.tick();
-    assert_eq!(rt; clock.read(SECONDS), 0x56);
-    assert_eq!(rt; clock.quiet(), 8191);
+    same(&rt, &clock.read(SECONDS), &0x56);
+    same(&rt, &clock.quiet(), &8191);
     clock.write(REGISTER_B, SET | BCD_24);
-    assert_eq!(rt; clock.quiet(), 8191);
+    same(&rt, &clock.quiet(), &8191);
     clock.write(REGISTER_A, 0);
-    assert_eq!(rt; clock.quiet(), 0xFFFF_FFFF);
+    same(&rt, &clock.quiet(), &0xFFFF_FFFF);
     pass(&mut clock, 0xFFFF_FFFF);
     clock.write(REGISTER_A, 0x20);
-    assert_eq!(rt; clock.quiet(), 8191);
+    same(&rt, &clock.quiet(), &8191);
     let slow = Clock::new([0, 0, 0, 0, 0, 0, 1, 1, 1, 0, 0x20, 6], 65_535);
-    assert_eq!(rt; slow.quiet(), 536_862_719);
+    same(&rt, &slow.quiet(), &536_862_719);
 }
 
 // How many ticks pass before PF is set, with a unit of 3 ticks: by the rate, a period is 96 ticks,
@@ -361,15 +362,15 @@ fn quiet_periods(rt: HostRuntime) {
         assert_eq!(rt; clock.quiet(), quiet, "rate {rate}");
     }
     pass(&mut clock, 200);
-    assert_eq!(rt; clock.quiet(), 12_087);
+    same(&rt, &clock.quiet(), &12_087);
     clock.write(REGISTER_A, 0x21);
-    assert_eq!(rt; clock.quiet(), 87);
+    same(&rt, &clock.quiet(), &87);
     pass(&mut clock, 87);
     assert!(rt; !clock.line());
-    assert_eq!(rt; clock.quiet(), 0);
+    same(&rt, &clock.quiet(), &0);
     clock.tick();
     assert!(rt; clock.line());
-    assert_eq!(rt; clock.quiet(), 24_287);
-    assert_eq!(rt; clock.read(REGISTER_C), IRQF | PF);
-    assert_eq!(rt; clock.quiet(), 95);
+    same(&rt, &clock.quiet(), &24_287);
+    same(&rt, &clock.read(REGISTER_C), &(IRQF | PF));
+    same(&rt, &clock.quiet(), &95);
 }

@@ -1,5 +1,6 @@
 //! The control registers by hand: numbers 0 Index, 1 Random, 2 EntryLo, 4 Context, 8 BadVAddr, 10 EntryHi, 12 Status, 13
 //! Cause, 14 EPC, 15 PRId.
+use crate::same::same;
 use cop0::{Cop0, Coprocessor, Exc, ExcCode};
 
 const ALL: [u8; 16] = [0, 1, 2, 3, 4, 5, 6, 7, 8, 9, 10, 11, 12, 13, 14, 15];
@@ -26,9 +27,9 @@ fn reset(rt: HostRuntime) {
             15 => 0x0000_0220,
             _ => 0,
         };
-        assert_eq!(rt; registers.read(number), want);
+        same(&rt, &registers.read(number), &want);
     }
-    assert_eq!(rt; registers.read(31), 0);
+    same(&rt, &registers.read(31), &0);
 }
 
 // All bits written over zeros, and zeros over them.
@@ -57,7 +58,7 @@ fn write_masks(rt: HostRuntime) {
         0x0000_0220,
     ];
     for number in ALL {
-        assert_eq!(rt; registers.read(number), set[number as usize]);
+        same(&rt, &registers.read(number), &set[number as usize]);
         registers.write(number, 0);
     }
     for number in ALL {
@@ -66,7 +67,7 @@ fn write_masks(rt: HostRuntime) {
             15 => 0x0000_0220,
             _ => 0,
         };
-        assert_eq!(rt; registers.read(number), want);
+        same(&rt, &registers.read(number), &want);
     }
 }
 
@@ -76,11 +77,11 @@ fn system_call_in_a_delay_slot(rt: HostRuntime) {
     registers.write(12, 0x0040_0001);
     let mut call = exception(ExcCode::SystemCall);
     call.delay = true;
-    assert_eq!(rt; registers.enter(call), 0xBFC0_0180);
-    assert_eq!(rt; registers.read(12), 0x0040_0004);
-    assert_eq!(rt; registers.read(13), 0x8000_0020);
-    assert_eq!(rt; registers.read(14), 0xBFC0_000C);
-    assert_eq!(rt; registers.read(8), 0);
+    same(&rt, &registers.enter(call), &0xBFC0_0180);
+    same(&rt, &registers.read(12), &0x0040_0004);
+    same(&rt, &registers.read(13), &0x8000_0020);
+    same(&rt, &registers.read(14), &0xBFC0_000C);
+    same(&rt, &registers.read(8), &0);
 }
 
 #[test]
@@ -95,8 +96,8 @@ fn vectors(rt: HostRuntime) {
         registers.write(12, bev << 22);
         let mut miss = exception(ExcCode::TlbLoad);
         miss.refill = refill;
-        assert_eq!(rt; registers.enter(miss), vector);
-        assert_eq!(rt; registers.read(14), 0xBFC0_0010);
+        same(&rt, &registers.enter(miss), &vector);
+        same(&rt, &registers.read(14), &0xBFC0_0010);
     }
 }
 
@@ -110,18 +111,18 @@ fn mapped_address(rt: HostRuntime) {
     modification.bad = Some(0x1234_5678);
     modification.mapped = true;
     registers.enter(modification);
-    assert_eq!(rt; registers.read(8), 0x1234_5678);
-    assert_eq!(rt; registers.read(4), 0x8024_8D14);
-    assert_eq!(rt; registers.read(10), 0x1234_5040);
-    assert_eq!(rt; registers.read(13), 0x0000_0004);
+    same(&rt, &registers.read(8), &0x1234_5678);
+    same(&rt, &registers.read(4), &0x8024_8D14);
+    same(&rt, &registers.read(10), &0x1234_5040);
+    same(&rt, &registers.read(13), &0x0000_0004);
     // An address error loads BadVAddr alone.
     let mut misaligned = exception(ExcCode::AddressLoad);
     misaligned.bad = Some(0x8000_0001);
     registers.enter(misaligned);
-    assert_eq!(rt; registers.read(8), 0x8000_0001);
-    assert_eq!(rt; registers.read(4), 0x8024_8D14);
-    assert_eq!(rt; registers.read(10), 0x1234_5040);
-    assert_eq!(rt; registers.read(13), 0x0000_0010);
+    same(&rt, &registers.read(8), &0x8000_0001);
+    same(&rt, &registers.read(4), &0x8024_8D14);
+    same(&rt, &registers.read(10), &0x1234_5040);
+    same(&rt, &registers.read(13), &0x0000_0010);
 }
 
 #[test]
@@ -130,23 +131,23 @@ fn modes_and_interrupts(rt: HostRuntime) {
     // Mode bits 11 01 10: entry gives 01 10 00, and the return 01 01 10.
     registers.write(12, 0x0000_0036);
     registers.enter(exception(ExcCode::Breakpoint));
-    assert_eq!(rt; registers.read(12), 0x0000_0018);
+    same(&rt, &registers.read(12), &0x0000_0018);
     registers.rfe();
-    assert_eq!(rt; registers.read(12), 0x0000_0016);
+    same(&rt, &registers.read(12), &0x0000_0016);
     // IE with the mask of line 10 alone.
     registers.write(12, 0x0000_0401);
     assert!(rt; !registers.wanted());
     registers.sample(false, true);
-    assert_eq!(rt; registers.read(13) & 0xFF00, 0x0800);
+    same(&rt, &(registers.read(13) & 0xFF00), &0x0800);
     assert!(rt; !registers.wanted());
     registers.sample(true, false);
-    assert_eq!(rt; registers.read(13) & 0xFF00, 0x0400);
+    same(&rt, &(registers.read(13) & 0xFF00), &0x0400);
     assert!(rt; registers.wanted());
     registers.write(12, 0x0000_0400);
     assert!(rt; !registers.wanted());
     // CpU of coprocessor 2 keeps the pending interrupt.
     registers.enter(exception(ExcCode::CoprocessorUnusable(Coprocessor::Cp2)));
-    assert_eq!(rt; registers.read(13), 0x2000_042C);
+    same(&rt, &registers.read(13), &0x2000_042C);
 }
 
 #[test]
@@ -155,26 +156,26 @@ fn random_falls(rt: HostRuntime) {
     for _ in 0..55 {
         registers.fall();
     }
-    assert_eq!(rt; registers.read(1), 0x0000_0800);
+    same(&rt, &registers.read(1), &0x0000_0800);
     registers.fall();
-    assert_eq!(rt; registers.read(1), 0x0000_3F00);
+    same(&rt, &registers.read(1), &0x0000_3F00);
 }
 
 #[test]
 fn translation_and_caches(rt: HostRuntime) {
     let mut registers = Cop0::new();
     registers.probed(None);
-    assert_eq!(rt; registers.read(0), 0x8000_0000);
+    same(&rt, &registers.read(0), &0x8000_0000);
     registers.probed(Some(63));
-    assert_eq!(rt; registers.read(0), 0x0000_3F00);
+    same(&rt, &registers.read(0), &0x0000_3F00);
     registers.loaded(0x1234_5FFF, 0xABCD_EFFF);
-    assert_eq!(rt; registers.read(10), 0x1234_5FC0);
-    assert_eq!(rt; registers.read(2), 0xABCD_EF00);
+    same(&rt, &registers.read(10), &0x1234_5FC0);
+    same(&rt, &registers.read(2), &0xABCD_EF00);
     registers.set_ts();
     registers.set_cm(true);
-    assert_eq!(rt; registers.read(12), 0x0068_0000);
+    same(&rt, &registers.read(12), &0x0068_0000);
     registers.set_cm(false);
-    assert_eq!(rt; registers.read(12), 0x0060_0000);
+    same(&rt, &registers.read(12), &0x0060_0000);
     let mut other = Cop0::new();
     assert!(rt; other != registers);
     other.assign(&registers);

@@ -1,4 +1,5 @@
 //! What instructions do with the values that they read: values by hand from the manual.
+use crate::same::same;
 use r3k_decode::decode;
 use r3k_exec::{Covered, Effect, LoadKind, Operands, StoreKind, Trap, effect};
 
@@ -29,9 +30,10 @@ fn divisions(rt: HostRuntime) {
     ];
     for (dividend, divisor, hi, lo) in signed {
         // div r5, r6
-        assert_eq!(rt;
-            done(0x00A6_001A, dividend, divisor),
-            Some(Effect::WriteHiLo { hi, lo })
+        same(
+            &rt,
+            &done(0x00A6_001A, dividend, divisor),
+            &Some(Effect::WriteHiLo { hi, lo }),
         );
     }
     let unsigned = [
@@ -41,9 +43,10 @@ fn divisions(rt: HostRuntime) {
     ];
     for (dividend, divisor, hi, lo) in unsigned {
         // divu r5, r6
-        assert_eq!(rt;
-            done(0x00A6_001B, dividend, divisor),
-            Some(Effect::WriteHiLo { hi, lo })
+        same(
+            &rt,
+            &done(0x00A6_001B, dividend, divisor),
+            &Some(Effect::WriteHiLo { hi, lo }),
         );
     }
 }
@@ -54,61 +57,84 @@ fn overflows(rt: HostRuntime) {
     let written = |register, value| Some(Effect::Write { register, value });
     // add r3, r5, r6
     let add = 0x00A6_1820;
-    assert_eq!(rt; done(add, 0x7FFF_FFFF, 0), written(3, 0x7FFF_FFFF));
-    assert_eq!(rt; done(add, 0x7FFF_FFFF, 1), trap);
-    assert_eq!(rt; done(add, 0x8000_0000, 0), written(3, 0x8000_0000));
-    assert_eq!(rt; done(add, 0x8000_0000, 0xFFFF_FFFF), trap);
+    same(&rt, &done(add, 0x7FFF_FFFF, 0), &written(3, 0x7FFF_FFFF));
+    same(&rt, &done(add, 0x7FFF_FFFF, 1), &trap);
+    same(&rt, &done(add, 0x8000_0000, 0), &written(3, 0x8000_0000));
+    same(&rt, &done(add, 0x8000_0000, 0xFFFF_FFFF), &trap);
     // addi r6, r5, 1 and addi r6, r5, -1
-    assert_eq!(rt; done(0x20A6_0001, 0x7FFF_FFFE, 0), written(6, 0x7FFF_FFFF));
-    assert_eq!(rt; done(0x20A6_0001, 0x7FFF_FFFF, 0), trap);
-    assert_eq!(rt; done(0x20A6_FFFF, 0x8000_0001, 0), written(6, 0x8000_0000));
-    assert_eq!(rt; done(0x20A6_FFFF, 0x8000_0000, 0), trap);
+    same(
+        &rt,
+        &done(0x20A6_0001, 0x7FFF_FFFE, 0),
+        &written(6, 0x7FFF_FFFF),
+    );
+    same(&rt, &done(0x20A6_0001, 0x7FFF_FFFF, 0), &trap);
+    same(
+        &rt,
+        &done(0x20A6_FFFF, 0x8000_0001, 0),
+        &written(6, 0x8000_0000),
+    );
+    same(&rt, &done(0x20A6_FFFF, 0x8000_0000, 0), &trap);
     // sub r3, r5, r6
     let sub = 0x00A6_1822;
-    assert_eq!(rt;
-        done(sub, 0xFFFF_FFFF, 0x8000_0000),
-        written(3, 0x7FFF_FFFF)
+    same(
+        &rt,
+        &done(sub, 0xFFFF_FFFF, 0x8000_0000),
+        &written(3, 0x7FFF_FFFF),
     );
-    assert_eq!(rt; done(sub, 0, 0x8000_0000), trap);
-    assert_eq!(rt; done(sub, 0x8000_0001, 1), written(3, 0x8000_0000));
-    assert_eq!(rt; done(sub, 0x8000_0000, 1), trap);
+    same(&rt, &done(sub, 0, 0x8000_0000), &trap);
+    same(&rt, &done(sub, 0x8000_0001, 1), &written(3, 0x8000_0000));
+    same(&rt, &done(sub, 0x8000_0000, 1), &trap);
     // addu r3, r5, r6
-    assert_eq!(rt; done(0x00A6_1821, 0x7FFF_FFFF, 1), written(3, 0x8000_0000));
+    same(
+        &rt,
+        &done(0x00A6_1821, 0x7FFF_FFFF, 1),
+        &written(3, 0x8000_0000),
+    );
 }
 
 #[test]
 fn shifts_and_comparisons(rt: HostRuntime) {
     let written = |register, value| Some(Effect::Write { register, value });
     // sra r3, r6, 4; srl r3, r6, 4; srav r3, r6, r5
-    assert_eq!(rt; done(0x0006_1903, 0, 0x8000_0010), written(3, 0xF800_0001));
-    assert_eq!(rt; done(0x0006_1902, 0, 0x8000_0010), written(3, 0x0800_0001));
-    assert_eq!(rt;
-        done(0x00A6_1807, 0xFFFF_FFE1, 0x8000_0000),
-        written(3, 0xC000_0000)
+    same(
+        &rt,
+        &done(0x0006_1903, 0, 0x8000_0010),
+        &written(3, 0xF800_0001),
+    );
+    same(
+        &rt,
+        &done(0x0006_1902, 0, 0x8000_0010),
+        &written(3, 0x0800_0001),
+    );
+    same(
+        &rt,
+        &done(0x00A6_1807, 0xFFFF_FFE1, 0x8000_0000),
+        &written(3, 0xC000_0000),
     );
     // nor r3, r5, r6; slt r3, r5, r6; sltu r3, r5, r6
-    assert_eq!(rt;
-        done(0x00A6_1827, 0xF0F0_F0F0, 0x0000_FFFF),
-        written(3, 0x0F0F_0000)
+    same(
+        &rt,
+        &done(0x00A6_1827, 0xF0F0_F0F0, 0x0000_FFFF),
+        &written(3, 0x0F0F_0000),
     );
-    assert_eq!(rt; done(0x00A6_182A, 0xFFFF_FFFF, 0), written(3, 1));
-    assert_eq!(rt; done(0x00A6_182B, 0xFFFF_FFFF, 0), written(3, 0));
+    same(&rt, &done(0x00A6_182A, 0xFFFF_FFFF, 0), &written(3, 1));
+    same(&rt, &done(0x00A6_182B, 0xFFFF_FFFF, 0), &written(3, 0));
     // slti r6, r5, -1; sltiu r6, r5, -1; andi r6, r5, 0x8000
-    assert_eq!(rt; done(0x28A6_FFFF, 0xFFFF_FFFE, 0), written(6, 1));
-    assert_eq!(rt; done(0x2CA6_FFFF, 5, 0), written(6, 1));
-    assert_eq!(rt; done(0x30A6_8000, 0xFFFF_FFFF, 0), written(6, 0x8000));
+    same(&rt, &done(0x28A6_FFFF, 0xFFFF_FFFE, 0), &written(6, 1));
+    same(&rt, &done(0x2CA6_FFFF, 5, 0), &written(6, 1));
+    same(&rt, &done(0x30A6_8000, 0xFFFF_FFFF, 0), &written(6, 0x8000));
 }
 
 #[test]
 fn branches_and_links(rt: HostRuntime) {
     let jump = |target| Some(Effect::Jump { target });
     // beq r5, r6, 32763 words back
-    assert_eq!(rt; done(0x10A6_8005, 9, 9), jump(Some(0xBFBE_0018)));
-    assert_eq!(rt; done(0x10A6_8005, 9, 8), jump(None));
+    same(&rt, &done(0x10A6_8005, 9, 9), &jump(Some(0xBFBE_0018)));
+    same(&rt, &done(0x10A6_8005, 9, 8), &jump(None));
     // blez r5 and bgtz r5, to the delay slot
-    assert_eq!(rt; done(0x18A0_0000, 0, 0), jump(Some(PC + 4)));
-    assert_eq!(rt; done(0x1CA0_0000, 0, 0), jump(None));
-    assert_eq!(rt; done(0x1CA0_0000, 0x8000_0000, 0), jump(None));
+    same(&rt, &done(0x18A0_0000, 0, 0), &jump(Some(PC + 4)));
+    same(&rt, &done(0x1CA0_0000, 0, 0), &jump(None));
+    same(&rt, &done(0x1CA0_0000, 0x8000_0000, 0), &jump(None));
     let linked = |target, register| {
         Some(Effect::JumpAndLink {
             target,
@@ -117,12 +143,17 @@ fn branches_and_links(rt: HostRuntime) {
         })
     };
     // bgezal r5, not taken and taken; jal 0x0fc00000; jalr r31, r5
-    assert_eq!(rt; done(0x04B1_0001, 0x8000_0000, 0), linked(None, 31));
-    assert_eq!(rt; done(0x04B1_0001, 0, 0), linked(Some(PC + 8), 31));
-    assert_eq!(rt; done(0x0FF0_0000, 0, 0), linked(Some(0xBFC0_0000), 31));
-    assert_eq!(rt;
-        done(0x00A0_F809, 0x8000_1234, 0),
-        linked(Some(0x8000_1234), 31)
+    same(&rt, &done(0x04B1_0001, 0x8000_0000, 0), &linked(None, 31));
+    same(&rt, &done(0x04B1_0001, 0, 0), &linked(Some(PC + 8), 31));
+    same(
+        &rt,
+        &done(0x0FF0_0000, 0, 0),
+        &linked(Some(0xBFC0_0000), 31),
+    );
+    same(
+        &rt,
+        &done(0x00A0_F809, 0x8000_1234, 0),
+        &linked(Some(0x8000_1234), 31),
     );
 }
 
@@ -137,42 +168,47 @@ fn merging_loads(rt: HostRuntime) {
         (0x102, 0x3322_11DD, 0xAABB_4433),
         (0x103, 0x4433_2211, 0xAABB_CC44),
     ] {
-        assert_eq!(rt; left.loaded(address, word, 0xAABB_CCDD), high);
-        assert_eq!(rt; right.loaded(address, word, 0xAABB_CCDD), low);
+        same(&rt, &left.loaded(address, word, 0xAABB_CCDD), &high);
+        same(&rt, &right.loaded(address, word, 0xAABB_CCDD), &low);
     }
     // lwl r6, 1(r5)
     let loads = done(0x88A6_0001, 0x100, 1);
     let address = 0x101;
-    assert_eq!(rt;
-        loads,
-        Some(Effect::Load {
+    same(
+        &rt,
+        &loads,
+        &Some(Effect::Load {
             kind: left,
             register: 6,
-            address
-        })
+            address,
+        }),
     );
 }
 
 #[test]
 fn widths(rt: HostRuntime) {
     let word = 0x8081_F2F3;
-    assert_eq!(rt;
-        LoadKind::Byte.loaded(0x101, word, 0x5A5A_5A5A),
-        0xFFFF_FFF2
+    same(
+        &rt,
+        &LoadKind::Byte.loaded(0x101, word, 0x5A5A_5A5A),
+        &0xFFFF_FFF2,
     );
-    assert_eq!(rt;
-        LoadKind::ByteUnsigned.loaded(0x103, word, 0x5A5A_5A5A),
-        0x80
+    same(
+        &rt,
+        &LoadKind::ByteUnsigned.loaded(0x103, word, 0x5A5A_5A5A),
+        &0x80,
     );
-    assert_eq!(rt;
-        LoadKind::Half.loaded(0x102, word, 0x5A5A_5A5A),
-        0xFFFF_8081
+    same(
+        &rt,
+        &LoadKind::Half.loaded(0x102, word, 0x5A5A_5A5A),
+        &0xFFFF_8081,
     );
-    assert_eq!(rt;
-        LoadKind::HalfUnsigned.loaded(0x100, word, 0x5A5A_5A5A),
-        0xF2F3
+    same(
+        &rt,
+        &LoadKind::HalfUnsigned.loaded(0x100, word, 0x5A5A_5A5A),
+        &0xF2F3,
     );
-    assert_eq!(rt; LoadKind::Word.loaded(0x100, word, 0x5A5A_5A5A), word);
+    same(&rt, &LoadKind::Word.loaded(0x100, word, 0x5A5A_5A5A), &word);
     assert!(rt; !LoadKind::Half.is_aligned(0x101));
     assert!(rt; LoadKind::Half.is_aligned(0x102));
     assert!(rt; !LoadKind::Word.is_aligned(0x102));
@@ -199,6 +235,6 @@ fn stores(rt: HostRuntime) {
         (StoreKind::Right, 0x103, 0xDD00_0000, 8),
     ];
     for (kind, address, word, lanes) in cases {
-        assert_eq!(rt; kind.stored(address, value), Covered { word, lanes });
+        same(&rt, &kind.stored(address, value), &Covered { word, lanes });
     }
 }

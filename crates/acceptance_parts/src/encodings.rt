@@ -1,4 +1,5 @@
 //! Every instruction of the table both ways, beside an independent assembler.
+use crate::same::same;
 use r3k_decode::{decode, encode};
 use r3k_table::rows::table;
 
@@ -145,8 +146,8 @@ fn every_instruction_both_ways(rt: HostRuntime) {
         assert!(rt; found.is_some());
         if let Some(insn) = found {
             let number = insn.row() as usize;
-            assert_eq!(rt; number, place % 65);
-            assert_eq!(rt; rows[number].name, *name);
+            same(&rt, &number, &(place % 65));
+            same(&rt, &rows[number].name, &*name);
             let seen = [
                 u32::from(insn.rs()),
                 u32::from(insn.rt()),
@@ -156,8 +157,8 @@ fn every_instruction_both_ways(rt: HostRuntime) {
                 insn.index(),
                 insn.code(),
             ];
-            assert_eq!(rt; seen, *fields);
-            assert_eq!(rt; encode(&insn), *word);
+            same(&rt, &seen, &*fields);
+            same(&rt, &encode(&insn), &*word);
         }
     }
 }

@@ -1,4 +1,5 @@
 //! The translation entries on their own.
+use crate::same::same;
 use tlb64::{Entry, Found, Tlb};
 
 // EntryHi of page 3 is 0x3000, and of process 1 of it 0x3040. EntryLo has G in bit 8.
@@ -10,13 +11,13 @@ fn translation_lookup(rt: HostRuntime) {
         lo: 0x7200,
     };
     tlb.write(5, own);
-    assert_eq!(rt; tlb.lookup(0x3000, 0), None);
+    same(&rt, &tlb.lookup(0x3000, 0), &None);
     let found = Found {
         index: 5,
         entry: own,
         several: false,
     };
-    assert_eq!(rt; tlb.lookup(0x3000, 1), Some(found));
+    same(&rt, &tlb.lookup(0x3000, 1), &Some(found));
 
     let global = Entry {
         hi: 0x3040,
@@ -28,7 +29,7 @@ fn translation_lookup(rt: HostRuntime) {
         entry: global,
         several: false,
     };
-    assert_eq!(rt; tlb.lookup(0x3000, 0), Some(found));
+    same(&rt, &tlb.lookup(0x3000, 0), &Some(found));
 
     let other = Entry {
         hi: 0x3000,
@@ -39,25 +40,29 @@ fn translation_lookup(rt: HostRuntime) {
         several: true,
         ..found
     };
-    assert_eq!(rt; tlb.lookup(0x3FFF, 0), Some(several));
-    assert_eq!(rt; tlb.probe(0x3000), Some(several));
+    same(&rt, &tlb.lookup(0x3FFF, 0), &Some(several));
+    same(&rt, &tlb.probe(0x3000), &Some(several));
     // What several entries match is never kept; what one matches is, of its process and for its use alone.
     for is_fetch in [false, true, false, true] {
-        assert_eq!(rt; tlb.translate(is_fetch, 0x3004, 0x0000), Some(several));
-        assert_eq!(rt; tlb.kept(is_fetch, 0x3004, 0x0000), None);
-        assert_eq!(rt; tlb.translate(is_fetch, 0x3008, 0x0040), Some(found));
-        assert_eq!(rt; tlb.kept(is_fetch, 0x3FFC, 0x0040), Some(0x7300));
-        assert_eq!(rt; tlb.kept(is_fetch, 0x3FFC, 0x0080), None);
-        assert_eq!(rt; tlb.translate(is_fetch, 0xB000, 0x0000), None);
+        same(
+            &rt,
+            &tlb.translate(is_fetch, 0x3004, 0x0000),
+            &Some(several),
+        );
+        same(&rt, &tlb.kept(is_fetch, 0x3004, 0x0000), &None);
+        same(&rt, &tlb.translate(is_fetch, 0x3008, 0x0040), &Some(found));
+        same(&rt, &tlb.kept(is_fetch, 0x3FFC, 0x0040), &Some(0x7300));
+        same(&rt, &tlb.kept(is_fetch, 0x3FFC, 0x0080), &None);
+        same(&rt, &tlb.translate(is_fetch, 0xB000, 0x0000), &None);
     }
     // Process 1 has the global entry alone, and the next page has none.
-    assert_eq!(rt; tlb.probe(0x3040), Some(found));
-    assert_eq!(rt; tlb.lookup(0x4000, 0), None);
-    assert_eq!(rt; tlb.read(5), global);
-    assert_eq!(rt; tlb.read(9), other);
+    same(&rt, &tlb.probe(0x3040), &Some(found));
+    same(&rt, &tlb.lookup(0x4000, 0), &None);
+    same(&rt, &tlb.read(5), &global);
+    same(&rt, &tlb.read(9), &other);
     tlb.write(5, other);
-    assert_eq!(rt; tlb.kept(true, 0x3004, 0x0040), None);
-    assert_eq!(rt; tlb.translate(true, 0x3004, 0x0040), None);
+    same(&rt, &tlb.kept(true, 0x3004, 0x0040), &None);
+    same(&rt, &tlb.translate(true, 0x3004, 0x0040), &None);
 }
 
 // At reset all entries are of page 0 and process 0, and none is global.
@@ -70,11 +75,11 @@ fn reset(rt: HostRuntime) {
         entry,
         several: true,
     };
-    assert_eq!(rt; tlb.lookup(0xFFF, 0), Some(found));
-    assert_eq!(rt; tlb.lookup(0xFFF, 1), None);
-    assert_eq!(rt; tlb.lookup(0xFFF, 64), None);
-    assert_eq!(rt; tlb.lookup(0x1000, 0), None);
-    assert_eq!(rt; tlb.read(63), entry);
+    same(&rt, &tlb.lookup(0xFFF, 0), &Some(found));
+    same(&rt, &tlb.lookup(0xFFF, 1), &None);
+    same(&rt, &tlb.lookup(0xFFF, 64), &None);
+    same(&rt, &tlb.lookup(0x1000, 0), &None);
+    same(&rt, &tlb.read(63), &entry);
 }
 
 #[test]
@@ -90,5 +95,5 @@ fn assign(rt: HostRuntime) {
     assert!(rt; tlb != other);
     tlb.assign(&other);
     assert!(rt; tlb == other);
-    assert_eq!(rt; tlb.read(63), entry);
+    same(&rt, &tlb.read(63), &entry);
 }

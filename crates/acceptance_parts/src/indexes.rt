@@ -1,4 +1,5 @@
 //! The two indexes over spans on their own: the last span that stored into a page, and the places of a line's bytes.
+use crate::same::same;
 use console_index::ConsoleIndex;
 use std::alloc::{AllocError, Global};
 use std::test::Fail;
@@ -15,20 +16,20 @@ fn last(index: &WriteIndex, page: u32, before: u64) -> (Option<u64>, u64) {
 #[test]
 fn direct_calls(rt: HostRuntime) -> Result<(), Fail> {
     let mut writes = WriteIndex::new(rt.alloc());
-    assert_eq!(rt; last(&writes, 0, 1), (None, 0));
+    same(&rt, &last(&writes, 0, 1), &(None, 0));
     writes.replace(0, &[0])?;
-    assert_eq!(rt; last(&writes, 0, 1), (Some(0), 1));
-    assert_eq!(rt; last(&writes, 0, 0), (None, 0));
-    assert_eq!(rt; last(&writes, 1, 1), (None, 1));
+    same(&rt, &last(&writes, 0, 1), &(Some(0), 1));
+    same(&rt, &last(&writes, 0, 0), &(None, 0));
+    same(&rt, &last(&writes, 1, 1), &(None, 1));
 
     let mut console = ConsoleIndex::new(rt.alloc());
-    assert_eq!(rt; console.count(0, 2), 0);
-    assert_eq!(rt; console.find(0, 0), None);
+    same(&rt, &console.count(0, 2), &0);
+    same(&rt, &console.find(0, 0), &None);
     console.replace(0, [0, 0, 0, 0])?;
     console.replace(1, [1, 0, 0, 0])?;
-    assert_eq!(rt; console.count(0, 2), 1);
-    assert_eq!(rt; console.find(0, 0), Some((1, 0)));
-    assert_eq!(rt; console.find(0, 1), None);
+    same(&rt, &console.count(0, 2), &1);
+    same(&rt, &console.find(0, 0), &Some((1, 0)));
+    same(&rt, &console.find(0, 1), &None);
     Ok(())
 }
 
@@ -41,23 +42,23 @@ fn shared_pages(rt: HostRuntime) -> Result<(), Fail> {
     writes.replace(2, &[7, 8255])?;
     writes.replace(3, &[3])?;
     writes.replace(4, &[1, 3])?;
-    assert_eq!(rt; last(&writes, 3, 5).0, Some(4));
-    assert_eq!(rt; last(&writes, 3, 4).0, Some(3));
-    assert_eq!(rt; last(&writes, 3, 3).0, Some(0));
-    assert_eq!(rt; last(&writes, 7, 5).0, Some(2));
-    assert_eq!(rt; last(&writes, 7, 2).0, Some(0));
-    assert_eq!(rt; last(&writes, 8255, u64::MAX).0, Some(2));
-    assert_eq!(rt; last(&writes, 8255, 2).0, None);
-    assert_eq!(rt; last(&writes, 4, 5).0, None);
+    same(&rt, &last(&writes, 3, 5).0, &Some(4));
+    same(&rt, &last(&writes, 3, 4).0, &Some(3));
+    same(&rt, &last(&writes, 3, 3).0, &Some(0));
+    same(&rt, &last(&writes, 7, 5).0, &Some(2));
+    same(&rt, &last(&writes, 7, 2).0, &Some(0));
+    same(&rt, &last(&writes, 8255, u64::MAX).0, &Some(2));
+    same(&rt, &last(&writes, 8255, 2).0, &None);
+    same(&rt, &last(&writes, 4, 5).0, &None);
 
     writes.replace(2, &[4])?;
-    assert_eq!(rt; last(&writes, 7, 5).0, Some(0));
-    assert_eq!(rt; last(&writes, 8255, 5).0, None);
-    assert_eq!(rt; last(&writes, 4, 5).0, Some(2));
+    same(&rt, &last(&writes, 7, 5).0, &Some(0));
+    same(&rt, &last(&writes, 8255, 5).0, &None);
+    same(&rt, &last(&writes, 4, 5).0, &Some(2));
     writes.replace(0, &[])?;
-    assert_eq!(rt; last(&writes, 7, 5).0, None);
-    assert_eq!(rt; last(&writes, 3, 3).0, None);
-    assert_eq!(rt; last(&writes, 3, 4).0, Some(3));
+    same(&rt, &last(&writes, 7, 5).0, &None);
+    same(&rt, &last(&writes, 3, 3).0, &None);
+    same(&rt, &last(&writes, 3, 4).0, &Some(3));
     Ok(())
 }
 
@@ -66,27 +67,27 @@ fn shared_pages(rt: HostRuntime) -> Result<(), Fail> {
 fn spans_between(rt: HostRuntime) -> Result<(), Fail> {
     let mut writes = WriteIndex::new(rt.alloc());
     writes.replace(6, &[2])?;
-    assert_eq!(rt; last(&writes, 2, 7).0, Some(6));
-    assert_eq!(rt; last(&writes, 2, 6).0, None);
+    same(&rt, &last(&writes, 2, 7).0, &Some(6));
+    same(&rt, &last(&writes, 2, 6).0, &None);
     writes.replace(1, &[2])?;
-    assert_eq!(rt; last(&writes, 2, 6).0, Some(1));
+    same(&rt, &last(&writes, 2, 6).0, &Some(1));
 
     let mut console = ConsoleIndex::new(rt.alloc());
     console.replace(6, [0, 5, 0, 1_048_576])?;
-    assert_eq!(rt; console.count(1, 6), 0);
-    assert_eq!(rt; console.count(1, 7), 5);
+    same(&rt, &console.count(1, 6), &0);
+    same(&rt, &console.count(1, 7), &5);
     console.replace(1, [0, 2, 9, 0])?;
-    assert_eq!(rt; console.count(1, 1), 0);
-    assert_eq!(rt; console.count(1, 2), 2);
-    assert_eq!(rt; console.count(1, u64::MAX), 7);
-    assert_eq!(rt; console.count(2, u64::MAX), 9);
-    assert_eq!(rt; console.count(3, 7), 1_048_576);
-    assert_eq!(rt; console.count(0, 7), 0);
-    assert_eq!(rt; console.find(1, 1), Some((1, 1)));
-    assert_eq!(rt; console.find(1, 2), Some((6, 0)));
-    assert_eq!(rt; console.find(1, 6), Some((6, 4)));
-    assert_eq!(rt; console.find(1, 7), None);
-    assert_eq!(rt; console.find(3, 1_048_575), Some((6, 1_048_575)));
+    same(&rt, &console.count(1, 1), &0);
+    same(&rt, &console.count(1, 2), &2);
+    same(&rt, &console.count(1, u64::MAX), &7);
+    same(&rt, &console.count(2, u64::MAX), &9);
+    same(&rt, &console.count(3, 7), &1_048_576);
+    same(&rt, &console.count(0, 7), &0);
+    same(&rt, &console.find(1, 1), &Some((1, 1)));
+    same(&rt, &console.find(1, 2), &Some((6, 0)));
+    same(&rt, &console.find(1, 6), &Some((6, 4)));
+    same(&rt, &console.find(1, 7), &None);
+    same(&rt, &console.find(3, 1_048_575), &Some((6, 1_048_575)));
     Ok(())
 }
 
@@ -111,28 +112,33 @@ fn few_nodes_asked(rt: HostRuntime) -> Result<(), Fail> {
     let writes = thousand(rt.alloc())?;
     for before in 0..1001 {
         let (first, asked) = last(&writes, 5, before);
-        assert_eq!(rt; first, if before > 0 { Some(0) } else { None });
+        same(&rt, &first, &if before > 0 { Some(0) } else { None });
         assert!(rt; asked <= 22);
         let (each, asked) = last(&writes, 6, before);
-        assert_eq!(rt; each, if before > 0 { Some(before - 1) } else { None });
+        same(
+            &rt,
+            &each,
+            &if before > 0 { Some(before - 1) } else { None },
+        );
         assert!(rt; asked <= 22);
         let (hundredth, asked) = last(&writes, 7, before);
-        assert_eq!(rt;
-            hundredth,
-            if before > 0 {
+        same(
+            &rt,
+            &hundredth,
+            &if before > 0 {
                 Some((before - 1) / 100 * 100)
             } else {
                 None
-            }
+            },
         );
         assert!(rt; asked <= 22);
-        assert_eq!(rt; last(&writes, 8, before).0, None);
+        same(&rt, &last(&writes, 8, before).0, &None);
     }
     let mut asked = Asked {
         nodes: u64::MAX - 1,
     };
-    assert_eq!(rt; writes.last_span(5, 1000, &mut asked), Some(0));
-    assert_eq!(rt; asked.nodes, u64::MAX);
+    same(&rt, &writes.last_span(5, 1000, &mut asked), &Some(0));
+    same(&rt, &asked.nodes, &u64::MAX);
     Ok(())
 }
 
@@ -148,16 +154,20 @@ fn thousand_spans(rt: HostRuntime) -> Result<(), Fail> {
         }
     }
     for span in 0..1000 {
-        assert_eq!(rt; console.count(0, span), span);
-        assert_eq!(rt; console.count(3, span), span / 2 * 2);
-        assert_eq!(rt; console.find(0, span), Some((span, 0)));
-        assert_eq!(rt; console.find(3, span), Some((span / 2 * 2 + 1, span % 2)));
+        same(&rt, &console.count(0, span), &span);
+        same(&rt, &console.count(3, span), &(span / 2 * 2));
+        same(&rt, &console.find(0, span), &Some((span, 0)));
+        same(
+            &rt,
+            &console.find(3, span),
+            &Some((span / 2 * 2 + 1, span % 2)),
+        );
     }
-    assert_eq!(rt; console.find(0, 1000), None);
-    assert_eq!(rt; console.count(3, 2000), 1000);
+    same(&rt, &console.find(0, 1000), &None);
+    same(&rt, &console.count(3, 2000), &1000);
     console.replace(500, [0, 0, 0, 0])?;
-    assert_eq!(rt; console.find(0, 499), Some((499, 0)));
-    assert_eq!(rt; console.find(0, 500), Some((501, 0)));
-    assert_eq!(rt; console.count(0, 1000), 999);
+    same(&rt, &console.find(0, 499), &Some((499, 0)));
+    same(&rt, &console.find(0, 500), &Some((501, 0)));
+    same(&rt, &console.count(0, 1000), &999);
     Ok(())
 }

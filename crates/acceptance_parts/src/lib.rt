@@ -20,6 +20,8 @@ mod indexes;
 #[cfg(test)]
 mod pages;
 #[cfg(test)]
+mod same;
+#[cfg(test)]
 mod serial_part;
 #[cfg(test)]
 mod texts;

@@ -4,6 +4,7 @@ ghost use Rattle.r3k_word.specs.Layout.{word_count_of};
 ghost use Rattle.r3k_word.specs.declared.layout.TheConstants.{MAX_RAM_PAGES};
 ghost use Rattle.r3k_pages.specs.Pages.{SameOutside};
 
+use crate::same::same;
 use r3k_pages::{PageMarks, Snapshot, page_laws};
 use r3k_word::layout::{PAGE_WORDS, ROM_PAGES, page_of, word_count};
 use std::alloc::{AllocError, Global};
@@ -228,7 +229,7 @@ fn one_word_is_set(rt: HostRuntime) -> Result<(), Fail> {
     for place in [0, 1023, 1024, 33 * 1024 + 5, 80 * 1024 - 1] {
         let set = snapshot.with_word(rt.alloc(), place, 7)?;
         differ_in(&rt, &snapshot, &set, &[page_of(place) as u32]);
-        assert_eq!(rt; set.word(place), 7);
+        same(&rt, &set.word(place), &7);
         let back = set.with_word(rt.alloc(), place, first_word(place))?;
         holds(&rt, &back, &[]);
     }

@@ -2,6 +2,7 @@
 //! RDONE 80, RIE 40, MSE 20, CLR 10, MAINT 8. Of RBUF: DVAL 8000, OERR 4000, line 0300.
 ghost use Rattle.std.specs.Prelude.{◌≤◌};
 
+use crate::same::same;
 use dz_serial::{Dz, Sent};
 
 const CSR: u32 = 0;
@@ -46,16 +47,16 @@ fn full_silo(rt: HostRuntime) {
     for byte in 0..65 {
         dz.receive(0, byte);
     }
-    assert_eq!(rt; dz.read(CSR), 0x00A0);
-    assert_eq!(rt; dz.read(RBUF), 0x8000);
+    same(&rt, &dz.read(CSR), &0x00A0);
+    same(&rt, &dz.read(RBUF), &0x8000);
     dz.receive(0, 0x41);
     let mut last = 0;
     for _ in 0..63 {
         last = dz.read(RBUF);
     }
-    assert_eq!(rt; last, 0x803F);
-    assert_eq!(rt; dz.read(RBUF), 0xC041);
-    assert_eq!(rt; dz.read(RBUF), 0);
+    same(&rt, &last, &0x803F);
+    same(&rt, &dz.read(RBUF), &0xC041);
+    same(&rt, &dz.read(RBUF), &0);
 }
 
 // After so many lost bytes of line 2 the next one stored from it has OERR, and the one after that
@@ -71,18 +72,18 @@ fn overrun(rt: HostRuntime) {
             dz.receive(2, 0xEE);
         }
         for byte in 0..3 {
-            assert_eq!(rt; dz.read(RBUF), 0x8000 + byte);
+            same(&rt, &dz.read(RBUF), &(0x8000 + byte));
         }
         dz.receive(1, 0x11);
         dz.receive(2, 0x22);
         dz.receive(2, 0x33);
         for byte in 3..64 {
-            assert_eq!(rt; dz.read(RBUF), 0x8000 + byte);
+            same(&rt, &dz.read(RBUF), &(0x8000 + byte));
         }
-        assert_eq!(rt; dz.read(RBUF), 0x8111);
-        assert_eq!(rt; dz.read(RBUF), 0xC222);
-        assert_eq!(rt; dz.read(RBUF), 0x8233);
-        assert_eq!(rt; dz.read(RBUF), 0);
+        same(&rt, &dz.read(RBUF), &0x8111);
+        same(&rt, &dz.read(RBUF), &0xC222);
+        same(&rt, &dz.read(RBUF), &0x8233);
+        same(&rt, &dz.read(RBUF), &0);
     }
 }
 
@@ -99,8 +100,8 @@ fn receivers(rt: HostRuntime) {
     dz.receive(1, 0x45);
     dz.write(LPR, 0x1001, 1);
     dz.receive(1, 0x46);
-    assert_eq!(rt; dz.read(RBUF), 0x8145);
-    assert_eq!(rt; dz.read(RBUF), 0);
+    same(&rt, &dz.read(RBUF), &0x8145);
+    same(&rt, &dz.read(RBUF), &0);
 }
 
 // With byte time 3 a line is free again at the third tick after it sent, so four lines take turns.
@@ -117,13 +118,13 @@ fn scan_order(rt: HostRuntime) {
         (3, 11),
         (0, 12),
     ] {
-        assert_eq!(rt; tick_and_send(&mut dz, byte as u32), on(line, byte));
+        same(&rt, &tick_and_send(&mut dz, byte as u32), &on(line, byte));
     }
     // Lines 0 and 2 alone. Line 0 sent just now, and line 2 at the third tick before this one.
     dz.write(TCR, 5, 15);
     dz.tick();
-    assert_eq!(rt; dz.read(CSR), 0x8220);
-    assert_eq!(rt; dz.read(TCR), 5);
+    same(&rt, &dz.read(CSR), &0x8220);
+    same(&rt, &dz.read(TCR), &5);
 }
 
 // With byte time 6 the four lines that sent at the first four ticks are all busy at the fifth and
@@ -132,11 +133,11 @@ fn scan_order(rt: HostRuntime) {
 fn all_busy(rt: HostRuntime) {
     let mut dz = started(6, 0xF);
     for line in [1, 2, 3, 0] {
-        assert_eq!(rt; tick_and_send(&mut dz, 0x123), on(line, 0x23));
+        same(&rt, &tick_and_send(&mut dz, 0x123), &on(line, 0x23));
     }
-    assert_eq!(rt; tick_and_send(&mut dz, 0), None);
-    assert_eq!(rt; tick_and_send(&mut dz, 0), None);
-    assert_eq!(rt; tick_and_send(&mut dz, 0), on(1, 0));
+    same(&rt, &tick_and_send(&mut dz, 0), &None);
+    same(&rt, &tick_and_send(&mut dz, 0), &None);
+    same(&rt, &tick_and_send(&mut dz, 0), &on(1, 0));
 }
 
 // One line with byte time 3 is ready again at the third tick after a byte, with MSE 0 in between
@@ -144,16 +145,16 @@ fn all_busy(rt: HostRuntime) {
 #[test]
 fn busy_counts(rt: HostRuntime) {
     let mut dz = started(3, 4);
-    assert_eq!(rt; tick_and_send(&mut dz, 1), on(2, 1));
-    assert_eq!(rt; tick_and_send(&mut dz, 2), None);
+    same(&rt, &tick_and_send(&mut dz, 1), &on(2, 1));
+    same(&rt, &tick_and_send(&mut dz, 2), &None);
     dz.write(CSR, 0, 15);
-    assert_eq!(rt; tick_and_send(&mut dz, 3), None);
+    same(&rt, &tick_and_send(&mut dz, 3), &None);
     dz.write(CSR, 0x20, 15);
-    assert_eq!(rt; tick_and_send(&mut dz, 4), on(2, 4));
+    same(&rt, &tick_and_send(&mut dz, 4), &on(2, 4));
 
     let mut quick = started(1, 4);
     for byte in 0..3 {
-        assert_eq!(rt; tick_and_send(&mut quick, byte as u32), on(2, byte));
+        same(&rt, &tick_and_send(&mut quick, byte as u32), &on(2, byte));
     }
 }
 
@@ -162,31 +163,31 @@ fn transmit_without_trdy(rt: HostRuntime) {
     let mut dz = started(16, 2);
     let mut before = Dz::new(1);
     before.assign(&dz);
-    assert_eq!(rt; dz.write(TDR, 0x41, 15), None);
+    same(&rt, &dz.write(TDR, 0x41, 15), &None);
     assert!(rt; dz == before);
     dz.tick();
-    assert_eq!(rt; dz.read(CSR), 0x8120);
+    same(&rt, &dz.read(CSR), &0x8120);
     before.assign(&dz);
-    assert_eq!(rt; dz.write(TDR, 0x41, 14), None);
+    same(&rt, &dz.write(TDR, 0x41, 14), &None);
     assert!(rt; dz == before);
-    assert_eq!(rt; dz.write(TDR, 0x41, 1), on(1, 0x41));
-    assert_eq!(rt; dz.write(TDR, 0x42, 1), None);
+    same(&rt, &dz.write(TDR, 0x41, 1), &on(1, 0x41));
+    same(&rt, &dz.write(TDR, 0x42, 1), &None);
 }
 
 #[test]
 fn disabling_the_line(rt: HostRuntime) {
     let mut dz = started(16, 3);
     dz.tick();
-    assert_eq!(rt; dz.read(CSR), 0x8120);
+    same(&rt, &dz.read(CSR), &0x8120);
     dz.write(TCR, 0, 14);
-    assert_eq!(rt; dz.read(CSR), 0x8120);
+    same(&rt, &dz.read(CSR), &0x8120);
     dz.write(TCR, 0xFA, 1);
-    assert_eq!(rt; dz.read(CSR), 0x8120);
-    assert_eq!(rt; dz.read(TCR), 0xA);
+    same(&rt, &dz.read(CSR), &0x8120);
+    same(&rt, &dz.read(TCR), &0xA);
     dz.write(TCR, 1, 1);
-    assert_eq!(rt; dz.read(CSR), 0x0120);
+    same(&rt, &dz.read(CSR), &0x0120);
     dz.tick();
-    assert_eq!(rt; dz.read(CSR), 0x8020);
+    same(&rt, &dz.read(CSR), &0x8020);
 }
 
 #[test]
@@ -201,11 +202,11 @@ fn covered_bytes_of_csr(rt: HostRuntime) {
     ] {
         let mut dz = Dz::new(16);
         dz.write(CSR, 0xFFFF_FFEF, lanes);
-        assert_eq!(rt; dz.read(CSR), word);
+        same(&rt, &dz.read(CSR), &word);
         dz.write(CSR, 0, 15 - lanes);
-        assert_eq!(rt; dz.read(CSR), word);
+        same(&rt, &dz.read(CSR), &word);
         dz.write(CSR, 0, lanes);
-        assert_eq!(rt; dz.read(CSR), 0);
+        same(&rt, &dz.read(CSR), &0);
     }
 }
 
@@ -216,15 +217,15 @@ fn clear(rt: HostRuntime) {
     for byte in 0..65 {
         dz.receive(3, byte);
     }
-    assert_eq!(rt; tick_and_send(&mut dz, 0x41), on(1, 0x41));
+    same(&rt, &tick_and_send(&mut dz, 0x41), &on(1, 0x41));
     dz.tick();
-    assert_eq!(rt; dz.read(CSR), 0xC2E8);
+    same(&rt, &dz.read(CSR), &0xC2E8);
     // CLR in a byte that is not covered does nothing.
     dz.write(CSR, 0x4010, 2);
-    assert_eq!(rt; dz.read(CSR), 0xC2E8);
+    same(&rt, &dz.read(CSR), &0xC2E8);
     dz.write(CSR, 0x4078, 15);
-    assert_eq!(rt; dz.read(CSR), 0);
-    assert_eq!(rt; dz.read(TCR), 0);
+    same(&rt, &dz.read(CSR), &0);
+    same(&rt, &dz.read(TCR), &0);
     assert!(rt; dz == Dz::new(5));
     assert!(rt; !(dz == Dz::new(6)));
 }
@@ -237,18 +238,18 @@ fn scan_enable_off(rt: HostRuntime) {
         dz.receive(0, byte);
     }
     dz.tick();
-    assert_eq!(rt; dz.read(CSR), 0x83A0);
+    same(&rt, &dz.read(CSR), &0x83A0);
     dz.write(CSR, 0, 2);
-    assert_eq!(rt; dz.read(CSR), 0x83A0);
+    same(&rt, &dz.read(CSR), &0x83A0);
     dz.write(CSR, 0, 1);
-    assert_eq!(rt; dz.read(CSR), 0x0300);
-    assert_eq!(rt; dz.read(RBUF), 0);
+    same(&rt, &dz.read(CSR), &0x0300);
+    same(&rt, &dz.read(RBUF), &0);
     dz.tick();
     dz.receive(0, 0x41);
-    assert_eq!(rt; dz.read(CSR), 0x0300);
+    same(&rt, &dz.read(CSR), &0x0300);
     dz.write(CSR, 0x20, 1);
     dz.receive(0, 0x42);
-    assert_eq!(rt; dz.read(RBUF), 0x8042);
+    same(&rt, &dz.read(RBUF), &0x8042);
 }
 
 #[test]
@@ -258,11 +259,11 @@ fn interrupt_line(rt: HostRuntime) {
     dz.receive(0, 0x41);
     for (enables, line) in [(0x20, false), (0x4020, true), (0x60, true), (0x4060, true)] {
         dz.write(CSR, enables, 15);
-        assert_eq!(rt; dz.line(), line);
+        same(&rt, &dz.line(), &line);
     }
     dz.write(TDR, 0x41, 1);
     assert!(rt; dz.line());
-    assert_eq!(rt; dz.read(RBUF), 0x8041);
+    same(&rt, &dz.read(RBUF), &0x8041);
     assert!(rt; !dz.line());
 }
 
@@ -274,13 +275,13 @@ fn other_words(rt: HostRuntime) {
     let mut before = Dz::new(1);
     before.assign(&dz);
     for offset in [4, 12, 20, 24, 28] {
-        assert_eq!(rt; dz.read(offset), 0);
+        same(&rt, &dz.read(offset), &0);
     }
     for offset in [4, 12, 20, 28] {
-        assert_eq!(rt; dz.write(offset, 0xFFFF_FFFF, 15), None);
+        same(&rt, &dz.write(offset, 0xFFFF_FFFF, 15), &None);
     }
     assert!(rt; dz == before);
-    assert_eq!(rt; dz.read(TCR), 0xF);
+    same(&rt, &dz.read(TCR), &0xF);
 }
 
 // How many ticks pass before TRDY rises, by the busy counts. With byte time 5 a line that sent is
@@ -289,30 +290,30 @@ fn other_words(rt: HostRuntime) {
 #[test]
 fn quiet_ticks(rt: HostRuntime) {
     let mut dz = started(5, 4);
-    assert_eq!(rt; dz.quiet(), 0);
+    same(&rt, &dz.quiet(), &0);
     dz.tick();
-    assert_eq!(rt; dz.quiet(), 0xFFFF_FFFF);
+    same(&rt, &dz.quiet(), &0xFFFF_FFFF);
     dz.write(TDR, 0x41, 15);
-    assert_eq!(rt; dz.quiet(), 4);
+    same(&rt, &dz.quiet(), &4);
     dz.tick();
-    assert_eq!(rt; dz.quiet(), 3);
+    same(&rt, &dz.quiet(), &3);
     dz.pass(3);
-    assert_eq!(rt; dz.quiet(), 0);
-    assert_eq!(rt; dz.read(CSR), 0x0220);
+    same(&rt, &dz.quiet(), &0);
+    same(&rt, &dz.read(CSR), &0x0220);
     dz.tick();
-    assert_eq!(rt; dz.read(CSR), 0x8220);
+    same(&rt, &dz.read(CSR), &0x8220);
 
     let mut all = started(6, 0xF);
     for line in [1, 2, 3, 0] {
-        assert_eq!(rt; tick_and_send(&mut all, 0x41), on(line, 0x41));
+        same(&rt, &tick_and_send(&mut all, 0x41), &on(line, 0x41));
     }
-    assert_eq!(rt; all.quiet(), 2);
+    same(&rt, &all.quiet(), &2);
     all.pass(2);
-    assert_eq!(rt; tick_and_send(&mut all, 0x42), on(1, 0x42));
+    same(&rt, &tick_and_send(&mut all, 0x42), &on(1, 0x42));
     // Line 2 is free at the next tick, and line 3 at the one after it.
-    assert_eq!(rt; all.quiet(), 0);
+    same(&rt, &all.quiet(), &0);
     all.write(TCR, 0xB, 15);
-    assert_eq!(rt; all.quiet(), 1);
+    same(&rt, &all.quiet(), &1);
 }
 
 // No tick raises TRDY with no line enabled or with MSE 0. The counts fall nevertheless, to 0 at the
@@ -320,15 +321,15 @@ fn quiet_ticks(rt: HostRuntime) {
 #[test]
 fn quiet_for_ever(rt: HostRuntime) {
     let mut dz = started(9, 0);
-    assert_eq!(rt; dz.quiet(), 0xFFFF_FFFF);
+    same(&rt, &dz.quiet(), &0xFFFF_FFFF);
     dz.write(TCR, 2, 15);
-    assert_eq!(rt; tick_and_send(&mut dz, 0x41), on(1, 0x41));
+    same(&rt, &tick_and_send(&mut dz, 0x41), &on(1, 0x41));
     dz.write(CSR, 0, 15);
-    assert_eq!(rt; dz.quiet(), 0xFFFF_FFFF);
+    same(&rt, &dz.quiet(), &0xFFFF_FFFF);
     dz.pass(7);
     dz.write(CSR, 0x20, 15);
-    assert_eq!(rt; dz.quiet(), 1);
+    same(&rt, &dz.quiet(), &1);
     dz.pass(0xFFFF_FFFF);
-    assert_eq!(rt; dz.quiet(), 0);
-    assert_eq!(rt; tick_and_send(&mut dz, 0x42), on(1, 0x42));
+    same(&rt, &dz.quiet(), &0);
+    same(&rt, &tick_and_send(&mut dz, 0x42), &on(1, 0x42));
 }

@@ -6,6 +6,7 @@ ghost use Rattle.r3k_pages.specs.Pages.{SameOutside};
 ghost use Rattle.checkpoints.specs.Kept.{span_at};
 
 use crate::running::{FIRST, LOOP, Running, SECOND, differ_in, is_sent};
+use crate::same::same;
 use checkpoints::Kept;
 use input_log::{Event, Log};
 use r3k_asm::assemble;
@@ -86,7 +87,7 @@ fn first_span_tells<const PAGES: u32, const SPAN: u32>(
     let start = shared(alloc, &machine)?;
     let fact = record_of(alloc, &mut machine, &start, 0, &Log::new(alloc))?;
     machine.stands(rt, LOOP, 64);
-    assert_eq!(rt; fact.index(), 0);
+    same(rt, &fact.index(), &0);
     assert!(rt; fact.events().is_empty());
     assert!(rt; fact.start().core() == start.core());
     differ_in(rt, fact.start(), &start, &[]);
@@ -140,7 +141,7 @@ fn spans_with_bytes_tell<const PAGES: u32, const SPAN: u32>(
     let writers = [(0x100, Some(59)), (0x104, None)];
     tells(rt, &two, &writers, &[], &[0], &[0, 17]);
     let three = record_of(alloc, &mut machine, two.end(), 3, &log)?;
-    assert_eq!(rt; three.index(), 3);
+    same(rt, &three.index(), &3);
     assert!(rt; three.events() == [SECOND].as_slice());
     let writers = [(0x100, Some(61)), (0x104, Some(21))];
     tells(rt, &three, &writers, &[(0x42, 23)], &[0], &[0, 17]);
@@ -482,7 +483,7 @@ fn valid_records_stay<const PAGES: u32, const SPAN: u32>(
     kept.join();
     for (index, valid) in [(5, 2), (2, 2), (1, 1), (3, 1), (0, 0)] {
         kept.truncate_valid(index);
-        assert_eq!(rt; kept.valid(), valid);
+        same(rt, &kept.valid(), &valid);
         assert!(rt; kept.fact(0).is_some() && kept.fact(1).is_some());
         assert!(rt; kept.applies(0, &start, &[], None));
     }
@@ -592,6 +593,6 @@ fn greatest_count(rt: HostRuntime) {
         (u64::MAX, 0, u64::MAX),
         (u64::MAX, u32::MAX, u64::MAX),
     ] {
-        assert_eq!(rt; counted(before, steps), after);
+        same(&rt, &counted(before, steps), &after);
     }
 }

@@ -2,6 +2,8 @@
 #![tactic(auto)]
 
 #[cfg(test)]
+mod asked;
+#[cfg(test)]
 mod carried;
 #[cfg(test)]
 mod facts;
@@ -13,5 +15,7 @@ mod meets;
 mod reuse;
 #[cfg(test)]
 mod running;
+#[cfg(test)]
+mod same;
 #[cfg(test)]
 mod states;

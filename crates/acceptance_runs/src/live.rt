@@ -1,16 +1,17 @@
 //! The machine that runs, its record and its boundaries: the echo program in spans of 64 steps, values by hand.
 use crate::running::{FIRST, LOOP, RECEIVED, Running, SECOND, TAKEN, differ_in, echo};
+use crate::same::same;
 use std::test::Fail;
 
 #[test]
 fn at_reset(rt: HostRuntime) -> Result<(), Fail> {
     let machine = Running::<16, 64>::boot(rt.alloc())?;
-    assert_eq!(rt; machine.live.core().pc(), 0xBFC0_0000);
-    assert_eq!(rt; machine.live.core().next_pc(), 0xBFC0_0004);
-    assert_eq!(rt; machine.live.steps(), 0);
+    same(&rt, &machine.live.core().pc(), &0xBFC0_0000);
+    same(&rt, &machine.live.core().next_pc(), &0xBFC0_0004);
+    same(&rt, &machine.live.steps(), &0);
     // The first and the last word of the program.
-    assert_eq!(rt; machine.live.word(16 * 1024), 0x3C01_BFE0);
-    assert_eq!(rt; machine.live.word(17 * 1024 + 12), 0x0BF0_0400);
+    same(&rt, &machine.live.word(16 * 1024), &0x3C01_BFE0);
+    same(&rt, &machine.live.word(17 * 1024 + 12), &0x0BF0_0400);
     machine.holds(&rt, &[]);
     machine.tells(&rt, rt.alloc(), &[], &[], &[], &[]);
     Ok(())
@@ -35,7 +36,7 @@ fn four_spans(rt: HostRuntime) -> Result<(), Fail> {
         machine.tells(&rt, rt.alloc(), &[(RECEIVED, last)], &[], &[0], &[0, 17]);
     }
     assert!(rt; machine.live.core().delay());
-    assert_eq!(rt; machine.live.core().next_pc(), 0xBFC0_1024);
+    same(&rt, &machine.live.core().next_pc(), &0xBFC0_1024);
     machine.holds(&rt, &[]);
     Ok(())
 }
@@ -67,7 +68,7 @@ fn bytes_of_the_log(rt: HostRuntime) -> Result<(), Fail> {
         &[0],
         &[0, 17],
     );
-    assert_eq!(rt; machine.live.steps(), 256);
+    same(&rt, &machine.live.steps(), &256);
     machine.holds(&rt, &[]);
     Ok(())
 }
@@ -114,7 +115,7 @@ fn back_and_again(rt: HostRuntime) -> Result<(), Fail> {
     machine.stands(&rt, 0xBFC0_0000, 64);
     machine.holds(&rt, &[]);
     let again = machine.keep_next(rt.alloc(), &start, 0, &[], 64)?;
-    assert_eq!(rt; machine.live.steps(), 128);
+    same(&rt, &machine.live.steps(), &128);
     assert!(rt; again.core() == end.core());
     differ_in(&rt, &end, &again, &[]);
     machine.tells(&rt, rt.alloc(), &[(RECEIVED, 55)], &[], &[0], &[0, 16, 17]);
@@ -140,7 +141,7 @@ fn two_ways_on(rt: HostRuntime) -> Result<(), Fail> {
         &[0],
         &[0, 17],
     );
-    assert_eq!(rt; machine.live.steps(), 192);
+    same(&rt, &machine.live.steps(), &192);
     let heard = machine.keep(rt.alloc())?;
     assert!(rt; heard.core() == silent.core());
     assert!(rt; heard.core() != end.core());
@@ -155,15 +156,15 @@ fn kept_words(rt: HostRuntime) -> Result<(), Fail> {
     let mut machine = Running::<16, 64>::of(rt.alloc(), image)?;
     let start = machine.keep(rt.alloc())?;
     let end = machine.keep_next(rt.alloc(), &start, 0, &[], 64)?;
-    assert_eq!(rt; start.memory().word(0x40), 0x1234);
-    assert_eq!(rt; end.memory().word(0x40), 0);
+    same(&rt, &start.memory().word(0x40), &0x1234);
+    same(&rt, &end.memory().word(0x40), &0);
     differ_in(&rt, &start, &end, &[0]);
     machine.load(&start);
-    assert_eq!(rt; machine.live.core().pc(), 0xBFC0_0000);
-    assert_eq!(rt; machine.live.word(0x40), 0x1234);
+    same(&rt, &machine.live.core().pc(), &0xBFC0_0000);
+    same(&rt, &machine.live.word(0x40), &0x1234);
     machine.load(&end);
-    assert_eq!(rt; machine.live.core().pc(), LOOP);
-    assert_eq!(rt; machine.live.word(0x40), 0);
+    same(&rt, &machine.live.core().pc(), &LOOP);
+    same(&rt, &machine.live.word(0x40), &0);
     Ok(())
 }
 
@@ -176,7 +177,7 @@ fn stored_and_equal(rt: HostRuntime) -> Result<(), Fail> {
     differ_in(&rt, &start, &end, &[]);
     let later = machine.keep_next(rt.alloc(), &end, 64, &[FIRST], 14)?;
     differ_in(&rt, &end, &later, &[0]);
-    assert_eq!(rt; later.memory().word(0x40), 0x8041);
+    same(&rt, &later.memory().word(0x40), &0x8041);
     Ok(())
 }
 
@@ -184,18 +185,18 @@ fn stored_and_equal(rt: HostRuntime) -> Result<(), Fail> {
 #[test]
 fn visits(rt: HostRuntime) -> Result<(), Fail> {
     let mut machine = Running::<16, 64>::boot(rt.alloc())?;
-    assert_eq!(rt; machine.visit(0, &[], 0, LOOP), None);
-    assert_eq!(rt; machine.visit(0, &[], 8, LOOP), None);
+    same(&rt, &machine.visit(0, &[], 0, LOOP), &None);
+    same(&rt, &machine.visit(0, &[], 8, LOOP), &None);
     machine.stands(&rt, 0xBFC0_0020, 8);
     machine.tells(&rt, rt.alloc(), &[], &[], &[], &[16]);
-    assert_eq!(rt; machine.visit(8, &[], 64, LOOP), Some(1));
+    same(&rt, &machine.visit(8, &[], 64, LOOP), &Some(1));
     machine.stands(&rt, LOOP, 9);
     let nine = machine.keep(rt.alloc())?;
-    assert_eq!(rt; machine.visit(9, &[], 10, LOOP), None);
+    same(&rt, &machine.visit(9, &[], 10, LOOP), &None);
     machine.stands(&rt, 0xBFC0_1034, 19);
     machine.tells(&rt, rt.alloc(), &[(RECEIVED, 2)], &[], &[0], &[0, 17]);
     machine.load(&nine);
-    assert_eq!(rt; machine.visit(9, &[], 11, LOOP), Some(11));
+    same(&rt, &machine.visit(9, &[], 11, LOOP), &Some(11));
     machine.stands(&rt, LOOP, 30);
     machine.tells(&rt, rt.alloc(), &[(RECEIVED, 2)], &[], &[0], &[0, 17]);
     Ok(())
@@ -205,14 +206,18 @@ fn visits(rt: HostRuntime) -> Result<(), Fail> {
 #[test]
 fn visits_from_reset(rt: HostRuntime) -> Result<(), Fail> {
     let mut machine = Running::<16, 64>::boot(rt.alloc())?;
-    assert_eq!(rt; machine.visit(0, &[], 64, LOOP), Some(9));
-    assert_eq!(rt; machine.live.steps(), 9);
+    same(&rt, &machine.visit(0, &[], 64, LOOP), &Some(9));
+    same(&rt, &machine.live.steps(), &9);
     machine.tells(&rt, rt.alloc(), &[], &[], &[], &[16]);
-    assert_eq!(rt; machine.visit(9, &[], 55, 0xBFC0_2000), None);
+    same(&rt, &machine.visit(9, &[], 55, 0xBFC0_2000), &None);
     machine.stands(&rt, LOOP, 64);
     // A byte of step 70 takes the other path: it comes to the store of 0 in step 81.
-    assert_eq!(rt; machine.visit(64, &[FIRST], 64, 0xBFC0_1018), Some(17));
-    assert_eq!(rt; machine.live.steps(), 81);
+    same(
+        &rt,
+        &machine.visit(64, &[FIRST], 64, 0xBFC0_1018),
+        &Some(17),
+    );
+    same(&rt, &machine.live.steps(), &81);
     machine.tells(&rt, rt.alloc(), &[(RECEIVED, 13)], &[], &[0], &[0, 17]);
     Ok(())
 }
@@ -230,16 +235,16 @@ fn refused_memory(rt: HostRuntime) -> Result<(), Fail> {
     for made in [64, 128] {
         machine.run(0, &[], 64);
         machine.stands(&rt, LOOP, made);
-        assert_eq!(rt; machine.recorder.writer(0x100), Some(55));
-        assert_eq!(rt; machine.recorder.writer(0x104), None);
-        assert_eq!(rt; machine.recorder.sent().len(), 0);
+        same(&rt, &machine.recorder.writer(0x100), &Some(55));
+        same(&rt, &machine.recorder.writer(0x104), &None);
+        same(&rt, &machine.recorder.sent().len(), &0);
         machine.holds(&rt, &[]);
         let _end = machine.keep(rt.alloc());
         let Ok(start) = &start else {
             return Ok(());
         };
         machine.load(start);
-        assert_eq!(rt; machine.live.core().pc(), 0xBFC0_0000);
+        same(&rt, &machine.live.core().pc(), &0xBFC0_0000);
     }
     Ok(())
 }

@@ -4,9 +4,10 @@ ghost use Rattle.std.specs.Prelude.{◌≤◌};
 ghost use Rattle.r3k_word.specs.declared.layout.TheConstants.{MAX_RAM_PAGES};
 ghost use Rattle.timeline.specs.Sizes.{AreSizes};
 
+use crate::asked::Asked;
 use crate::facts::{record_of, shared};
-use crate::reuse::Asked;
 use crate::running::{Running, differ_in};
+use crate::same::same;
 use checkpoints::Kept;
 use cop0::number::{RANDOM, STATUS};
 use input_log::Log;
@@ -361,7 +362,7 @@ fn sets_ts<const PAGES: u32, const SPAN: u32>(
         let mut machine = Running::<PAGES, SPAN>::of(alloc, thing.image(alloc)?)?;
         let log = thing.log(alloc, byte)?;
         machine.run(0, log.window(0, 64), 64);
-        assert_eq!(rt; machine.live.core().cop0().read(STATUS), status);
+        same(rt, &machine.live.core().cop0().read(STATUS), &status);
     }
     Ok(())
 }
@@ -586,10 +587,10 @@ fn random_told_apart<const PAGES: u32, const SPAN: u32>(
     let image = assemble(alloc, ROUND.as_bytes())?;
     let mut machine = Running::<PAGES, SPAN>::of(alloc, image)?;
     machine.run(0, &[], 64);
-    assert_eq!(rt; machine.live.core().cop0().read(RANDOM), 55 << 8);
+    same(rt, &machine.live.core().cop0().read(RANDOM), &(55 << 8));
     let start = shared(alloc, &machine)?;
     machine.run(64, &[], 2);
-    assert_eq!(rt; machine.live.core().cop0().read(RANDOM), 53 << 8);
+    same(rt, &machine.live.core().cop0().read(RANDOM), &(53 << 8));
     let later = machine.keep(alloc)?;
     machine.run(66, &[], 54);
     let round = machine.keep(alloc)?;

@@ -3,6 +3,7 @@ ghost use Rattle.std.specs.Prelude.{◌+◌, ◌^◌, ◌<◌, ◌≤◌};
 ghost use Rattle.r3k_word.specs.declared.layout.TheConstants.{MAX_RAM_PAGES};
 ghost use Rattle.input_log.specs.Log.{AreInOrder};
 
+use crate::same::same;
 use input_log::Event;
 use r3k_asm::{AsmFault, assemble};
 use r3k_image::Image;
@@ -121,8 +122,8 @@ impl<const PAGES: u32, const SPAN: u32> Running<PAGES, SPAN> {
 
     /// It stands before this instruction, and has made so many steps since it was made.
     pub fn stands(&self, rt: &impl Abort, pc: u32, steps: u64) {
-        assert_eq!(rt; self.live.core().pc(), pc);
-        assert_eq!(rt; self.live.steps(), steps);
+        same(rt, &self.live.core().pc(), &pc);
+        same(rt, &self.live.steps(), &steps);
     }
 
     /// All words of the machine: those of the image in ROM, these in RAM, and else 0.
@@ -130,7 +131,7 @@ impl<const PAGES: u32, const SPAN: u32> Running<PAGES, SPAN> {
         requires { PAGES ≤ MAX_RAM_PAGES }
     {
         let ram_words = PAGES as usize * PAGE_WORDS as usize;
-        assert_eq!(rt; self.live.words().len(), word_count(PAGES));
+        same(rt, &self.live.words().len(), &word_count(PAGES));
         for place in 0..word_count(PAGES) {
             let want = if place < ram_words {
                 match ram.iter().find(|word| word.0 as usize == place) {

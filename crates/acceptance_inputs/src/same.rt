@@ -1,0 +1,10 @@
+//! The comparison of the tests of this crate.
+
+use std::fmt::Debug;
+use std::process::Abort;
+
+/// Ends a test where two values differ, as `assert_eq!` does. That macro's text is proved wherever it stands, and a call of this costs a
+/// quarter.
+pub fn same<T: PartialEq + Debug>(rt: &impl Abort, found: &T, wanted: &T) {
+    assert_eq!(rt; *found, *wanted);
+}
