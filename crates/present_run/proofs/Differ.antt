@@ -28,17 +28,6 @@ wider old added new gains a b same place outside = same place (outside_old old a
 pub wider_added : (old added new : List ℕ) → Gains old added new → (a b : List ℕ) → SameOutside added a b → SameOutside new a b
 wider_added old added new gains a b same place outside = same place (outside_added old added new gains (page_of_place place) outside)
 
--- one of them goes on, and the added pages are those that it changes
-pub kept_passed : (old added new start end words : List ℕ) → Gains old added new → SameOutside added start end → SameOutside old start words → SameOutside new end words
-kept_passed old added new start end words gains stayed same place outside =
-    sym (stayed place (outside_added old added new gains (page_of_place place) outside))
-    ∙ same place (outside_old old added new gains (page_of_place place) outside)
-
-pub run_passed : (old added new start end words : List ℕ) → Gains old added new → SameOutside added start end → SameOutside old words start → SameOutside new words end
-run_passed old added new start end words gains stayed same place outside =
-    same place (outside_old old added new gains (page_of_place place) outside)
-    ∙ stayed place (outside_added old added new gains (page_of_place place) outside)
-
 -- two sets one behind the other
 pub both : (old added new a b c : List ℕ) → Gains old added new → SameOutside old a b → SameOutside added b c → SameOutside new a c
 both old added new a b c gains same changed place outside =

@@ -21,22 +21,6 @@ six_and op rs rt rd sa fn a b c d e f hrs hrt hrd hsa hfn hb hc hd he hf =
     let m5 = and_block 26 op a (rs * 2 ^ 21 + (rt * 2 ^ 16 + (rd * 2 ^ 11 + (sa * 2 ^ 6 + fn)))) (b * 2 ^ 21 + (c * 2 ^ 16 + (d * 2 ^ 11 + (e * 2 ^ 6 + f)))) (omega arith) (omega arith) in
     m5 ∙ ap (λ (n : ℕ). bit_and op a * 2 ^ 26 + n) (m4 ∙ ap (λ (n : ℕ). bit_and rs b * 2 ^ 21 + n) (m3 ∙ ap (λ (n : ℕ). bit_and rt c * 2 ^ 16 + n) (m2 ∙ ap (λ (n : ℕ). bit_and rd d * 2 ^ 11 + n) m1)))
 
--- the fields of a word of six fields
-pub rs_of_six : (op rs rt rd sa fn : ℕ) → rs < 2 ^ 5 → rt < 2 ^ 5 → rd < 2 ^ 5 → sa < 2 ^ 5 → fn < 2 ^ 6 → field_of 25 21 (six op rs rt rd sa fn) ≡ rs
-rs_of_six op rs rt rd sa fn a b c d e = omega arith
-
-pub rt_of_six : (op rs rt rd sa fn : ℕ) → rt < 2 ^ 5 → rd < 2 ^ 5 → sa < 2 ^ 5 → fn < 2 ^ 6 → field_of 20 16 (six op rs rt rd sa fn) ≡ rt
-rt_of_six op rs rt rd sa fn b c d e = omega arith
-
-pub rd_of_six : (op rs rt rd sa fn : ℕ) → rd < 2 ^ 5 → sa < 2 ^ 5 → fn < 2 ^ 6 → field_of 15 11 (six op rs rt rd sa fn) ≡ rd
-rd_of_six op rs rt rd sa fn c d e = omega arith
-
-pub sa_of_six : (op rs rt rd sa fn : ℕ) → sa < 2 ^ 5 → fn < 2 ^ 6 → field_of 10 6 (six op rs rt rd sa fn) ≡ sa
-sa_of_six op rs rt rd sa fn d e = omega arith
-
-pub imm_of_six : (op rs rt rd sa fn : ℕ) → rd < 2 ^ 5 → sa < 2 ^ 5 → fn < 2 ^ 6 → field_of 15 0 (six op rs rt rd sa fn) ≡ rd * 2 ^ 11 + (sa * 2 ^ 6 + fn)
-imm_of_six op rs rt rd sa fn c d e = omega arith
-
 -- a field under its whole mask
 pub whole_5 : (n : ℕ) → n < 2 ^ 5 → bit_and n 31 ≡ n
 whole_5 n h = and_mask n 5 ∙ omega arith

@@ -17,10 +17,9 @@ use Rattle.r3k_machine.specs.Reset.{reset, reset_core, reset_word, reset_words}
 use Rattle.r3k_machine.specs.State.{State}
 use Rattle.r3k_pages.specs.Pages.{SameOutside, holds}
 use Rattle.r3k_image.specs.Boot.{Boot, FitsRam}
-use Rattle.r3k_image.specs.Patch.{patched, patched_at, patching}
+use Rattle.r3k_image.specs.Patch.{patched, patching}
 use Rattle.r3k_image.proofs.Patched.{fits_patched, patch_taken_in}
 use Rattle.refusal.specs.declared.fault.Fault.{Fault}
-use Rattle.refusal.specs.declared.fault.Fault.TheVariants.{Unaligned}
 use Rattle.present_run.proofs.Spans.{some_is}
 
 abbrev image_or : Boot → Result Boot Fault → Boot
@@ -137,12 +136,6 @@ set_outside words place word at outside =
     held page = rw (eq-eqb page page refl) refl
 
 -- a word of the machine is patched
-pub taken : (pages address word place : ℕ) (image : Boot) → address % 4 ≡ 0 → place_of_word pages address ≡ Some place
-    → patching pages address word image ≡ Ok (patched address word image)
-taken pages address word place image even is =
-    ap (λ (b : Bool). cond b (patched_at (place_of_word pages address) (patched address word image)) (Err Unaligned)) (eq-eqb (address % 4) 0 even)
-    ∙ ap (λ (o : Option ℕ). patched_at o (patched address word image)) is
-
 pub taken_by_most : (pages address word place : ℕ) (old new : Boot) → pages ≤ MAX_RAM_PAGES → place_of_word pages address ≡ Some place
     → patching MAX_RAM_PAGES address word old ≡ Ok new → patched address word old ≡ new
 taken_by_most pages address word place old new few is done =

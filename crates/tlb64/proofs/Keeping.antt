@@ -67,8 +67,3 @@ one_more entries kept slot address hi found are is sole = record {
         sole = sole;
       }) are.each;
 }
-
--- and is found again
-pub kept_at : (entries : List Entry) (kept : List Kept) (slot : ℕ) (d : Kept) → AreOf entries kept → slot < length kept
-    → IsOf entries (get_or kept slot d)
-kept_at entries kept slot d are within = All-get_or (IsOf entries) kept slot d within are.each

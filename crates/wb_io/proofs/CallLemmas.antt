@@ -10,9 +10,6 @@ bytes_moved-append [] second = refl
 bytes_moved-append (call ∷ first) second =
     ap (λ (z : List ℕ). bytes_of call ++ z) (bytes_moved-append first second) ∙ sym (append_assoc (bytes_of call) (bytes_moved first) (bytes_moved second))
 
-pub bytes_moved-one : (call : Call) → bytes_moved (call ∷ []) ≡ bytes_of call
-bytes_moved-one call = append-nil (bytes_of call)
-
 -- calls after calls
 pub Writes-nil : (writes : List Call) (written : Option (List ℕ)) → Writes writes writes written written []
 Writes-nil writes written = (sym (append-nil writes), Appends-nil written)

@@ -1,0 +1,5 @@
+use Rattle.std.proofs.Common.{refl}
+use Rattle.r3k_word.proofs.layout.page_of.Goals as goal
+
+pub returns : goal.returns
+returns c = refl
