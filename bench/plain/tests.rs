@@ -1,4 +1,4 @@
-//! The worked examples of the machine's description, with the values that stand there.
+//! Worked examples, with values by hand.
 
 use crate::caches::Caches;
 use crate::clock::Clock;
