@@ -112,6 +112,24 @@ fn moved_interrupt(rt: HostRuntime) -> Result<(), Fail> {
     says(&rt, rt.alloc(), source, script, want)
 }
 
+/// A byte of step 10 shows in Cause at position 11. Moved to step 11 it does not, and shows at position 12.
+#[test]
+fn serial_interrupt(rt: HostRuntime) -> Result<(), Fail> {
+    let source =
+        "lui r1, 0xbfe0\nlui r2, 0xbff0\nlui r3, 128\nsw r3, 0(r2)\naddiu r4, r0, 4096\nsw r4, 8(r1)\n\
+        addiu r5, r0, 96\nsw r5, 0(r1)\n";
+    let script = "add 10 0 0x41\ngoto 10\ncp0\ngoto 11\ncp0\nmove 0 11\ncp0\nstep 1\ncp0\n";
+    let want = "event 0\npos 10\n\
+        index 0x00000000 random 0x00003500 entrylo 0x00000000 context 0x00000000 badvaddr 0x00000000 entryhi 0x00000000 status 0x00400000 cause 0x00000000 epc 0x00000000 prid 0x00000220\n\
+        pos 11\n\
+        index 0x00000000 random 0x00003400 entrylo 0x00000000 context 0x00000000 badvaddr 0x00000000 entryhi 0x00000000 status 0x00400000 cause 0x00000400 epc 0x00000000 prid 0x00000220\n\
+        event 0\n\
+        index 0x00000000 random 0x00003400 entrylo 0x00000000 context 0x00000000 badvaddr 0x00000000 entryhi 0x00000000 status 0x00400000 cause 0x00000000 epc 0x00000000 prid 0x00000220\n\
+        pos 12\n\
+        index 0x00000000 random 0x00003300 entrylo 0x00000000 context 0x00000000 badvaddr 0x00000000 entryhi 0x00000000 status 0x00400000 cause 0x00000400 epc 0x00000000 prid 0x00000220\n";
+    says(&rt, rt.alloc(), source, script, want)
+}
+
 /// An isolated store writes no word.
 #[test]
 fn isolated_store_is_no_writer(rt: HostRuntime) -> Result<(), Fail> {

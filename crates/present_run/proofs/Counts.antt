@@ -110,9 +110,10 @@ kept_on pages span old mid new index history same (inr applies) =
 
 -- more steps after those
 pub spends_more : (pages span count first more : ℕ) (old mid new : Holding) → Spends pages span count first old mid → new.history ≡ mid.history → new.spans ≡ mid.spans
-    → new.steps ≤ mid.steps + more → Spends pages span count (first + more) old new
-spends_more pages span count first more old mid new spends history spans steps = record {
+    → mid.steps ≤ new.steps → new.steps ≤ mid.steps + more → Spends pages span count (first + more) old new
+spends_more pages span count first more old mid new spends history spans grows steps = record {
   history = history ∙ spends.history;
+  grows = le_trans spends.grows grows;
   most = λ lacking lacks. within lacking (spends.most lacking lacks);
   kept = λ index. kept_same pages span old mid new index history spans (spends.kept index);
 }
@@ -122,10 +123,10 @@ spends_more pages span count first more old mid new spends history spans steps =
 
 -- up to a position from whole spans
 pub spends_rest : (pages span count more : ℕ) (old mid new : Holding) → Spends pages span count 0 old mid → new.history ≡ mid.history → new.spans ≡ mid.spans
-    → new.steps ≤ mid.steps + more → Spends pages span count more old new
-spends_rest pages span count more old mid new spends history spans steps =
+    → mid.steps ≤ new.steps → new.steps ≤ mid.steps + more → Spends pages span count more old new
+spends_rest pages span count more old mid new spends history spans grows steps =
     subst (λ (n : ℕ). Spends pages span count n old new) (let e : 0 + more ≡ more = omega arith in e)
-    (spends_more pages span count 0 more old mid new spends history spans steps)
+    (spends_more pages span count 0 more old mid new spends history spans grows steps)
 
 pub reaches_more : (pages span count : ℕ) (old mid new : Holding) → Reaches pages span count old mid → new.history ≡ mid.history → new.spans ≡ mid.spans
     → mid.steps ≤ new.steps → Reaches pages span count old new

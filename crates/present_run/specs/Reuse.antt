@@ -46,9 +46,10 @@ Lacks pages span h (suc index) lacking =
     ⊎ ((¬ Serves pages span h index) × (0 < lacking) × Lacks pages span h index (lacking - 1))
 
 -- What a query does that needs so many spans from the first on, and then at most so many steps more: it runs a span only where
--- no record serves, and replaces records only by some that apply. The history stays.
+-- no record serves, and replaces records only by some that apply. The history stays, and the steps that were run stay counted.
 pub record Spends (pages span count more : ℕ) (old new : Holding) : Type 0 where
   pub history : new.history ≡ old.history
+  pub grows : old.steps ≤ new.steps
   pub most : (lacking : ℕ) → Lacks pages span old count lacking → new.steps ≤ old.steps + (lacking * span + more)
   pub kept : (index : ℕ) → (kept_at new index ≡ kept_at old index) ⊎ Applies pages span new index
 

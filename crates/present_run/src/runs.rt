@@ -121,6 +121,7 @@ impl<const PAGES: u32, const SPAN: u32> Runs<PAGES, SPAN> {
             self.new.live.steps ≡ self.old.live.steps }
         ensures count { IfOk result (λ _. ¬ Serves PAGES SPAN (holding_of inputs.now.image inputs.now.log self.old) self.old.kept.valid →
             self.new.live.steps ≡ counted self.old.live.steps SPAN) }
+        ensures least { self.old.live.steps ≤ self.new.live.steps }
         ensures most { self.new.live.steps ≤ self.old.live.steps + SPAN }
     {
         let start = self.start_of(self.kept.valid()).clone()?;
@@ -173,6 +174,7 @@ impl<const PAGES: u32, const SPAN: u32> Runs<PAGES, SPAN> {
         ensures kept { (span_at self.new.kept self.old.kept.valid ≡ span_at self.old.kept self.old.kept.valid)
             ⊎ Applies PAGES SPAN (holding_of inputs.now.image inputs.now.log self.new) self.old.kept.valid }
         ensures count { IfOk result (λ _. self.new.live.steps ≡ counted self.old.live.steps SPAN) }
+        ensures least { self.old.live.steps ≤ self.new.live.steps }
         ensures most { self.new.live.steps ≤ self.old.live.steps + SPAN }
     {
         let fact = self.make_record(alloc, inputs, start)?;
@@ -251,6 +253,7 @@ impl<const PAGES: u32, const SPAN: u32> Runs<PAGES, SPAN> {
         ensures made { IfOk result (λ fact. fact ≡ span_of PAGES SPAN inputs.now.image inputs.now.log self.old.kept.valid) }
         ensures kept { self.new.kept ≡ self.old.kept }
         ensures count { IfOk result (λ _. self.new.live.steps ≡ counted self.old.live.steps SPAN) }
+        ensures least { self.old.live.steps ≤ self.new.live.steps }
         ensures most { self.new.live.steps ≤ self.old.live.steps + SPAN }
     {
         let index = self.kept.valid();

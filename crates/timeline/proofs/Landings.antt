@@ -49,6 +49,7 @@ over_query pages span count more old new spends position state landing = record 
 pub stays : (pages span count more : ℕ) (h : Holding) → Spends pages span count more h h
 stays pages span count more h = record {
   history = refl;
+  grows = omega arith;
   most = λ lacking _. let e : h.steps ≤ h.steps + (lacking * span + more) = omega arith in e;
   kept = λ _. inl refl;
 }

@@ -56,9 +56,9 @@ pub record IsSession (pages span : ℕ) (s : Triple) : Type 0 where
   pub fits : FitsRam pages s.image
   pub position : s.position ≤ max_position
 
--- why there is no session of an image
+-- why there is no session of an image: it does not fit, or it fits and memory is refused
 abbrev pub IsNewFault : ℕ → Boot → RunFault → Type 0
-IsNewFault pages image OutOfMemory = Unit {0}
+IsNewFault pages image OutOfMemory = FitsRam pages image
 IsNewFault pages image (BadImage kind) = (kind ≡ Pages) × ¬ FitsRam pages image
 IsNewFault pages image fault = ⊥
 

@@ -12,7 +12,7 @@ use Rattle.wb_session.specs.Session.{IsNewFault, Triple}
 
 -- a session that there is not
 pub no_session : (T : Type 0) (pages most : ℕ) (image : Boot) (log : List TimedByte) (fault : RunFault) → IsNewFault pages image fault → Runs {T = T} pages most image log (Err fault) [] []
-no_session T pages most image log Memory h = (refl, refl)
+no_session T pages most image log Memory h = (h, (refl, refl))
 no_session T pages most image log (BadImage kind) h = (h.0, h.1, (refl, refl))
 no_session T pages most image log (BadSource line kind) h = absurd h
 no_session T pages most image log (BadLog kind) h = absurd h
@@ -89,7 +89,7 @@ run_serves pages most front image log r before reads writes f m l e h = by_resul
     by_result (Ok done) h = script (Ok done) h.0 h.1
     by_result (Err WriteFault) h = script (Err WriteFault) h.0 h.1
     by_result (Err ReadFault) h = inr (script {U = Unit {0}} (Err ReadFault) h.0 h.1)
-    by_result (Err Memory) h = (subst (λ (z : List Call). AsksFor (size_of front) z) (sym (ap (λ (z : List Call). before ++ z) h.0 ∙ append-nil before)) f.0, h.1)
+    by_result (Err Memory) h = (subst (λ (z : List Call). AsksFor (size_of front) z) (sym (ap (λ (z : List Call). before ++ z) h.1.0 ∙ append-nil before)) f.0, h.1.1)
     by_result (Err (BadImage why)) h =
         subst (λ (z : List Call). Refuses pages front (BadImage why) z writes) (sym (ap (λ (z : List Call). before ++ z) h.2.0 ∙ append-nil before))
         (f, inr (inr (image, log, m, l, h.1, ap (λ k. BadImage k) h.0)), h.2.1)

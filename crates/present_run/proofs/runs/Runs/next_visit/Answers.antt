@@ -9,7 +9,7 @@ returns-clause-spends g c =
     let log = c.args.inputs.now.log in
     let position = c.args.position in
     spends_more g.row.PAGES g.row.SPAN (position / g.row.SPAN) (position % g.row.SPAN) (c.args.last - position) (holding_of image log c.args.self.now) (holding_of image log c.stand.new.self)
-    (holding_of image log c.visit.new.self) c.stand.ensures.spends refl c.visit.ensures.spans c.visit.ensures.count
+    (holding_of image log c.visit.new.self) c.stand.ensures.spends refl c.visit.ensures.spans c.visit.ensures.least c.visit.ensures.count
 
 pub returns-clause-reaches : goal.returns-clause-reaches
 returns-clause-reaches g c =

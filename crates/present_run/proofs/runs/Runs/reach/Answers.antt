@@ -19,6 +19,7 @@ loop-alloc-init g c =
     let old = holding_of c.args.inputs.now.image c.args.inputs.now.log c.args.self.now in record {
       of = c.requires.of;
       later = λ i _. refl;
+      grows = omega arith;
       kept = λ i. inl refl;
       count = λ lacking lacks.
           subst (λ (n : ℕ). Within span old.steps n old.steps) (sym (lacks_none pages span old c.args.self.now.kept.valid lacking (λ i below. (c.requires.of.joined i below).near) lacks))
@@ -42,6 +43,7 @@ loop-alloc-preserved g c =
       later = λ i past.
           c.extend.ensures.others i (λ same. let e : ⊥ = omega (arith, past, same, joined) in e)
           ∙ so_far.later i (omega (arith, past, joined));
+      grows = omega (arith, so_far.grows, c.extend.ensures.least);
       kept = λ i.
           elim (cases_eq i valid) [
             | inl here ↦ replaced pages span old mid new i valid here (so_far.later valid (omega arith)) c.extend.ensures.kept
@@ -70,6 +72,7 @@ returns-in_err-extend-clause-spends g c =
     let valid = c.loop-alloc.self.kept.valid in
     let index = c.args.index in record {
       history = refl;
+      grows = omega (arith, so_far.grows, c.extend.ensures.least);
       most = λ lacking lacks.
           lacks_below pages span old (valid + 1) (index - (valid + 1)) lacking
           (subst (λ (n : ℕ). Lacks pages span old n lacking) (let e : index ≡ valid + 1 + (index - (valid + 1)) = omega (arith, c.loop-alloc-test.true) in e) lacks)
@@ -105,6 +108,7 @@ returns-clause-spends g c =
     let now = holding_of c.args.inputs.now.image c.args.inputs.now.log c.loop-alloc.self in
     let so_far = c.loop-alloc.invariant in record {
       history = refl;
+      grows = so_far.grows;
       most = λ lacking lacks.
           let cost = within pages span old now c.args.index c.loop-alloc.self.kept.valid c.args.self.now.kept.valid lacking
           (omega (arith, c.loop-alloc-test.false)) so_far.bound (λ i below. (c.requires.of.joined i below).near) so_far.count lacks in

@@ -14,6 +14,7 @@ invariant-loop-alloc g l =
     let now = holding_of l.inputs.image l.inputs.log l.self in record {
       of : AreOf {pages = pages} {span = span} l.inputs.image l.inputs.log l.self;
       later : (i : ℕ) → l.self.kept.valid ≤ i → span_at l.self.kept i ≡ span_at l.fn.self.kept i;
+      grows : old.steps ≤ now.steps;
       kept : (i : ℕ) → (kept_at now i ≡ kept_at old i) ⊎ Applies pages span now i;
       count : (lacking : ℕ) → Lacks pages span old l.self.kept.valid lacking → Within span old.steps lacking now.steps;
       bound : (l.self.kept.valid ≤ l.index) ⊎ (l.self.kept.valid ≡ l.fn.self.kept.valid);

@@ -16,6 +16,7 @@ returns-clause-spends g c =
     let steps = ap (λ (h : Holding). h.steps) c.stand_at_start.ensures.same in
     spends_rest pages span (position / span) (position % span) (holding_of image log c.args.self.now) (holding_of image log c.reach.new.self) (holding_of image log c.go_on.new.self)
     c.reach.ensures.spends refl (c.go_on.ensures.spans ∙ ap (λ (h : Holding). h.spans) c.stand_at_start.ensures.same)
+    (omega (arith, c.go_on.ensures.least, steps))
     (omega (arith, c.go_on.ensures.count, steps, rest, (c.in_ok-time.ensures {u = tt}).start))
 
 pub returns-clause-reaches : goal.returns-clause-reaches

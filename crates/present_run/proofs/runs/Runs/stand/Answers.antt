@@ -14,7 +14,7 @@ returns-in_err-time-clause-spends g c =
     let position = c.args.position in
     let steps = ap (λ (h : Holding). h.steps) c.stand_in.ensures.same in
     spends_rest pages span (position / span) (position % span) (holding_of image log c.args.self.now) (holding_of image log c.reach.new.self) (holding_of image log c.stand_in.new.self)
-    c.reach.ensures.spends refl (ap (λ (h : Holding). h.spans) c.stand_in.ensures.same) (omega (arith, steps))
+    c.reach.ensures.spends refl (ap (λ (h : Holding). h.spans) c.stand_in.ensures.same) (omega (arith, steps)) (omega (arith, steps))
 
 pub returns-clause-spends : goal.returns-clause-spends
 returns-clause-spends g c =
@@ -27,6 +27,7 @@ returns-clause-spends g c =
     let steps = ap (λ (h : Holding). h.steps) c.stand_in.ensures.same in
     spends_rest pages span (position / span) (position % span) (holding_of image log c.args.self.now) (holding_of image log c.reach.new.self) (holding_of image log c.go_on.new.self)
     c.reach.ensures.spends refl (c.go_on.ensures.spans ∙ ap (λ (h : Holding). h.spans) c.stand_in.ensures.same)
+    (omega (arith, c.go_on.ensures.least, steps))
     (omega (arith, c.go_on.ensures.count, steps, rest, (c.in_ok-time.ensures {u = tt}).in_span, (c.in_ok-time.ensures {u = tt}).before))
 
 pub returns-clause-reaches : goal.returns-clause-reaches
