@@ -1,4 +1,4 @@
-//! A plain workbench in ordinary Rust, written from the manuals alone, to compare the proved program with.
+//! A plain workbench in ordinary Rust, apart from the definitions in `crates/*/specs`, to compare the proved program with.
 //!
 //! `plain [--kind rom|image] [--size N] [--log N] [--pages N] [--without PART,..]` reads what the proved program reads,
 //! and writes what it writes. The parts are `translation`, `caches` and `devices`. Each query runs from reset, by the

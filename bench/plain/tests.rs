@@ -1,4 +1,4 @@
-//! Worked examples, with values by hand.
+//! Worked examples, with values that are not this program's own output.
 
 use crate::caches::Caches;
 use crate::clock::Clock;
