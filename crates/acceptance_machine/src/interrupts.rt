@@ -1,17 +1,9 @@
 //! Interrupts of the serial part and of the clock, with handlers: values by hand from the papers of the parts and of the
 //! processor.
-use crate::machine::Machine;
-use crate::same::same;
+use crate::machine::{BYTE, Then, plays_source};
 use cop0::number::{BAD_VADDR, CAUSE, EPC};
 use dz_serial::Sent;
-use input_log::Event;
 use std::test::Fail;
-
-const BYTE: Event = Event {
-    time: 0,
-    line: 0,
-    byte: 0x41,
-};
 
 // In eleven steps: line 7 of the board enabled, the receiver of line 0 on, RIE and MSE, and in Status the masks of both lines
 // and IEc.
@@ -32,11 +24,12 @@ mtc0 r6, c12
 // step. Behind the load of C the clock's line is down, and behind that of RBUF the board's.
 #[test]
 fn both_lines(rt: HostRuntime) -> Result<(), Fail> {
-    let mut source = String::new(rt.alloc());
-    source.push_str(".clock 0 0 0 0 0 0 1 1 1 0 0x21 0x42\n")?;
-    source.push_str(LISTENS)?;
-    source.push_str(
-        "lui r7, 0xbfe8
+    plays_source(
+        &rt,
+        &[
+            ".clock 0 0 0 0 0 0 1 1 1 0 0x21 0x42\n",
+            LISTENS,
+            "lui r7, 0xbfe8
 j 0x1fc00030
 sll r0, r0, 0
 .org 0x1fc00180
@@ -46,20 +39,17 @@ mfc0 r10, c13
 lw r11, 8(r1)
 mfc0 r12, c13
 ",
-    )?;
-    let mut machine = Machine::boot_source(rt.alloc(), source.as_str())?;
-    machine.run(31);
-    same(&rt, &machine.core.cop0().read(CAUSE), &0);
-    machine.receive(&[BYTE]);
-    same(&rt, &machine.core.pc(), &0xBFC0_0180);
-    same(&rt, &machine.core.cop0().read(EPC), &0xBFC0_0030);
-    machine.run(5);
-    same(&rt, &machine.register(8), &0x8000_0C00);
-    same(&rt, &machine.register(9), &0xC0);
-    same(&rt, &machine.register(10), &0x8000_0400);
-    same(&rt, &machine.register(11), &0x8041);
-    same(&rt, &machine.register(12), &0x8000_0000);
-    Ok(())
+        ],
+        &[
+            Then::Run(31),
+            Then::Cop0(CAUSE, 0),
+            Then::Receive(&[BYTE]),
+            Then::Pc(0xBFC0_0180),
+            Then::Cop0(EPC, 0xBFC0_0030),
+            Then::Run(5),
+            Then::Landed(8, &[0x8000_0C00, 0xC0, 0x8000_0400, 0x8041, 0x8000_0000]),
+        ],
+    )
 }
 
 // The clock's line alone at position 32, with these B and Status: Cause, PC and then what C gives, to a load in the next step.
@@ -71,20 +61,23 @@ fn clock_held_back(rt: HostRuntime) -> Result<(), Fail> {
         ("0x42", "0x0800", 0x0800, 0xBFC0_0080, 0xC0),
         ("0x02", "0x0801", 0, 0xBFC0_0080, 0x40),
     ] {
-        let mut source = String::new(rt.alloc());
-        source.push_str(".clock 0 0 0 0 0 0 1 1 1 0 0x21 ")?;
-        source.push_str(b)?;
-        source.push_str("\nlui r1, 0xbfe8\nlui r6, 64\nori r6, r6, ")?;
-        source.push_str(mask)?;
-        source.push_str(
-            "\nmtc0 r6, c12\n.org 0x1fc00080\nlw r5, 48(r1)\n.org 0x1fc00180\nlw r5, 48(r1)\n",
+        plays_source(
+            &rt,
+            &[
+                ".clock 0 0 0 0 0 0 1 1 1 0 0x21 ",
+                b,
+                "\nlui r1, 0xbfe8\nlui r6, 64\nori r6, r6, ",
+                mask,
+                "\nmtc0 r6, c12\n.org 0x1fc00080\nlw r5, 48(r1)\n.org 0x1fc00180\nlw r5, 48(r1)\n",
+            ],
+            &[
+                Then::Run(32),
+                Then::Cop0(CAUSE, cause),
+                Then::Pc(pc),
+                Then::Run(1),
+                Then::Landed(5, &[flags]),
+            ],
         )?;
-        let mut machine = Machine::boot_source(rt.alloc(), source.as_str())?;
-        machine.run(32);
-        same(&rt, &machine.core.cop0().read(CAUSE), &cause);
-        same(&rt, &machine.core.pc(), &pc);
-        machine.run(1);
-        same(&rt, &machine.register(5), &flags);
     }
     Ok(())
 }
@@ -101,11 +94,12 @@ fn clock_handler(rt: HostRuntime) -> Result<(), Fail> {
         ("0x12", [0xF0, 0xD0, 0, 0, 0]),
         ("0x02", [0, 0, 0, 0, 0]),
     ] {
-        let mut source = String::new(rt.alloc());
-        source.push_str(".clock 0 1 0 0xff 0 0xc0 1 1 1 0 0x2f ")?;
-        source.push_str(b)?;
-        source.push_str(
-            "\nlui r1, 0xbfe8
+        plays_source(
+            &rt,
+            &[
+                ".clock 0 1 0 0xff 0 0xc0 1 1 1 0 0x2f ",
+                b,
+                "\nlui r1, 0xbfe8
 lui r2, 0xa000
 lui r6, 64
 ori r6, r6, 0x0801
@@ -121,12 +115,9 @@ sll r0, r0, 0
 jr r27
 rfe
 ",
+            ],
+            &[Then::Run(16_400), Then::Ram(0x100, &wants)],
         )?;
-        let mut machine = Machine::boot_source(rt.alloc(), source.as_str())?;
-        machine.run(16_400);
-        for (at, want) in wants.iter().enumerate() {
-            same(&rt, &machine.ram(0x100 + 4 * at), &*want);
-        }
     }
     Ok(())
 }
@@ -147,21 +138,19 @@ fn interrupt_and_exception(rt: HostRuntime) -> Result<(), Fail> {
         ("lw r7, 32(r1)", 0x1C),
         ("add r7, r8, r8", 0x30),
     ] {
-        let mut source = String::new(rt.alloc());
-        source.push_str("lui r8, 0x4000\n")?;
-        source.push_str(LISTENS)?;
-        source.push_str(instruction)?;
-        let mut machine = Machine::boot_source(rt.alloc(), source.as_str())?;
-        machine.run(12);
-        let done = machine.receive(&[BYTE]);
-        same(&rt, &done.touched, &[None, None]);
-        same(&rt, &machine.core.pc(), &0xBFC0_0180);
-        same(&rt, &machine.core.cop0().read(CAUSE), &0x0400);
-        same(&rt, &machine.core.cop0().read(EPC), &0xBFC0_0030);
-        same(&rt, &machine.core.cop0().read(BAD_VADDR), &0);
-        let mut silent = Machine::boot_source(rt.alloc(), source.as_str())?;
-        silent.run(13);
-        same(&rt, &silent.core.cop0().read(CAUSE), &cause);
+        let source = ["lui r8, 0x4000\n", LISTENS, instruction];
+        plays_source(
+            &rt,
+            &source,
+            &[
+                Then::Run(12),
+                Then::Receive(&[BYTE]),
+                Then::Touched(None, None),
+                Then::Taken(0xBFC0_0180, 0xBFC0_0030, 0x0400),
+                Then::Cop0(BAD_VADDR, 0),
+            ],
+        )?;
+        plays_source(&rt, &source, &[Then::Run(13), Then::Cop0(CAUSE, cause)])?;
     }
     Ok(())
 }
@@ -171,21 +160,27 @@ fn interrupt_and_exception(rt: HostRuntime) -> Result<(), Fail> {
 #[test]
 fn interrupt_and_bad_fetch(rt: HostRuntime) -> Result<(), Fail> {
     for (target, epc, cause) in [("2", 0xBFE0_0002, 0x10), ("0", 0xBFE0_0000, 0x18)] {
-        let mut source = String::new(rt.alloc());
-        source.push_str(LISTENS)?;
-        source.push_str("lui r8, 0xbfe0\nori r8, r8, ")?;
-        source.push_str(target)?;
-        source.push_str("\njr r8\nsll r0, r0, 0\n")?;
-        let mut machine = Machine::boot_source(rt.alloc(), source.as_str())?;
-        machine.run(15);
-        machine.receive(&[BYTE]);
-        same(&rt, &machine.core.cop0().read(CAUSE), &0x0400);
-        same(&rt, &machine.core.cop0().read(EPC), &epc);
-        same(&rt, &machine.core.cop0().read(BAD_VADDR), &0);
-        let mut silent = Machine::boot_source(rt.alloc(), source.as_str())?;
-        silent.run(16);
-        same(&rt, &silent.core.cop0().read(CAUSE), &cause);
-        same(&rt, &silent.core.cop0().read(EPC), &epc);
+        let source = [
+            LISTENS,
+            "lui r8, 0xbfe0\nori r8, r8, ",
+            target,
+            "\njr r8\nsll r0, r0, 0\n",
+        ];
+        plays_source(
+            &rt,
+            &source,
+            &[
+                Then::Run(15),
+                Then::Receive(&[BYTE]),
+                Then::Taken(0xBFC0_0180, epc, 0x0400),
+                Then::Cop0(BAD_VADDR, 0),
+            ],
+        )?;
+        plays_source(
+            &rt,
+            &source,
+            &[Then::Run(16), Then::Taken(0xBFC0_0180, epc, cause)],
+        )?;
     }
     Ok(())
 }
@@ -194,10 +189,11 @@ fn interrupt_and_bad_fetch(rt: HostRuntime) -> Result<(), Fail> {
 // is run in step 19; r4 ends in 0x00.
 #[test]
 fn interrupt_in_place_of_a_store(rt: HostRuntime) -> Result<(), Fail> {
-    let mut source = String::new(rt.alloc());
-    source.push_str(LISTENS)?;
-    source.push_str(
-        "addiu r5, r0, 1
+    plays_source(
+        &rt,
+        &[
+            LISTENS,
+            "addiu r5, r0, 1
 sw r5, 16(r1)
 sw r4, 24(r1)
 .org 0x1fc00180
@@ -207,15 +203,15 @@ sll r0, r0, 0
 jr r27
 rfe
 ",
-    )?;
-    let mut machine = Machine::boot_source(rt.alloc(), source.as_str())?;
-    machine.run(13);
-    same(&rt, &machine.receive(&[BYTE]).sent, &None);
-    same(&rt, &machine.core.cop0().read(EPC), &0xBFC0_0034);
-    for _ in 14..19 {
-        same(&rt, &machine.step().sent, &None);
-    }
-    same(&rt, &machine.register(7), &0x8041);
-    same(&rt, &machine.step().sent, &Some(Sent { line: 0, byte: 0 }));
-    Ok(())
+        ],
+        &[
+            Then::Run(13),
+            Then::Receive(&[BYTE]),
+            Then::Sent(None),
+            Then::Cop0(EPC, 0xBFC0_0034),
+            Then::Sends(&[None; 5]),
+            Then::Landed(7, &[0x8041]),
+            Then::Sends(&[Some(Sent { line: 0, byte: 0 })]),
+        ],
+    )
 }

@@ -14,8 +14,6 @@ mod register_stores;
 #[cfg(test)]
 mod registers;
 #[cfg(test)]
-mod same;
-#[cfg(test)]
 mod silo;
 #[cfg(test)]
 mod steps;

@@ -1,33 +1,28 @@
 //! The registers of the serial part, of the board and of the clock, written by stores of each width at each byte: values by
 //! hand from the papers of the parts.
-use crate::machine::Machine;
-use crate::same::same;
+use crate::machine::{BYTE, Machine, Then, plays_source};
 use dz_serial::Sent;
 use input_log::Event;
-use std::alloc::Global;
+use std::process::Abort;
 use std::test::Fail;
 
 // A byte of each line.
 const ONE_EACH: [Event; 4] = [
+    BYTE,
     Event {
-        time: 0,
-        line: 0,
-        byte: 0x41,
-    },
-    Event {
-        time: 0,
         line: 1,
         byte: 0x42,
+        ..BYTE
     },
     Event {
-        time: 0,
         line: 2,
         byte: 0x43,
+        ..BYTE
     },
     Event {
-        time: 0,
         line: 3,
         byte: 0x44,
+        ..BYTE
     },
 ];
 
@@ -50,15 +45,6 @@ const STORES: [(&str, Option<u8>, Option<u8>); 15] = [
     ("swr r3, 2(r1)\n", None, Some(0x44)),
     ("swr r3, 3(r1)\n", None, None),
 ];
-
-// The machine with a program of three parts, whose second is one store.
-fn machine_of(alloc: Global, set_up: &str, store: &str, rest: &str) -> Result<Machine, Fail> {
-    let mut source = String::new(alloc);
-    source.push_str(set_up)?;
-    source.push_str(store)?;
-    source.push_str(rest)?;
-    Ok(Machine::boot_source(alloc, source.as_str())?)
-}
 
 // Before each store CSR has MSE alone. r3 is 0x28604068: its bytes have, from the lowest, RIE, MSE and MAINT; RIE, or TIE in
 // byte 1; RIE and MSE, or TIE in byte 1; MSE and MAINT.
@@ -83,9 +69,11 @@ fn stores_of_the_serial_control(rt: HostRuntime) -> Result<(), Fail> {
         ("swr r3, 2(r1)\n", 0x0020),
         ("swr r3, 3(r1)\n", 0x0020),
     ] {
-        let mut machine = machine_of(rt.alloc(), set_up, store, "lw r5, 0(r1)\n")?;
-        machine.run(7);
-        same(&rt, &machine.register(5), &want);
+        plays_source(
+            &rt,
+            &[set_up, store, "lw r5, 0(r1)\n"],
+            &[Then::Run(7), Then::Landed(5, &[want])],
+        )?;
     }
     Ok(())
 }
@@ -117,12 +105,28 @@ addiu r6, r0, -17
         ("sb r5, 3(r1)\n", 0xC068, 1),
         ("sw r6, 0(r1)\n", 0xC068, 1),
     ] {
-        let rest = "lw r8, 0(r1)\nlw r9, 16(r1)\n";
-        let mut machine = machine_of(rt.alloc(), set_up, store, rest)?;
-        machine.run(12);
-        same(&rt, &machine.register(8), &control);
-        same(&rt, &machine.register(9), &lines);
+        plays_source(
+            &rt,
+            &[set_up, store, "lw r8, 0(r1)\nlw r9, 16(r1)\n"],
+            &[Then::Run(12), Then::Landed(8, &[control, lines])],
+        )?;
     }
+    Ok(())
+}
+
+// A store behind a set-up of 11 steps, and a byte of each line in the step after it: what three loads of RBUF give.
+fn gives_of_each_line(
+    rt: &(impl Abort + AllocGlobal),
+    set_up: &'static str,
+    store: &'static str,
+    wants: &[u32],
+) -> Result<(), Fail> {
+    let loads = "lw r8, 0(r1)\nlw r9, 0(r1)\nlw r10, 0(r1)\n";
+    let mut machine = Machine::boot_source(rt.alloc(), &[set_up, store, loads])?;
+    machine.run(12);
+    machine.receive(&ONE_EACH);
+    machine.run(2);
+    machine.play(rt, &[Then::Landed(8, wants)]);
     Ok(())
 }
 
@@ -163,20 +167,7 @@ addiu r1, r1, 8
         ("swr r3, 2(r1)\n", both),
         ("swr r3, 3(r1)\n", both),
     ] {
-        let rest = "lw r8, 0(r1)\nlw r9, 0(r1)\nlw r10, 0(r1)\n";
-        let mut machine = machine_of(rt.alloc(), set_up, store, rest)?;
-        machine.run(12);
-        machine.receive(&ONE_EACH);
-        machine.run(2);
-        same(
-            &rt,
-            &[
-                machine.register(8),
-                machine.register(9),
-                machine.register(10),
-            ],
-            &wants,
-        );
+        gives_of_each_line(&rt, set_up, store, &wants)?;
     }
     Ok(())
 }
@@ -192,13 +183,15 @@ lui r3, 0x4142
 ori r3, r3, 0x4344
 ";
     for (store, low, _) in STORES {
-        let mut machine = machine_of(rt.alloc(), set_up, store, "lw r5, 0(r1)\n")?;
-        machine.run(8);
         let want = match low {
             Some(byte) => byte as u32 % 16,
             None => 8,
         };
-        same(&rt, &machine.register(5), &want);
+        plays_source(
+            &rt,
+            &[set_up, store, "lw r5, 0(r1)\n"],
+            &[Then::Run(8), Then::Landed(5, &[want])],
+        )?;
     }
     Ok(())
 }
@@ -217,15 +210,20 @@ ori r3, r3, 0x4344
 addiu r1, r4, 24
 ";
     for (store, low, _) in STORES {
-        let mut machine = machine_of(rt.alloc(), set_up, store, "lw r5, 0(r4)\n")?;
-        machine.run(8);
         let (sent, control) = match low {
             Some(byte) => (Some(Sent { line: 3, byte }), 0x0320),
             None => (None, 0x8320),
         };
-        same(&rt, &machine.step().sent, &sent);
-        machine.run(1);
-        same(&rt, &machine.register(5), &control);
+        plays_source(
+            &rt,
+            &[set_up, store, "lw r5, 0(r4)\n"],
+            &[
+                Then::Run(9),
+                Then::Sent(sent),
+                Then::Run(1),
+                Then::Landed(5, &[control]),
+            ],
+        )?;
     }
     Ok(())
 }
@@ -236,13 +234,15 @@ fn stores_of_the_board(rt: HostRuntime) -> Result<(), Fail> {
     let set_up =
         "lui r1, 0xbff0\nlui r2, 0x0011\nsw r2, 0(r1)\nlui r3, 0x4142\nori r3, r3, 0x4344\n";
     for (store, _, high) in STORES {
-        let mut machine = machine_of(rt.alloc(), set_up, store, "lw r5, 0(r1)\n")?;
-        machine.run(7);
         let want = match high {
             Some(byte) => byte as u32 * 0x1_0000,
             None => 0x0011_0000,
         };
-        same(&rt, &machine.register(5), &want);
+        plays_source(
+            &rt,
+            &[set_up, store, "lw r5, 0(r1)\n"],
+            &[Then::Run(7), Then::Landed(5, &[want])],
+        )?;
     }
     Ok(())
 }
@@ -258,13 +258,15 @@ lui r3, 0x4142
 ori r3, r3, 0x4344
 ";
     for (store, low, _) in STORES {
-        let mut machine = machine_of(rt.alloc(), set_up, store, "lw r5, 0(r1)\n")?;
-        machine.run(8);
         let want = match low {
             Some(byte) => byte as u32,
             None => 0x11,
         };
-        same(&rt, &machine.register(5), &want);
+        plays_source(
+            &rt,
+            &[set_up, store, "lw r5, 0(r1)\n"],
+            &[Then::Run(8), Then::Landed(5, &[want])],
+        )?;
     }
     Ok(())
 }
@@ -273,7 +275,10 @@ ori r3, r3, 0x4344
 // DSE and, as SET goes up, no UIE, which a second store sets; C and D take nothing.
 #[test]
 fn stores_of_each_clock_register(rt: HostRuntime) -> Result<(), Fail> {
-    let source = "lui r1, 0xbfe8
+    plays_source(
+        &rt,
+        &[
+            "lui r1, 0xbfe8
 addiu r2, r0, 0xff
 sb r2, 0(r1)
 sb r2, 4(r1)
@@ -307,17 +312,12 @@ lw r21, 52(r1)
 lw r22, 56(r1)
 sb r2, 44(r1)
 lw r23, 44(r1)
-";
-    let mut machine = Machine::boot_source(rt.alloc(), source)?;
-    machine.run(34);
-    for register in 8..18 {
-        same(&rt, &machine.register(register), &0xFF);
-    }
-    same(&rt, &machine.register(18), &0x7F);
-    same(&rt, &machine.register(19), &0xEE);
-    same(&rt, &machine.register(20), &0);
-    same(&rt, &machine.register(21), &0x80);
-    same(&rt, &machine.register(22), &0xFF);
-    same(&rt, &machine.register(23), &0xFE);
-    Ok(())
+",
+        ],
+        &[
+            Then::Run(34),
+            Then::Landed(8, &[0xFF; 10]),
+            Then::Landed(18, &[0x7F, 0xEE, 0, 0x80, 0xFF, 0xFE]),
+        ],
+    )
 }

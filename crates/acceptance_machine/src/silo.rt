@@ -1,17 +1,10 @@
 //! More bytes than the silo holds, and the serial part through each segment: values by hand from the papers of the serial part
 //! and of the processor.
-use crate::machine::Machine;
-use crate::same::same;
+use crate::machine::{BYTE, Machine, Then, plays_source};
 use cop0::number::{BAD_VADDR, CAUSE};
 use dz_serial::Sent;
 use input_log::Event;
 use std::test::Fail;
-
-const BYTE: Event = Event {
-    time: 0,
-    line: 0,
-    byte: 0x41,
-};
 
 // Turns on the receivers of lines 0 to 2, and the scanner.
 const LISTENS: [u32; 9] = [
@@ -31,46 +24,30 @@ const LISTENS: [u32; 9] = [
 // makes room for a byte of the next.
 #[test]
 fn burst(rt: HostRuntime) -> Result<(), Fail> {
-    let mut rom = [0x8C25_0008u32; 90];
-    rom[..9].copy_from_slice(&LISTENS);
-    let mut machine = Machine::boot(rt.alloc(), &rom)?;
-    machine.run(9);
     let mut events = [BYTE; 70];
     events[0] = Event { byte: 0x30, ..BYTE };
     events[63] = Event { byte: 0x31, ..BYTE };
     for at in 67..70 {
         events[at] = Event { line: 1, ..BYTE };
     }
-    let arrivals: [&[Event]; 6] = [
-        &events,
-        // The first has room, and the second has not.
-        &[Event { line: 2, ..BYTE }, BYTE],
-        &[Event { byte: 0x33, ..BYTE }],
-        &[Event {
-            line: 1,
-            byte: 0x34,
-            ..BYTE
-        }],
-        &[Event {
-            line: 1,
-            byte: 0x35,
-            ..BYTE
-        }],
-        &[Event { byte: 0x36, ..BYTE }],
-    ];
-    for (step, arriving) in arrivals.iter().enumerate() {
-        machine.receive(arriving);
-        let want = if step == 0 { 0x8030 } else { 0x8041 };
-        same(&rt, &machine.register(5), &want);
+    let mut machine = Machine::boot_with(rt.alloc(), &LISTENS, 9, &[0x8C25_0008; 81])?;
+    machine.run(9);
+    machine.receive(&events);
+    machine.play(&rt, &[Then::Landed(5, &[0x8030])]);
+    // The first has room, and the second has not.
+    machine.receive(&[Event { line: 2, ..BYTE }, BYTE]);
+    machine.play(&rt, &[Then::Landed(5, &[0x8041])]);
+    for (line, byte) in [(0, 0x33), (1, 0x34), (1, 0x35), (0, 0x36)] {
+        machine.receive(&[Event { line, byte, ..BYTE }]);
+        machine.play(&rt, &[Then::Landed(5, &[0x8041])]);
     }
-    for _ in 6..63 {
-        machine.run(1);
-        same(&rt, &machine.register(5), &0x8041);
-    }
-    for want in [0x8031, 0x8241, 0xC033, 0xC134, 0x8135, 0x8036, 0, 0] {
-        machine.run(1);
-        same(&rt, &machine.register(5), &want);
-    }
+    machine.play(
+        &rt,
+        &[
+            Then::Gives(5, &[0x8041; 57]),
+            Then::Gives(5, &[0x8031, 0x8241, 0xC033, 0xC134, 0x8135, 0x8036, 0, 0]),
+        ],
+    );
     Ok(())
 }
 
@@ -78,7 +55,10 @@ fn burst(rt: HostRuntime) -> Result<(), Fail> {
 // alone leaves MSE and the silo.
 #[test]
 fn emptied_silo(rt: HostRuntime) -> Result<(), Fail> {
-    let source = "lui r1, 0xbfe0
+    let mut machine = Machine::boot_source(
+        rt.alloc(),
+        &[
+            "lui r1, 0xbfe0
 addiu r4, r0, 0x1000
 sw r4, 8(r1)
 addiu r5, r0, 0x20
@@ -89,16 +69,15 @@ sb r0, 0(r1)
 sb r5, 0(r1)
 lw r7, 8(r1)
 lw r8, 8(r1)
-";
-    let mut machine = Machine::boot_source(rt.alloc(), source)?;
+",
+        ],
+    )?;
     machine.run(5);
     machine.receive(&[BYTE; 65]);
     machine.run(3);
     machine.receive(&[BYTE]);
     machine.run(1);
-    same(&rt, &machine.register(6), &0x8041);
-    same(&rt, &machine.register(7), &0x8041);
-    same(&rt, &machine.register(8), &0);
+    machine.play(&rt, &[Then::Landed(6, &[0x8041, 0x8041, 0])]);
     Ok(())
 }
 
@@ -139,10 +118,11 @@ lui r11, 0x9fe0
 // takes no byte.
 #[test]
 fn mapped_reads(rt: HostRuntime) -> Result<(), Fail> {
-    let mut source = String::new(rt.alloc());
-    source.push_str(MAPS)?;
-    source.push_str(
-        "addiu r5, r0, 0x1000
+    plays_source(
+        &rt,
+        &[
+            MAPS,
+            "addiu r5, r0, 0x1000
 sw r5, 8(r7)
 addiu r5, r0, 0x20
 sw r5, 0(r7)
@@ -153,31 +133,36 @@ mtc0 r10, c12
 lw r15, 8(r6)
 lw r16, 8(r7)
 ",
-    )?;
-    let mut machine = Machine::boot_source(rt.alloc(), source.as_str())?;
-    machine.run(33);
-    let second = Event { byte: 0x42, ..BYTE };
-    let third = Event { byte: 0x43, ..BYTE };
-    let fourth = Event { byte: 0x44, ..BYTE };
-    machine.receive(&[BYTE, second, third, fourth]);
-    machine.run(5);
-    same(&rt, &machine.register(12), &0x8041);
-    same(&rt, &machine.register(13), &0x42);
-    same(&rt, &machine.register(14), &0x8043);
-    same(&rt, &machine.register(15), &0);
-    same(&rt, &machine.register(16), &0x8044);
-    Ok(())
+        ],
+        &[
+            Then::Run(33),
+            Then::Receive(&[
+                BYTE,
+                Event { byte: 0x42, ..BYTE },
+                Event { byte: 0x43, ..BYTE },
+                Event { byte: 0x44, ..BYTE },
+            ]),
+            Then::Run(5),
+            Then::Landed(12, &[0x8041, 0x42, 0x8043, 0, 0x8044]),
+        ],
+    )
 }
 
 // Line 1 may send. A store to TDR sends through 0x2000, 0x3000, 0xc0000000 and kseg0, each time as the byte time of 1 is over;
 // with IsC only the uncached one does, and through the entry without D it is Mod and sends nothing.
 #[test]
 fn mapped_stores(rt: HostRuntime) -> Result<(), Fail> {
-    let mut source = String::new(rt.alloc());
-    source.push_str(".bytetime 1\n")?;
-    source.push_str(MAPS)?;
-    source.push_str(
-        "addiu r5, r0, 2
+    let zero = Some(Sent { line: 1, byte: 0 });
+    let last = Some(Sent {
+        line: 1,
+        byte: 0x20,
+    });
+    plays_source(
+        &rt,
+        &[
+            ".bytetime 1\n",
+            MAPS,
+            "addiu r5, r0, 2
 sw r5, 16(r7)
 addiu r5, r0, 0x20
 sw r5, 0(r7)
@@ -191,26 +176,23 @@ sw r11, 24(r11)
 sb r5, 24(r7)
 sw r5, 24(r9)
 ",
-    )?;
-    let mut machine = Machine::boot_source(rt.alloc(), source.as_str())?;
-    machine.run(33);
-    let zero = Some(Sent { line: 1, byte: 0 });
-    let last = Some(Sent {
-        line: 1,
-        byte: 0x20,
-    });
-    for sent in [zero, zero, zero, zero, None, None, None, last, None] {
-        same(&rt, &machine.step().sent, &sent);
-    }
-    same(&rt, &machine.core.cop0().read(CAUSE), &4);
-    same(&rt, &machine.core.cop0().read(BAD_VADDR), &0x4018);
-    Ok(())
+        ],
+        &[
+            Then::Run(33),
+            Then::Sends(&[zero, zero, zero, zero, None, None, None, last, None]),
+            Then::Cop0(CAUSE, 4),
+            Then::Cop0(BAD_VADDR, 0x4018),
+        ],
+    )
 }
 
 // A load of RBUF into r0 takes a byte, and a misaligned one takes none: it is AdEL.
 #[test]
 fn reads_without_a_value(rt: HostRuntime) -> Result<(), Fail> {
-    let source = "lui r1, 0xbfe0
+    plays_source(
+        &rt,
+        &[
+            "lui r1, 0xbfe0
 addiu r4, r0, 0x1000
 sw r4, 8(r1)
 addiu r5, r0, 0x20
@@ -220,15 +202,16 @@ lw r6, 10(r1)
 .org 0x1fc00180
 lw r7, 8(r1)
 lw r8, 8(r1)
-";
-    let mut machine = Machine::boot_source(rt.alloc(), source)?;
-    machine.run(5);
-    machine.receive(&[BYTE, Event { byte: 0x42, ..BYTE }]);
-    machine.run(1);
-    same(&rt, &machine.core.cop0().read(CAUSE), &0x10);
-    same(&rt, &machine.core.cop0().read(BAD_VADDR), &0xBFE0_000A);
-    machine.run(2);
-    same(&rt, &machine.register(7), &0x8042);
-    same(&rt, &machine.register(8), &0);
-    Ok(())
+",
+        ],
+        &[
+            Then::Run(5),
+            Then::Receive(&[BYTE, Event { byte: 0x42, ..BYTE }]),
+            Then::Run(1),
+            Then::Cop0(CAUSE, 0x10),
+            Then::Cop0(BAD_VADDR, 0xBFE0_000A),
+            Then::Run(2),
+            Then::Landed(7, &[0x8042, 0]),
+        ],
+    )
 }

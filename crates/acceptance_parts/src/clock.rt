@@ -84,10 +84,10 @@ fn clock(rt: HostRuntime) {
     let start = [0, 0, 0, 0, 0, 0, 1, 1, 1, 0, 0x23, 0x46];
     let mut clock = Clock::new(start, 1);
     clock.tick();
-    assert!(rt; clock.line());
+    assert!(rt; clock.interrupts());
     same(&rt, &clock.read(REGISTER_C), &0xC0);
     same(&rt, &clock.read(REGISTER_C), &0);
-    assert!(rt; !clock.line());
+    assert!(rt; !clock.interrupts());
 }
 
 // A number below 100 as a byte of the format that register B sets.
@@ -176,7 +176,7 @@ fn periodic_rates(rt: HostRuntime) {
             clock.write(REGISTER_A, 0x20 + rate);
             for round in 0..3 {
                 tick(&mut clock, period.saturating_sub(1));
-                assert!(rt; !clock.line(), "{rate} in round {round}");
+                assert!(rt; !clock.interrupts(), "{rate} in round {round}");
                 clock.tick();
                 assert_eq!(rt;
                     clock.read(REGISTER_C) & 0xC0,
@@ -222,7 +222,11 @@ fn alarms(rt: HostRuntime) {
                 clock.write(HOURS_ALARM, hours);
                 tick(&mut clock, 8192);
                 let rings = rings_s && rings_m && rings_h;
-                assert_eq!(rt; clock.line(), rings, "{seconds:x} {minutes:x} {hours:x}");
+                assert_eq!(rt;
+                    clock.interrupts(),
+                    rings,
+                    "{seconds:x} {minutes:x} {hours:x}"
+                );
                 let want = if rings { IRQF | AF | UF } else { UF };
                 same(&rt, &clock.read(REGISTER_C), &want);
             }
@@ -277,7 +281,7 @@ fn set(rt: HostRuntime) {
     same(&rt, &clock.read(REGISTER_A), &0xA0);
     clock.tick();
     same(&rt, &clock.read(SECONDS), &0x56);
-    assert!(rt; clock.line());
+    assert!(rt; clock.interrupts());
     same(&rt, &clock.read(REGISTER_C), &(IRQF | UF));
 }
 
@@ -366,10 +370,10 @@ fn quiet_periods(rt: HostRuntime) {
     clock.write(REGISTER_A, 0x21);
     same(&rt, &clock.quiet(), &87);
     pass(&mut clock, 87);
-    assert!(rt; !clock.line());
+    assert!(rt; !clock.interrupts());
     same(&rt, &clock.quiet(), &0);
     clock.tick();
-    assert!(rt; clock.line());
+    assert!(rt; clock.interrupts());
     same(&rt, &clock.quiet(), &24_287);
     same(&rt, &clock.read(REGISTER_C), &(IRQF | PF));
     same(&rt, &clock.quiet(), &95);

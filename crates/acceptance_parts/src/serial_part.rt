@@ -259,12 +259,12 @@ fn interrupt_line(rt: HostRuntime) {
     dz.receive(0, 0x41);
     for (enables, line) in [(0x20, false), (0x4020, true), (0x60, true), (0x4060, true)] {
         dz.write(CSR, enables, 15);
-        same(&rt, &dz.line(), &line);
+        same(&rt, &dz.interrupts(), &line);
     }
     dz.write(TDR, 0x41, 1);
-    assert!(rt; dz.line());
+    assert!(rt; dz.interrupts());
     same(&rt, &dz.read(RBUF), &0x8041);
-    assert!(rt; !dz.line());
+    assert!(rt; !dz.interrupts());
 }
 
 #[test]

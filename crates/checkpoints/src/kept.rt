@@ -143,6 +143,10 @@ impl<const PAGES: u32, const SPAN: u32> Kept<PAGES, SPAN> {
         ensures there { IfOk result (λ _. span_at self.new fact.entry.index ≡ Some fact.entry) }
         ensures others { IfOk result (λ _. (i : ℕ) → ¬ (i ≡ fact.entry.index) → span_at self.new i ≡ span_at self.old i) }
         ensures same { OnErr result ((i : ℕ) → span_at self.new i ≡ span_at self.old i) }
+        // It is not known to follow the record before it, nor is the next one known to follow it.
+        ensures untied { IfOk result (λ _. (i : ℕ) → IsTrue (continues_at self.new i) → ¬ (i ≡ fact.entry.index) × ¬ (i + 1 ≡ fact.entry.index)) }
+        ensures ties { IfOk result (λ _. (i : ℕ) → ¬ (i ≡ fact.entry.index) → ¬ (i + 1 ≡ fact.entry.index) → continues_at self.new i ≡ continues_at self.old i) }
+        ensures same_ties { OnErr result ((i : ℕ) → continues_at self.new i ≡ continues_at self.old i) }
         ensures valid { self.new.valid ≡ self.old.valid }
     {
         let index = fact.index() as usize;
@@ -346,6 +350,7 @@ fn unmark(continues: &mut Vec<bool>, index: usize)
     requires { index < length continues.old.items }
     ensures others { (i : ℕ) → IsTrue (slice_index_or continues.new.items i false) →
         ¬ (i ≡ index) × ¬ (i + 1 ≡ index) × IsTrue (slice_index_or continues.old.items i false) }
+    ensures kept { (i : ℕ) → ¬ (i ≡ index) → ¬ (i + 1 ≡ index) → slice_index_or continues.new.items i false ≡ slice_index_or continues.old.items i false }
     ensures long { length continues.new.items ≡ length continues.old.items }
 {
     continues[index] = false;

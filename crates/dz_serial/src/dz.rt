@@ -115,9 +115,9 @@ impl Dz {
         !self.silo.is_empty()
     }
 
-    /// The interrupt line: TIE and TRDY, or RIE and RDONE.
+    /// Whether the interrupt line is up: TIE and TRDY, or RIE and RDONE.
     #[inline]
-    pub fn line(&self) -> bool
+    pub fn interrupts(&self) -> bool
         ensures { result ≡ interrupt_line_of self.now }
     {
         self.tie && self.trdy || self.rie && self.rdone()

@@ -14,7 +14,7 @@ use Rattle.input_log.specs.declared.fault.LogFault.{LogFault}
 use Rattle.input_log.specs.Event.{TimedByte, LineExists, HoldsByte, IsInTime}
 use Rattle.input_log.specs.Log.{AreInOrder, IsLog}
 use Rattle.input_log.specs.Spelling.{event_bytes, spelling}
-use Rattle.input_log.specs.Reading.{◌>>=◌, Gives, bytes_at, number_at, byte_at, count_at, event_at, events_at, log_at}
+use Rattle.input_log.specs.Reading.{◌>>=◌, ReadsOrLacks, bytes_at, number_at, byte_at, count_at, event_at, events_at, log_at}
 use Rattle.input_log.proofs.Fields.{AreBytes, bind_ok, passes, ok_is, Takes, Takes-then, bytes_take, bytes_at_again, number_takes, number_at_again, byte_takes}
 
 -- ---- events behind one of the time last
@@ -185,7 +185,7 @@ log_at_again log good =
     ∙ log_steps (MAGIC ++ (bytes_of (length log) ++ text)) text [] (length log) log count events refl
 
 -- what was read is spelled so
-pub is_found : (bytes : List ℕ) (r : Result (List TimedByte) LogFault) → AreBytes bytes → Gives (λ log. log) r (log_at bytes) → IfOk r (λ log. (bytes ≡ spelling log) × IsLog log)
+pub is_found : (bytes : List ℕ) (r : Result (List TimedByte) LogFault) → AreBytes bytes → ReadsOrLacks (λ log. log) r (log_at bytes) → IfOk r (λ log. (bytes ≡ spelling log) × IsLog log)
 is_found bytes (Ok log) are given = log_takes bytes log are given
 is_found bytes (Err fault) are given = tt
 

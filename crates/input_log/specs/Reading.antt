@@ -16,18 +16,18 @@ abbrev pub ◌>>=◌ : {A B : Type 0} → Result A LogKind → (A → Result B L
 (Err e) >>= f = Err e
 
 -- what a function without growth of memory returned, seen by view, is what reading gives
-abbrev pub Tells : {X Y : Type 0} → (X → Y) → Result X LogKind → Result Y LogKind → Type 0
-Tells view (Ok x) read = read ≡ Ok (view x)
-Tells view (Err kind) read = read ≡ Err kind
+abbrev pub ReadsAs : {X Y : Type 0} → (X → Y) → Result X LogKind → Result Y LogKind → Type 0
+ReadsAs view (Ok x) read = read ≡ Ok (view x)
+ReadsAs view (Err kind) read = read ≡ Err kind
 
 -- the same for a function that may run out of memory
-abbrev pub Fails : {Y : Type 0} → LogFault → Result Y LogKind → Type 0
-Fails Memory read = Unit {0}
-Fails (Bad kind) read = read ≡ Err kind
+abbrev pub FailsOrLacks : {Y : Type 0} → LogFault → Result Y LogKind → Type 0
+FailsOrLacks Memory read = Unit {0}
+FailsOrLacks (Bad kind) read = read ≡ Err kind
 
-abbrev pub Gives : {X Y : Type 0} → (X → Y) → Result X LogFault → Result Y LogKind → Type 0
-Gives view (Ok x) read = read ≡ Ok (view x)
-Gives view (Err fault) read = Fails fault read
+abbrev pub ReadsOrLacks : {X Y : Type 0} → (X → Y) → Result X LogFault → Result Y LogKind → Type 0
+ReadsOrLacks view (Ok x) read = read ≡ Ok (view x)
+ReadsOrLacks view (Err fault) read = FailsOrLacks fault read
 
 -- so many bytes, and the bytes after them
 abbrev pub bytes_at : ℕ → List ℕ → Result (List ℕ × List ℕ) LogKind

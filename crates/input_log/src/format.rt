@@ -1,6 +1,6 @@
 //! What the log's format begins with, and the fields that it is made of.
 
-ghost use Rattle.input_log.specs.Reading.{Tells, number_at, byte_at, count_at};
+ghost use Rattle.input_log.specs.Reading.{ReadsAs, number_at, byte_at, count_at};
 
 use crate::fault::LogKind;
 use crate::limits::MAX_EVENTS;
@@ -17,7 +17,7 @@ pub const EVENT_BYTES: usize = 6;
 
 /// A number of 32 bits, and the bytes after it.
 pub fn read_number(bytes: &[u8]) -> Result<(u32, &[u8]), LogKind>
-    ensures { Tells (λ x. (x.0, x.1.now)) result (number_at bytes.now) }
+    ensures { ReadsAs (λ x. (x.0, x.1.now)) result (number_at bytes.now) }
 {
     let (number, rest) = bytes.split_at_checked(4).ok_or(LogKind::Short)?;
     Ok((LittleEndian::read_u32(number), rest))
@@ -25,7 +25,7 @@ pub fn read_number(bytes: &[u8]) -> Result<(u32, &[u8]), LogKind>
 
 /// One byte, and the bytes after it.
 pub fn read_byte(bytes: &[u8]) -> Result<(u8, &[u8]), LogKind>
-    ensures { Tells (λ x. (x.0, x.1.now)) result (byte_at bytes.now) }
+    ensures { ReadsAs (λ x. (x.0, x.1.now)) result (byte_at bytes.now) }
 {
     match bytes {
         [byte, rest @ ..] => Ok((*byte, rest)),
@@ -36,7 +36,7 @@ pub fn read_byte(bytes: &[u8]) -> Result<(u8, &[u8]), LogKind>
 /// The number of events, and the bytes after it.
 #[tactic(auto, unfolding(crate::specs::Reading::count_at))]
 pub fn read_count(bytes: &[u8]) -> Result<(u32, &[u8]), LogKind>
-    ensures { Tells (λ x. (x.0, x.1.now)) result (count_at bytes.now) }
+    ensures { ReadsAs (λ x. (x.0, x.1.now)) result (count_at bytes.now) }
 {
     let (magic, rest) = bytes.split_at_checked(8).ok_or(LogKind::Short)?;
     if magic != MAGIC.as_slice() {

@@ -4,7 +4,7 @@ ghost use Rattle.std.specs.Prelude.{◌≡◌, ◌<◌, List, IfOk, Ok, IsOk, Is
 ghost use Rattle.input_log.specs.Event.{TimedByte};
 ghost use Rattle.input_log.specs.Log.{IsLog};
 ghost use Rattle.input_log.specs.Spelling.{spelling};
-ghost use Rattle.input_log.specs.Reading.{Tells, Gives, event_at, events_at, log_at, HasEvent};
+ghost use Rattle.input_log.specs.Reading.{ReadsAs, ReadsOrLacks, event_at, events_at, log_at, HasEvent};
 
 use crate::event::Event;
 use crate::fault::{LogFault, LogKind};
@@ -16,7 +16,7 @@ use std::alloc::Global;
 /// An event behind one of the time `last`, and the bytes after it.
 #[tactic(auto, unfolding(crate::specs::Reading::event_at))]
 fn read_event(last: u64, bytes: &[u8]) -> Result<(Event, &[u8]), LogKind>
-    ensures { Tells (λ x. (x.0, x.1.now)) result (event_at last bytes.now) }
+    ensures { ReadsAs (λ x. (x.0, x.1.now)) result (event_at last bytes.now) }
 {
     let (time, rest) = read_number(bytes)?;
     let time = u64::from(time);
@@ -33,7 +33,7 @@ fn read_event(last: u64, bytes: &[u8]) -> Result<(Event, &[u8]), LogKind>
 
 /// So many events, and the bytes after them.
 fn read_events(alloc: Global, count: u32, bytes: &[u8]) -> Result<(Vec<Event>, &[u8]), LogFault>
-    ensures value { Gives (λ x. (x.0.items, x.1.now)) result (events_at count 0 bytes.now) }
+    ensures value { ReadsOrLacks (λ x. (x.0.items, x.1.now)) result (events_at count 0 bytes.now) }
     ensures memory { IsErrOf result LogFault.Memory → (0 < count) × IsOk (event_at 0 bytes.now) }
 {
     let mut events = Vec::new(alloc);
@@ -54,7 +54,7 @@ fn read_events(alloc: Global, count: u32, bytes: &[u8]) -> Result<(Vec<Event>, &
 /// The log that the bytes are, all of the bytes.
 #[tactic(auto, unfolding(crate::specs::Reading::log_at))]
 fn read_all(alloc: Global, bytes: &[u8]) -> Result<Log, LogFault>
-    ensures exact { Gives (λ log. log) result (log_at bytes.now) }
+    ensures exact { ReadsOrLacks (λ log. log) result (log_at bytes.now) }
     ensures memory { IsErrOf result LogFault.Memory → HasEvent bytes.now }
 {
     let (count, rest) = read_count(bytes)?;
@@ -72,9 +72,9 @@ pub fn read_log(alloc: Global, bytes: &[u8]) -> Result<Log, LogFault>
     ensures found { IfOk result (λ log. (bytes.now ≡ spelling log) × IsLog log) }
     // What is spelled so is read, unless memory runs out.
     ensures only { (log : List TimedByte) → IsLog log → bytes.now ≡ spelling log →
-        Gives (λ log. log) result (Ok log) }
+        ReadsOrLacks (λ log. log) result (Ok log) }
     // Which fault it is: the first from left to right.
-    ensures exact { Gives (λ log. log) result (log_at bytes.now) }
+    ensures exact { ReadsOrLacks (λ log. log) result (log_at bytes.now) }
     // Memory is asked for only where an event is there.
     ensures memory { IsErrOf result LogFault.Memory → HasEvent bytes.now }
 {

@@ -1,12 +1,12 @@
--- Ticks of the bus are ticks of its parts, and they are counted from the plan.
+-- Ticks of the bus are ticks of its parts, and they are counted from the schedule.
 use Rattle.std.proofs.Common.{◌≡◌, ◌≢◌, ℕ, zero, suc, ◌-◌, ◌≤◌, ap, refl, arith}
 use Rattle.dz_serial.specs.Quiet as serial_quiet
 use Rattle.mc146818.specs.Second as clock_second
-use Rattle.kn02_bus.specs.declared.plan.Plan.{Plan}
+use Rattle.kn02_bus.specs.declared.schedule.Schedule.{Schedule}
 use Rattle.kn02_bus.specs.State.{BusState}
 use Rattle.kn02_bus.specs.Tick.{ticked}
 use Rattle.kn02_bus.specs.Quiet.{after}
-use Rattle.kn02_bus.specs.Plan.{plan_for}
+use Rattle.kn02_bus.specs.Schedule.{schedule_for}
 
 -- each part after so many ticks
 pub after_parts : (n : ℕ) (bus : BusState)
@@ -23,12 +23,12 @@ after_one_more : (m n : ℕ) (bus : BusState) → m ≡ suc n → after m bus �
 unfolding after
 after_one_more m n bus e = ap (λ (k : ℕ). after k bus) e
 
--- parts for which the plan was just made owe nothing
-pub owes_nothing : (bus : BusState) (plan : Plan) → plan ≡ plan_for bus → after (plan.planned - plan.left) bus ≡ bus
-owes_nothing bus plan e =
-    let planned = ap (λ (p : Plan). p.planned) e in
-    let left = ap (λ (p : Plan). p.left) e in
-    after_none (plan.planned - plan.left) bus (omega arith)
+-- parts for which the schedule was just made owe nothing
+pub owes_nothing : (bus : BusState) (schedule : Schedule) → schedule ≡ schedule_for bus → after (schedule.planned - schedule.left) bus ≡ bus
+owes_nothing bus schedule e =
+    let planned = ap (λ (p : Schedule). p.planned) e in
+    let left = ap (λ (p : Schedule). p.left) e in
+    after_none (schedule.planned - schedule.left) bus (omega arith)
 
 -- one quiet tick less to come is one more that they owe
 pub owes_one_more : (bus : BusState) (planned left : ℕ) → left ≤ planned → left ≢ 0

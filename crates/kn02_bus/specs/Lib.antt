@@ -4,5 +4,5 @@ pub mod Lines
 pub mod Access
 pub mod Tick
 pub mod Quiet
-pub mod Plan
+pub mod Schedule
 pub mod Same

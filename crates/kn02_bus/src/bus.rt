@@ -6,7 +6,7 @@ ghost use Rattle.kn02_bus.specs.Tick.{arrived, ticked};
 
 use crate::laws::quiet_laws;
 use crate::parts::Parts;
-use crate::plan::Plan;
+use crate::schedule::Schedule;
 use std::marker::Model;
 
 /// The devices of the board, and the enables of its interrupt lines. It takes no memory beyond its
@@ -15,20 +15,20 @@ use std::marker::Model;
 pub struct Bus {
     /// The parts as they were when the quiet ticks began.
     pub(crate) parts: Parts,
-    pub(crate) plan: Plan,
+    pub(crate) schedule: Schedule,
 }
 
 impl Model for Bus {
     ghost use Rattle.std.specs.Prelude.{◌-◌};
     ghost use Rattle.kn02_bus.specs.State.{BusState};
     ghost use Rattle.kn02_bus.specs.Quiet.{after};
-    ghost use Rattle.kn02_bus.specs.Plan.{IsPlanFor};
+    ghost use Rattle.kn02_bus.specs.Schedule.{IsScheduleFor};
 
     ghost Value = { BusState };
 
-    ghost view = { λ b. after (b.plan.planned - b.plan.left) b.parts };
+    ghost view = { λ b. after (b.schedule.planned - b.schedule.left) b.parts };
 
-    ghost invariant = { λ b. IsPlanFor b.parts b.plan };
+    ghost invariant = { λ b. IsScheduleFor b.parts b.schedule };
 }
 
 /// The interrupt lines to the processor.
@@ -55,8 +55,8 @@ impl Bus {
         ensures { result ≡ reset_bus byte_time start unit }
     {
         let parts = Parts::new(byte_time, start, unit);
-        let plan = Plan::of(&parts);
-        Bus { parts, plan }
+        let schedule = Schedule::of(&parts);
+        Bus { parts, schedule }
     }
 
     /// Makes the bus equal to another one.
@@ -64,7 +64,7 @@ impl Bus {
         ensures { self.new ≡ other.now }
     {
         self.parts.assign(&other.parts);
-        self.plan = other.plan;
+        self.schedule = other.schedule;
     }
 
     /// A byte arrives at a line of the serial part, which is at most 3.
@@ -74,7 +74,7 @@ impl Bus {
     {
         quiet_laws();
         self.parts.receive(line, byte);
-        self.plan.lines = self.parts.lines();
+        self.schedule.lines = self.parts.lines();
     }
 
     /// Clock and serial part advance by a tick.
@@ -83,8 +83,8 @@ impl Bus {
     pub fn tick(&mut self)
         ensures { self.new ≡ ticked self.old }
     {
-        if self.plan.left != 0 {
-            self.plan.left -= 1;
+        if self.schedule.left != 0 {
+            self.schedule.left -= 1;
         } else {
             self.end_quiet_ticks();
         }
@@ -96,8 +96,8 @@ impl Bus {
     fn end_quiet_ticks(&mut self)
         ensures { self.new ≡ ticked self.old }
     {
-        self.parts.pass(self.plan.owed());
+        self.parts.pass(self.schedule.owed());
         self.parts.tick();
-        self.plan = Plan::of(&self.parts);
+        self.schedule = Schedule::of(&self.parts);
     }
 }

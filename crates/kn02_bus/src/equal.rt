@@ -12,7 +12,7 @@ impl Bus {
         ensures { result ≡ self.now }
     {
         let mut parts = self.parts.copy();
-        parts.pass(self.plan.owed());
+        parts.pass(self.schedule.owed());
         parts
     }
 }

@@ -9,8 +9,8 @@ pub mod laws;
 mod lines;
 mod load;
 mod parts;
-mod plan;
 mod region;
+mod schedule;
 mod store;
 
 pub use bus::{Bus, Lines};

@@ -15,7 +15,7 @@ impl Bus {
         ensures { result ≡ lines_of self.now }
     {
         quiet_laws();
-        self.plan.lines
+        self.schedule.lines
     }
 }
 
@@ -26,7 +26,7 @@ impl Parts {
     {
         Lines {
             board: self.enables & self.board_lines() != 0,
-            clock: self.clock.line(),
+            clock: self.clock.interrupts(),
         }
     }
 
@@ -34,6 +34,10 @@ impl Parts {
     pub(crate) fn board_lines(&self) -> u8
         ensures { result ≡ board_lines self.now }
     {
-        if self.serial.line() { SERIAL_LINE } else { 0 }
+        if self.serial.interrupts() {
+            SERIAL_LINE
+        } else {
+            0
+        }
     }
 }

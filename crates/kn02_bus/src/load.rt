@@ -10,8 +10,8 @@ use crate::bus::Bus;
 use crate::csr::ENABLE;
 use crate::laws::quiet_laws;
 use crate::parts::Parts;
-use crate::plan::Plan;
 use crate::region::{ClockRegister, Device};
+use crate::schedule::Schedule;
 
 impl Bus {
     /// Loads a word of a device, with the effect of that read.
@@ -33,7 +33,7 @@ impl Bus {
     {
         quiet_laws();
         let word = self.parts.load_serial(offset);
-        self.plan.lines = self.parts.lines();
+        self.schedule.lines = self.parts.lines();
         word
     }
 
@@ -43,9 +43,9 @@ impl Bus {
         ensures word { result ≡ loaded self.old (device.Clock register) }
         ensures state { self.new ≡ after_load self.old (device.Clock register) }
     {
-        self.parts.pass(self.plan.owed());
+        self.parts.pass(self.schedule.owed());
         let word = self.parts.load_clock(register);
-        self.plan = Plan::of(&self.parts);
+        self.schedule = Schedule::of(&self.parts);
         word
     }
 

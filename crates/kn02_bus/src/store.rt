@@ -6,8 +6,8 @@ ghost use Rattle.kn02_bus.specs.Access.{clock_stored, csr_stored, after_store, s
 use crate::bus::Bus;
 use crate::csr::{BYTE_0, BYTE_2};
 use crate::parts::Parts;
-use crate::plan::Plan;
 use crate::region::{ClockRegister, Device};
+use crate::schedule::Schedule;
 use dz_serial::Sent;
 use r3k_word::field::field;
 
@@ -20,9 +20,9 @@ impl Bus {
         ensures sent { result ≡ sent_by_store self.old device word lanes }
         ensures line { IfSome result (λ sent. sent.line ≤ 3) }
     {
-        self.parts.pass(self.plan.owed());
+        self.parts.pass(self.schedule.owed());
         let sent = self.parts.store(device, word, lanes);
-        self.plan = Plan::of(&self.parts);
+        self.schedule = Schedule::of(&self.parts);
         sent
     }
 }

@@ -126,7 +126,7 @@ impl Clock {
     /// Whether the clock requests an interrupt: a flag of register C and its enable in register B
     /// are both 1.
     #[inline]
-    pub fn line(&self) -> bool
+    pub fn interrupts(&self) -> bool
         ensures { result ≡ requests_interrupt self.now }
     {
         self.flags & self.b & (PF | AF | UF) != 0
@@ -162,7 +162,7 @@ impl Clock {
     fn register_c(&self) -> u8
         ensures { result ≡ register_c self.now }
     {
-        if self.line() {
+        if self.interrupts() {
             self.flags | IRQF
         } else {
             self.flags

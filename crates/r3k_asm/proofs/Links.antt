@@ -2,7 +2,8 @@
 use Rattle.std.proofs.Common.{◌≡◌, ℕ, zero, suc, ◌+◌, ◌<◌, ◌≤◌, List, [], ◌∷◌, length, get_or, drop, Result, Ok, Err, refl, sym, ap, ◌∙◌, arith}
 use Rattle.std.specs.Prelude.{unwrap_or}
 use Rattle.std.specs.Ordering.{nat_cmp}
-use Rattle.r3k_image.specs.Boot.{Boot, plain_clock_start}
+use Rattle.r3k_image.specs.declared.constants.TheConstants.{PLAIN_BYTE_TIME, PLAIN_UNIT, PLAIN_CLOCK_START}
+use Rattle.r3k_image.specs.Boot.{Boot}
 use Rattle.std.specs.FinMap as map
 use Rattle.std.specs.Str.Lines.{lines}
 use Rattle.std.proofs.lemmas.List.{nil_from_length}
@@ -11,8 +12,8 @@ use Rattle.r3k_asm.specs.declared.fault.AsmFault.{AsmFault}
 use Rattle.r3k_asm.specs.declared.fault.AsmFault.TheVariants.{Memory, Bad}
 use Rattle.r3k_asm.specs.declared.reference.Reference.{Reference}
 use Rattle.r3k_asm.specs.Reference.{LabelMap, word_of_reference}
-use Rattle.r3k_asm.specs.Source.{State, started, read, Fails as FailsAt}
-use Rattle.r3k_asm.specs.Meaning.{at_line, passed, linked, Fails, image_of, ◌>>=◌}
+use Rattle.r3k_asm.specs.Source.{State, started, read, FailsOrLacks as FailsAt}
+use Rattle.r3k_asm.specs.Meaning.{at_line, passed, linked, FailsOrLacks, image_of, ◌>>=◌}
 
 pub line_more : (line : ℕ) (s next : State) (text front rest : List ℕ) → lines text ≡ front ∷ lines rest → read line s front ≡ Ok next
     → passed (line + 1) next (lines rest) ≡ passed line s (lines text)
@@ -21,7 +22,7 @@ line_more line s next text front rest e is =
     sym (ap (passed line s) e ∙ ap (λ (r : Result State AsmKind). at_line line r (λ t. passed (line + 1) t (lines rest))) is)
 
 pub line_fails : (line : ℕ) (s : State) (text front rest : List ℕ) (fault : AsmFault) → lines text ≡ front ∷ lines rest → FailsAt line fault (read line s front)
-    → Fails fault (passed line s (lines text))
+    → FailsOrLacks fault (passed line s (lines text))
 unfolding passed
 line_fails line s text front rest Memory e h = tt
 line_fails line s text front rest (Bad at kind) e h =
@@ -32,11 +33,11 @@ pub line_none : (line : ℕ) (s : State) (rest : List ℕ) → length rest ≡ 0
 unfolding passed
 line_none line s rest none = ap (λ (r : List ℕ). passed line s (lines r)) (nil_from_length rest none)
 
-pub fails_same : (fault : AsmFault) (a b : Result State AsmFault) → a ≡ b → Fails fault a → Fails fault b
+pub fails_same : (fault : AsmFault) (a b : Result State AsmFault) → a ≡ b → FailsOrLacks fault a → FailsOrLacks fault b
 fails_same Memory a b e h = tt
 fails_same (Bad line kind) a b e h = sym e ∙ h
 
-pub same_fails : (fault : AsmFault) (a b : Result (map.FinMap nat_cmp ℕ) AsmFault) → a ≡ b → Fails fault a → Fails fault b
+pub same_fails : (fault : AsmFault) (a b : Result (map.FinMap nat_cmp ℕ) AsmFault) → a ≡ b → FailsOrLacks fault a → FailsOrLacks fault b
 same_fails Memory a b e h = tt
 same_fails (Bad line kind) a b e h = sym e ∙ h
 
@@ -75,7 +76,7 @@ link_none labels words rs i le = ap (linked labels words) (past rs i le)
 -- ---- both passes
 
 abbrev pub finished : State → map.FinMap nat_cmp ℕ → Boot
-finished s words = record { words = words; byte_time = unwrap_or s.byte_time 16; unit = unwrap_or s.unit 1; clock_start = unwrap_or s.clock plain_clock_start }
+finished s words = record { words = words; byte_time = unwrap_or s.byte_time PLAIN_BYTE_TIME; unit = unwrap_or s.unit PLAIN_UNIT; clock_start = unwrap_or s.clock PLAIN_CLOCK_START }
 
 abbrev second : State → Result Boot AsmFault
 second s = linked s.labels s.words s.references >>= λ words. Ok (finished s words)
@@ -84,11 +85,11 @@ by_first : (text : List ℕ) (r : Result State AsmFault) → passed 1 started (l
 unfolding image_of
 by_first text r e = ap (λ (x : Result State AsmFault). x >>= second) e
 
-pub first_fails : (text : List ℕ) (fault : AsmFault) → Fails fault (passed 1 started (lines text)) → Fails fault (image_of text)
+pub first_fails : (text : List ℕ) (fault : AsmFault) → FailsOrLacks fault (passed 1 started (lines text)) → FailsOrLacks fault (image_of text)
 first_fails text Memory h = tt
 first_fails text (Bad line kind) h = by_first text (Err (Bad line kind)) h
 
-pub second_fails : (text : List ℕ) (s : State) (fault : AsmFault) → passed 1 started (lines text) ≡ Ok s → Fails fault (linked s.labels s.words s.references) → Fails fault (image_of text)
+pub second_fails : (text : List ℕ) (s : State) (fault : AsmFault) → passed 1 started (lines text) ≡ Ok s → FailsOrLacks fault (linked s.labels s.words s.references) → FailsOrLacks fault (image_of text)
 second_fails text s Memory e h = tt
 second_fails text s (Bad line kind) e h = by_first text (Ok s) e ∙ ap (λ (x : Result (map.FinMap nat_cmp ℕ) AsmFault). x >>= λ words. Ok (finished s words)) h
 

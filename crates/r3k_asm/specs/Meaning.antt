@@ -4,7 +4,8 @@ use Rattle.std.specs.Prelude.{◌≡◌, ℕ, ◌+◌, List, [], ◌∷◌, Resu
 use Rattle.std.specs.Ordering.{nat_cmp}
 use Rattle.std.specs.FinMap as map
 use Rattle.std.specs.Str.Lines.{lines}
-use Rattle.r3k_image.specs.Boot.{Boot, plain_clock_start}
+use Rattle.r3k_image.specs.declared.constants.TheConstants.{PLAIN_BYTE_TIME, PLAIN_UNIT, PLAIN_CLOCK_START}
+use Rattle.r3k_image.specs.Boot.{Boot}
 use Rattle.asm_line.specs.declared.kind.AsmKind.{AsmKind}
 use Rattle.r3k_asm.specs.declared.fault.AsmFault.{AsmFault}
 use Rattle.r3k_asm.specs.declared.fault.AsmFault.TheVariants.{Memory, Bad}
@@ -32,23 +33,23 @@ unfoldable pub linked : LabelMap → map.FinMap nat_cmp ℕ → List Reference �
 linked labels words [] = Ok words
 linked labels words (r ∷ rs) = at_line r.line (word_of_reference labels r) (λ word. linked labels (map.insert words r.address word) rs)
 
--- the image of a source: byte time 16, unit 1 and the clock of a raw ROM where it does not say them
+-- the image of a source: the constants are plain where it does not say them
 unfoldable pub image_of : List ℕ → Result Boot AsmFault
 image_of text = do
   s ← passed 1 started (lines text)
   words ← linked s.labels s.words s.references
   Ok (record {
     words = words;
-    byte_time = unwrap_or s.byte_time 16;
-    unit = unwrap_or s.unit 1;
-    clock_start = unwrap_or s.clock plain_clock_start;
+    byte_time = unwrap_or s.byte_time PLAIN_BYTE_TIME;
+    unit = unwrap_or s.unit PLAIN_UNIT;
+    clock_start = unwrap_or s.clock PLAIN_CLOCK_START;
   })
 
 -- what a call answers that may run out of memory
-abbrev pub Fails : {Y : Type 0} → AsmFault → Result Y AsmFault → Type 0
-Fails Memory answer = Unit {0}
-Fails (Bad line kind) answer = answer ≡ Err (Bad line kind)
+abbrev pub FailsOrLacks : {Y : Type 0} → AsmFault → Result Y AsmFault → Type 0
+FailsOrLacks Memory answer = Unit {0}
+FailsOrLacks (Bad line kind) answer = answer ≡ Err (Bad line kind)
 
 abbrev pub Answers : {X Y : Type 0} → (X → Y) → Result X AsmFault → Result Y AsmFault → Type 0
 Answers view (Ok x) answer = answer ≡ Ok (view x)
-Answers view (Err fault) answer = Fails fault answer
+Answers view (Err fault) answer = FailsOrLacks fault answer

@@ -66,11 +66,11 @@ unfoldable pub read : ℕ → State → List ℕ → Result State AsmKind
 read line s text = statement_of text >>= λ statement. added line s statement
 
 -- a fault of a line is what reading it gives, and want of memory may come at any line
-abbrev pub Fails : {Y : Type 0} → ℕ → AsmFault → Result Y AsmKind → Type 0
-Fails line Memory read = Unit {0}
-Fails line (Bad at kind) read = (at ≡ line) × (read ≡ Err kind)
+abbrev pub FailsOrLacks : {Y : Type 0} → ℕ → AsmFault → Result Y AsmKind → Type 0
+FailsOrLacks line Memory read = Unit {0}
+FailsOrLacks line (Bad at kind) read = (at ≡ line) × (read ≡ Err kind)
 
 -- what a line gives
-abbrev pub Gives : {X Y : Type 0} → ℕ → Y → Result X AsmFault → Result Y AsmKind → Type 0
-Gives line new (Ok _) read = read ≡ Ok new
-Gives line new (Err fault) read = Fails line fault read
+abbrev pub ReadsOrLacks : {X Y : Type 0} → ℕ → Y → Result X AsmFault → Result Y AsmKind → Type 0
+ReadsOrLacks line new (Ok _) read = read ≡ Ok new
+ReadsOrLacks line new (Err fault) read = FailsOrLacks line fault read

@@ -1,7 +1,7 @@
 //! The first pass: what the lines so far say.
 
 ghost use Rattle.std.specs.Prelude.{◌≡◌, ◌+◌, ◌≤◌, ◌<◌, Ok, length};
-ghost use Rattle.r3k_asm.specs.Source.{Gives, seen, added, with_word, read};
+ghost use Rattle.r3k_asm.specs.Source.{ReadsOrLacks, seen, added, with_word, read};
 
 use crate::fault::AsmFault;
 use crate::labels::Labels;
@@ -29,7 +29,7 @@ pub struct Source<'a> {
 
 impl<'a> Source<'a> {
     ghost use Rattle.std.specs.Prelude.{◌≡◌};
-    ghost use Rattle.r3k_asm.specs.Source.{Gives, seen, added, with_word, read, started};
+    ghost use Rattle.r3k_asm.specs.Source.{ReadsOrLacks, seen, added, with_word, read, started};
 
     /// What no line says.
     pub fn new(alloc: Global) -> Source<'a>
@@ -49,7 +49,7 @@ impl<'a> Source<'a> {
     // A word stands here.
     #[tactic(auto, unfolding(crate::specs::Source::with_word))]
     fn add_word(&mut self, line: u64, word: u32, target: Option<Target<'a>>) -> Result<(), AsmFault>
-        ensures { Gives line (seen self.new) result (with_word line (seen self.old) word target.entry) }
+        ensures { ReadsOrLacks line (seen self.new) result (with_word line (seen self.old) word target.entry) }
     {
         let Some(address) = WordAddress::new(self.place) else {
             return Err(bad(line, AsmKind::Place));
@@ -72,7 +72,7 @@ impl<'a> Source<'a> {
     // One more statement.
     #[tactic(auto, unfolding(crate::specs::Source::added))]
     fn add(&mut self, line: u64, statement: Statement<'a>) -> Result<(), AsmFault>
-        ensures { Gives line (seen self.new) result (added line (seen self.old) statement.entry) }
+        ensures { ReadsOrLacks line (seen self.new) result (added line (seen self.old) statement.entry) }
     {
         match statement {
             Statement::Empty => {}
@@ -108,7 +108,7 @@ impl<'a> Source<'a> {
     /// One more line.
     #[tactic(auto, unfolding(crate::specs::Source::read))]
     pub fn read(&mut self, line: u64, text: &'a [u8]) -> Result<(), AsmFault>
-        ensures { Gives line (seen self.new) result (read line (seen self.old) text.now) }
+        ensures { ReadsOrLacks line (seen self.new) result (read line (seen self.old) text.now) }
     {
         match read_line(text) {
             Ok(statement) => self.add(line, statement),

@@ -4,3 +4,4 @@ pub mod Operation
 pub mod Decoding
 pub mod Seen
 pub mod Jump
+pub mod Target

@@ -4,6 +4,7 @@
 mod codec;
 mod insn;
 mod laws;
+pub mod target;
 
 pub use codec::{decode, encode};
 pub use insn::Insn;

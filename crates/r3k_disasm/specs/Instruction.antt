@@ -10,7 +10,7 @@ use Rattle.r3k_table.specs.Operands.{operands_of}
 use Rattle.r3k_decode.specs.Operation.{Operation}
 use Rattle.r3k_decode.specs.Decoding.{operation_of}
 use Rattle.r3k_disasm.specs.Number.{hexadecimal, signed_text}
-use Rattle.r3k_disasm.specs.Target.{branch_target_of, jump_target_of}
+use Rattle.r3k_decode.specs.Target.{branch_target_of, jump_target_of}
 
 -- a register
 abbrev pub register_text : ℕ → List ℕ

@@ -4,6 +4,5 @@
 mod instruction;
 mod number;
 mod operand;
-mod target;
 
 pub use instruction::text;

@@ -1,9 +1,10 @@
 -- What each instruction does with the values that it reads, after Kane and Heinrich, appendix A, in the order of the table.
 use Rattle.std.specs.Prelude.{ℕ, ℤ, ◌+◌, ◌-◌, ◌*◌, ◌/◌, ◌%◌, ◌^◌, ◌<◌, ◌+ℤ◌, ◌-ℤ◌, Bool, not, ◌||◌, ◌&&◌, nat_eq, nat_lt, nat_le, int_lt, int_le, bit_and, bit_or, bit_xor, if◌then◌else◌, List, [], ◌∷◌, slice_index_or, Option, Some, None}
 use Rattle.std.specs.Int.{w32, cast_unsigned, int_shr}
-use Rattle.r3k_word.specs.Word.{flag, signed, sum_of, difference_of, product_of, signed_product_of, division_of, signed_division_of, sign_extended, with_field_of}
+use Rattle.r3k_word.specs.Word.{flag, signed, sum_of, difference_of, product_of, signed_product_of, division_of, signed_division_of, sign_extended}
 use Rattle.r3k_word.specs.declared.arithmetic.HiLo.{HiLo}
 use Rattle.r3k_decode.specs.Operation.{Operation}
+use Rattle.r3k_decode.specs.Target.{branch_target_of, jump_target_of}
 use Rattle.r3k_exec.specs.declared.access.LoadKind.TheVariants as load
 use Rattle.r3k_exec.specs.declared.access.StoreKind.TheVariants as store
 use Rattle.r3k_exec.specs.declared.operands.Effect.{Effect}
@@ -36,16 +37,9 @@ has_sign_bit word = nat_le (2 ^ 31) word
 abbrev pub return_address_of : ℕ → ℕ
 return_address_of pc = sum_of pc 8
 
--- the target of a branch: so many words from its delay slot. One that is not taken has none.
-abbrev pub branch_target_of : ℕ → ℕ → ℕ
-branch_target_of pc imm = (pc + 4 + 4 * sign_extended 16 imm) % 2 ^ 32
-
-abbrev pub branch_target : Bool → Operation → Operands → Option ℕ
-branch_target taken i o = if taken then Some (branch_target_of o.pc i.imm) else None
-
--- the target of a jump: a word in the 256 megabytes of its delay slot
-abbrev pub jump_target_of : ℕ → ℕ → ℕ
-jump_target_of pc index = with_field_of 27 0 (sum_of pc 4) (4 * index)
+-- the target of a branch. One that is not taken has none.
+abbrev pub taken_target : Bool → Operation → Operands → Option ℕ
+taken_target taken i o = if taken then Some (branch_target_of o.pc i.imm) else None
 
 -- the address of a load or a store
 abbrev pub address_of : Operation → Operands → ℕ
@@ -165,19 +159,19 @@ sltu_effect i o = Write i.rd (flag (nat_lt o.rs o.rt))
 
 -- branch on less than zero
 abbrev pub bltz_effect : Operation → Operands → Effect
-bltz_effect i o = Jump (branch_target (has_sign_bit o.rs) i o)
+bltz_effect i o = Jump (taken_target (has_sign_bit o.rs) i o)
 
 -- branch on greater than or equal to zero
 abbrev pub bgez_effect : Operation → Operands → Effect
-bgez_effect i o = Jump (branch_target (not (has_sign_bit o.rs)) i o)
+bgez_effect i o = Jump (taken_target (not (has_sign_bit o.rs)) i o)
 
 -- branch on less than zero and link, taken or not
 abbrev pub bltzal_effect : Operation → Operands → Effect
-bltzal_effect i o = JumpAndLink (branch_target (has_sign_bit o.rs) i o) 31 (return_address_of o.pc)
+bltzal_effect i o = JumpAndLink (taken_target (has_sign_bit o.rs) i o) 31 (return_address_of o.pc)
 
 -- branch on greater than or equal to zero and link, taken or not
 abbrev pub bgezal_effect : Operation → Operands → Effect
-bgezal_effect i o = JumpAndLink (branch_target (not (has_sign_bit o.rs)) i o) 31 (return_address_of o.pc)
+bgezal_effect i o = JumpAndLink (taken_target (not (has_sign_bit o.rs)) i o) 31 (return_address_of o.pc)
 
 -- jump
 abbrev pub j_effect : Operation → Operands → Effect
@@ -189,19 +183,19 @@ jal_effect i o = JumpAndLink (Some (jump_target_of o.pc i.index)) 31 (return_add
 
 -- branch on equal
 abbrev pub beq_effect : Operation → Operands → Effect
-beq_effect i o = Jump (branch_target (nat_eq o.rs o.rt) i o)
+beq_effect i o = Jump (taken_target (nat_eq o.rs o.rt) i o)
 
 -- branch on not equal
 abbrev pub bne_effect : Operation → Operands → Effect
-bne_effect i o = Jump (branch_target (not (nat_eq o.rs o.rt)) i o)
+bne_effect i o = Jump (taken_target (not (nat_eq o.rs o.rt)) i o)
 
 -- branch on less than or equal to zero
 abbrev pub blez_effect : Operation → Operands → Effect
-blez_effect i o = Jump (branch_target (nat_eq o.rs 0 || has_sign_bit o.rs) i o)
+blez_effect i o = Jump (taken_target (nat_eq o.rs 0 || has_sign_bit o.rs) i o)
 
 -- branch on greater than zero
 abbrev pub bgtz_effect : Operation → Operands → Effect
-bgtz_effect i o = Jump (branch_target (not (nat_eq o.rs 0 || has_sign_bit o.rs)) i o)
+bgtz_effect i o = Jump (taken_target (not (nat_eq o.rs 0 || has_sign_bit o.rs)) i o)
 
 -- add immediate: Ov on signed overflow
 abbrev pub addi_effect : Operation → Operands → Effect

@@ -1,14 +1,13 @@
 //! Branches and jumps. The instruction behind each of them stands in its delay slot.
 
 ghost use Rattle.std.specs.Prelude.{◌≡◌};
-ghost use Rattle.r3k_exec.specs.Effects.{jr_effect, jalr_effect, bltz_effect, bgez_effect, bltzal_effect, bgezal_effect, j_effect, jal_effect, beq_effect, bne_effect, blez_effect, bgtz_effect, branch_target, has_sign_bit, jump_target_of, return_address_of, NamesRegisters};
+ghost use Rattle.r3k_exec.specs.Effects.{jr_effect, jalr_effect, bltz_effect, bgez_effect, bltzal_effect, bgezal_effect, j_effect, jal_effect, beq_effect, bne_effect, blez_effect, bgtz_effect, taken_target, has_sign_bit, return_address_of, NamesRegisters};
 ghost use Rattle.r3k_exec.specs.declared.operands.Effect.TheVariants.{Jump, JumpAndLink};
 
-use crate::immediate::extended;
 use crate::operands::{Effect, Operands};
 use r3k_decode::Insn;
+use r3k_decode::target::{branch_target, jump_target};
 use r3k_word::arithmetic::add;
-use r3k_word::field::with_field;
 
 // Whether the signed reading of a word is below 0.
 #[inline]
@@ -28,41 +27,36 @@ fn return_address(pc: u32) -> u32
 
 // Where a branch goes, if it is taken.
 #[inline]
-fn branch_target(taken: bool, insn: &Insn, operands: Operands) -> Option<u32>
-    ensures { result ≡ branch_target taken insn.now operands }
+fn taken_target(taken: bool, insn: &Insn, operands: Operands) -> Option<u32>
+    ensures { result ≡ taken_target taken insn.now operands }
 {
-    let offset = extended(insn) << 2;
-    taken.then_some(add(add(operands.pc, 4), offset))
+    if taken {
+        Some(branch_target(operands.pc, insn.imm()))
+    } else {
+        None
+    }
 }
 
 // A branch, taken or not.
 #[inline]
 fn branch(taken: bool, insn: &Insn, operands: Operands) -> Effect
-    ensures { result ≡ Jump (branch_target taken insn.now operands) }
+    ensures { result ≡ Jump (taken_target taken insn.now operands) }
 {
     Effect::Jump {
-        target: branch_target(taken, insn, operands),
+        target: taken_target(taken, insn, operands),
     }
 }
 
 // A branch that links, taken or not.
 #[inline]
 fn branch_and_link(taken: bool, insn: &Insn, operands: Operands) -> Effect
-    ensures { result ≡ JumpAndLink (branch_target taken insn.now operands) 31 (return_address_of operands.pc) }
+    ensures { result ≡ JumpAndLink (taken_target taken insn.now operands) 31 (return_address_of operands.pc) }
 {
     Effect::JumpAndLink {
-        target: branch_target(taken, insn, operands),
+        target: taken_target(taken, insn, operands),
         register: 31,
         value: return_address(operands.pc),
     }
-}
-
-// Where a jump goes.
-#[inline]
-fn jump_target(insn: &Insn, pc: u32) -> u32
-    ensures { result ≡ jump_target_of pc insn.now.index }
-{
-    with_field::<27, 0>(add(pc, 4), insn.index() << 2)
 }
 
 /// Jump register.
@@ -132,7 +126,7 @@ pub(crate) fn j(insn: &Insn, operands: Operands) -> Effect
     ensures within { NamesRegisters result }
 {
     Effect::Jump {
-        target: Some(jump_target(insn, operands.pc)),
+        target: Some(jump_target(operands.pc, insn.index())),
     }
 }
 
@@ -143,7 +137,7 @@ pub(crate) fn jal(insn: &Insn, operands: Operands) -> Effect
     ensures within { NamesRegisters result }
 {
     Effect::JumpAndLink {
-        target: Some(jump_target(insn, operands.pc)),
+        target: Some(jump_target(operands.pc, insn.index())),
         register: 31,
         value: return_address(operands.pc),
     }

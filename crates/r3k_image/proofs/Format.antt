@@ -14,7 +14,7 @@ use Rattle.r3k_image.specs.declared.header.Header.{Header}
 use Rattle.r3k_image.specs.Boot.{Boot, IsBoot, IsConstant, IsClockStart}
 use Rattle.r3k_image.specs.Segments.{WordsAt, IsMadeOf, boot_of}
 use Rattle.r3k_image.specs.Spelling.{segment, spelling, Spells}
-use Rattle.r3k_image.specs.Reading.{◌>>=◌, Gives, bytes_at, number_at, constant_at, is_clock_start, header_at, segments_at, image_at}
+use Rattle.r3k_image.specs.Reading.{◌>>=◌, ReadsOrLacks, bytes_at, number_at, constant_at, is_clock_start, header_at, segments_at, image_at}
 use Rattle.r3k_image.proofs.Words.{AreBytes}
 use Rattle.r3k_image.proofs.Fields.{bind_ok, passes, ok_is, Takes, Takes-then, bytes_take, bytes_at_again, number_takes, number_at_again, constant_takes, constant_at_again, segments_take, segments_at_again, few}
 use Rattle.r3k_image.proofs.Kept.{is_boot}
@@ -122,7 +122,7 @@ image_at_again bytes boot spells =
     ∙ ap (λ (b : Boot). Ok b) same
 
 -- what was read is spelled so
-pub is_found : (bytes : List ℕ) (r : Result Boot ImageFault) → AreBytes bytes → Gives (λ image. image) r (image_at bytes) → IfOk r (λ image. Spells bytes image × IsBoot image)
+pub is_found : (bytes : List ℕ) (r : Result Boot ImageFault) → AreBytes bytes → ReadsOrLacks (λ image. image) r (image_at bytes) → IfOk r (λ image. Spells bytes image × IsBoot image)
 is_found bytes (Ok boot) are given = let s = image_takes bytes boot are given in (s, is_boot s.segments boot s.made)
 is_found bytes (Err fault) are given = tt
 

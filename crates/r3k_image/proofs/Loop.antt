@@ -6,7 +6,7 @@ use Rattle.r3k_image.specs.declared.fault.ImageKind.{ImageKind}
 use Rattle.r3k_image.specs.declared.fault.ImageFault.{ImageFault}
 use Rattle.r3k_image.specs.declared.fault.ImageFault.TheVariants.{Memory, Bad}
 use Rattle.r3k_image.specs.Segments.{WordsAt, end_of}
-use Rattle.r3k_image.specs.Reading.{◌>>=◌, Fails, segment_at, segments_at}
+use Rattle.r3k_image.specs.Reading.{◌>>=◌, FailsOrLacks, segment_at, segments_at}
 
 -- what was read before, and what is still read
 abbrev pub with_front : List WordsAt → Result (List WordsAt × List ℕ) ImageKind → Result (List WordsAt × List ℕ) ImageKind
@@ -47,8 +47,8 @@ goes_on count counter start bytes rest front s after next lt h e so_far =
       first = inl (whole_first start bytes rest (ap is_ok h) so_far.first);
     }
 
-pub ends_value : (fault : ImageFault) (count counter start : ℕ) (bytes rest : List ℕ) (front : List WordsAt) → counter < count → Fails fault (segment_at start rest)
-    → Reads count counter start bytes rest front → Fails fault (segments_at count 0 bytes)
+pub ends_value : (fault : ImageFault) (count counter start : ℕ) (bytes rest : List ℕ) (front : List WordsAt) → counter < count → FailsOrLacks fault (segment_at start rest)
+    → Reads count counter start bytes rest front → FailsOrLacks fault (segments_at count 0 bytes)
 unfolding segments_at
 ends_value Memory count counter start bytes rest front lt h so_far = tt
 ends_value (Bad kind) count counter start bytes rest front lt h so_far =

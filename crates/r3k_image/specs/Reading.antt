@@ -9,6 +9,7 @@ use Rattle.r3k_image.specs.declared.fault.ImageFault.{ImageFault}
 use Rattle.r3k_image.specs.declared.fault.ImageFault.TheVariants.{Memory, Bad}
 use Rattle.r3k_image.specs.declared.header.TheConstants.{MAGIC}
 use Rattle.r3k_image.specs.declared.header.Header.{Header}
+use Rattle.r3k_image.specs.declared.constants.TheConstants.{PLAIN_BYTE_TIME, PLAIN_UNIT, PLAIN_CLOCK_START}
 use Rattle.r3k_image.specs.Boot.{Boot}
 use Rattle.r3k_image.specs.Segments.{WordsAt, end_of, may_stand, boot_of}
 
@@ -18,18 +19,18 @@ abbrev pub ◌>>=◌ : {A B : Type 0} → Result A ImageKind → (A → Result B
 (Err e) >>= f = Err e
 
 -- what a function without growth of memory returned, seen by view, is what reading gives
-abbrev pub Tells : {X Y : Type 0} → (X → Y) → Result X ImageKind → Result Y ImageKind → Type 0
-Tells view (Ok x) read = read ≡ Ok (view x)
-Tells view (Err kind) read = read ≡ Err kind
+abbrev pub ReadsAs : {X Y : Type 0} → (X → Y) → Result X ImageKind → Result Y ImageKind → Type 0
+ReadsAs view (Ok x) read = read ≡ Ok (view x)
+ReadsAs view (Err kind) read = read ≡ Err kind
 
 -- the same for a function that may run out of memory
-abbrev pub Fails : {Y : Type 0} → ImageFault → Result Y ImageKind → Type 0
-Fails Memory read = Unit {0}
-Fails (Bad kind) read = read ≡ Err kind
+abbrev pub FailsOrLacks : {Y : Type 0} → ImageFault → Result Y ImageKind → Type 0
+FailsOrLacks Memory read = Unit {0}
+FailsOrLacks (Bad kind) read = read ≡ Err kind
 
-abbrev pub Gives : {X Y : Type 0} → (X → Y) → Result X ImageFault → Result Y ImageKind → Type 0
-Gives view (Ok x) read = read ≡ Ok (view x)
-Gives view (Err fault) read = Fails fault read
+abbrev pub ReadsOrLacks : {X Y : Type 0} → (X → Y) → Result X ImageFault → Result Y ImageKind → Type 0
+ReadsOrLacks view (Ok x) read = read ≡ Ok (view x)
+ReadsOrLacks view (Err fault) read = FailsOrLacks fault read
 
 -- so many bytes, and the bytes after them
 abbrev pub bytes_at : ℕ → List ℕ → Result (List ℕ × List ℕ) ImageKind
@@ -96,9 +97,8 @@ HasSegment bytes = IsOk (header_at bytes >>= λ header. if nat_lt 0 header.0.seg
 abbrev pub rom_words : List ℕ → List ℕ
 rom_words bytes = words_of ((length bytes + 3) / 4) (bytes ++ replicate 3 0)
 
--- the image of a raw ROM, if it is no longer than ROM: the ROM words that its bytes reach, byte time 16, unit 1, and a clock
--- that runs from midnight of Sunday, the 1st of January, in binary and 24 hours
+-- the image of a raw ROM, if it is no longer than ROM: the ROM words that its bytes reach, and the plain constants
 unfoldable pub raw_rom_at : List ℕ → Result Boot ImageKind
 raw_rom_at bytes =
     if nat_lt ROM_BYTES (length bytes) then Err kinds.RawSize
-    else Ok (boot_of (record { address = ROM_START; words = rom_words bytes } ∷ []) 16 1 (0 ∷ 0 ∷ 0 ∷ 0 ∷ 0 ∷ 0 ∷ 1 ∷ 1 ∷ 1 ∷ 0 ∷ 32 ∷ 6 ∷ []))
+    else Ok (boot_of (record { address = ROM_START; words = rom_words bytes } ∷ []) PLAIN_BYTE_TIME PLAIN_UNIT PLAIN_CLOCK_START)

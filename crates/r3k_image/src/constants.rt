@@ -5,6 +5,16 @@ ghost use Rattle.r3k_image.specs.Boot.{IsClockStart};
 
 use std::marker::Model;
 
+/// The byte time of an image that does not say it.
+pub const PLAIN_BYTE_TIME: u16 = 16;
+
+/// The unit of an image that does not say it.
+pub const PLAIN_UNIT: u16 = 1;
+
+/// The first 12 registers of the clock in an image that does not say them: midnight of Sunday, the 1st of January, in binary and
+/// 24 hours.
+pub const PLAIN_CLOCK_START: [u8; 12] = [0, 0, 0, 0, 0, 0, 1, 1, 1, 0, 0x20, 0x06];
+
 /// A byte time or a unit: 1 to 65,535.
 #[derive(Clone, Copy, Debug, PartialEq, Eq)]
 pub struct Constant {
@@ -28,6 +38,7 @@ impl Constant {
     ghost use Rattle.std.specs.Prelude.{◌≡◌};
     ghost use Rattle.std.specs.Option.{SomeIff};
     ghost use Rattle.r3k_image.specs.Boot.{IsConstant};
+    ghost use Rattle.r3k_image.specs.declared.constants.TheConstants.{PLAIN_BYTE_TIME, PLAIN_UNIT};
 
     /// The constant of a number, if it may be one.
     pub fn new(number: u64) -> Option<Constant>
@@ -43,16 +54,18 @@ impl Constant {
 
     /// The byte time of an image that does not say it.
     pub fn plain_byte_time() -> Constant
-        ensures { result ≡ 16 }
+        ensures { result ≡ PLAIN_BYTE_TIME }
     {
-        Constant { number: 16 }
+        Constant {
+            number: PLAIN_BYTE_TIME,
+        }
     }
 
     /// The unit of an image that does not say it.
     pub fn plain_unit() -> Constant
-        ensures { result ≡ 1 }
+        ensures { result ≡ PLAIN_UNIT }
     {
-        Constant { number: 1 }
+        Constant { number: PLAIN_UNIT }
     }
 
     /// The number.
@@ -94,7 +107,8 @@ fn may_start(registers: &[u8]) -> bool
 impl ClockStart {
     ghost use Rattle.std.specs.Prelude.{◌≡◌};
     ghost use Rattle.std.specs.Option.{SomeIff};
-    ghost use Rattle.r3k_image.specs.Boot.{IsClockStart, plain_clock_start};
+    ghost use Rattle.r3k_image.specs.Boot.{IsClockStart};
+    ghost use Rattle.r3k_image.specs.declared.constants.TheConstants.{PLAIN_CLOCK_START};
 
     /// What the registers start with, if they may.
     pub fn new(registers: &[u8; 12]) -> Option<ClockStart>
@@ -108,13 +122,12 @@ impl ClockStart {
         })
     }
 
-    /// What the clock starts with in an image that does not say it: midnight of Sunday, the 1st of January, in binary and 24
-    /// hours.
+    /// What the clock starts with in an image that does not say it.
     pub fn plain() -> ClockStart
-        ensures { result ≡ plain_clock_start }
+        ensures { result ≡ PLAIN_CLOCK_START }
     {
         ClockStart {
-            registers: [0, 0, 0, 0, 0, 0, 1, 1, 1, 0, 0x20, 0x06],
+            registers: PLAIN_CLOCK_START,
         }
     }
 

@@ -1,7 +1,7 @@
 //! What stands before the segments of an image, and the fields that all parts of the format are made of.
 
 ghost use Rattle.std.specs.Prelude.{◌≡◌, length, IfOk};
-ghost use Rattle.r3k_image.specs.Reading.{Tells, bytes_at, number_at, constant_at, header_at};
+ghost use Rattle.r3k_image.specs.Reading.{ReadsAs, bytes_at, number_at, constant_at, header_at};
 
 use crate::fault::ImageKind;
 use byteorder::{ByteOrder, LittleEndian};
@@ -20,7 +20,7 @@ pub struct Header {
 
 /// So many bytes, and the bytes after them.
 pub fn read_bytes(count: usize, bytes: &[u8]) -> Result<(&[u8], &[u8]), ImageKind>
-    ensures value { Tells (λ x. (x.0.now, x.1.now)) result (bytes_at count bytes.now) }
+    ensures value { ReadsAs (λ x. (x.0.now, x.1.now)) result (bytes_at count bytes.now) }
     ensures len { IfOk result (λ x. length x.0.now ≡ count) }
 {
     bytes.split_at_checked(count).ok_or(ImageKind::Short)
@@ -28,7 +28,7 @@ pub fn read_bytes(count: usize, bytes: &[u8]) -> Result<(&[u8], &[u8]), ImageKin
 
 /// A number of 32 bits, and the bytes after it.
 pub fn read_number(bytes: &[u8]) -> Result<(u32, &[u8]), ImageKind>
-    ensures { Tells (λ x. (x.0, x.1.now)) result (number_at bytes.now) }
+    ensures { ReadsAs (λ x. (x.0, x.1.now)) result (number_at bytes.now) }
 {
     let (number, rest) = read_bytes(4, bytes)?;
     Ok((LittleEndian::read_u32(number), rest))
@@ -37,7 +37,7 @@ pub fn read_number(bytes: &[u8]) -> Result<(u32, &[u8]), ImageKind>
 /// A number from 1 to 65,535, and the bytes after it, or else this fault.
 #[tactic(auto, unfolding(crate::specs::Reading::constant_at))]
 fn read_constant(fault: ImageKind, bytes: &[u8]) -> Result<(u16, &[u8]), ImageKind>
-    ensures { Tells (λ x. (x.0, x.1.now)) result (constant_at fault bytes.now) }
+    ensures { ReadsAs (λ x. (x.0, x.1.now)) result (constant_at fault bytes.now) }
 {
     let (number, rest) = read_number(bytes)?;
     if number == 0 || number > 0xFFFF {
@@ -49,7 +49,7 @@ fn read_constant(fault: ImageKind, bytes: &[u8]) -> Result<(u16, &[u8]), ImageKi
 /// What stands before the segments, and the bytes after it.
 #[tactic(auto, unfolding(crate::specs::Reading::header_at))]
 pub fn read_header(bytes: &[u8]) -> Result<(Header, &[u8]), ImageKind>
-    ensures { Tells (λ x. (x.0, x.1.now)) result (header_at bytes.now) }
+    ensures { ReadsAs (λ x. (x.0, x.1.now)) result (header_at bytes.now) }
 {
     let (magic, rest) = read_bytes(8, bytes)?;
     if magic != MAGIC.as_slice() {

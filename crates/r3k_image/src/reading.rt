@@ -4,7 +4,7 @@ ghost use Rattle.std.specs.Prelude.{◌≡◌, ◌+◌, ◌*◌, ◌/◌, ◌%�
 ghost use Rattle.r3k_image.specs.Boot.{Boot, IsBoot};
 ghost use Rattle.r3k_image.specs.Segments.{views, view, may_stand};
 ghost use Rattle.r3k_image.specs.Spelling.{Spells};
-ghost use Rattle.r3k_image.specs.Reading.{Gives, words_of, segment_at, segments_at, image_at, HasSegment};
+ghost use Rattle.r3k_image.specs.Reading.{ReadsOrLacks, words_of, segment_at, segments_at, image_at, HasSegment};
 
 use crate::fault::{ImageFault, ImageKind};
 use crate::header::{read_bytes, read_header, read_number};
@@ -41,7 +41,7 @@ fn is_place(start: u64, address: u32, count: u32) -> bool
 /// A segment behind one that ends at `start`, and the bytes after it.
 #[tactic(auto, unfolding(crate::specs::Reading::segment_at))]
 fn read_segment(alloc: Global, start: u64, bytes: &[u8]) -> Result<(Segment, &[u8]), ImageFault>
-    ensures value { Gives (λ x. (view x.0, x.1.now)) result (segment_at start bytes.now) }
+    ensures value { ReadsOrLacks (λ x. (view x.0, x.1.now)) result (segment_at start bytes.now) }
     ensures memory { IsErrOf result ImageFault.Memory → IsOk (segment_at start bytes.now) }
 {
     let (address, rest) = read_number(bytes)?;
@@ -60,7 +60,7 @@ fn read_segments(
     count: u32,
     bytes: &[u8],
 ) -> Result<(Vec<Segment>, &[u8]), ImageFault>
-    ensures value { Gives (λ x. (views x.0.items, x.1.now)) result
+    ensures value { ReadsOrLacks (λ x. (views x.0.items, x.1.now)) result
         (segments_at count 0 bytes.now) }
     ensures memory { IsErrOf result ImageFault.Memory →
         (0 < count) × IsOk (segment_at 0 bytes.now) }
@@ -80,7 +80,7 @@ fn read_segments(
 /// The image that the bytes are, all of the bytes.
 #[tactic(auto, unfolding(crate::specs::Reading::image_at))]
 fn read_all(alloc: Global, bytes: &[u8]) -> Result<Image, ImageFault>
-    ensures exact { Gives (λ image. image) result (image_at bytes.now) }
+    ensures exact { ReadsOrLacks (λ image. image) result (image_at bytes.now) }
     ensures memory { IsErrOf result ImageFault.Memory → HasSegment bytes.now }
 {
     let (header, rest) = read_header(bytes)?;
@@ -105,9 +105,9 @@ pub fn read_image(alloc: Global, bytes: &[u8]) -> Result<Image, ImageFault>
     ensures found { IfOk result (λ image. Spells bytes.now image × IsBoot image) }
     // What is spelled so is read, unless memory runs out.
     ensures only { (boot : Boot) → Spells bytes.now boot →
-        Gives (λ image. image) result (Ok boot) }
+        ReadsOrLacks (λ image. image) result (Ok boot) }
     // Which fault it is: the first from left to right.
-    ensures exact { Gives (λ image. image) result (image_at bytes.now) }
+    ensures exact { ReadsOrLacks (λ image. image) result (image_at bytes.now) }
     // Memory is asked for only where a whole segment is there.
     ensures memory { IsErrOf result ImageFault.Memory → HasSegment bytes.now }
 {

@@ -2,8 +2,9 @@
 
 ghost use Rattle.std.specs.Prelude.{◌≡◌, ◌<◌, ◌≤◌, ◌↔◌, length, IfOk, IsErrOf};
 ghost use Rattle.r3k_image.specs.Boot.{IsBoot};
-ghost use Rattle.r3k_image.specs.Reading.{Gives, rom_words, raw_rom_at};
+ghost use Rattle.r3k_image.specs.Reading.{ReadsOrLacks, rom_words, raw_rom_at};
 
+use crate::constants::{PLAIN_BYTE_TIME, PLAIN_CLOCK_START, PLAIN_UNIT};
 use crate::fault::{ImageFault, ImageKind};
 use crate::image::Image;
 use crate::reading::read_words;
@@ -26,12 +27,12 @@ fn read_padded_words(alloc: Global, bytes: &[u8]) -> Result<Vec<u32>, AllocError
     Ok(words)
 }
 
-/// The image of a raw ROM: it sets the words of ROM that the bytes reach, the last part filled with zero bytes. Its byte
-/// time is 16 and its unit 1, and the clock starts at midnight of Sunday, the 1st of January, in binary and 24 hours.
+/// The image of a raw ROM: it sets the words of ROM that the bytes reach, the last part filled with zero bytes. Its
+/// constants are the plain ones.
 #[tactic(auto, unfolding(crate::specs::Reading::raw_rom_at))]
 pub fn raw_rom(alloc: Global, bytes: &[u8]) -> Result<Image, ImageFault>
     // It is this image, or the fault that it has, unless memory runs out.
-    ensures exact { Gives (λ image. image) result (raw_rom_at bytes.now) }
+    ensures exact { ReadsOrLacks (λ image. image) result (raw_rom_at bytes.now) }
     ensures too_large { IsErrOf result (ImageFault.Bad ImageKind.RawSize) ↔
         (ROM_BYTES < length bytes.now) }
     // Memory is asked for only where there are bytes, and not too many.
@@ -52,8 +53,8 @@ pub fn raw_rom(alloc: Global, bytes: &[u8]) -> Result<Image, ImageFault>
     }
     Ok(Image {
         segments,
-        byte_time: 16,
-        unit: 1,
-        clock_start: [0, 0, 0, 0, 0, 0, 1, 1, 1, 0, 0x20, 0x06],
+        byte_time: PLAIN_BYTE_TIME,
+        unit: PLAIN_UNIT,
+        clock_start: PLAIN_CLOCK_START,
     })
 }

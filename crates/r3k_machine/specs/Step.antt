@@ -113,15 +113,15 @@ abbrev pub branched : Core → Option ℕ → Core
 branched core target = record core { next_pc = next_pc_of core target; delay = true }
 
 -- what the instruction leaves and tells, or its exception, with the processor as its access left it
-pub record Fault : Type 0 where
+pub record Raised : Type 0 where
   pub core : Core
   pub exception : Exception
 
-abbrev pub faulted : Core → Exception → Fault
-faulted core exception = record { core = core; exception = exception }
+abbrev pub raised : Core → Exception → Raised
+raised core exception = record { core = core; exception = exception }
 
 abbrev pub Completion : Type 0
-Completion = Result Outcome Fault
+Completion = Result Outcome Raised
 
 -- an instruction that touches no memory but the page that it was fetched from
 abbrev pub completion_without_access : State → ℕ → Core → Completion
@@ -129,7 +129,7 @@ completion_without_access s page core = Ok (record { state = record { core = cor
 
 -- A load. One that merges keeps bytes of the register once the pending load has landed.
 abbrev pub completion_of_load : State → ℕ → LoadKind → (number address : ℕ) → Result Loaded Exception → Completion
-completion_of_load s page kind number address (Err exception) = Err (faulted s.core exception)
+completion_of_load s page kind number address (Err exception) = Err (raised s.core exception)
 completion_of_load s page kind number address (Ok w) = Ok (record {
   state = record { core = with_slot (passed s.core) number (loaded kind (address % 4) w.word (register (passed s.core) number)); words = s.words };
   done = loading page w.page;
@@ -137,7 +137,7 @@ completion_of_load s page kind number address (Ok w) = Ok (record {
 
 -- a store, into a word of RAM or into none
 abbrev pub completion_of_store : State → ℕ → List ℕ → Result Stored Exception → Completion
-completion_of_store s page words (Err exception) = Err (faulted s.core exception)
+completion_of_store s page words (Err exception) = Err (raised s.core exception)
 completion_of_store s page words (Ok stored) = Ok (record {
   state = record { core = passed s.core; words = words };
   done = storing page stored;
@@ -152,7 +152,7 @@ completion_of_effect pages s page (WriteHiLo hi lo) = completion_without_access 
 completion_of_effect pages s page (Jump target) = completion_without_access s page (branched (passed s.core) target)
 completion_of_effect pages s page (JumpAndLink target number value) =
     completion_without_access s page (with_write (branched (passed s.core) target) number value)
-completion_of_effect pages s page (Trap trap) = Err (faulted s.core (exception_of trap))
+completion_of_effect pages s page (Trap trap) = Err (raised s.core (exception_of trap))
 completion_of_effect pages s page (Load kind number address) =
     completion_of_load (record { core = core_after_load pages s.core kind address; words = s.words }) page kind number address (loaded_from pages s.words s.core kind address)
 completion_of_effect pages s page (Store kind address value) =
@@ -170,17 +170,17 @@ completion_of_effect pages s page ProbeEntry = completion_without_access s page 
 
 -- the instruction of a word
 abbrev pub completion_of_operation : ℕ → State → Word → Option Operation → Completion
-completion_of_operation pages s w None = Err (faulted s.core (without_row w.word))
+completion_of_operation pages s w None = Err (raised s.core (without_row w.word))
 completion_of_operation pages s w (Some i) = completion_of_effect pages s w.page (effect_of i (operands_of s.core i))
 
 abbrev pub completion_of_word : ℕ → State → Word → Completion
 completion_of_word pages s w =
-    if is_unusable s.core w.word then Err (faulted s.core (CoprocessorUnusable Cp0)) else completion_of_operation pages s w (operation_of w.word)
+    if is_unusable s.core w.word then Err (raised s.core (CoprocessorUnusable Cp0)) else completion_of_operation pages s w (operation_of w.word)
 
 -- a call that completes an instruction, or leaves the words as they were, and the processor as the access left it
 abbrev pub IsCompletion : Result Done Exception → State → State → Completion → Type 0
 IsCompletion (Ok done) old new completion = completion ≡ Ok (record { state = new; done = done })
-IsCompletion (Err exception) old new completion = (completion ≡ Err (faulted new.core exception)) × (new.words ≡ old.words)
+IsCompletion (Err exception) old new completion = (completion ≡ Err (raised new.core exception)) × (new.words ≡ old.words)
 
 -- an exception in place of the instruction
 abbrev pub outcome_of_exception : State → Option ℕ → Exception → Outcome

@@ -6,7 +6,7 @@ use Rattle.wb_options.specs.Fault.{line_of, status_of}
 use Rattle.wb_options.specs.Options.{IsLineFault, IsLine}
 use Rattle.wb_options.specs.declared.fault.RunFault.{RunFault}
 use Rattle.wb_options.specs.declared.fault.RunFault.TheVariants.{Memory, Usage, Help}
-use Rattle.workbench.specs.Serve.{Front, Serves}
+use Rattle.workbench.specs.Serve.{Layout, Serves}
 
 -- a text, if there is one, was written, whole or up to the first write that failed or took none of it
 abbrev pub Tells : Option (List ℕ) → List Call → Type 0
@@ -30,7 +30,7 @@ help_text result = None
 abbrev pub Serving : {T : Type 0} → ℕ → Option (List (List ℕ)) → Result T RunFault → (reads writes : List Call) → Type 0
 Serving pages None result reads writes = (result ≡ Err Memory) × (reads ≡ []) × (writes ≡ [])
 Serving pages (Some words) result reads writes =
-    ((front : Front) × IsLine words front.kind front.size front.log_size × Serves pages front result reads writes)
+    ((layout : Layout) × IsLine words layout.kind layout.size layout.log_size × Serves pages layout result reads writes)
     ⊎ ((fault : RunFault) × (result ≡ Err fault) × IsLineFault words fault × (reads ≡ []) × (writes ≡ []))
 
 -- The program: the words are served or not, then help goes to the output, and a fault is told on the errors.

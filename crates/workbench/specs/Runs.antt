@@ -73,8 +73,8 @@ Untouched reads writes = (reads ≡ []) × (writes ≡ [])
 
 -- The same of a run of an image and a log on a machine with so many pages of RAM: an image that does not fit, and want of
 -- memory for one that does, are refused before anything is read or written.
-abbrev pub Runs : {T : Type 0} → (pages most : ℕ) → Boot → List TimedByte → Result T RunFault → (reads writes : List Call) → Type 0
-Runs pages most image log (Err Memory) reads writes = FitsRam pages image × Untouched reads writes
-Runs pages most image log (Err (BadImage kind)) reads writes = (kind ≡ Pages) × ¬ FitsRam pages image × Untouched reads writes
-Runs pages most image log result reads writes =
+abbrev pub RunsScript : {T : Type 0} → (pages most : ℕ) → Boot → List TimedByte → Result T RunFault → (reads writes : List Call) → Type 0
+RunsScript pages most image log (Err Memory) reads writes = FitsRam pages image × Untouched reads writes
+RunsScript pages most image log (Err (BadImage kind)) reads writes = (kind ≡ Pages) × ¬ FitsRam pages image × Untouched reads writes
+RunsScript pages most image log result reads writes =
     FitsRam pages image × ScriptRuns pages most (record { image = image; log = log; position = 0 }) result reads writes

@@ -37,32 +37,32 @@ Makes (Err Memory) answer = Unit {0}
 Makes (Err fault) answer = answer ≡ Err fault
 
 -- what the program's line says of the bytes before the script: a kind, and how many are those of the image and of the log
-pub record Front : Type 0 where
+pub record Layout : Type 0 where
   pub kind : Kind
   pub size : ℕ
   pub log_size : ℕ
 
-abbrev pub size_of : Front → ℕ
-size_of front = front.size + front.log_size
+abbrev pub size_of : Layout → ℕ
+size_of layout = layout.size + layout.log_size
 
-abbrev pub image_in : Front → List ℕ → Result Boot RunFault
-image_in front bytes = image_of front.kind (take front.size bytes)
+abbrev pub image_in : Layout → List ℕ → Result Boot RunFault
+image_in layout bytes = image_of layout.kind (take layout.size bytes)
 
-abbrev pub log_in : Front → List ℕ → Result (List TimedByte) RunFault
-log_in front bytes = log_of (drop front.size bytes)
+abbrev pub log_in : Layout → List ℕ → Result (List TimedByte) RunFault
+log_in layout bytes = log_of (drop layout.size bytes)
 
 -- these bytes make this image and this log, and the image fits a machine with so many pages of RAM
-pub record IsGood (pages : ℕ) (front : Front) (bytes : List ℕ) (image : Boot) (log : List TimedByte) : Type 0 where
-  pub image_is : image_in front bytes ≡ Ok image
-  pub log_is : log_in front bytes ≡ Ok log
+pub record IsGood (pages : ℕ) (layout : Layout) (bytes : List ℕ) (image : Boot) (log : List TimedByte) : Type 0 where
+  pub image_is : image_in layout bytes ≡ Ok image
+  pub log_is : log_in layout bytes ≡ Ok log
   pub fits : FitsRam pages image
 
 -- They make no image; or an image, and no log; or both, and the image does not fit. The first of these is told.
-abbrev pub IsBad : ℕ → Front → List ℕ → RunFault → Type 0
-IsBad pages front bytes fault =
-    (image_in front bytes ≡ Err fault)
-    ⊎ (((image : Boot) × (image_in front bytes ≡ Ok image) × (log_in front bytes ≡ Err fault))
-    ⊎ ((image : Boot) × (log : List TimedByte) × (image_in front bytes ≡ Ok image) × (log_in front bytes ≡ Ok log) × ¬ FitsRam pages image × (fault ≡ BadImage Pages)))
+abbrev pub IsBad : ℕ → Layout → List ℕ → RunFault → Type 0
+IsBad pages layout bytes fault =
+    (image_in layout bytes ≡ Err fault)
+    ⊎ (((image : Boot) × (image_in layout bytes ≡ Ok image) × (log_in layout bytes ≡ Err fault))
+    ⊎ ((image : Boot) × (log : List TimedByte) × (image_in layout bytes ≡ Ok image) × (log_in layout bytes ≡ Ok log) × ¬ FitsRam pages image × (fault ≡ BadImage Pages)))
 
 -- reads of so many bytes: each asked for what was missing, or for a piece of 4096, and gave some
 abbrev pub AsksFor : ℕ → List Call → Type 0
@@ -90,29 +90,29 @@ IsCutWithin size reads =
 
 -- Image and log were read and found good, and what followed was run as a script from position 0. All reads together are at
 -- most 2^20.
-pub record ServesScript {T : Type 0} (pages : ℕ) (front : Front) (result : Result T RunFault) (reads writes : List Call) : Type 0 where
+pub record ServesScript {T : Type 0} (pages : ℕ) (layout : Layout) (result : Result T RunFault) (reads writes : List Call) : Type 0 where
   pub before : List Call
   pub script : List Call
   pub image : Boot
   pub log : List TimedByte
   pub reads_are : reads ≡ before ++ script
-  pub read : ReadsAll (size_of front) before
-  pub good : IsGood pages front (bytes_moved before) image log
+  pub read : ReadsAll (size_of layout) before
+  pub good : IsGood pages layout (bytes_moved before) image log
   pub runs : ScriptRuns pages (1048576 - length before) (record { image = image; log = log; position = 0 }) result script writes
 
 -- Image and log were read and refused, and this is why. Nothing is written.
-abbrev pub Refuses : ℕ → Front → RunFault → (reads writes : List Call) → Type 0
-Refuses pages front fault reads writes = ReadsAll (size_of front) reads × IsBad pages front (bytes_moved reads) fault × (writes ≡ [])
+abbrev pub Refuses : ℕ → Layout → RunFault → (reads writes : List Call) → Type 0
+Refuses pages layout fault reads writes = ReadsAll (size_of layout) reads × IsBad pages layout (bytes_moved reads) fault × (writes ≡ [])
 
 -- How the program's run goes, by its result. Nothing is written before image and log are read and found good.
-abbrev pub Serves : {T : Type 0} → ℕ → Front → Result T RunFault → (reads writes : List Call) → Type 0
-Serves pages front (Err Memory) reads writes = AsksFor (size_of front) reads × (writes ≡ [])
-Serves pages front (Err (BadImage why)) reads writes = Refuses pages front (BadImage why) reads writes
-Serves pages front (Err (BadLog why)) reads writes = Refuses pages front (BadLog why) reads writes
-Serves pages front (Err (BadSource line why)) reads writes = Refuses pages front (BadSource line why) reads writes
-Serves pages front (Err ReadFault) reads writes =
-    (IsCutWithin (size_of front) reads × (writes ≡ [])) ⊎ ServesScript {T = Unit {0}} pages front (Err ReadFault) reads writes
-Serves pages front result reads writes = ServesScript pages front result reads writes
+abbrev pub Serves : {T : Type 0} → ℕ → Layout → Result T RunFault → (reads writes : List Call) → Type 0
+Serves pages layout (Err Memory) reads writes = AsksFor (size_of layout) reads × (writes ≡ [])
+Serves pages layout (Err (BadImage why)) reads writes = Refuses pages layout (BadImage why) reads writes
+Serves pages layout (Err (BadLog why)) reads writes = Refuses pages layout (BadLog why) reads writes
+Serves pages layout (Err (BadSource line why)) reads writes = Refuses pages layout (BadSource line why) reads writes
+Serves pages layout (Err ReadFault) reads writes =
+    (IsCutWithin (size_of layout) reads × (writes ≡ [])) ⊎ ServesScript {T = Unit {0}} pages layout (Err ReadFault) reads writes
+Serves pages layout result reads writes = ServesScript pages layout result reads writes
 
 -- why image or log could not be made
 abbrev pub IsJudgement : RunFault → Type 0

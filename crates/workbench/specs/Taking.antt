@@ -6,8 +6,8 @@ use Rattle.wb_text.specs.Reply.{text_of}
 use Rattle.workbench.specs.LineBuffer.{HasNoFeed}
 use Rattle.workbench.specs.Script.{FromLine, IsText, Quits, QuitsAnyway, complete_lines, lines_of, says_quit}
 use Rattle.wb_session.specs.Session.{Triple}
-use Rattle.workbench.specs.declared.script.Answer.{Answer}
-use Rattle.workbench.specs.declared.script.Answer.TheVariants.{Quit, Nothing, Reply}
+use Rattle.workbench.specs.declared.script.LineOutcome.{LineOutcome}
+use Rattle.workbench.specs.declared.script.LineOutcome.TheVariants.{Quit, Nothing, Reply}
 
 -- What is pending is a part of a line, and the bytes that it lacks follow. Whatever follows, the text of all of it is what
 -- was written so far and a text from here on. What was written so far is a text of the complete lines, and none says `quit`.
@@ -34,10 +34,10 @@ pub record LeadsTo (pages : ℕ) (s : Triple) (line : List ℕ) (new : Triple) (
   pub no_quit : says_quit (command_of line) ≡ false
 
 -- what a line brings: it is `quit`, or it leads to another session with no text, or with that of a reply
-abbrev pub IsAnswer : ℕ → Triple → List ℕ → Triple → Answer → Type 0
-IsAnswer pages s line new Quit = says_quit (command_of line) ≡ true
-IsAnswer pages s line new Nothing = LeadsTo pages s line new []
-IsAnswer pages s line new (Reply reply) = LeadsTo pages s line new (text_of reply)
+abbrev pub IsLineOutcome : ℕ → Triple → List ℕ → Triple → LineOutcome → Type 0
+IsLineOutcome pages s line new Quit = says_quit (command_of line) ≡ true
+IsLineOutcome pages s line new Nothing = LeadsTo pages s line new []
+IsLineOutcome pages s line new (Reply reply) = LeadsTo pages s line new (text_of reply)
 
 -- a line was answered by these calls: it is `quit`, and nothing was written, or it leads to another session
 abbrev pub Answered : ℕ → Triple → List ℕ → Triple → List Call → Bool → Type 0

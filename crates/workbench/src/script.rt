@@ -3,10 +3,10 @@ ghost use Rattle.std.specs.Prelude.{◌≡◌, ◌≤◌, ◌∷◌, ◌++◌, [
 ghost use Rattle.wb_io.specs.Calls.{Call, Reads, TakesAll, TakesFront, Writes};
 ghost use Rattle.wb_options.specs.declared.fault.RunFault.TheVariants.{WriteFault};
 ghost use Rattle.workbench.specs.LineBuffer.{HasNoFeed};
-ghost use Rattle.workbench.specs.Runs.{Runs, ScriptRuns, WritesText};
+ghost use Rattle.workbench.specs.Runs.{RunsScript, ScriptRuns, WritesText};
 ghost use Rattle.workbench.specs.Script.{is_quit, lines_of};
 ghost use Rattle.timeline.specs.Sizes.{AreSizes};
-ghost use Rattle.workbench.specs.Taking.{Answered, IsAnswer, Stops, Took, Unanswered};
+ghost use Rattle.workbench.specs.Taking.{Answered, IsLineOutcome, Stops, Took, Unanswered};
 
 use crate::line_buffer::LineBuffer;
 use input_log::Log;
@@ -37,7 +37,7 @@ pub fn run<const PAGES: u32, const SPAN: u32, R: Source, W: Sink>(
         × Reads (R.reads reader.old) (R.reads reader.new) (R.left reader.old) (R.left reader.new) reads
         × Writes (W.writes writer.old) (W.writes writer.new) (W.written writer.old) (W.written writer.new) writes
         × (length reads ≤ 1048576)
-        × Runs PAGES 1048576 image log result reads writes }
+        × RunsScript PAGES 1048576 image log result reads writes }
 {
     run_with::<PAGES, SPAN, R, W>(alloc, image, log, reader, writer, MAX_READS)
 }
@@ -56,7 +56,7 @@ pub(crate) fn run_with<const PAGES: u32, const SPAN: u32, R: Source, W: Sink>(
         × Reads (R.reads reader.old) (R.reads reader.new) (R.left reader.old) (R.left reader.new) reads
         × Writes (W.writes writer.old) (W.writes writer.new) (W.written writer.old) (W.written writer.new) writes
         × (length reads ≤ most)
-        × Runs PAGES most image log result reads writes }
+        × RunsScript PAGES most image log result reads writes }
 {
     let mut session = match Session::<PAGES, SPAN>::new(alloc, image, log) {
         Ok(session) => session,
@@ -187,9 +187,9 @@ fn answer_line<const PAGES: u32, const SPAN: u32, W: Sink>(
         (λ fault. (fault ≡ WriteFault) × Unanswered PAGES session.old line.now calls) }
 {
     let reply = match answer_to(session, line) {
-        Answer::Quit => return Ok(true),
-        Answer::Nothing => return Ok(false),
-        Answer::Reply(reply) => reply,
+        LineOutcome::Quit => return Ok(true),
+        LineOutcome::Nothing => return Ok(false),
+        LineOutcome::Reply(reply) => reply,
     };
     let text = reply_text(&reply);
     match write_whole(writer, text.as_slice()) {
@@ -200,7 +200,7 @@ fn answer_line<const PAGES: u32, const SPAN: u32, W: Sink>(
 
 // What a line brings.
 #[derive(Drop)]
-enum Answer {
+enum LineOutcome {
     // The end of the script.
     Quit,
     // Nothing: it has no command.
@@ -213,17 +213,17 @@ enum Answer {
 fn answer_to<const PAGES: u32, const SPAN: u32>(
     session: &mut Session<PAGES, SPAN>,
     line: &[u8],
-) -> Answer
-    ensures { IsAnswer PAGES session.old line.now session.new result }
+) -> LineOutcome
+    ensures { IsLineOutcome PAGES session.old line.now session.new result }
 {
     match parse_line(line) {
-        Err(fault) => Answer::Reply(Reply::Fault(fault)),
-        Ok(None) => Answer::Nothing,
+        Err(fault) => LineOutcome::Reply(Reply::Fault(fault)),
+        Ok(None) => LineOutcome::Nothing,
         Ok(Some(command)) => {
             if is_quit(&command) {
-                return Answer::Quit;
+                return LineOutcome::Quit;
             }
-            Answer::Reply(session.apply(command))
+            LineOutcome::Reply(session.apply(command))
         }
     }
 }

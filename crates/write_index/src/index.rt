@@ -1,6 +1,6 @@
 //! The index: which pages each span stored into.
 
-ghost use Rattle.std.specs.Prelude.{◌≡◌, ◌≢◌, ◌+◌, ◌*◌, ◌^◌, ◌<◌, ◌≤◌, ℕ, IfOk, OnErr, [], length, max};
+ghost use Rattle.std.specs.Prelude.{◌≡◌, ◌≢◌, ◌+◌, ◌-◌, ◌*◌, ◌^◌, ◌<◌, ◌≤◌, ℕ, IfOk, IfSome, OnErr, [], length, max, min};
 ghost use Rattle.std.specs.List.Sorted.{IsStrictlyIncreasing};
 ghost use Rattle.write_index.specs.Pages.{HasDigits, IsLast, pages_at};
 
@@ -66,6 +66,8 @@ impl WriteIndex {
         ensures last { IsLast self.now page before result }
         ensures asked { (digits : ℕ) → HasDigits (max 1 (length self.now)) digits → asked.new.nodes ≤ asked.old.nodes + (2 * digits + 2) }
         ensures counted { asked.old.nodes ≤ asked.new.nodes }
+        // None is found without a look.
+        ensures found { IfSome result (λ _. min (asked.old.nodes + 1) (2 ^ 64 - 1) ≤ asked.new.nodes) }
     {
         let end = self.count.min(before as usize);
         let span = last_in(&self.levels, end, page, asked)?;

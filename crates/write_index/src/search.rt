@@ -1,6 +1,6 @@
 //! The search for the last span that has a page. It asks a node for its pages through `look` alone, which counts.
 
-ghost use Rattle.std.specs.Prelude.{◌≡◌, ◌+◌, ◌-◌, ◌*◌, ◌/◌, ◌^◌, ◌<◌, ◌≤◌, ℕ, IsFalse, IsTrue, false, length, min};
+ghost use Rattle.std.specs.Prelude.{◌≡◌, ◌+◌, ◌-◌, ◌*◌, ◌/◌, ◌^◌, ◌<◌, ◌≤◌, ℕ, IfSome, IsFalse, IsTrue, false, length, min};
 ghost use Rattle.write_index.specs.Pages.{IsLast, holds, pages_at};
 ghost use Rattle.write_index.specs.Tree.{IsTree, bottom};
 
@@ -18,6 +18,7 @@ pub(crate) fn last_in(levels: &[Level], end: usize, page: u32, asked: &mut Asked
     ensures last { IsLast (bottom levels.now) page end result }
     ensures asked { (digits : ℕ) → end < 2 ^ digits → asked.new.nodes ≤ asked.old.nodes + 2 * digits }
     ensures counted { asked.old.nodes ≤ asked.new.nodes }
+    ensures found { IfSome result (λ _. min (asked.old.nodes + 1) (2 ^ 64 - 1) ≤ asked.new.nodes) }
 {
     match levels.split_first() {
         None => None,
@@ -45,6 +46,7 @@ fn look_at_odd(level: &Level, end: usize, page: u32, asked: &mut Asked) -> bool
     ensures not { IsFalse result → (m : ℕ) → 2 * (end / 2) ≤ m → m < end → IsFalse (holds (pages_at level.now m) page) }
     ensures asked { asked.new.nodes ≤ asked.old.nodes + 1 }
     ensures counted { asked.old.nodes ≤ asked.new.nodes }
+    ensures found { IsTrue result → asked.new.nodes ≡ min (asked.old.nodes + 1) (2 ^ 64 - 1) }
 {
     if end % 2 == 0 {
         return false;

@@ -1,7 +1,7 @@
 use Rattle.std.proofs.Common.{◌∙◌, ap, subst, arith}
 use Rattle.std.proofs.Common.{List}
 use Rattle.input_log.specs.Event.{TimedByte}
-use Rattle.input_log.specs.Reading.{Gives, log_at}
+use Rattle.input_log.specs.Reading.{ReadsOrLacks, log_at}
 use Rattle.input_log.proofs.Logs.{is_found, log_at_again}
 use Rattle.input_log.proofs.reading.read_log.Goals as goal
 
@@ -10,4 +10,4 @@ returns-clause-found c = is_found c.args.bytes.now c.read_all.result (λ i. omeg
 
 pub returns-clause-only : goal.returns-clause-only
 returns-clause-only c = λ log good spelled.
-    subst (Gives (λ (x : List TimedByte). x) c.read_all.result) (ap log_at spelled ∙ log_at_again log good) c.read_all.ensures.exact
+    subst (ReadsOrLacks (λ (x : List TimedByte). x) c.read_all.result) (ap log_at spelled ∙ log_at_again log good) c.read_all.ensures.exact

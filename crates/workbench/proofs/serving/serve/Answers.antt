@@ -2,19 +2,19 @@ use Rattle.std.proofs.Common.{[], ◌++◌, ◌≡◌, List, ℕ, Ok, Err, take,
 use Rattle.r3k_image.specs.Boot.{Boot}
 use Rattle.input_log.specs.Event.{TimedByte}
 use Rattle.wb_io.proofs.CallLemmas.{Reads-trans, Writes-nil}
-use Rattle.workbench.specs.Serve.{Front, Makes, image_of, log_of}
+use Rattle.workbench.specs.Serve.{Layout, Makes, image_of, log_of}
 use Rattle.workbench.proofs.Outcomes.{front_fault_serves, no_image_serves, no_log_serves, run_serves}
 use Rattle.workbench.proofs.serving.serve.Goals as goal
 
 pub returns-in-Err : goal.returns-in-Err
 returns-in-Err g c =
-    let front : Front = record { kind = c.args.options.kind; size = c.args.options.size; log_size = c.args.options.log_size } in
+    let layout : Layout = record { kind = c.args.options.kind; size = c.args.options.size; log_size = c.args.options.log_size } in
     let h = c.in-Err.ensures in
-    (h.0, [], h.1, Writes-nil (g.W.Sink.writes c.args.writer.now) (g.W.Sink.written c.args.writer.now), h.2, front_fault_serves (Unit {0}) g.row.PAGES front c.in-Err.fault h.0 h.3)
+    (h.0, [], h.1, Writes-nil (g.W.Sink.writes c.args.writer.now) (g.W.Sink.written c.args.writer.now), h.2, front_fault_serves (Unit {0}) g.row.PAGES layout c.in-Err.fault h.0 h.3)
 
 pub returns-in-Err-image_of : goal.returns-in-Err-image_of
 returns-in-Err-image_of g c =
-    let front : Front = record { kind = c.args.options.kind; size = c.args.options.size; log_size = c.args.options.log_size } in
+    let layout : Layout = record { kind = c.args.options.kind; size = c.args.options.size; log_size = c.args.options.log_size } in
     let f = c.in-Ok.ensures in
     let bytes = c.split_at.ensures.front ∙ ap (λ (z : List ℕ). take c.args.options.size z) (c.deref.ensures.value ∙ f.3.1) in
     let fault = c.in-Err-image_of.refusal in
@@ -24,13 +24,13 @@ returns-in-Err-image_of g c =
       f.1,
       Writes-nil (g.W.Sink.writes c.args.writer.now) (g.W.Sink.written c.args.writer.now),
       f.2,
-      no_image_serves (Unit {0}) g.row.PAGES front fault f.0 f.3.0 none.judged
+      no_image_serves (Unit {0}) g.row.PAGES layout fault f.0 f.3.0 none.judged
           (subst (λ (z : List ℕ). Makes {A = Boot} (Err fault) (image_of c.args.options.kind z)) bytes none.made),
     )
 
 pub returns-in-Err-log_of : goal.returns-in-Err-log_of
 returns-in-Err-log_of g c =
-    let front : Front = record { kind = c.args.options.kind; size = c.args.options.size; log_size = c.args.options.log_size } in
+    let layout : Layout = record { kind = c.args.options.kind; size = c.args.options.size; log_size = c.args.options.log_size } in
     let f = c.in-Ok.ensures in
     let all = c.deref.ensures.value ∙ f.3.1 in
     let bytes = c.split_at.ensures.front ∙ ap (λ (z : List ℕ). take c.args.options.size z) all in
@@ -44,14 +44,14 @@ returns-in-Err-log_of g c =
       f.1,
       Writes-nil (g.W.Sink.writes c.args.writer.now) (g.W.Sink.written c.args.writer.now),
       f.2,
-      no_log_serves (Unit {0}) g.row.PAGES front fault f.0 f.3.0 none.judged image
+      no_log_serves (Unit {0}) g.row.PAGES layout fault f.0 f.3.0 none.judged image
           (subst (λ (z : List ℕ). image_of c.args.options.kind z ≡ Ok image) bytes made.made)
           (subst (λ (z : List ℕ). Makes {A = List TimedByte} (Err fault) (log_of z)) rest none.made),
     )
 
 pub returns : goal.returns
 returns g c =
-    let front : Front = record { kind = c.args.options.kind; size = c.args.options.size; log_size = c.args.options.log_size } in
+    let layout : Layout = record { kind = c.args.options.kind; size = c.args.options.size; log_size = c.args.options.log_size } in
     let f = c.in-Ok.ensures in
     let h = c.run_with.ensures in
     let more = length-append f.0 h.0 in
@@ -67,7 +67,7 @@ returns g c =
       Reads-trans _ _ _ _ _ _ f.0 h.0 f.1 h.2,
       h.3,
       omega (arith, more, f.3.2, h.4),
-      run_serves g.row.PAGES c.in-Ok.front.reads_left front image log c.run_with.result f.0 h.0 h.1 f.3.0
+      run_serves g.row.PAGES c.in-Ok.front.reads_left layout image log c.run_with.result f.0 h.0 h.1 f.3.0
           (subst (λ (z : List ℕ). image_of c.args.options.kind z ≡ Ok image) bytes made.made)
           (subst (λ (z : List ℕ). log_of z ≡ Ok log) rest logged.made)
           (omega (arith, f.3.2)) h.5,

@@ -1,5 +1,5 @@
 use Rattle.std.proofs.Common.{Some, refl, sym, ap, ◌∙◌, length-set, arith}
-use Rattle.checkpoints.specs.Kept.{Kept, span_at}
+use Rattle.checkpoints.specs.Kept.{Kept, continues_at, span_at}
 use Rattle.checkpoints.proofs.Putting.{others_kept, put_kept, same_kept}
 use Rattle.checkpoints.proofs.kept.Kept.put.Goals as goal
 
@@ -20,3 +20,15 @@ returns-clause-others g c =
     λ i other.
     others_kept c.make_room.new.facts.items c.index-index.result i c.args.fact (λ same. other (same ∙ c.index-index.ensures))
     ∙ (c.make_room.ensures.facts i ∙ ap (λ (k : Kept). span_at k i) c.self.view_is)
+
+pub returns-clause-ties : goal.returns-clause-ties
+returns-clause-ties g c =
+    λ i other next.
+    c.unmark.ensures.kept i (λ same. other (same ∙ c.index-index.ensures)) (λ same. next (same ∙ c.index-index.ensures))
+    ∙ (c.make_room.ensures.continues i ∙ ap (λ (k : Kept). continues_at k i) c.self.view_is)
+
+pub returns-clause-untied : goal.returns-clause-untied
+returns-clause-untied g c =
+    λ i known.
+    let is = c.unmark.ensures.others i known in
+    (λ same. is.0 (same ∙ sym c.index-index.ensures), λ next. is.1 (next ∙ sym c.index-index.ensures))
