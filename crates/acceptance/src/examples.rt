@@ -505,248 +505,23 @@ const RANDOM_1: &[u8; 3912] = b"\
     \x09\x00\x4a\x15\x19\x91\xc3\x25\x00\x00\x00\xaa\x29\x00\x69\x8a\
     \xbf\xfe\x00\x10\x00\x00\x00\x00";
 
-const RANDOM_2: &[u8; 3856] = b"\
-    \x52\x33\x4b\x49\x4d\x47\x31\x0a\x28\x00\x00\x00\x01\x00\x00\x00\
-    \x59\x00\x59\x00\x23\x00\x07\x28\x02\x04\x2f\x02\x09\x00\x00\x00\
-    \x00\x00\x00\x00\x17\x00\x00\x00\x00\x68\x80\x40\xe0\xbf\x1a\x3c\
-    \x08\x00\x5b\x8f\x00\x00\x00\x00\x18\x00\x5b\xaf\xe8\xbf\x1a\x3c\
-    \x30\x00\x5b\x8f\x00\x70\x1b\x40\x00\x68\x1a\x40\x04\x00\x7b\x27\
-    \x74\x00\x5a\x33\x10\x00\x5a\x3b\x03\x00\x40\x13\x00\x00\x00\x00\
-    \x08\x00\x60\x03\x10\x00\x00\x42\x00\x08\x1a\x40\xc0\xbf\x1b\x3c\
-    \x02\xd1\x1a\x00\x00\x10\x7b\x37\x21\xd8\x5b\x03\x08\x00\x60\x03\
-    \x00\x60\x99\x40\x80\x00\x00\x00\x17\x00\x00\x00\x00\x68\x80\x40\
-    \xe0\xbf\x1a\x3c\x08\x00\x5b\x8f\x00\x00\x00\x00\x18\x00\x5b\xaf\
-    \xe8\xbf\x1a\x3c\x30\x00\x5b\x8f\x00\x70\x1b\x40\x00\x68\x1a\x40\
-    \x04\x00\x7b\x27\x74\x00\x5a\x33\x10\x00\x5a\x3b\x03\x00\x40\x13\
-    \x00\x00\x00\x00\x08\x00\x60\x03\x10\x00\x00\x42\x00\x08\x1a\x40\
-    \xc0\xbf\x1b\x3c\x02\xd1\x1a\x00\x00\x10\x7b\x37\x21\xd8\x5b\x03\
-    \x08\x00\x60\x03\x00\x60\x99\x40\x00\x10\x00\x00\x42\x01\x00\x00\
-    \x2b\x18\xeb\x02\x12\x10\x00\x00\x0b\x00\xc4\x8e\x02\x00\x00\x42\
-    \x01\x00\x38\x14\x9d\x13\xdf\x39\x5d\x78\x05\x34\x00\x50\x02\x40\
-    \x02\x00\x25\x96\xfc\xff\x4a\x92\x00\xe0\x8a\x2e\x08\x00\x40\x04\
-    \x13\x00\xa0\x01\x8c\x28\xa8\x00\x06\x00\x00\x42\x13\x00\x60\xa6\
-    \x0c\x00\xc2\x15\x13\x00\x62\x92\x02\x00\x0d\xae\x19\x00\x2e\x01\
-    \x24\x68\x74\x03\x04\x00\xc6\xba\xfc\xff\x8b\x8a\x10\x70\x00\x00\
-    \x40\x55\x0d\x00\x27\x28\xa5\x02\x84\x08\x48\x24\x28\x00\x6b\x8a\
-    \x06\x00\x00\x42\x26\x28\x7a\x03\x08\x00\x00\x42\xcd\x5e\xee\x01\
-    \x12\x9f\x0c\x30\x09\x00\x40\x11\x2c\x04\xf0\x0f\xfc\xff\x6a\xaa\
-    \xff\xff\x87\xba\x00\x68\x82\x40\x04\x00\x0a\x9a\x02\x00\xcc\xae\
-    \xff\xff\x10\x04\x00\x60\x99\x40\xd9\x5a\xe7\x35\xf8\xf4\xaa\x2d\
-    \xfc\xff\xc0\x04\x08\x00\xc0\x03\x01\x00\x00\x42\x26\x30\x59\x00\
-    \xff\xff\xc7\xba\x00\x00\x42\x8e\x35\x04\xf0\x0f\xd6\xbc\x0f\x3c\
-    \x01\x00\x01\x05\xff\xff\x03\xa3\x19\x00\xe6\x01\x26\x48\xfa\x01\
-    \xac\xa8\x47\x38\x80\x42\x0a\x00\x03\x0a\x0e\x00\x80\x7e\x13\x00\
-    \xaa\xe0\x0e\x28\xc1\x92\x03\x2d\x83\x44\x28\xec\x12\x20\x00\x00\
-    \x23\x00\xfd\x01\x05\x00\x6a\x9a\x00\x08\x0e\x40\x4a\x04\xf0\x0b\
-    \x0c\x00\x50\x04\x27\x58\xd7\x02\x20\x50\x76\x01\x02\x00\x00\x42\
-    \x09\x78\xa0\x03\xcd\x61\x37\x00\x02\x00\x00\x42\x40\xc0\x14\xf9\
-    \x02\x00\x00\x42\x10\x18\x00\x00\x07\x70\x18\x03\x2b\x18\x44\x00\
-    \x00\x00\xa1\x04\x07\x00\xb0\x04\x4d\x12\x0b\x01\x1b\x00\xa9\x00\
-    \x1a\x00\x26\x01\x30\x00\x06\xae\xfb\xff\xf1\x04\x24\x18\xe1\x02\
-    \x08\x00\xad\x14\x2a\x30\x14\x01\x1b\x00\xaa\x00\x02\x00\x00\x42\
-    \x1a\x00\x0f\x01\x23\x70\x09\x00\x05\x00\x30\x05\x09\x00\x04\x15\
-    \x0b\x00\x4a\x10\x04\x78\x45\x03\xb2\x8d\x86\x24\x0c\x00\x00\x04\
-    \x22\x10\x59\x01\x0c\x07\xae\x01\x07\x48\x76\x01\x00\x68\x81\x40\
-    \x00\x08\x06\x40\xc2\x1a\x0f\x00\xcf\x7f\xce\x29\x70\x04\xf0\x0b\
-    \x4c\xc0\x61\x01\x06\x78\x2e\x01\x5f\xad\xe7\x25\x13\x00\x89\xa2\
-    \x8a\x1c\xef\x99\xff\xff\x2d\x8a\x26\xe0\xfe\x03\x7e\x04\xf0\x0f\
-    \x02\x00\x00\x42\xc2\x35\x06\x00\x98\x24\x67\x35\x83\x16\x1b\x00\
-    \x1a\x00\xa8\x01\x0c\x00\x40\x19\x04\x97\xae\x20\x07\x48\xd8\x01\
-    \x20\x48\x99\x02\xfc\xff\x01\x9b\x04\x58\x5d\x03\x13\x00\x40\x00\
-    \x7a\x8a\xc1\x61\x4d\x76\x8d\x01\x07\x18\xaf\x01\x19\x00\x0c\x01\
-    \x23\x70\xf6\x02\x04\x00\x0b\xa2\x0b\x00\x47\x14\x18\x00\x4e\x93\
-    \x0c\xa7\x20\x02\x2a\x00\x68\x86\x1a\x00\xcd\x01\x10\x00\x00\x42\
-    \x0a\x00\xe0\x1c\x10\x00\x00\x42\x97\xf1\x01\x3c\x54\xa8\xcf\x29\
-    \x13\x00\x40\x00\x1a\x00\xa1\x00\x18\x00\xc5\xa2\x33\x00\x4e\xba\
-    \xe7\xf9\x47\x29\x0b\x00\xc2\x19\x0a\x00\xc7\xa2\x00\x00\xe8\x8e\
-    \x1a\x52\x0c\x3c\x9a\x45\xc9\x39\xfd\xff\x31\x04\x21\x20\xb2\x00\
-    \x12\x08\x00\x00\xa6\x6b\x65\x22\x01\x00\xc3\xb8\x24\x20\x23\x00\
-    \x12\x58\x00\x00\x00\x60\x99\x40\x2a\x30\x1b\x01\x2b\x40\x72\x03\
-    \x1a\x00\xeb\x01\x03\x00\xc6\x8a\x00\x00\x01\xa2\xcd\xab\x41\x00\
-    \x2b\x10\x4c\x03\x21\x50\xab\x02\x12\x40\x00\x00\x07\x70\x18\x03\
-    \x04\x70\x64\x01\xb4\x04\xf0\x0b\x11\x00\x40\x01\x25\x60\x16\x03\
-    \x94\xe1\xe6\x30\x0c\x00\xaf\x11\x1b\x00\x69\x01\x04\x00\x70\x98\
-    \x06\x00\x00\x42\x23\x08\x19\x01\x00\x68\x81\x40\x0c\x00\x61\x9a\
-    \x27\x50\x02\x01\x25\x20\x80\x00\x10\x10\x00\x00\x0a\x00\xd1\x05\
-    \x25\x50\x66\x03\x30\x00\x23\x96\x08\x00\xa1\x04\x11\x00\x80\x01\
-    \x08\x00\x6f\x11\x06\x40\x5d\x00\x02\x00\x8b\x92\x11\x00\x60\x01\
-    \x19\x00\x24\x00\x30\x00\x65\xba\x06\x00\x00\x42\x02\x00\xca\xa2\
-    \xc7\x34\xef\x24\x0c\x00\x4c\x8a\x00\x68\x81\x40\xa8\x1b\xa1\x24\
-    \x1b\x00\x08\x83\x69\xd0\x6e\x2d\x27\x00\x89\x01\xd5\x04\xf0\x0b\
-    \x00\x50\x0a\x40\x42\x1b\x12\x00\x27\x00\xc9\x01\x54\xa9\xae\x35\
-    \x23\x68\xfd\x00\xff\xff\x6d\x14\x20\x48\x8b\x00\xed\x6c\x07\x3c\
-    \x18\x20\x83\x00\x24\x40\xa6\x01\x1a\x00\xc1\x01\x06\x00\x00\x42\
-    \x25\x50\xcc\x02\x07\x08\x9c\x01\x23\x20\xcf\x01\x13\x00\x6e\x8a\
-    \x08\x00\xef\x10\xa6\xeb\x4a\x25\x28\x00\x47\x86\x08\x00\xa0\x03\
-    \x00\x50\x8e\x40\xe6\x04\xf0\x0b\x8b\x86\x21\x29\x26\x30\x5b\x02\
-    \x24\x20\x45\x03\x04\x30\x4a\x01\xcd\xd8\x0c\x00\x04\x78\xad\x03\
-    \x2a\x58\x93\x03\x19\x00\x00\x00\x4d\x52\xc6\x00\x23\x18\x7e\x00\
-    \x13\x00\x60\x00\x02\x00\x24\x92\x18\x00\x44\xa6\x8d\xa2\x82\x00\
-    \x27\x70\xb6\x03\x00\x70\x88\x40\xc6\x1f\x80\xb7\x08\x00\x00\x42\
-    \xb4\xc0\xc7\x29\x02\x05\xf0\x0b\x18\x00\x6c\x01\x08\x00\x00\x42\
-    \x08\x00\xec\xae\x11\x00\xc0\x00\x22\x30\x11\x00\x00\x68\x81\x40\
-    \x02\x00\xe1\x04\x43\x33\x0f\x00\x04\x70\x09\x01\x1b\x00\x48\x01\
-    \x23\x38\x57\x02\xec\x87\xaf\x24\x65\x1d\x28\x43\x07\x30\xce\x03\
-    \x26\x60\xa9\x00\x00\x60\x99\x40\x01\x00\x2f\x8e\x00\x68\x81\x40\
-    \x06\x20\xb2\x00\xfc\xff\x40\x1d\x20\x78\x2e\x01\x26\x28\xf4\x03\
-    \x57\x44\x80\x30\x18\x00\x6a\x01\x31\x00\x62\x82\x07\x00\x60\x05\
-    \xe4\xc9\x2b\xb0\x74\xd2\x2d\x2c\x26\x10\xde\x02\x21\x08\x8b\x01\
-    \x1a\x05\xf0\x0b\x1b\x00\x29\x00\x22\x00\x53\x00\x07\x00\x44\xa2\
-    \x00\x00\xad\x8e\x1b\x00\x63\x00\x22\x08\x9a\x02\x01\x00\x20\x1c\
-    \x34\x25\xca\x25\x03\x00\xc0\x19\x2b\x68\xee\x03\x40\x66\x0f\x00\
-    \x10\x00\xe9\x8a\x99\x2d\x0f\x3c\xc0\x14\x1c\x00\x26\x28\x94\x00\
-    \x4c\x23\xae\x24\x06\x00\x00\x42\x08\x00\x87\x12\x06\x78\xfa\x03\
-    \x0c\x00\x28\xa6\x40\x70\x0b\x00\x19\x00\x24\x00\x2b\xb1\xa7\x34\
-    \x25\x50\x46\x01\x19\x00\xe1\x01\x00\x00\x09\xae\x03\x00\xca\xa2\
-    \x1c\x00\x71\xaa\xa3\x10\xc4\x28\x46\xaa\x4d\x35\x05\x00\xc0\x1d\
-    \x05\x00\x00\x19\x00\x68\x81\x40\x00\x08\x04\x40\x1a\x00\xec\x01\
-    \x00\x88\x0f\x40\x80\x09\x0c\x00\x23\x60\x03\x02\xfc\xff\x41\x86\
-    \xbf\xfe\x00\x10\x00\x00\x00\x00\x00\x20\x00\x00\x20\x00\x00\x00\
-    \x3c\x63\xdf\x50\x00\x00\x00\x00\x00\x00\x00\x80\xff\xff\xff\x7f\
-    \x89\xe8\x98\x42\x3f\x00\x00\x00\x4a\x3e\x2d\xe9\x00\x00\x00\x00\
-    \x28\x00\x00\x00\xb5\xaa\x6a\x06\x78\xc6\x22\x5b\x04\x00\x00\x00\
-    \x98\xe0\xf1\x6f\xff\xff\xff\xff\xe8\x8e\xa9\x04\x1d\xc1\x54\xd5\
-    \x00\x00\x00\x00\x00\x00\x00\x00\x00\x00\x00\x00\xff\xff\xff\xff\
-    \x01\x00\x00\x00\x58\x76\xdc\x8a\xf7\x73\xdb\x0e\xff\xff\xff\xff\
-    \x6e\x34\x6e\xa0\xc6\x90\xa8\x89\x00\x00\x00\x80\x00\x00\x00\x00\
-    \xff\xff\xff\xff\xc1\xad\x83\x9f\x00\x00\x00\x80\x3c\x00\x00\x00\
-    \x00\x00\xc0\x1f\x02\x00\x00\x00\x80\x00\xf0\x0b\x00\x00\x00\x00\
-    \x00\x01\xc0\x1f\x16\x00\x00\x00\xe0\xbf\x1a\x3c\x08\x00\x5b\x8f\
-    \x00\x00\x00\x00\x18\x00\x5b\xaf\xe8\xbf\x1a\x3c\x30\x00\x5b\x8f\
-    \x00\x70\x1b\x40\x00\x68\x1a\x40\x04\x00\x7b\x27\x74\x00\x5a\x33\
-    \x10\x00\x5a\x3b\x03\x00\x40\x13\x00\x00\x00\x00\x08\x00\x60\x03\
-    \x10\x00\x00\x42\x00\x08\x1a\x40\xc0\xbf\x1b\x3c\x02\xd1\x1a\x00\
-    \x00\x10\x7b\x37\x21\xd8\x5b\x03\x08\x00\x60\x03\x00\x60\x99\x40\
-    \x80\x01\xc0\x1f\x16\x00\x00\x00\xe0\xbf\x1a\x3c\x08\x00\x5b\x8f\
-    \x00\x00\x00\x00\x18\x00\x5b\xaf\xe8\xbf\x1a\x3c\x30\x00\x5b\x8f\
-    \x00\x70\x1b\x40\x00\x68\x1a\x40\x04\x00\x7b\x27\x74\x00\x5a\x33\
-    \x10\x00\x5a\x3b\x03\x00\x40\x13\x00\x00\x00\x00\x08\x00\x60\x03\
-    \x10\x00\x00\x42\x00\x08\x1a\x40\xc0\xbf\x1b\x3c\x02\xd1\x1a\x00\
-    \x00\x10\x7b\x37\x21\xd8\x5b\x03\x08\x00\x60\x03\x00\x60\x99\x40\
-    \x00\x02\xc0\x1f\xaa\x00\x00\x00\xff\x7f\x01\x3c\x00\xf0\x21\x34\
-    \x00\x50\x81\x40\xe8\x1f\x01\x3c\x00\x02\x21\x34\x00\x10\x81\x40\
-    \x00\x00\x01\x3c\x00\x28\x21\x34\x00\x00\x81\x40\x02\x00\x00\x42\
-    \x00\x00\x01\x3c\x00\x00\x21\x34\x00\x50\x81\x40\xc0\x1f\x01\x3c\
-    \x00\x16\x21\x34\x00\x10\x81\x40\x00\x00\x01\x3c\x00\x0a\x21\x34\
-    \x00\x00\x81\x40\x02\x00\x00\x42\x00\x00\x01\x3c\x40\x00\x21\x34\
-    \x00\x50\x81\x40\xc0\x1f\x01\x3c\x00\x17\x21\x34\x00\x10\x81\x40\
-    \x00\x00\x01\x3c\x00\x0b\x21\x34\x00\x00\x81\x40\x02\x00\x00\x42\
-    \x00\x00\x01\x3c\x40\x10\x21\x34\x00\x50\x81\x40\xe8\x1f\x01\x3c\
-    \x00\x0b\x21\x34\x00\x10\x81\x40\x00\x00\x01\x3c\x00\x2a\x21\x34\
-    \x00\x00\x81\x40\x02\x00\x00\x42\x40\x00\x01\x3c\x00\x00\x21\x34\
-    \x00\x50\x81\x40\xe0\x1f\x01\x3c\x00\x03\x21\x34\x00\x10\x81\x40\
-    \x00\x00\x01\x3c\x00\x34\x21\x34\x00\x00\x81\x40\x02\x00\x00\x42\
-    \x00\x00\x01\x3c\x00\x00\x21\x34\x00\x50\x81\x40\xc0\x1f\x01\x3c\
-    \x00\x17\x21\x34\x00\x10\x81\x40\x00\x00\x01\x3c\x00\x22\x21\x34\
-    \x00\x00\x81\x40\x02\x00\x00\x42\x00\xc0\x01\x3c\x00\x00\x21\x34\
-    \x00\x50\x81\x40\x00\x00\x01\x3c\x00\x2f\x21\x34\x00\x10\x81\x40\
-    \x00\x00\x01\x3c\x00\x0e\x21\x34\x00\x00\x81\x40\x02\x00\x00\x42\
-    \x00\x00\x01\x3c\x80\x10\x21\x34\x00\x50\x81\x40\xe8\x1f\x01\x3c\
-    \x00\x07\x21\x34\x00\x10\x81\x40\x00\x00\x01\x3c\x00\x13\x21\x34\
-    \x00\x00\x81\x40\x02\x00\x00\x42\xff\xff\x01\x3c\x00\xf0\x21\x34\
-    \x00\x50\x81\x40\xe0\x1f\x01\x3c\x00\x05\x21\x34\x00\x10\x81\x40\
-    \x00\x00\x01\x3c\x00\x22\x21\x34\x00\x00\x81\x40\x02\x00\x00\x42\
-    \x00\xc0\x01\x3c\x40\x00\x21\x34\x00\x50\x81\x40\xe0\x1f\x01\x3c\
-    \x00\x0f\x21\x34\x00\x10\x81\x40\x00\x00\x01\x3c\x00\x1e\x21\x34\
-    \x00\x00\x81\x40\x02\x00\x00\x42\x00\x00\x01\x3c\x00\x00\x21\x34\
-    \x00\x50\x81\x40\xc3\xe8\x01\x3c\xe8\x87\x21\x34\x00\x00\x02\x3c\
-    \x01\x00\x42\x34\x00\x00\x03\x3c\x02\x00\x63\x34\x00\x00\x04\x3c\
-    \x00\x00\x84\x34\x00\x80\x05\x3c\x00\x00\xa5\x34\x00\x00\x06\x3c\
-    \x12\x00\xc6\x34\x00\x00\x07\x3c\x01\x00\xe7\x34\x00\x00\x08\x3c\
-    \x00\x00\x08\x35\x00\x00\x09\x3c\x0e\x00\x29\x35\x00\x80\x0a\x3c\
-    \x00\x00\x4a\x35\x00\x00\x0b\x3c\x28\x00\x6b\x35\x10\x4e\x0c\x3c\
-    \x6c\xe4\x8c\x35\x00\x00\x0d\x3c\x00\x00\xad\x35\x7b\xc2\x0e\x3c\
-    \xaf\x9f\xce\x35\x00\x00\x0f\x3c\x00\x00\xef\x35\xc0\xbf\x10\x3c\
-    \x38\x10\x10\x36\x00\x00\x11\x3c\x14\x00\x31\x36\xe8\xbf\x12\x3c\
-    \x00\x00\x52\x36\xe0\x9f\x13\x3c\x00\x00\x73\x36\xe8\xbf\x14\x3c\
-    \x28\x00\x94\x36\x7f\x80\x15\x3c\xf4\xff\xb5\x36\xe0\x9f\x16\x3c\
-    \x00\x00\xd6\x36\x00\xb0\x17\x3c\x00\x00\xf7\x36\x00\xa0\x18\x3c\
-    \x34\x20\x18\x37\x01\x10\x19\x3c\x25\xb7\x39\x37\x00\x80\x1a\x3c\
-    \x00\x00\x5a\x37\xd7\xe3\x1b\x3c\x42\x3f\x7b\x37\x00\x80\x1c\x3c\
-    \xd4\x10\x9c\x37\x00\x80\x1d\x3c\x74\x12\xbd\x37\x00\x00\x1e\x3c\
-    \x00\x11\xde\x37\x00\x80\x1f\x3c\x00\x00\xff\x37\x11\x00\x60\x00\
-    \x13\x00\x80\x00\x00\x60\x99\x40\x08\x00\xc0\x03\x00\x00\x00\x00\
-    \x00\x10\xc0\x1f\x42\x01\x00\x00\x12\x00\x2f\x86\x02\x00\x00\x42\
-    \x00\x60\x99\x40\xdc\xef\xe4\x29\x21\x18\x3b\x03\x04\x00\xc1\x04\
-    \x09\x00\x80\x03\x2a\x00\x2f\x96\x2a\x30\x61\x02\x00\x00\x2e\xae\
-    \x08\x00\x00\x42\xfb\xff\x20\x1d\x0f\x00\x63\x92\x7d\x8e\x0c\x30\
-    \x09\x59\xc5\x24\x2a\x00\x0c\x03\x02\x00\x00\x18\x00\x20\x80\x40\
-    \x0a\x00\x2c\x8a\x11\x00\xc0\x01\x33\x00\x6b\x86\x04\x00\xa0\x05\
-    \xff\xff\xa3\xba\x11\x00\x63\xae\x20\x18\x14\x02\x23\x58\x27\x02\
-    \x00\x68\x81\x40\x20\x10\x48\x02\x21\x48\xb5\x00\x97\x77\x40\x31\
-    \x4d\x56\xcd\x01\x00\x60\x99\x40\x03\x00\x45\x10\x53\x27\x86\x27\
-    \x2b\x30\x16\x03\x08\x00\x2b\x14\x30\x00\xc6\x86\x08\x00\x00\x42\
-    \x0d\x35\x0a\x01\x00\x00\xe0\x96\xcd\x80\x4d\x01\xcc\x0d\xc6\x29\
-    \xc3\x4d\x03\x00\x0c\x00\x20\xae\x0b\x00\xa0\x06\x13\x00\x00\x01\
-    \xb1\xd9\x6c\x20\x04\xf0\x12\x03\x07\x20\x5b\x01\x00\x00\xc9\xa0\
-    \x01\x00\x8e\x8e\x10\x00\x00\x42\x00\x60\x99\x40\x06\x00\x00\x42\
-    \x08\x00\x60\x96\x06\x38\xab\x01\x24\x28\x4d\x02\x06\x00\x00\x42\
-    \x0a\x00\x31\x04\x18\x00\x4a\x8c\x06\x78\x47\x02\x5d\x10\xc7\x68\
-    \x00\x00\x20\xba\x06\x00\x20\x18\x44\x3a\x5f\x7b\x3f\x2f\xc7\x35\
-    \x09\x50\x80\x03\x04\x18\x33\x03\x19\x00\x85\x01\x42\x18\x12\x00\
-    \x11\x00\xe0\x01\x00\x60\x99\x40\x12\xd0\x00\x00\x28\x00\x44\x86\
-    \x10\x00\x00\x42\x10\x00\x00\x42\x00\x1a\x1e\x00\x06\x00\x00\x42\
-    \xe6\x7d\x86\x2d\x02\x00\x80\x1c\x30\x00\x0a\x8b\x00\x68\x81\x40\
-    \x03\x00\x61\xa2\x16\x52\xe3\x39\xea\xea\x3c\xd5\x4d\x34\x05\x00\
-    \x24\x20\x22\x01\x18\x00\xea\xae\x26\x18\x45\x02\x2a\x58\x80\x01\
-    \x10\x00\x00\x42\x01\x00\x00\x42\x20\x20\xa3\x01\x06\x38\x80\x00\
-    \xff\xff\x00\x18\x04\x00\x0f\x9a\x06\x00\x00\x42\x0c\x00\x48\xae\
-    \x22\x58\xa9\x03\x09\x00\xc0\x18\x1b\x00\xac\x00\x00\x00\xfb\xba\
-    \x23\x60\xbb\x02\x27\x00\x96\x00\x00\x68\x0f\x40\x21\x50\x2a\x03\
-    \x26\x10\xdf\x00\x23\x96\x04\x3c\xff\xff\x0f\xbb\x8c\x32\x4f\x02\
-    \x18\x00\x62\xba\x13\x00\x80\x00\x04\x00\xef\xae\x08\x00\x00\x42\
-    \x08\x00\x0e\xab\xcc\x34\xc1\x00\x01\x00\x06\x8b\xcf\x88\x4f\x21\
-    \x01\x00\xea\x15\x00\x68\x82\x40\x11\x00\xa0\x01\x23\x48\x5b\x02\
-    \x10\x00\x00\x42\x29\x00\x58\xae\x01\x00\x01\x87\xee\xfa\x06\x3c\
-    \x06\x00\x00\x42\x0a\x00\xc0\x18\xdc\x17\x47\x38\x10\x00\x00\x42\
-    \x26\x68\x83\x02\x1b\x00\x21\x01\x10\x04\x00\x42\xc3\x63\x05\x00\
-    \x08\x00\x00\x42\x4c\x0f\xa4\x01\x03\x00\x42\x14\x06\x00\xc1\xaa\
-    \x01\x00\x80\x04\x18\x00\x63\x00\x10\x00\x03\x80\x06\x00\x00\x42\
-    \x00\x68\x81\x40\x00\x10\x87\x40\x00\x60\x99\x40\x03\x00\x60\x05\
-    \x07\x00\xc0\x1d\x05\x00\xf1\x05\x08\x00\x00\x42\x28\x00\x3e\x86\
-    \x00\x10\x8a\x40\x02\x00\xe5\xa2\x26\x70\x2d\x02\x0b\x00\x50\x05\
-    \x00\xf8\x8c\x40\x09\x08\x80\x03\x1a\x00\xea\x01\x0b\x00\x80\x05\
-    \x00\x60\x99\x40\x01\x00\xa3\xba\x13\x00\x40\x00\x22\x38\x43\x02\
-    \xc2\x5d\x00\x00\x1b\x00\x87\x8a\x23\x60\x06\x03\x00\x68\x82\x40\
-    \x0a\x00\xd1\x04\x88\x95\x23\x21\xc3\x49\x03\x00\x06\x00\x00\x42\
-    \x23\x10\xaa\x03\xaf\x04\xf0\x0b\x01\x00\x00\x42\x22\x08\x17\x02\
-    \x30\x00\xa8\x82\xc0\x21\x05\x00\x01\x00\xc8\xa4\x08\x00\x54\x8e\
-    \x10\x00\x00\x42\x10\x00\x00\x42\x11\x00\x00\x01\x23\x48\x4d\x02\
-    \x07\x48\x80\x00\x02\x00\x00\x42\x20\x10\xa7\x00\x13\x04\x00\x01\
-    \x20\x50\xf9\x03\xfc\xff\xe8\x9a\x0c\x00\xae\x96\x04\x00\x82\x82\
-    \x2a\x08\xb7\x01\x20\x70\x93\x03\x0a\x00\x8f\x96\x01\x00\x20\x1d\
-    \x82\x76\x07\x00\x31\x88\xeb\x34\x0c\x00\x6d\x11\x24\x08\x60\x02\
-    \x01\x00\x00\x42\x75\xb9\x0e\x2d\x04\x00\x71\x05\x05\x00\xeb\xae\
-    \x23\x70\x7e\x03\x06\x40\x50\x02\x08\x00\x6b\xa6\x40\x6f\x00\x00\
-    \x0b\x00\x40\x04\x01\x00\xe8\x15\x97\xc2\xa3\x2c\x13\x00\x20\x01\
-    \x1b\x00\x4a\x01\x28\x00\xa0\x98\x28\x00\x84\xa2\x28\x00\x04\xaf\
-    \x26\x08\x15\x03\xfe\xff\x6c\x9a\x1b\x00\x02\xa2\x4a\xe0\x4d\x2d\
-    \x7e\x97\x0f\x39\xe4\x04\xf0\x0f\x00\x50\x16\x40\x97\xf8\xe3\x39\
-    \x0c\xd4\x67\x01\x08\x00\x00\x42\xe5\x04\xf0\x0f\x02\x7a\x00\x00\
-    \x21\x48\x0d\x02\x2b\x58\x97\x02\x34\x47\x46\x34\x4f\x4c\x26\x77\
-    \x00\x00\x2d\x8d\x70\xc0\x0c\x3c\x00\x68\x82\x40\x04\x00\x6a\xaa\
-    \x06\x00\x41\x04\x23\x60\x74\x02\x26\x48\x52\x03\x18\x00\x48\x01\
-    \x10\x00\x00\x42\x01\x00\x00\x42\x07\x00\x80\x04\x06\x00\x00\x42\
-    \x06\x00\x00\x42\x19\x00\xed\x01\x24\x08\x1f\x00\x06\x00\x00\x42\
-    \x13\x00\x40\x00\x1a\x00\xa9\x00\x00\x00\xa2\xba\x04\xf9\xac\x24\
-    \x00\xf8\x85\x40\x30\x00\x0e\xa7\x18\x00\xe6\x00\x1b\x00\x1e\xaa\
-    \x04\x00\x8c\x01\x22\x40\x8f\x03\x07\x60\x14\x03\x0c\x00\x71\x04\
-    \x20\x48\x78\x03\x26\x10\x39\x02\x4f\x34\xc5\x34\x18\x00\x68\x00\
-    \x8f\xaf\x4c\x34\x29\x00\x8e\xa2\x33\x00\xc4\xa6\xff\xff\x4c\x92\
-    \x05\x00\x23\x8a\xd2\xa9\x5c\x8a\x1a\x00\xe5\x01\x26\x68\x92\x00\
-    \x06\x00\x00\x42\x04\x00\xa3\xa6\x0c\x9d\x65\x00\x02\x00\x00\x42\
-    \x00\x00\xab\x9a\x08\x00\x80\x03\x04\x28\x99\x02\x07\x08\x7b\x02\
-    \x19\x05\xf0\x0b\x25\x10\xd6\x02\x00\x70\x00\x40\x00\x00\x2e\x92\
-    \xe1\x4e\x2e\x21\x00\x20\x85\x40\x06\xd6\x60\x2c\x8b\x5d\x08\x3c\
-    \xe9\x33\xa0\x39\x0b\x00\x00\x04\x11\x00\xe2\xa6\x20\x60\x97\x03\
-    \x04\x00\x11\x04\x5e\x90\xeb\x20\xfc\xff\x2e\xba\x07\x00\x40\x1c\
-    \x29\x05\xf0\x0b\xcf\xdb\xd9\x2c\x42\x7a\x8b\x00\x10\x00\x00\x42\
-    \x5d\x51\x2a\x2f\x25\x68\xa8\x00\x24\x48\xd4\x02\xfc\xff\xb5\x96\
-    \x96\xd5\x1c\x3c\x0a\x00\x40\x1c\x21\x88\x16\x02\xfc\xff\xef\x96\
-    \x10\x00\x48\xae\x04\x08\x17\x03\x04\x00\x00\x19\x18\x40\x07\x00\
-    \x20\x30\xbe\x01\x7f\x5c\xe8\x29\x00\x68\x82\x40\x0f\x00\x20\xa2\
-    \x11\x00\xc0\x00\x00\x3d\x17\x00\x45\x05\xf0\x0b\x01\x00\x00\x42\
-    \x13\x00\xa0\x01\x8d\xcf\x0d\x00\xbf\xfe\x00\x10\x00\x00\x00\x00";
+const RANDOM_2: &[u8; 252] = b"\
+    \x52\x33\x4b\x49\x4d\x47\x31\x0a\xc8\x00\x00\x00\x01\x00\x00\x00\
+    \x00\x00\x00\x00\x00\x00\x01\x01\x01\x00\x20\x06\x02\x00\x00\x00\
+    \x00\x00\xc0\x1f\x26\x00\x00\x00\xe0\xbf\x01\x3c\x00\x00\x21\x34\
+    \x00\x00\x02\x3c\x00\x10\x42\x34\x08\x00\x22\xac\xe0\xbf\x01\x3c\
+    \x00\x00\x21\x34\x00\x00\x02\x3c\x01\x10\x42\x34\x08\x00\x22\xac\
+    \xe0\xbf\x01\x3c\x00\x00\x21\x34\x00\x00\x02\x3c\x02\x10\x42\x34\
+    \x08\x00\x22\xac\xe0\xbf\x01\x3c\x00\x00\x21\x34\x00\x00\x02\x3c\
+    \x03\x10\x42\x34\x08\x00\x22\xac\xe0\xbf\x01\x3c\x00\x00\x21\x34\
+    \x00\x00\x02\x3c\x01\x00\x42\x34\x10\x00\x22\xac\xe0\xbf\x01\x3c\
+    \x00\x00\x21\x34\x00\x00\x02\x3c\x20\x00\x42\x34\x00\x00\x22\xac\
+    \xe0\xbf\x10\x3c\x00\x00\x10\x36\x00\xa0\x11\x3c\x00\x20\x31\x36\
+    \x00\x80\x12\x3c\x00\x30\x52\x36\x00\x04\xf0\x0b\x00\x00\x00\x00\
+    \x00\x10\xc0\x1f\x0d\x00\x00\x00\x08\x00\x06\x8e\x00\x00\x00\x00\
+    \x14\x00\x26\xae\x00\x3c\x06\x00\x06\x00\xe1\x04\x00\x00\x00\x00\
+    \x10\x00\x40\xae\x18\x00\x06\xae\x08\x00\x40\xae\x01\x00\x00\x10\
+    \x00\x00\x00\x00\xf4\xff\x00\x10\x00\x00\x00\x00";
 
 const USER_MODE: &[u8; 2195] = b"\
     # Boot code that starts a user program through translation entries: its pages are refilled as they are missed, and it makes a\n\
@@ -1690,7 +1465,132 @@ fn random(rt: HostRuntime) -> Result<(), Fail> {
         mem 0x24 16\n\
         dis 0x2008 16\n\
         console 3 1 256\n\
-        log 0 32\n",
+        log 0 32\n\
+        goto 2863\n\
+        add 1654 0 90\n\
+        writer 0x1fc01078\n\
+        log 0 32\n\
+        writer 0x1fc003cc\n\
+        console 1 15 256\n\
+        add 134 3 24\n\
+        writer 0x1fc00434\n\
+        pos\n\
+        writer 0x1fc01030\n\
+        writer 0x2020\n\
+        add 2167 0 178\n\
+        writer 0x1fc20000\n\
+        writer 0x24\n\
+        find 1 6\n\
+        find 2 35\n\
+        visit 0xbfc00184 1\n\
+        regs\n\
+        goto 2863\n\
+        set 1000000 256\n\
+        goto 1198\n\
+        patch 0x1fc0103c 0x35290000\n\
+        mem 0x202c 2\n\
+        find 0 0\n\
+        mem 0x2054 1\n\
+        writer 0x1fc003f8\n\
+        patch 0x1fc00454 0x0\n\
+        find 3 5\n\
+        console 1 10 256\n\
+        writer 0x1fc002fc\n\
+        regs\n\
+        add 363 1 81\n\
+        find 3 19\n\
+        mem 0x1fc002a0 2\n\
+        find 2 15\n\
+        console 1 0 256\n\
+        visit 0x46c 300\n\
+        regs\n\
+        goto 1198\n\
+        add 1 0 256\n\
+        goto 196601\n\
+        add 196616 2 45\n\
+        find 2 12\n\
+        cp0\n\
+        writer 0x1fc00394\n\
+        writer 0x1fc00528\n\
+        visit 0xbfc0125c 70000\n\
+        regs\n\
+        add 107944 2 158\n\
+        mem 0x100000 2\n\
+        writer 0x2000\n\
+        writer 0x2064\n\
+        mem 0x2002 2\n\
+        visit 0xbfc01258 70000\n\
+        regs\n\
+        goto 196602\n\
+        set 5 7\n\
+        console 2 38 256\n\
+        writer 0x2044\n\
+        writer 0x1fc00448\n\
+        writer 0x74\n\
+        visit 0xbfc01260 1\n\
+        regs\n\
+        goto 196602\n\
+        patch 0x100000000 0\n\
+        goto 46734\n\
+        add 20010 2 20\n\
+        find 1 54\n\
+        writer 0x1fc01064\n\
+        find 3 205\n\
+        writer 0x1fc00264\n\
+        del 13\n\
+        find 3 199\n\
+        writer 0x1fc00548\n\
+        writer 0x1fc004c0\n\
+        writer 0x2048\n\
+        visit 0xbfc01264 1\n\
+        regs\n\
+        goto 46734\n\
+        set 3 185\n\
+        log 0 32\n\
+        find 3 68\n\
+        writer 0x50\n\
+        console 1 171 256\n\
+        patch 0x100000000 0\n\
+        goto 58021\n\
+        del 12\n\
+        writer 0x1fc002c8\n\
+        writer 0x1fc01004\n\
+        writer 0x7ffffc\n\
+        find 1 103\n\
+        add 20527 1 240\n\
+        console 3 95 256\n\
+        writer 0x2070\n\
+        find 3 58\n\
+        log 0 32\n\
+        visit 0xbfc01258 1\n\
+        regs\n\
+        goto 58021\n\
+        set 3 243\n\
+        regs\n\
+        writer 0x2020\n\
+        pos\n\
+        writer 0x1fc00200\n\
+        visit 0xbfc01258 1\n\
+        regs\n\
+        goto 58021\n\
+        visit 0x2 1048576\n\
+        goto 196610\n\
+        patch 0x7ffffc 0x28b9e8e2\n\
+        mem 0x200c 3\n\
+        writer 0x48\n\
+        writer 0x205c\n\
+        find 2 189\n\
+        del 13\n\
+        cp0\n\
+        writer 0x1fe00000\n\
+        writer 0x1fc01018\n\
+        writer 0x2060\n\
+        set 19 74\n\
+        cp0\n\
+        writer 0x2054\n\
+        writer 0x2074\n\
+        writer 0x78\n\
+        patch 0x101 0x100000000\n",
         b"\
         pos 1525\n\
         pos 1534\n\
@@ -2087,7 +1987,278 @@ fn random(rt: HostRuntime) -> Result<(), Fail> {
         12 2144 3 0x8a\n\
         13 2263 0 0xe8\n\
         14 2313 2 0xbb\n\
-        15 2718 3 0x04\n",
+        15 2718 3 0x04\n\
+        pos 2863\n\
+        event 7\n\
+        writer image\n\
+        log 17\n\
+        0 149 0 0x75\n\
+        1 235 0 0xbb\n\
+        2 280 2 0x98\n\
+        3 301 3 0xfe\n\
+        4 779 1 0x39\n\
+        5 1053 2 0xbe\n\
+        6 1375 3 0x71\n\
+        7 1654 0 0x5a\n\
+        8 1813 3 0x09\n\
+        9 1883 3 0x70\n\
+        10 2027 0 0x62\n\
+        11 2109 2 0x92\n\
+        12 2135 3 0xe5\n\
+        13 2144 3 0x8a\n\
+        14 2263 0 0xe8\n\
+        15 2313 2 0xbb\n\
+        16 2718 3 0x04\n\
+        writer image\n\
+        console 1 55 000000000000000000000000000000000000007000006200000000e8000000000000000000000000\n\
+        event 0\n\
+        writer image\n\
+        pos 2863\n\
+        writer image\n\
+        writer image\n\
+        event 15\n\
+        writer never\n\
+        writer never\n\
+        find 541\n\
+        find 1949\n\
+        error 8 NotFound\n\
+        pc 0xbfc00194 next 0xbfc00198 hi 0x00000000 lo 0x01002000 delay 0 load none\n\
+        r0 0x00000000 0xffffffff 0xffffffff 0x01002000\n\
+        r4 0x00000000 0xffffffff 0x004caa2d 0x90ccb6a0\n\
+        r8 0x80000000 0x8000b0ef 0xa64b31c2 0x00000001\n\
+        r12 0x80000000 0x013e4000 0xffffbf0c 0xe0180000\n\
+        r16 0x80002004 0xbfc0101c 0x8000200c 0x00400018\n\
+        r20 0x80002025 0xb0000000 0xa000200c 0x80002018\n\
+        r24 0xa0002008 0x8b6bbb0d 0xbfe80000 0x00000000\n\
+        r28 0x00000380 0xa00013e4 0xfffff4ac 0xbfc013e8\n\
+        pos 2863\n\
+        error 3 Range\n\
+        pos 1198\n\
+        ok\n\
+        0x0000202c 0x00000001\n\
+        0x00002030 0x80000000\n\
+        error 8 NotFound\n\
+        0x00002054 0x0000000c\n\
+        writer image\n\
+        ok\n\
+        find 525\n\
+        console 1 20 00390000000000000000\n\
+        writer image\n\
+        pc 0xbfc00190 next 0xbfc00194 hi 0x00000000 lo 0x01002000 delay 0 load none\n\
+        r0 0x00000000 0xffff0000 0xffffffff 0x01002000\n\
+        r4 0x00000000 0xffffffff 0x004caa2d 0x90ccb6a0\n\
+        r8 0x80000000 0x8000b0ef 0xa64b31c2 0x00000001\n\
+        r12 0x80000000 0x013e4000 0xffffbf0c 0xe0180000\n\
+        r16 0x80002004 0xbfc0101c 0x8000200c 0x00400018\n\
+        r20 0x80002025 0xb0000000 0xa000200c 0x80002018\n\
+        r24 0xa0002008 0x8b6bbb0d 0xbfe00000 0x00000000\n\
+        r28 0x00000380 0xa00013e4 0xfffff4ac 0xbfc013e8\n\
+        event 5\n\
+        find 1197\n\
+        0x1fc002a0 0x3c01bfe8\n\
+        0x1fc002a4 0x34210000\n\
+        find 989\n\
+        console 1 20 1800000000000000000000390000000000000000\n\
+        pos 1241\n\
+        pc 0x0000046c next 0x00000470 hi 0x00000000 lo 0x01002000 delay 0 load none\n\
+        r0 0x00000000 0xffff0000 0xffffffff 0x01002000\n\
+        r4 0x00000000 0xffffffff 0x004caa2d 0x90ccb6a0\n\
+        r8 0x80000000 0x8000b0ef 0xa64b31c2 0x00000001\n\
+        r12 0x80000000 0x013e4000 0xffffbf0c 0xe0180000\n\
+        r16 0x80002004 0xbfc0101c 0x8000200c 0x00400018\n\
+        r20 0x80002025 0xb0000000 0xa000200c 0x80002018\n\
+        r24 0xa0002008 0x8b6bbb0d 0x00000010 0x0000046c\n\
+        r28 0x00000380 0xa00013e4 0xfffff4ac 0xbfc013e8\n\
+        pos 1198\n\
+        error 3 Range\n\
+        pos 196601\n\
+        event 20\n\
+        find 845\n\
+        index 0x00003000 random 0x00001600 entrylo 0x1fc01600 context 0x00000008 badvaddr 0x80002025 entryhi 0x00001080 status 0x006bbb3d cause 0x00000020 epc 0xbfc01248 prid 0x00000220\n\
+        writer image\n\
+        writer image\n\
+        pos 196602\n\
+        pc 0xbfc0125c next 0xbfc01260 hi 0x00000000 lo 0xffffffff delay 0 load none\n\
+        r0 0x00000000 0x00000000 0x0fc011fc 0x01002000\n\
+        r4 0x90ccc3b4 0xa00013e3 0x00000000 0x90ccb6a0\n\
+        r8 0x80000000 0x00000000 0xb0005055 0xa0000267\n\
+        r12 0x00000001 0x013e4000 0x80009fbd 0xefffcfb2\n\
+        r16 0x80002004 0xbfc0101c 0x8000200c 0x00400018\n\
+        r20 0xb0005056 0xb0000000 0xffffffff 0x80002018\n\
+        r24 0xa0002008 0x8b6bbb0d 0x00000030 0xbfc0124c\n\
+        r28 0xffffffff 0xa00013e4 0x0000117e 0x00002020\n\
+        event 20\n\
+        0x00100000 0x00000000\n\
+        0x00100004 0x00000000\n\
+        writer image\n\
+        writer image\n\
+        error 5 Unaligned\n\
+        pos 196605\n\
+        pc 0xbfc01258 next 0xbfc0125c hi 0x00000000 lo 0xffffffff delay 0 load none\n\
+        r0 0x00000000 0x00000000 0x0fc011fc 0x01002000\n\
+        r4 0x90ccc3b4 0xa00013e3 0x00000000 0x90ccb6a0\n\
+        r8 0x80000000 0x00000000 0xb0005055 0xa0000267\n\
+        r12 0x00000001 0x013e4000 0x80009fbd 0xefffcfb2\n\
+        r16 0x80002004 0xbfc0101c 0x8000200c 0x00400018\n\
+        r20 0xb0005056 0xb0000000 0xffffffff 0x80002018\n\
+        r24 0xa0002008 0x8b6bbb0d 0x00000030 0xbfc0124c\n\
+        r28 0xffffffff 0xa00013e4 0x0000117e 0x00002020\n\
+        pos 196602\n\
+        event 5\n\
+        console 2 277 00e5000000000000000000000000000000000000000000000000000000000000000000000000000000000000000000000000000000000000000000000000000000000000000000000000000000000000000000000000000000000000000000000000000000000000000000000000000000000000000000000000000000000000000000000000000000000000000000000000000000000000000000000000000000000000000000000000000000000000000000000000000000000000000000000000000000000000000000000000000000000000000000000000000000000000000000000000000000000000000000\n\
+        writer image\n\
+        writer image\n\
+        writer never\n\
+        pos 196603\n\
+        pc 0xbfc01260 next 0xbfc01264 hi 0x00000000 lo 0xffffffff delay 0 load none\n\
+        r0 0x00000000 0x00000000 0x0fc011fc 0x01002000\n\
+        r4 0x90ccc3b4 0xa00013e3 0x00000000 0x90ccb6a0\n\
+        r8 0x80000000 0x00000000 0xb0005055 0xa0000267\n\
+        r12 0x00000001 0x013e4000 0x80009fbd 0xefffcfb2\n\
+        r16 0x80002004 0xbfc0101c 0x8000200c 0x00400018\n\
+        r20 0xb0005056 0xb0000000 0xffffffff 0x80002018\n\
+        r24 0xa0002008 0x8b6bbb0d 0x00000030 0xbfc0124c\n\
+        r28 0xffffffff 0xa00013e4 0x0000117e 0x00002020\n\
+        pos 196602\n\
+        error 3 Range\n\
+        pos 46734\n\
+        event 20\n\
+        find 2845\n\
+        writer image\n\
+        find 10125\n\
+        writer image\n\
+        log 22\n\
+        find 9837\n\
+        writer image\n\
+        writer image\n\
+        writer image\n\
+        error 8 NotFound\n\
+        pc 0xbfc0125c next 0xbfc01260 hi 0x00000000 lo 0xffffffff delay 0 load none\n\
+        r0 0x00000000 0x00000000 0x0fc011fc 0x01002000\n\
+        r4 0x90ccc3b4 0xa00013e3 0x00000000 0x90ccb6a0\n\
+        r8 0x80000000 0x00000000 0xb0005055 0xa0000267\n\
+        r12 0x00000001 0x013e4000 0x80009fbd 0xefffcfb2\n\
+        r16 0x80002004 0xbfc0101c 0x8000200c 0x00400018\n\
+        r20 0xb0005056 0xb0000000 0xffffffff 0x80002018\n\
+        r24 0xa0002008 0x8b6bbb0d 0x00000030 0xbfc0124c\n\
+        r28 0xffffffff 0xa00013e4 0x0000117e 0x00002020\n\
+        pos 46734\n\
+        event 3\n\
+        log 22\n\
+        0 134 3 0x18\n\
+        1 149 0 0x75\n\
+        2 235 0 0xbb\n\
+        3 280 2 0xb9\n\
+        4 301 3 0xfe\n\
+        5 363 1 0x07\n\
+        6 779 1 0x39\n\
+        7 1053 2 0xbe\n\
+        8 1375 3 0x71\n\
+        9 1654 0 0x5a\n\
+        10 1813 3 0x09\n\
+        11 1883 3 0x70\n\
+        12 2027 0 0x62\n\
+        13 2135 3 0xe5\n\
+        14 2144 3 0x8a\n\
+        15 2167 0 0xb2\n\
+        16 2263 0 0xe8\n\
+        17 2313 2 0xbb\n\
+        18 2718 3 0x04\n\
+        19 20010 2 0x14\n\
+        20 107944 2 0x9e\n\
+        21 196616 2 0x2d\n\
+        find 3549\n\
+        writer never\n\
+        console 1 277 00000000000000000000000000000000000000000000000000000000000000000000000000000000000000000000000000000000000000000000000000000000000000000000000000000000000000000000000000000000000000000000000000000000000000000000\n\
+        error 3 Range\n\
+        pos 58021\n\
+        log 21\n\
+        writer image\n\
+        writer image\n\
+        writer never\n\
+        find 5197\n\
+        event 19\n\
+        console 3 276 00000000000000000000000000000000000000000000000000000000000000000000000000000000000000000000000000000000000000000000000000000000000000000000000000000000000000000000000000000000000000000000000000000000000000000000000000000000000000000000000000000000000000000000000000000000000000000000000000000000000000000000000000000000000000000000000000000000000000000000000000\n\
+        writer image\n\
+        find 3069\n\
+        log 22\n\
+        0 134 3 0x18\n\
+        1 149 0 0x75\n\
+        2 235 0 0xbb\n\
+        3 280 2 0xb9\n\
+        4 301 3 0xfe\n\
+        5 363 1 0x07\n\
+        6 779 1 0x39\n\
+        7 1053 2 0xbe\n\
+        8 1375 3 0x71\n\
+        9 1654 0 0x5a\n\
+        10 1813 3 0x09\n\
+        11 1883 3 0x70\n\
+        12 2135 3 0xe5\n\
+        13 2144 3 0x8a\n\
+        14 2167 0 0xb2\n\
+        15 2263 0 0xe8\n\
+        16 2313 2 0xbb\n\
+        17 2718 3 0x04\n\
+        18 20010 2 0x14\n\
+        19 20527 1 0xf0\n\
+        20 107944 2 0x9e\n\
+        21 196616 2 0x2d\n\
+        error 8 NotFound\n\
+        pc 0xbfc01258 next 0xbfc0125c hi 0x00000000 lo 0xffffffff delay 0 load none\n\
+        r0 0x00000000 0x00000000 0x0fc011fc 0x01002000\n\
+        r4 0x90ccc3b4 0xa00013e3 0x00000000 0x90ccb6a0\n\
+        r8 0x80000000 0x00000000 0xb0005055 0xa0000267\n\
+        r12 0x00000001 0x013e4000 0x80009fbd 0xefffcfb2\n\
+        r16 0x80002004 0xbfc0101c 0x8000200c 0x00400018\n\
+        r20 0xb0005056 0xb0000000 0xffffffff 0x80002018\n\
+        r24 0xa0002008 0x8b6bbb0d 0x00000030 0xbfc0124c\n\
+        r28 0xffffffff 0xa00013e4 0x0000117e 0x00002020\n\
+        pos 58021\n\
+        event 3\n\
+        pc 0xbfc01258 next 0xbfc0125c hi 0x00000000 lo 0xffffffff delay 0 load none\n\
+        r0 0x00000000 0x00000000 0x0fc011fc 0x01002000\n\
+        r4 0x90ccc3b4 0xa00013e3 0x00000000 0x90ccb6a0\n\
+        r8 0x80000000 0x00000000 0xb0005055 0xa0000267\n\
+        r12 0x00000001 0x013e4000 0x80009fbd 0xefffcfb2\n\
+        r16 0x80002004 0xbfc0101c 0x8000200c 0x00400018\n\
+        r20 0xb0005056 0xb0000000 0xffffffff 0x80002018\n\
+        r24 0xa0002008 0x8b6bbb0d 0x00000030 0xbfc0124c\n\
+        r28 0xffffffff 0xa00013e4 0x0000117e 0x00002020\n\
+        writer image\n\
+        pos 58021\n\
+        writer image\n\
+        error 8 NotFound\n\
+        pc 0xbfc01258 next 0xbfc0125c hi 0x00000000 lo 0xffffffff delay 0 load none\n\
+        r0 0x00000000 0x00000000 0x0fc011fc 0x01002000\n\
+        r4 0x90ccc3b4 0xa00013e3 0x00000000 0x90ccb6a0\n\
+        r8 0x80000000 0x00000000 0xb0005055 0xa0000267\n\
+        r12 0x00000001 0x013e4000 0x80009fbd 0xefffcfb2\n\
+        r16 0x80002004 0xbfc0101c 0x8000200c 0x00400018\n\
+        r20 0xb0005056 0xb0000000 0xffffffff 0x80002018\n\
+        r24 0xa0002008 0x8b6bbb0d 0x00000030 0xbfc0124c\n\
+        r28 0xffffffff 0xa00013e4 0x0000117e 0x00002020\n\
+        pos 58021\n\
+        error 5 Unaligned\n\
+        pos 196610\n\
+        ok\n\
+        0x0000200c 0x00000000\n\
+        0x00002010 0x34bc54b1\n\
+        0x00002014 0x36b45056\n\
+        writer never\n\
+        writer image\n\
+        find 9341\n\
+        log 21\n\
+        index 0x00003000 random 0x00000d00 entrylo 0x1fc01600 context 0x00000008 badvaddr 0x80002025 entryhi 0x00001080 status 0x006bbb3d cause 0x00000020 epc 0xbfc01248 prid 0x00000220\n\
+        error 6 NotMemory\n\
+        writer image\n\
+        writer image\n\
+        event 19\n\
+        index 0x00003000 random 0x00000d00 entrylo 0x1fc01600 context 0x00000008 badvaddr 0x80002025 entryhi 0x00001080 status 0x006bbb3d cause 0x00000020 epc 0xbfc01248 prid 0x00000220\n\
+        writer image\n\
+        writer image\n\
+        writer never\n\
+        error 3 Range\n",
     )?;
     holds(
         &rt,
@@ -2175,56 +2346,166 @@ fn random(rt: HostRuntime) -> Result<(), Fail> {
         mem 0x1fc01034 16\n\
         dis 0x103c 16\n\
         console 2 1 256\n\
-        log 0 32\n",
+        log 0 32\n\
+        goto 151316\n\
+        del 19\n\
+        mem 0x1fc00094 4\n\
+        mem 0x3008 4\n\
+        mem 0x3010 2\n\
+        find 0 9\n\
+        patch 0x1fc00044 0x0\n\
+        mem 0x3010 1\n\
+        writer 0x1fc0001c\n\
+        regs\n\
+        writer 0x3008\n\
+        patch 0x3008 0x0\n\
+        writer 0x3008\n\
+        console 0 7 256\n\
+        writer 0x2014\n\
+        mem 0x2014 2\n\
+        move 0 4294967295\n\
+        goto 3509\n\
+        patch 0x2060 0x0\n\
+        console 0 5 256\n\
+        writer 0x3010\n\
+        writer 0x3010\n\
+        writer 0x2014\n\
+        del 1\n\
+        writer 0x3008\n\
+        writer 0x2010\n\
+        mem 0x50 3\n\
+        pos\n\
+        set 15 204\n\
+        writer 0x3000\n\
+        writer 0x1fc00080\n\
+        writer 0x1fc01054\n\
+        find 0 4\n\
+        visit 0xbfc0102c 1\n\
+        regs\n\
+        set 1000000 255\n\
+        goto 54561\n\
+        set 8 177\n\
+        pos\n\
+        writer 0x3010\n\
+        writer 0x206c\n\
+        find 0 8\n\
+        set 9 143\n\
+        mem 0x2014 3\n\
+        regs\n\
+        writer 0x3008\n\
+        writer 0x1fc00078\n\
+        visit 0xbfc0102c 70000\n\
+        regs\n\
+        goto 54561\n\
+        add 43524 2 149\n\
+        find 0 0\n\
+        console 3 0 256\n\
+        writer 0x100000\n\
+        writer 0x1fe00000\n\
+        find 0 18446744073709551615\n\
+        goto 65554\n\
+        add 65552 2 123\n\
+        find 0 5\n\
+        writer 0x3010\n\
+        writer 0x2002\n\
+        writer 0x2014\n\
+        patch 0x2014 0x0\n\
+        regs\n\
+        writer 0x1fc40000\n\
+        find 0 6\n\
+        console 0 11 256\n\
+        move 8 14098\n\
+        writer 0x1fc0002c\n\
+        log 0 32\n\
+        writer 0x3008\n\
+        writer 0x2014\n\
+        set 1000000 255\n\
+        goto 184853\n\
+        patch 0x7ffffc 0x0\n\
+        writer 0x2014\n\
+        mem 0x2004 4\n\
+        writer 0x1fc00070\n\
+        console 0 9 256\n\
+        set 15 241\n\
+        writer 0x3010\n\
+        writer 0x3010\n\
+        regs\n\
+        log 0 32\n\
+        move 11 161618\n\
+        writer 0x3010\n\
+        find 0 9\n\
+        cp0\n\
+        pos\n\
+        set 1000000 255\n\
+        goto 3280\n\
+        add 65537 0 177\n\
+        writer 0x1fc00020\n\
+        console 0 8 256\n\
+        writer 0x2014\n\
+        writer 0x2014\n\
+        add 3187 1 202\n\
+        console 2 0 256\n\
+        writer 0x8\n\
+        mem 0x3008 2\n\
+        mem 0x1fc01040 3\n\
+        del 13\n\
+        writer 0x2014\n\
+        console 0 0 256\n\
+        writer 0x3010\n\
+        mem 0x3008 4\n\
+        visit 0xbfc01008 20\n\
+        regs\n\
+        goto 3280\n\
+        patch 0x101 0x100000000\n",
         b"\
         pos 2496\n\
         pos 2507\n\
         pos 2506\n\
-        pc 0xbfc0117c next 0xbfc01178 hi 0x00000000 lo 0x00000000 delay 1 load none\n\
-        r0 0x00000000 0x00000000 0x1001b731 0x00000001\n\
-        r4 0xbfe80001 0x4a000000 0x00000012 0x00000000\n\
-        r8 0x06dc9400 0x00000030 0x90000000 0x00000000\n\
-        r12 0x1001bfbf 0xbfe80000 0x00002900 0x030c002a\n\
-        r16 0xbfc01038 0x00000014 0xbfe80000 0x9fe00000\n\
-        r20 0x00000059 0x807ffff4 0x9fe00000 0xb0000000\n\
-        r24 0xa0002034 0x1001b725 0x00000170 0xbfc01170\n\
-        r28 0x800010d4 0x80001274 0x00001100 0x80001118\n\
-        r8 0x06dc9400\n\
-        index 0x00001e00 random 0x00001500 entrylo 0x1fe00f00 context 0x00000000 badvaddr 0x00000019 entryhi 0x00000000 status 0x1029b725 cause 0x80000018 epc 0x8fc01124 prid 0x00000220\n\
+        pc 0xbfc01008 next 0xbfc0100c hi 0x00000000 lo 0x00000000 delay 0 load none\n\
+        r0 0x00000000 0xbfe00000 0x00000020 0x00000000\n\
+        r4 0x00000000 0x00000000 0x00000000 0x00000000\n\
+        r8 0x00000000 0x00000000 0x00000000 0x00000000\n\
+        r12 0x00000000 0x00000000 0x00000000 0x00000000\n\
+        r16 0xbfe00000 0xa0002000 0x80003000 0x00000000\n\
+        r20 0x00000000 0x00000000 0x00000000 0x00000000\n\
+        r24 0x00000000 0x00000000 0x00000000 0x00000000\n\
+        r28 0x00000000 0x00000000 0x00000000 0x00000000\n\
+        r8 0x00000000\n\
+        index 0x00000000 random 0x00001500 entrylo 0x00000000 context 0x00000000 badvaddr 0x00000000 entryhi 0x00000000 status 0x00400000 cause 0x00000000 epc 0x00000000 prid 0x00000220\n\
         tlb 43 0x00000000 0x00000000\n\
         where tlbl\n\
-        0x00002018 0xe92d3e4a\n\
+        0x00002018 0x00000000\n\
         0x0000201c 0x00000000\n\
-        0x00002020 0x00000028\n\
-        0x00002024 0x066aaab5\n\
-        0x00002028 0x5b22c678\n\
-        0x0000202c 0x00000004\n\
-        0x00002030 0x88f1e098\n\
-        0x00002034 0xffffffff\n\
-        0x00002038 0x04a98ee8\n\
-        0x0000203c 0xd554c11d\n\
+        0x00002020 0x00000000\n\
+        0x00002024 0x00000000\n\
+        0x00002028 0x00000000\n\
+        0x0000202c 0x00000000\n\
+        0x00002030 0x00000000\n\
+        0x00002034 0x00000000\n\
+        0x00002038 0x00000000\n\
+        0x0000203c 0x00000000\n\
         0x00002040 0x00000000\n\
         0x00002044 0x00000000\n\
         0x00002048 0x00000000\n\
-        0x0000204c 0xffffffff\n\
-        0x00002050 0x00000001\n\
-        0x00002054 0x8adc7658\n\
+        0x0000204c 0x00000000\n\
+        0x00002050 0x00000000\n\
+        0x00002054 0x00000000\n\
         0x0000201c 0x00000000 sll r0, r0, 0\n\
-        0x00002020 0x00000028 .word 0x00000028\n\
-        0x00002024 0x066aaab5 .word 0x066aaab5\n\
-        0x00002028 0x5b22c678 .word 0x5b22c678\n\
-        0x0000202c 0x00000004 sllv r0, r0, r0\n\
-        0x00002030 0x88f1e098 lwl r17, -8040(r7)\n\
-        0x00002034 0xffffffff .word 0xffffffff\n\
-        0x00002038 0x04a98ee8 .word 0x04a98ee8\n\
-        0x0000203c 0xd554c11d .word 0xd554c11d\n\
+        0x00002020 0x00000000 sll r0, r0, 0\n\
+        0x00002024 0x00000000 sll r0, r0, 0\n\
+        0x00002028 0x00000000 sll r0, r0, 0\n\
+        0x0000202c 0x00000000 sll r0, r0, 0\n\
+        0x00002030 0x00000000 sll r0, r0, 0\n\
+        0x00002034 0x00000000 sll r0, r0, 0\n\
+        0x00002038 0x00000000 sll r0, r0, 0\n\
+        0x0000203c 0x00000000 sll r0, r0, 0\n\
         0x00002040 0x00000000 sll r0, r0, 0\n\
         0x00002044 0x00000000 sll r0, r0, 0\n\
         0x00002048 0x00000000 sll r0, r0, 0\n\
-        0x0000204c 0xffffffff .word 0xffffffff\n\
-        0x00002050 0x00000001 .word 0x00000001\n\
-        0x00002054 0x8adc7658 lwl r28, 30296(r22)\n\
-        0x00002058 0x0edb73f7 jal 0x0b6dcfdc\n\
+        0x0000204c 0x00000000 sll r0, r0, 0\n\
+        0x00002050 0x00000000 sll r0, r0, 0\n\
+        0x00002054 0x00000000 sll r0, r0, 0\n\
+        0x00002058 0x00000000 sll r0, r0, 0\n\
         console 2 0 none\n\
         log 19\n\
         0 31 2 0x18\n\
@@ -2249,51 +2530,51 @@ fn random(rt: HostRuntime) -> Result<(), Fail> {
         pos 3223\n\
         pos 3224\n\
         pos 3207\n\
-        pc 0xbfc01178 next 0xbfc0117c hi 0x00000000 lo 0x00000000 delay 0 load r15 0x030c002a\n\
-        r0 0x00000000 0x00000000 0x1001b731 0x00000001\n\
-        r4 0xbfe80001 0x4a000000 0x00000012 0x00000000\n\
-        r8 0x06dc9400 0x00000030 0x90000000 0x00000000\n\
-        r12 0x1001bfbf 0xbfe80000 0x00002900 0x030c002a\n\
-        r16 0xbfc01038 0x00000014 0xbfe80000 0x9fe00000\n\
-        r20 0x00000059 0x807ffff4 0x9fe00000 0xb0000000\n\
-        r24 0xa0002034 0x1001b725 0x00000170 0xbfc01170\n\
-        r28 0x800010d4 0x80001274 0x00001100 0x80001118\n\
-        r23 0xb0000000\n\
-        index 0x00001e00 random 0x00003000 entrylo 0x1fe00f00 context 0x00000000 badvaddr 0x00000019 entryhi 0x00000000 status 0x1029b725 cause 0x80000018 epc 0x8fc01124 prid 0x00000220\n\
+        pc 0xbfc01008 next 0xbfc0100c hi 0x00000000 lo 0x00000000 delay 0 load none\n\
+        r0 0x00000000 0xbfe00000 0x00000020 0x00000000\n\
+        r4 0x00000000 0x00000000 0x00000000 0x00000000\n\
+        r8 0x00000000 0x00000000 0x00000000 0x00000000\n\
+        r12 0x00000000 0x00000000 0x00000000 0x00000000\n\
+        r16 0xbfe00000 0xa0002000 0x80003000 0x00000000\n\
+        r20 0x00000000 0x00000000 0x00000000 0x00000000\n\
+        r24 0x00000000 0x00000000 0x00000000 0x00000000\n\
+        r28 0x00000000 0x00000000 0x00000000 0x00000000\n\
+        r23 0x00000000\n\
+        index 0x00000000 random 0x00003000 entrylo 0x00000000 context 0x00000000 badvaddr 0x00000000 entryhi 0x00000000 status 0x00400000 cause 0x00000000 epc 0x00000000 prid 0x00000220\n\
         tlb 50 0x00000000 0x00000000\n\
         where tlbl\n\
-        0x00002000 0x50df633c\n\
+        0x00002000 0x00000000\n\
         0x00002004 0x00000000\n\
-        0x00002008 0x80000000\n\
-        0x0000200c 0x7fffffff\n\
-        0x00002010 0x4298e889\n\
-        0x00002014 0x0000003f\n\
-        0x00002018 0xe92d3e4a\n\
+        0x00002008 0x00000000\n\
+        0x0000200c 0x00000000\n\
+        0x00002010 0x00000000\n\
+        0x00002014 0x00000000\n\
+        0x00002018 0x00000000\n\
         0x0000201c 0x00000000\n\
-        0x00002020 0x00000028\n\
-        0x00002024 0x066aaab5\n\
-        0x00002028 0x5b22c678\n\
-        0x0000202c 0x00000004\n\
-        0x00002030 0x88f1e098\n\
-        0x00002034 0xffffffff\n\
-        0x00002038 0x04a98ee8\n\
-        0x0000203c 0xd554c11d\n\
-        0x0000202c 0x00000004 sllv r0, r0, r0\n\
-        0x00002030 0x88f1e098 lwl r17, -8040(r7)\n\
-        0x00002034 0xffffffff .word 0xffffffff\n\
-        0x00002038 0x04a98ee8 .word 0x04a98ee8\n\
-        0x0000203c 0xd554c11d .word 0xd554c11d\n\
+        0x00002020 0x00000000\n\
+        0x00002024 0x00000000\n\
+        0x00002028 0x00000000\n\
+        0x0000202c 0x00000000\n\
+        0x00002030 0x00000000\n\
+        0x00002034 0x00000000\n\
+        0x00002038 0x00000000\n\
+        0x0000203c 0x00000000\n\
+        0x0000202c 0x00000000 sll r0, r0, 0\n\
+        0x00002030 0x00000000 sll r0, r0, 0\n\
+        0x00002034 0x00000000 sll r0, r0, 0\n\
+        0x00002038 0x00000000 sll r0, r0, 0\n\
+        0x0000203c 0x00000000 sll r0, r0, 0\n\
         0x00002040 0x00000000 sll r0, r0, 0\n\
         0x00002044 0x00000000 sll r0, r0, 0\n\
         0x00002048 0x00000000 sll r0, r0, 0\n\
-        0x0000204c 0xffffffff .word 0xffffffff\n\
-        0x00002050 0x00000001 .word 0x00000001\n\
-        0x00002054 0x8adc7658 lwl r28, 30296(r22)\n\
-        0x00002058 0x0edb73f7 jal 0x0b6dcfdc\n\
-        0x0000205c 0xffffffff .word 0xffffffff\n\
-        0x00002060 0xa06e346e sb r14, 13422(r3)\n\
-        0x00002064 0x89a890c6 lwl r8, -28474(r13)\n\
-        0x00002068 0x80000000 lb r0, 0(r0)\n\
+        0x0000204c 0x00000000 sll r0, r0, 0\n\
+        0x00002050 0x00000000 sll r0, r0, 0\n\
+        0x00002054 0x00000000 sll r0, r0, 0\n\
+        0x00002058 0x00000000 sll r0, r0, 0\n\
+        0x0000205c 0x00000000 sll r0, r0, 0\n\
+        0x00002060 0x00000000 sll r0, r0, 0\n\
+        0x00002064 0x00000000 sll r0, r0, 0\n\
+        0x00002068 0x00000000 sll r0, r0, 0\n\
         console 1 0 none\n\
         log 19\n\
         0 31 2 0x18\n\
@@ -2318,27 +2599,27 @@ fn random(rt: HostRuntime) -> Result<(), Fail> {
         pos 455\n\
         pos 468\n\
         pos 460\n\
-        pc 0x80000090 next 0x80000094 hi 0x0000353b lo 0xf90054a0 delay 0 load none\n\
-        r0 0x00000000 0x00000000 0x1001b731 0xffff9588\n\
-        r4 0x00000000 0x0000345f 0x00000012 0x00000001\n\
-        r8 0x800010d4 0x00000000 0x9001b725 0x00000028\n\
-        r12 0x1001bfbf 0x00000000 0x00000014 0x00000000\n\
-        r16 0xbfc01038 0x00000014 0xbfe80000 0x9fe00000\n\
-        r20 0x00000059 0x807ffff4 0x9fe00000 0xb0000000\n\
-        r24 0xa0002034 0x1001b725 0xbfe00000 0x00000000\n\
-        r28 0x800010d4 0x80001274 0x00001100 0xbfc0140c\n\
-        r23 0xb0000000\n\
-        index 0x00001e00 random 0x00003300 entrylo 0x1fe00f00 context 0x00000000 badvaddr 0x00000019 entryhi 0x00000000 status 0x1029b714 cause 0x0000001c epc 0xbfc0142c prid 0x00000220\n\
+        pc 0xbfc0102c next 0xbfc01030 hi 0x00000000 lo 0x00000000 delay 0 load none\n\
+        r0 0x00000000 0xbfe00000 0x00000020 0x00000000\n\
+        r4 0x00000000 0x00000000 0x00000000 0x00000000\n\
+        r8 0x00000000 0x00000000 0x00000000 0x00000000\n\
+        r12 0x00000000 0x00000000 0x00000000 0x00000000\n\
+        r16 0xbfe00000 0xa0002000 0x80003000 0x00000000\n\
+        r20 0x00000000 0x00000000 0x00000000 0x00000000\n\
+        r24 0x00000000 0x00000000 0x00000000 0x00000000\n\
+        r28 0x00000000 0x00000000 0x00000000 0x00000000\n\
+        r23 0x00000000\n\
+        index 0x00000000 random 0x00003300 entrylo 0x00000000 context 0x00000000 badvaddr 0x00000000 entryhi 0x00000000 status 0x00400000 cause 0x00000000 epc 0x00000000 prid 0x00000220\n\
         tlb 43 0x00000000 0x00000000\n\
-        where 0x1fe00003 cached\n\
-        0x0000003c 0x42000010\n\
-        0x00000040 0x401a0800\n\
-        0x00000044 0x3c1bbfc0\n\
-        0x00000048 0x001ad102\n\
-        0x0000004c 0x377b1000\n\
-        0x00000050 0x035bd821\n\
-        0x00000054 0x03600008\n\
-        0x00000058 0x40996000\n\
+        where tlbl refill\n\
+        0x0000003c 0x00000000\n\
+        0x00000040 0x00000000\n\
+        0x00000044 0x00000000\n\
+        0x00000048 0x00000000\n\
+        0x0000004c 0x00000000\n\
+        0x00000050 0x00000000\n\
+        0x00000054 0x00000000\n\
+        0x00000058 0x00000000\n\
         0x0000005c 0x00000000\n\
         0x00000060 0x00000000\n\
         0x00000064 0x00000000\n\
@@ -2347,22 +2628,22 @@ fn random(rt: HostRuntime) -> Result<(), Fail> {
         0x00000070 0x00000000\n\
         0x00000074 0x00000000\n\
         0x00000078 0x00000000\n\
-        0x00002010 0x4298e889 .word 0x4298e889\n\
-        0x00002014 0x0000003f .word 0x0000003f\n\
-        0x00002018 0xe92d3e4a .word 0xe92d3e4a\n\
+        0x00002010 0x00000000 sll r0, r0, 0\n\
+        0x00002014 0x00000000 sll r0, r0, 0\n\
+        0x00002018 0x00000000 sll r0, r0, 0\n\
         0x0000201c 0x00000000 sll r0, r0, 0\n\
-        0x00002020 0x00000028 .word 0x00000028\n\
-        0x00002024 0x066aaab5 .word 0x066aaab5\n\
-        0x00002028 0x5b22c678 .word 0x5b22c678\n\
-        0x0000202c 0x00000004 sllv r0, r0, r0\n\
-        0x00002030 0x6ff1e098 .word 0x6ff1e098\n\
-        0x00002034 0xffffffff .word 0xffffffff\n\
-        0x00002038 0x04a98ee8 .word 0x04a98ee8\n\
-        0x0000203c 0xd554c11d .word 0xd554c11d\n\
+        0x00002020 0x00000000 sll r0, r0, 0\n\
+        0x00002024 0x00000000 sll r0, r0, 0\n\
+        0x00002028 0x00000000 sll r0, r0, 0\n\
+        0x0000202c 0x00000000 sll r0, r0, 0\n\
+        0x00002030 0x00000000 sll r0, r0, 0\n\
+        0x00002034 0x00000000 sll r0, r0, 0\n\
+        0x00002038 0x00000000 sll r0, r0, 0\n\
+        0x0000203c 0x00000000 sll r0, r0, 0\n\
         0x00002040 0x00000000 sll r0, r0, 0\n\
         0x00002044 0x00000000 sll r0, r0, 0\n\
         0x00002048 0x00000000 sll r0, r0, 0\n\
-        0x0000204c 0xffffffff .word 0xffffffff\n\
+        0x0000204c 0x00000000 sll r0, r0, 0\n\
         console 3 0 none\n\
         log 19\n\
         0 31 2 0x18\n\
@@ -2387,52 +2668,52 @@ fn random(rt: HostRuntime) -> Result<(), Fail> {
         pos 2793\n\
         pos 2803\n\
         pos 2788\n\
-        pc 0xbfc0117c next 0xbfc01178 hi 0x00000000 lo 0x00000000 delay 1 load none\n\
-        r0 0x00000000 0x00000000 0x1001b731 0x00000001\n\
-        r4 0xbfe80001 0x4a000000 0x00000012 0x00000000\n\
-        r8 0x06dc9400 0x00000030 0x90000000 0x00000000\n\
-        r12 0x1001bfbf 0xbfe80000 0x00002900 0x030c002a\n\
-        r16 0xbfc01038 0x00000014 0xbfe80000 0x9fe00000\n\
-        r20 0x00000059 0x807ffff4 0x9fe00000 0xb0000000\n\
-        r24 0xa0002034 0x1001b725 0x00000170 0xbfc01170\n\
-        r28 0x800010d4 0x80001274 0x00001100 0x80001118\n\
-        r3 0x00000001\n\
-        index 0x00001e00 random 0x00001300 entrylo 0x1fe00f00 context 0x00000000 badvaddr 0x00000019 entryhi 0x00000000 status 0x1029b725 cause 0x80000018 epc 0x8fc01124 prid 0x00000220\n\
+        pc 0xbfc01030 next 0xbfc01000 hi 0x00000000 lo 0x00000000 delay 1 load none\n\
+        r0 0x00000000 0xbfe00000 0x00000020 0x00000000\n\
+        r4 0x00000000 0x00000000 0x00000000 0x00000000\n\
+        r8 0x00000000 0x00000000 0x00000000 0x00000000\n\
+        r12 0x00000000 0x00000000 0x00000000 0x00000000\n\
+        r16 0xbfe00000 0xa0002000 0x80003000 0x00000000\n\
+        r20 0x00000000 0x00000000 0x00000000 0x00000000\n\
+        r24 0x00000000 0x00000000 0x00000000 0x00000000\n\
+        r28 0x00000000 0x00000000 0x00000000 0x00000000\n\
+        r3 0x00000000\n\
+        index 0x00000000 random 0x00001300 entrylo 0x00000000 context 0x00000000 badvaddr 0x00000000 entryhi 0x00000000 status 0x00400000 cause 0x00000000 epc 0x00000000 prid 0x00000220\n\
         tlb 41 0x00000000 0x00000000\n\
         where 0x00001000 cached\n\
-        0x00002014 0x0000003f\n\
-        0x00002018 0xe92d3e4a\n\
+        0x00002014 0x00000000\n\
+        0x00002018 0x00000000\n\
         0x0000201c 0x00000000\n\
-        0x00002020 0x00000028\n\
-        0x00002024 0x066aaab5\n\
-        0x00002028 0x5b22c678\n\
-        0x0000202c 0x00000004\n\
-        0x00002030 0x88f1e098\n\
-        0x00002034 0xffffffff\n\
-        0x00002038 0x04a98ee8\n\
-        0x0000203c 0xd554c11d\n\
+        0x00002020 0x00000000\n\
+        0x00002024 0x00000000\n\
+        0x00002028 0x00000000\n\
+        0x0000202c 0x00000000\n\
+        0x00002030 0x00000000\n\
+        0x00002034 0x00000000\n\
+        0x00002038 0x00000000\n\
+        0x0000203c 0x00000000\n\
         0x00002040 0x00000000\n\
         0x00002044 0x00000000\n\
         0x00002048 0x00000000\n\
-        0x0000204c 0xffffffff\n\
-        0x00002050 0x00000001\n\
-        0x0000200c 0x7fffffff .word 0x7fffffff\n\
-        0x00002010 0x4298e889 .word 0x4298e889\n\
-        0x00002014 0x0000003f .word 0x0000003f\n\
-        0x00002018 0xe92d3e4a .word 0xe92d3e4a\n\
+        0x0000204c 0x00000000\n\
+        0x00002050 0x00000000\n\
+        0x0000200c 0x00000000 sll r0, r0, 0\n\
+        0x00002010 0x00000000 sll r0, r0, 0\n\
+        0x00002014 0x00000000 sll r0, r0, 0\n\
+        0x00002018 0x00000000 sll r0, r0, 0\n\
         0x0000201c 0x00000000 sll r0, r0, 0\n\
-        0x00002020 0x00000028 .word 0x00000028\n\
-        0x00002024 0x066aaab5 .word 0x066aaab5\n\
-        0x00002028 0x5b22c678 .word 0x5b22c678\n\
-        0x0000202c 0x00000004 sllv r0, r0, r0\n\
-        0x00002030 0x88f1e098 lwl r17, -8040(r7)\n\
-        0x00002034 0xffffffff .word 0xffffffff\n\
-        0x00002038 0x04a98ee8 .word 0x04a98ee8\n\
-        0x0000203c 0xd554c11d .word 0xd554c11d\n\
+        0x00002020 0x00000000 sll r0, r0, 0\n\
+        0x00002024 0x00000000 sll r0, r0, 0\n\
+        0x00002028 0x00000000 sll r0, r0, 0\n\
+        0x0000202c 0x00000000 sll r0, r0, 0\n\
+        0x00002030 0x00000000 sll r0, r0, 0\n\
+        0x00002034 0x00000000 sll r0, r0, 0\n\
+        0x00002038 0x00000000 sll r0, r0, 0\n\
+        0x0000203c 0x00000000 sll r0, r0, 0\n\
         0x00002040 0x00000000 sll r0, r0, 0\n\
         0x00002044 0x00000000 sll r0, r0, 0\n\
         0x00002048 0x00000000 sll r0, r0, 0\n\
-        console 0 0 none\n\
+        console 0 10 184ff81ac4e34b9f6ead\n\
         log 19\n\
         0 31 2 0x18\n\
         1 47 3 0x8a\n\
@@ -2456,51 +2737,51 @@ fn random(rt: HostRuntime) -> Result<(), Fail> {
         pos 3020\n\
         pos 3037\n\
         pos 3020\n\
-        pc 0xbfc0117c next 0xbfc01178 hi 0x00000000 lo 0x00000000 delay 1 load none\n\
-        r0 0x00000000 0x00000000 0x1001b731 0x00000001\n\
-        r4 0xbfe80001 0x4a000000 0x00000012 0x00000000\n\
-        r8 0x06dc9400 0x00000030 0x90000000 0x00000000\n\
-        r12 0x1001bfbf 0xbfe80000 0x00002900 0x030c002a\n\
-        r16 0xbfc01038 0x00000014 0xbfe80000 0x9fe00000\n\
-        r20 0x00000059 0x807ffff4 0x9fe00000 0xb0000000\n\
-        r24 0xa0002034 0x1001b725 0x00000170 0xbfc01170\n\
-        r28 0x800010d4 0x80001274 0x00001100 0x80001118\n\
-        r20 0x00000059\n\
-        index 0x00001e00 random 0x00000b00 entrylo 0x1fe00f00 context 0x00000000 badvaddr 0x00000019 entryhi 0x00000000 status 0x1029b725 cause 0x80000018 epc 0x8fc01124 prid 0x00000220\n\
+        pc 0xbfc01030 next 0xbfc01000 hi 0x00000000 lo 0x00000000 delay 1 load none\n\
+        r0 0x00000000 0xbfe00000 0x00000020 0x00000000\n\
+        r4 0x00000000 0x00000000 0x00000000 0x00000000\n\
+        r8 0x00000000 0x00000000 0x00000000 0x00000000\n\
+        r12 0x00000000 0x00000000 0x00000000 0x00000000\n\
+        r16 0xbfe00000 0xa0002000 0x80003000 0x00000000\n\
+        r20 0x00000000 0x00000000 0x00000000 0x00000000\n\
+        r24 0x00000000 0x00000000 0x00000000 0x00000000\n\
+        r28 0x00000000 0x00000000 0x00000000 0x00000000\n\
+        r20 0x00000000\n\
+        index 0x00000000 random 0x00000b00 entrylo 0x00000000 context 0x00000000 badvaddr 0x00000000 entryhi 0x00000000 status 0x00400000 cause 0x00000000 epc 0x00000000 prid 0x00000220\n\
         tlb 5 0x00000000 0x00000000\n\
         where tlbl\n\
-        0x1fc01024 0xae2e0000\n\
-        0x1fc01028 0x42000008\n\
-        0x1fc0102c 0x1d20fffb\n\
-        0x1fc01030 0x9263000f\n\
-        0x1fc01034 0x300c8e7d\n\
-        0x1fc01038 0x24c55909\n\
-        0x1fc0103c 0x030c002a\n\
-        0x1fc01040 0x18000002\n\
-        0x1fc01044 0x40802000\n\
-        0x1fc01048 0x8a2c000a\n\
-        0x1fc0104c 0x01c00011\n\
-        0x1fc01050 0x866b0033\n\
-        0x1fc01054 0x05a00004\n\
-        0x1fc01058 0xbaa3ffff\n\
-        0x1fc0105c 0xae630011\n\
-        0x1fc01060 0x02141820\n\
-        0x00002028 0x5b22c678 .word 0x5b22c678\n\
-        0x0000202c 0x00000004 sllv r0, r0, r0\n\
-        0x00002030 0x88f1e098 lwl r17, -8040(r7)\n\
-        0x00002034 0xffffffff .word 0xffffffff\n\
-        0x00002038 0x04a98ee8 .word 0x04a98ee8\n\
-        0x0000203c 0xd554c11d .word 0xd554c11d\n\
+        0x1fc01024 0x10000001\n\
+        0x1fc01028 0x00000000\n\
+        0x1fc0102c 0x1000fff4\n\
+        0x1fc01030 0x00000000\n\
+        0x1fc01034 0x00000000\n\
+        0x1fc01038 0x00000000\n\
+        0x1fc0103c 0x00000000\n\
+        0x1fc01040 0x00000000\n\
+        0x1fc01044 0x00000000\n\
+        0x1fc01048 0x00000000\n\
+        0x1fc0104c 0x00000000\n\
+        0x1fc01050 0x00000000\n\
+        0x1fc01054 0x00000000\n\
+        0x1fc01058 0x00000000\n\
+        0x1fc0105c 0x00000000\n\
+        0x1fc01060 0x00000000\n\
+        0x00002028 0x00000000 sll r0, r0, 0\n\
+        0x0000202c 0x00000000 sll r0, r0, 0\n\
+        0x00002030 0x00000000 sll r0, r0, 0\n\
+        0x00002034 0x00000000 sll r0, r0, 0\n\
+        0x00002038 0x00000000 sll r0, r0, 0\n\
+        0x0000203c 0x00000000 sll r0, r0, 0\n\
         0x00002040 0x00000000 sll r0, r0, 0\n\
         0x00002044 0x00000000 sll r0, r0, 0\n\
         0x00002048 0x00000000 sll r0, r0, 0\n\
-        0x0000204c 0xffffffff .word 0xffffffff\n\
-        0x00002050 0x00000001 .word 0x00000001\n\
-        0x00002054 0x8adc7658 lwl r28, 30296(r22)\n\
-        0x00002058 0x0edb73f7 jal 0x0b6dcfdc\n\
-        0x0000205c 0xffffffff .word 0xffffffff\n\
-        0x00002060 0xa06e346e sb r14, 13422(r3)\n\
-        0x00002064 0x89a890c6 lwl r8, -28474(r13)\n\
+        0x0000204c 0x00000000 sll r0, r0, 0\n\
+        0x00002050 0x00000000 sll r0, r0, 0\n\
+        0x00002054 0x00000000 sll r0, r0, 0\n\
+        0x00002058 0x00000000 sll r0, r0, 0\n\
+        0x0000205c 0x00000000 sll r0, r0, 0\n\
+        0x00002060 0x00000000 sll r0, r0, 0\n\
+        0x00002064 0x00000000 sll r0, r0, 0\n\
         console 1 0 none\n\
         log 19\n\
         0 31 2 0x18\n\
@@ -2525,51 +2806,51 @@ fn random(rt: HostRuntime) -> Result<(), Fail> {
         pos 3628\n\
         pos 3643\n\
         pos 3624\n\
-        pc 0xbfc0117c next 0xbfc01178 hi 0x00000000 lo 0x00000000 delay 1 load none\n\
-        r0 0x00000000 0x00000000 0x1001b731 0x00000001\n\
-        r4 0xbfe80001 0x4a000000 0x00000012 0x00000000\n\
-        r8 0x06dc9400 0x00000030 0x90000000 0x00000000\n\
-        r12 0x1001bfbf 0xbfe80000 0x00002900 0x030c002a\n\
-        r16 0xbfc01038 0x00000014 0xbfe80000 0x9fe00000\n\
-        r20 0x00000059 0x807ffff4 0x9fe00000 0xb0000000\n\
-        r24 0xa0002034 0x1001b725 0x00000170 0xbfc01170\n\
-        r28 0x800010d4 0x80001274 0x00001100 0x80001118\n\
-        r21 0x807ffff4\n\
-        index 0x00001e00 random 0x00001700 entrylo 0x1fe00f00 context 0x00000000 badvaddr 0x00000019 entryhi 0x00000000 status 0x1029b725 cause 0x80000018 epc 0x8fc01124 prid 0x00000220\n\
+        pc 0xbfc0100c next 0xbfc01010 hi 0x00000000 lo 0x00000000 delay 0 load none\n\
+        r0 0x00000000 0xbfe00000 0x00000020 0x00000000\n\
+        r4 0x00000000 0x00000000 0x00000000 0x00000000\n\
+        r8 0x00000000 0x00000000 0x00000000 0x00000000\n\
+        r12 0x00000000 0x00000000 0x00000000 0x00000000\n\
+        r16 0xbfe00000 0xa0002000 0x80003000 0x00000000\n\
+        r20 0x00000000 0x00000000 0x00000000 0x00000000\n\
+        r24 0x00000000 0x00000000 0x00000000 0x00000000\n\
+        r28 0x00000000 0x00000000 0x00000000 0x00000000\n\
+        r21 0x00000000\n\
+        index 0x00000000 random 0x00001700 entrylo 0x00000000 context 0x00000000 badvaddr 0x00000000 entryhi 0x00000000 status 0x00400000 cause 0x00000000 epc 0x00000000 prid 0x00000220\n\
         tlb 43 0x00000000 0x00000000\n\
         where 0x00001003 cached\n\
-        0x1fc01034 0x300c8e7d\n\
-        0x1fc01038 0x24c55909\n\
-        0x1fc0103c 0x030c002a\n\
-        0x1fc01040 0x18000002\n\
-        0x1fc01044 0x40802000\n\
-        0x1fc01048 0x8a2c000a\n\
-        0x1fc0104c 0x01c00011\n\
-        0x1fc01050 0x866b0033\n\
-        0x1fc01054 0x05a00004\n\
-        0x1fc01058 0xbaa3ffff\n\
-        0x1fc0105c 0xae630011\n\
-        0x1fc01060 0x02141820\n\
-        0x1fc01064 0x02275823\n\
-        0x1fc01068 0x40816800\n\
-        0x1fc0106c 0x02481020\n\
-        0x1fc01070 0x00b54821\n\
-        0x0000103c 0xa6600013 sh r0, 19(r19)\n\
-        0x00001040 0x15c2000c bne r14, r2, 0x00001074\n\
-        0x00001044 0x92620013 lbu r2, 19(r19)\n\
-        0x00001048 0xae0d0002 sw r13, 2(r16)\n\
-        0x0000104c 0x012e0019 multu r9, r14\n\
-        0x00001050 0x03746824 and r13, r27, r20\n\
-        0x00001054 0xbac60004 swr r6, 4(r22)\n\
-        0x00001058 0x8a8bfffc lwl r11, -4(r20)\n\
-        0x0000105c 0x00007010 mfhi r14\n\
-        0x00001060 0x000d5540 sll r10, r13, 21\n\
-        0x00001064 0x02a52827 nor r5, r21, r5\n\
-        0x00001068 0x24480884 addiu r8, r2, 2180\n\
-        0x0000106c 0x8a6b0028 lwl r11, 40(r19)\n\
-        0x00001070 0x42000006 tlbwr\n\
-        0x00001074 0x037a2826 xor r5, r27, r26\n\
-        0x00001078 0x42000008 tlbp\n\
+        0x1fc01034 0x00000000\n\
+        0x1fc01038 0x00000000\n\
+        0x1fc0103c 0x00000000\n\
+        0x1fc01040 0x00000000\n\
+        0x1fc01044 0x00000000\n\
+        0x1fc01048 0x00000000\n\
+        0x1fc0104c 0x00000000\n\
+        0x1fc01050 0x00000000\n\
+        0x1fc01054 0x00000000\n\
+        0x1fc01058 0x00000000\n\
+        0x1fc0105c 0x00000000\n\
+        0x1fc01060 0x00000000\n\
+        0x1fc01064 0x00000000\n\
+        0x1fc01068 0x00000000\n\
+        0x1fc0106c 0x00000000\n\
+        0x1fc01070 0x00000000\n\
+        0x0000103c 0x00000000 sll r0, r0, 0\n\
+        0x00001040 0x00000000 sll r0, r0, 0\n\
+        0x00001044 0x00000000 sll r0, r0, 0\n\
+        0x00001048 0x00000000 sll r0, r0, 0\n\
+        0x0000104c 0x00000000 sll r0, r0, 0\n\
+        0x00001050 0x00000000 sll r0, r0, 0\n\
+        0x00001054 0x00000000 sll r0, r0, 0\n\
+        0x00001058 0x00000000 sll r0, r0, 0\n\
+        0x0000105c 0x00000000 sll r0, r0, 0\n\
+        0x00001060 0x00000000 sll r0, r0, 0\n\
+        0x00001064 0x00000000 sll r0, r0, 0\n\
+        0x00001068 0x00000000 sll r0, r0, 0\n\
+        0x0000106c 0x00000000 sll r0, r0, 0\n\
+        0x00001070 0x00000000 sll r0, r0, 0\n\
+        0x00001074 0x00000000 sll r0, r0, 0\n\
+        0x00001078 0x00000000 sll r0, r0, 0\n\
         console 2 0 none\n\
         log 19\n\
         0 31 2 0x18\n\
@@ -2590,7 +2871,234 @@ fn random(rt: HostRuntime) -> Result<(), Fail> {
         15 2182 2 0x9f\n\
         16 2216 2 0xfc\n\
         17 2405 1 0x6e\n\
-        18 2719 1 0xad\n",
+        18 2719 1 0xad\n\
+        pos 151316\n\
+        error 4 NoEvent\n\
+        0x1fc00094 0x00000000\n\
+        0x1fc00098 0x00000000\n\
+        0x1fc0009c 0x00000000\n\
+        0x1fc000a0 0x00000000\n\
+        0x00003008 0x00000000\n\
+        0x0000300c 0x00000000\n\
+        0x00003010 0x00000000\n\
+        0x00003014 0x00000000\n\
+        0x00003010 0x00000000\n\
+        0x00003014 0x00000000\n\
+        find 2727\n\
+        ok\n\
+        0x00003010 0x00000000\n\
+        writer image\n\
+        pc 0xbfc01030 next 0xbfc01000 hi 0x00000000 lo 0x00000000 delay 1 load none\n\
+        r0 0x00000000 0xbfe00000 0x00000020 0x00000000\n\
+        r4 0x00000000 0x00000000 0x00000000 0x00000000\n\
+        r8 0x00000000 0x00000000 0x00000000 0x00000000\n\
+        r12 0x00000000 0x00000000 0x00000000 0x00000000\n\
+        r16 0xbfe00000 0xa0002000 0x80003000 0x00000000\n\
+        r20 0x00000000 0x00000000 0x00000000 0x00000000\n\
+        r24 0x00000000 0x00000000 0x00000000 0x00000000\n\
+        r28 0x00000000 0x00000000 0x00000000 0x00000000\n\
+        writer 2728\n\
+        ok\n\
+        writer 2728\n\
+        console 0 10 9f6ead\n\
+        writer 151311\n\
+        0x00002014 0x00000000\n\
+        0x00002018 0x00000000\n\
+        error 3 Range\n\
+        pos 3509\n\
+        ok\n\
+        console 0 10 e34b9f6ead\n\
+        writer 2726\n\
+        writer 2726\n\
+        writer 3503\n\
+        log 18\n\
+        writer 2731\n\
+        writer never\n\
+        0x00000050 0x00000000\n\
+        0x00000054 0x00000000\n\
+        0x00000058 0x00000000\n\
+        pos 3509\n\
+        event 15\n\
+        writer never\n\
+        writer image\n\
+        writer never\n\
+        find 1039\n\
+        pos 3510\n\
+        pc 0xbfc0102c next 0xbfc01030 hi 0x00000000 lo 0x00000000 delay 0 load none\n\
+        r0 0x00000000 0xbfe00000 0x00000020 0x00000000\n\
+        r4 0x00000000 0x00000000 0x00000000 0x00000000\n\
+        r8 0x00000000 0x00000000 0x00000000 0x00000000\n\
+        r12 0x00000000 0x00000000 0x00000000 0x00000000\n\
+        r16 0xbfe00000 0xa0002000 0x80003000 0x00000000\n\
+        r20 0x00000000 0x00000000 0x00000000 0x00000000\n\
+        r24 0x00000000 0x00000000 0x00000000 0x00000000\n\
+        r28 0x00000000 0x00000000 0x00000000 0x00000000\n\
+        error 4 NoEvent\n\
+        pos 54561\n\
+        event 8\n\
+        pos 54561\n\
+        writer 2729\n\
+        writer never\n\
+        find 2413\n\
+        event 9\n\
+        0x00002014 0x00000000\n\
+        0x00002018 0x00000000\n\
+        0x0000201c 0x00000000\n\
+        pc 0xbfc01004 next 0xbfc01008 hi 0x00000000 lo 0x00000000 delay 0 load r6 0x00000000\n\
+        r0 0x00000000 0xbfe00000 0x00000020 0x00000000\n\
+        r4 0x00000000 0x00000000 0x00000000 0x00000000\n\
+        r8 0x00000000 0x00000000 0x00000000 0x00000000\n\
+        r12 0x00000000 0x00000000 0x00000000 0x00000000\n\
+        r16 0xbfe00000 0xa0002000 0x80003000 0x00000000\n\
+        r20 0x00000000 0x00000000 0x00000000 0x00000000\n\
+        r24 0x00000000 0x00000000 0x00000000 0x00000000\n\
+        r28 0x00000000 0x00000000 0x00000000 0x00000000\n\
+        writer 2731\n\
+        writer image\n\
+        pos 54566\n\
+        pc 0xbfc0102c next 0xbfc01030 hi 0x00000000 lo 0x00000000 delay 0 load none\n\
+        r0 0x00000000 0xbfe00000 0x00000020 0x00000000\n\
+        r4 0x00000000 0x00000000 0x00000000 0x00000000\n\
+        r8 0x00000000 0x00000000 0x00000000 0x00000000\n\
+        r12 0x00000000 0x00000000 0x00000000 0x00000000\n\
+        r16 0xbfe00000 0xa0002000 0x80003000 0x00000000\n\
+        r20 0x00000000 0x00000000 0x00000000 0x00000000\n\
+        r24 0x00000000 0x00000000 0x00000000 0x00000000\n\
+        r28 0x00000000 0x00000000 0x00000000 0x00000000\n\
+        pos 54561\n\
+        event 18\n\
+        find 45\n\
+        console 3 0 none\n\
+        writer never\n\
+        error 6 NotMemory\n\
+        error 8 NotFound\n\
+        pos 65554\n\
+        event 19\n\
+        find 1516\n\
+        writer 43534\n\
+        error 5 Unaligned\n\
+        writer 65551\n\
+        ok\n\
+        pc 0xbfc01014 next 0xbfc0102c hi 0x00000000 lo 0x00000000 delay 1 load none\n\
+        r0 0x00000000 0xbfe00000 0x00000020 0x00000000\n\
+        r4 0x00000000 0x00000000 0x00000000 0x00000000\n\
+        r8 0x00000000 0x00000000 0x00000000 0x00000000\n\
+        r12 0x00000000 0x00000000 0x00000000 0x00000000\n\
+        r16 0xbfe00000 0xa0002000 0x80003000 0x00000000\n\
+        r20 0x00000000 0x00000000 0x00000000 0x00000000\n\
+        r24 0x00000000 0x00000000 0x00000000 0x00000000\n\
+        r28 0x00000000 0x00000000 0x00000000 0x00000000\n\
+        error 6 NotMemory\n\
+        find 1758\n\
+        console 0 11 none\n\
+        event 17\n\
+        writer image\n\
+        log 20\n\
+        0 31 2 0x18\n\
+        1 142 0 0xed\n\
+        2 169 3 0x46\n\
+        3 193 2 0xb2\n\
+        4 337 0 0x4f\n\
+        5 346 0 0xb0\n\
+        6 372 3 0x46\n\
+        7 560 0 0xf8\n\
+        8 975 2 0x8f\n\
+        9 1027 0 0xc4\n\
+        10 1506 0 0xe3\n\
+        11 1613 3 0xa1\n\
+        12 1750 0 0x4b\n\
+        13 2182 2 0x9f\n\
+        14 2216 2 0xcc\n\
+        15 2405 1 0x6e\n\
+        16 2719 1 0xad\n\
+        17 14098 2 0xb1\n\
+        18 43524 2 0x95\n\
+        19 65552 2 0x7b\n\
+        writer 43536\n\
+        writer 65551\n\
+        error 4 NoEvent\n\
+        pos 184853\n\
+        ok\n\
+        writer 184852\n\
+        0x00002004 0x00000000\n\
+        0x00002008 0x00000000\n\
+        0x0000200c 0x00000000\n\
+        0x00002010 0x00000000\n\
+        writer image\n\
+        console 0 12 b1957b\n\
+        event 15\n\
+        writer 65563\n\
+        writer 65563\n\
+        pc 0xbfc0100c next 0xbfc01010 hi 0x00000000 lo 0x00000000 delay 0 load none\n\
+        r0 0x00000000 0xbfe00000 0x00000020 0x00000000\n\
+        r4 0x00000000 0x00000000 0x00000000 0x00000000\n\
+        r8 0x00000000 0x00000000 0x00000000 0x00000000\n\
+        r12 0x00000000 0x00000000 0x00000000 0x00000000\n\
+        r16 0xbfe00000 0xa0002000 0x80003000 0x00000000\n\
+        r20 0x00000000 0x00000000 0x00000000 0x00000000\n\
+        r24 0x00000000 0x00000000 0x00000000 0x00000000\n\
+        r28 0x00000000 0x00000000 0x00000000 0x00000000\n\
+        log 20\n\
+        0 31 2 0x18\n\
+        1 142 0 0xed\n\
+        2 169 3 0x46\n\
+        3 193 2 0xb2\n\
+        4 337 0 0x4f\n\
+        5 346 0 0xb0\n\
+        6 372 3 0x46\n\
+        7 560 0 0xf8\n\
+        8 975 2 0x8f\n\
+        9 1027 0 0xc4\n\
+        10 1506 0 0xe3\n\
+        11 1613 3 0xa1\n\
+        12 1750 0 0x4b\n\
+        13 2182 2 0x9f\n\
+        14 2216 2 0xcc\n\
+        15 2405 1 0xf1\n\
+        16 2719 1 0xad\n\
+        17 14098 2 0xb1\n\
+        18 43524 2 0x95\n\
+        19 65552 2 0x7b\n\
+        event 19\n\
+        writer 161627\n\
+        find 14109\n\
+        index 0x00000000 random 0x00000a00 entrylo 0x00000000 context 0x00000000 badvaddr 0x00000000 entryhi 0x00000000 status 0x00400000 cause 0x00000000 epc 0x00000000 prid 0x00000220\n\
+        pos 184853\n\
+        error 4 NoEvent\n\
+        pos 3280\n\
+        event 18\n\
+        writer image\n\
+        console 0 9 ad\n\
+        writer 3272\n\
+        writer 3272\n\
+        event 16\n\
+        console 2 0 none\n\
+        writer never\n\
+        0x00003008 0x00000000\n\
+        0x0000300c 0x00000000\n\
+        0x1fc01040 0x00000000\n\
+        0x1fc01044 0x00000000\n\
+        0x1fc01048 0x00000000\n\
+        log 21\n\
+        writer 3272\n\
+        console 0 10 184ff88fe34b9ff1adca\n\
+        writer 3199\n\
+        0x00003008 0x00000000\n\
+        0x0000300c 0x00000000\n\
+        0x00003010 0x00000000\n\
+        0x00003014 0x00000000\n\
+        pos 3288\n\
+        pc 0xbfc01008 next 0xbfc0100c hi 0x00000000 lo 0x00000000 delay 0 load none\n\
+        r0 0x00000000 0xbfe00000 0x00000020 0x00000000\n\
+        r4 0x00000000 0x00000000 0x00000000 0x00000000\n\
+        r8 0x00000000 0x00000000 0x00000000 0x00000000\n\
+        r12 0x00000000 0x00000000 0x00000000 0x00000000\n\
+        r16 0xbfe00000 0xa0002000 0x80003000 0x00000000\n\
+        r20 0x00000000 0x00000000 0x00000000 0x00000000\n\
+        r24 0x00000000 0x00000000 0x00000000 0x00000000\n\
+        r28 0x00000000 0x00000000 0x00000000 0x00000000\n\
+        pos 3280\n\
+        error 3 Range\n",
     )?;
     Ok(())
 }
