@@ -2,8 +2,7 @@
 use Rattle.std.proofs.Common.{◌≡◌, ℕ, zero, suc, ◌+◌, ◌<◌, ◌≤◌, List, [], ◌∷◌, length, get_or, drop, Result, Ok, Err, refl, sym, ap, ◌∙◌, arith}
 use Rattle.std.specs.Prelude.{unwrap_or}
 use Rattle.std.specs.Ordering.{nat_cmp}
-use Rattle.r3k_image.specs.declared.constants.TheConstants.{PLAIN_BYTE_TIME, PLAIN_UNIT, PLAIN_CLOCK_START}
-use Rattle.r3k_image.specs.Boot.{Boot}
+use Rattle.r3k_image.specs.Boot.{Boot, plain_byte_time, plain_clock_start, plain_unit}
 use Rattle.std.specs.FinMap as map
 use Rattle.std.specs.Str.Lines.{lines}
 use Rattle.std.proofs.lemmas.List.{nil_from_length}
@@ -76,7 +75,7 @@ link_none labels words rs i le = ap (linked labels words) (past rs i le)
 -- ---- both passes
 
 abbrev pub finished : State → map.FinMap nat_cmp ℕ → Boot
-finished s words = record { words = words; byte_time = unwrap_or s.byte_time PLAIN_BYTE_TIME; unit = unwrap_or s.unit PLAIN_UNIT; clock_start = unwrap_or s.clock PLAIN_CLOCK_START }
+finished s words = record { words = words; byte_time = unwrap_or s.byte_time plain_byte_time; unit = unwrap_or s.unit plain_unit; clock_start = unwrap_or s.clock plain_clock_start }
 
 abbrev second : State → Result Boot AsmFault
 second s = linked s.labels s.words s.references >>= λ words. Ok (finished s words)

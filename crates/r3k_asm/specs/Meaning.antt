@@ -4,8 +4,7 @@ use Rattle.std.specs.Prelude.{◌≡◌, ℕ, ◌+◌, List, [], ◌∷◌, Resu
 use Rattle.std.specs.Ordering.{nat_cmp}
 use Rattle.std.specs.FinMap as map
 use Rattle.std.specs.Str.Lines.{lines}
-use Rattle.r3k_image.specs.declared.constants.TheConstants.{PLAIN_BYTE_TIME, PLAIN_UNIT, PLAIN_CLOCK_START}
-use Rattle.r3k_image.specs.Boot.{Boot}
+use Rattle.r3k_image.specs.Boot.{Boot, plain_byte_time, plain_clock_start, plain_unit}
 use Rattle.asm_line.specs.declared.kind.AsmKind.{AsmKind}
 use Rattle.r3k_asm.specs.declared.fault.AsmFault.{AsmFault}
 use Rattle.r3k_asm.specs.declared.fault.AsmFault.TheVariants.{Memory, Bad}
@@ -40,9 +39,9 @@ image_of text = do
   words ← linked s.labels s.words s.references
   Ok (record {
     words = words;
-    byte_time = unwrap_or s.byte_time PLAIN_BYTE_TIME;
-    unit = unwrap_or s.unit PLAIN_UNIT;
-    clock_start = unwrap_or s.clock PLAIN_CLOCK_START;
+    byte_time = unwrap_or s.byte_time plain_byte_time;
+    unit = unwrap_or s.unit plain_unit;
+    clock_start = unwrap_or s.clock plain_clock_start;
   })
 
 -- what a call answers that may run out of memory

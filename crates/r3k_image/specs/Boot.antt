@@ -40,6 +40,17 @@ pub record IsClockStart (registers : List ℕ) : Type 0 where
   pub register_a : slice_index registers 10 < 128
   pub register_b : slice_index registers 11 % 2 ≡ 0
 
+-- the byte time and the unit where nothing else is said (own)
+abbrev pub plain_byte_time : ℕ
+plain_byte_time = 16
+
+abbrev pub plain_unit : ℕ
+plain_unit = 1
+
+-- what the clock starts with where nothing else is said (own): midnight of Sunday, the 1st of January, in binary and 24 hours
+abbrev pub plain_clock_start : List ℕ
+plain_clock_start = 0 ∷ 0 ∷ 0 ∷ 0 ∷ 0 ∷ 0 ∷ 1 ∷ 1 ∷ 1 ∷ 0 ∷ 32 ∷ 6 ∷ []
+
 -- what every boot image keeps (own): each set word is a word of RAM or ROM, and the constants are in their ranges
 pub record IsBoot (boot : Boot) : Type 0 where
   pub places : (address : ℕ) → IsTrue (map.contains_key boot.words address) → IsSome (place_of_word MAX_RAM_PAGES address)

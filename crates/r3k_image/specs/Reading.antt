@@ -9,8 +9,7 @@ use Rattle.r3k_image.specs.declared.fault.ImageFault.{ImageFault}
 use Rattle.r3k_image.specs.declared.fault.ImageFault.TheVariants.{Memory, Bad}
 use Rattle.r3k_image.specs.declared.header.TheConstants.{MAGIC}
 use Rattle.r3k_image.specs.declared.header.Header.{Header}
-use Rattle.r3k_image.specs.declared.constants.TheConstants.{PLAIN_BYTE_TIME, PLAIN_UNIT, PLAIN_CLOCK_START}
-use Rattle.r3k_image.specs.Boot.{Boot}
+use Rattle.r3k_image.specs.Boot.{Boot, plain_byte_time, plain_clock_start, plain_unit}
 use Rattle.r3k_image.specs.Segments.{WordsAt, end_of, may_stand, boot_of}
 
 infixl 10 ◌>>=◌
@@ -101,4 +100,4 @@ rom_words bytes = words_of ((length bytes + 3) / 4) (bytes ++ replicate 3 0)
 unfoldable pub raw_rom_at : List ℕ → Result Boot ImageKind
 raw_rom_at bytes =
     if nat_lt ROM_BYTES (length bytes) then Err kinds.RawSize
-    else Ok (boot_of (record { address = ROM_START; words = rom_words bytes } ∷ []) PLAIN_BYTE_TIME PLAIN_UNIT PLAIN_CLOCK_START)
+    else Ok (boot_of (record { address = ROM_START; words = rom_words bytes } ∷ []) plain_byte_time plain_unit plain_clock_start)

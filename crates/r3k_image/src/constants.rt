@@ -6,14 +6,14 @@ ghost use Rattle.r3k_image.specs.Boot.{IsClockStart};
 use std::marker::Model;
 
 /// The byte time of an image that does not say it.
-pub const PLAIN_BYTE_TIME: u16 = 16;
+pub(crate) const PLAIN_BYTE_TIME: u16 = 16;
 
 /// The unit of an image that does not say it.
-pub const PLAIN_UNIT: u16 = 1;
+pub(crate) const PLAIN_UNIT: u16 = 1;
 
 /// The first 12 registers of the clock in an image that does not say them: midnight of Sunday, the 1st of January, in binary and
 /// 24 hours.
-pub const PLAIN_CLOCK_START: [u8; 12] = [0, 0, 0, 0, 0, 0, 1, 1, 1, 0, 0x20, 0x06];
+pub(crate) const PLAIN_CLOCK_START: [u8; 12] = [0, 0, 0, 0, 0, 0, 1, 1, 1, 0, 0x20, 0x06];
 
 /// A byte time or a unit: 1 to 65,535.
 #[derive(Clone, Copy, Debug, PartialEq, Eq)]
@@ -37,8 +37,7 @@ impl Model for Constant {
 impl Constant {
     ghost use Rattle.std.specs.Prelude.{◌≡◌};
     ghost use Rattle.std.specs.Option.{SomeIff};
-    ghost use Rattle.r3k_image.specs.Boot.{IsConstant};
-    ghost use Rattle.r3k_image.specs.declared.constants.TheConstants.{PLAIN_BYTE_TIME, PLAIN_UNIT};
+    ghost use Rattle.r3k_image.specs.Boot.{IsConstant, plain_byte_time, plain_unit};
 
     /// The constant of a number, if it may be one.
     pub fn new(number: u64) -> Option<Constant>
@@ -54,7 +53,7 @@ impl Constant {
 
     /// The byte time of an image that does not say it.
     pub fn plain_byte_time() -> Constant
-        ensures { result ≡ PLAIN_BYTE_TIME }
+        ensures { result ≡ plain_byte_time }
     {
         Constant {
             number: PLAIN_BYTE_TIME,
@@ -63,7 +62,7 @@ impl Constant {
 
     /// The unit of an image that does not say it.
     pub fn plain_unit() -> Constant
-        ensures { result ≡ PLAIN_UNIT }
+        ensures { result ≡ plain_unit }
     {
         Constant { number: PLAIN_UNIT }
     }
@@ -107,8 +106,7 @@ fn may_start(registers: &[u8]) -> bool
 impl ClockStart {
     ghost use Rattle.std.specs.Prelude.{◌≡◌};
     ghost use Rattle.std.specs.Option.{SomeIff};
-    ghost use Rattle.r3k_image.specs.Boot.{IsClockStart};
-    ghost use Rattle.r3k_image.specs.declared.constants.TheConstants.{PLAIN_CLOCK_START};
+    ghost use Rattle.r3k_image.specs.Boot.{IsClockStart, plain_clock_start};
 
     /// What the registers start with, if they may.
     pub fn new(registers: &[u8; 12]) -> Option<ClockStart>
@@ -124,7 +122,7 @@ impl ClockStart {
 
     /// What the clock starts with in an image that does not say it.
     pub fn plain() -> ClockStart
-        ensures { result ≡ PLAIN_CLOCK_START }
+        ensures { result ≡ plain_clock_start }
     {
         ClockStart {
             registers: PLAIN_CLOCK_START,

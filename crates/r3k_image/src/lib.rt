@@ -14,7 +14,7 @@ mod segment;
 mod word_map;
 mod writing;
 
-pub use constants::{ClockStart, Constant, PLAIN_BYTE_TIME, PLAIN_CLOCK_START, PLAIN_UNIT};
+pub use constants::{ClockStart, Constant};
 pub use fault::{ImageFault, ImageKind};
 pub use image::Image;
 pub use reading::read_image;

@@ -2,8 +2,7 @@
 use Rattle.std.proofs.Common.{◌≡◌, Ok, Err, sym, ap, subst, ◌∙◌}
 use Rattle.std.proofs.lemmas.Result.{err_from_is_err_and}
 use Rattle.std.specs.Prelude.{unwrap_or}
-use Rattle.r3k_image.specs.declared.constants.TheConstants.{PLAIN_BYTE_TIME, PLAIN_UNIT, PLAIN_CLOCK_START}
-use Rattle.r3k_image.specs.Boot.{Boot}
+use Rattle.r3k_image.specs.Boot.{Boot, plain_byte_time, plain_clock_start, plain_unit}
 use Rattle.r3k_asm.specs.declared.fault.AsmFault.{AsmFault}
 use Rattle.r3k_asm.specs.Source.{seen}
 use Rattle.r3k_asm.specs.Meaning.{Answers, FailsOrLacks, linked, image_of}
@@ -30,9 +29,9 @@ returns c =
     let s = seen c.in_ok-words.field-0 in
     let words = c.in_ok-words-2.words in
     let linked_all : linked s.labels s.words s.references ≡ Ok words = subst (λ rs. linked s.labels s.words rs ≡ Ok words) c.deref.ensures.value c.in_ok-words-2.ensures in
-    let time : c.unwrap_or-byte_time.result ≡ unwrap_or s.byte_time PLAIN_BYTE_TIME = c.unwrap_or-byte_time.ensures ∙ ap (unwrap_or s.byte_time) c.plain_byte_time.ensures in
-    let second : c.unwrap_or-unit.result ≡ unwrap_or s.unit PLAIN_UNIT = c.unwrap_or-unit.ensures ∙ ap (unwrap_or s.unit) c.plain_unit.ensures in
-    let start : c.unwrap_or-clock.result ≡ unwrap_or s.clock PLAIN_CLOCK_START = c.unwrap_or-clock.ensures ∙ ap (unwrap_or s.clock) c.plain.ensures in
+    let time : c.unwrap_or-byte_time.result ≡ unwrap_or s.byte_time plain_byte_time = c.unwrap_or-byte_time.ensures ∙ ap (unwrap_or s.byte_time) c.plain_byte_time.ensures in
+    let second : c.unwrap_or-unit.result ≡ unwrap_or s.unit plain_unit = c.unwrap_or-unit.ensures ∙ ap (unwrap_or s.unit) c.plain_unit.ensures in
+    let start : c.unwrap_or-clock.result ≡ unwrap_or s.clock plain_clock_start = c.unwrap_or-clock.ensures ∙ ap (unwrap_or s.clock) c.plain.ensures in
     let same : c.in_ok-image.field-0 ≡ finished s words =
     c.in_ok-image.ensures ∙ (λ i. record { words = words; byte_time = time i; unit = second i; clock_start = start i }) in
     both_pass c.args.text.now s words c.in_ok-words.ensures linked_all ∙ ap (λ (b : Boot). Ok b) (sym same)
