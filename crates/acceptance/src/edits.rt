@@ -57,6 +57,23 @@ fn patches(rt: HostRuntime) -> Result<(), Fail> {
     says(&rt, rt.alloc(), ECHO, script, want)
 }
 
+/// A byte that is in the load slot alone at position 384, where a span of 64 steps starts.
+#[test]
+fn byte_in_the_load_slot(rt: HostRuntime) -> Result<(), Fail> {
+    let script = "goto 512\nwriter 0x104\nadd 383 0 0x41\nwriter 0x104\nfind 0 0\nconsole 0 0 8\n";
+    let want = "pos 512\nwriter never\nevent 0\nwriter 389\nfind 391\nconsole 0 1 41\n";
+    says(&rt, rt.alloc(), ECHO, script, want)
+}
+
+/// A patch of the loop, which then stores into another word.
+#[test]
+fn patched_loop(rt: HostRuntime) -> Result<(), Fail> {
+    let script =
+        "goto 256\nwriter 0x100\npatch 0x1fc01008 0xad060108\nwriter 0x100\nwriter 0x108\n";
+    let want = "pos 256\nwriter 253\nok\nwriter never\nwriter 253\n";
+    says(&rt, rt.alloc(), ECHO, script, want)
+}
+
 /// A byte store writes its word, and positions and times have their bounds.
 #[test]
 fn last_writer_and_limits(rt: HostRuntime) -> Result<(), Fail> {

@@ -1,5 +1,5 @@
 -- Records that start where a state is, and states that differ from it in one word.
-use Rattle.std.proofs.Common.{◌≡◌, ◌||◌, ℕ, Bool, false, List, [], ◌∷◌, Option, Some, None, IfSome, IsTrue, slice_set, ap, sym, subst}
+use Rattle.std.proofs.Common.{◌≡◌, ◌||◌, ℕ, Bool, false, List, [], ◌∷◌, Option, Some, None, IfSome, IsTrue, slice_set, refl, ap, sym, subst}
 use Rattle.std.proofs.lemmas.Bool.{eq-eqb}
 use Rattle.r3k_word.specs.Layout.{page_of_place}
 use Rattle.r3k_machine.specs.State.{State}
@@ -19,3 +19,7 @@ pub other_word : (start other : State) (page place word : ℕ) → ((set words :
 other_word start other page place word stored here is =
     subst (λ (state : State). SameOutside (page ∷ []) start.words state.words) (sym is)
     (stored (page ∷ []) start.words place word (ap (λ (found : Bool). found || false) (eq-eqb page (page_of_place place) here)))
+
+-- a record that starts where a state is has its words
+pub same_words : (o : Option Span) (start : State) → IfSome o (λ s. s.start ≡ start) → IfSome o (λ s. SameOutside [] s.start.words start.words)
+same_words o start same = same_start o start [] start.words same (λ place outside. refl)

@@ -11,6 +11,7 @@ use std::test::Fail;
 use timeline::{Timeline, Writer};
 
 /// What a timeline is asked, with the answer that is wanted, or what is done to it.
+#[derive(Clone, Copy)]
 pub enum Ask<'a> {
     /// So many steps were run since the last one of these.
     Costs(u64),
@@ -30,6 +31,8 @@ pub enum Ask<'a> {
     Console(u64, &'a [u8]),
     /// At a time a byte arrives on line 0.
     Add(u64, u8),
+    /// So many bytes arrive at once.
+    Burst(u32, u64, u8),
     /// An event is deleted.
     Del(u64),
     /// An event has another byte.
@@ -61,16 +64,16 @@ fn asks_of<const PAGES: u32, const SPAN: u32>(
     Ok(())
 }
 
-/// The timeline, and how many steps it has run.
+// The timeline, and how many steps it has run.
 #[derive(Drop)]
-pub struct Asked<const PAGES: u32, const SPAN: u32> {
+struct Asked<const PAGES: u32, const SPAN: u32> {
     timeline: Timeline<PAGES, SPAN>,
     steps: u64,
 }
 
 impl<const PAGES: u32, const SPAN: u32> Asked<PAGES, SPAN> {
-    /// Of an image, with no events.
-    pub fn of(alloc: Global, image: Image) -> Result<Asked<PAGES, SPAN>, Fail>
+    // Of an image, with no events.
+    fn of(alloc: Global, image: Image) -> Result<Asked<PAGES, SPAN>, Fail>
         requires { AreSizes PAGES SPAN }
     {
         Ok(Asked {
@@ -91,6 +94,7 @@ impl<const PAGES: u32, const SPAN: u32> Asked<PAGES, SPAN> {
             Ask::Sent(position, place, want) => self.sent(rt, *position, *place, *want),
             Ask::Console(position, want) => self.console(rt, *position, want),
             Ask::Add(time, byte) => self.add(rt, *time, *byte),
+            Ask::Burst(count, time, byte) => self.burst(rt, *count, *time, *byte),
             Ask::Del(place) => self.del(rt, *place),
             Ask::Set(place, byte) => self.set(rt, *place, *byte),
             Ask::Patch(address, word) => self.patch(rt, *address, *word),
@@ -98,8 +102,8 @@ impl<const PAGES: u32, const SPAN: u32> Asked<PAGES, SPAN> {
         }
     }
 
-    /// So many steps were run since it was asked last.
-    pub fn costs(&mut self, rt: &impl Abort, steps: u64) {
+    // So many steps were run since it was asked last.
+    fn costs(&mut self, rt: &impl Abort, steps: u64) {
         let now = self.timeline.steps_run();
         same(rt, &now, &self.steps.saturating_add(steps));
         self.steps = now;
@@ -118,8 +122,8 @@ impl<const PAGES: u32, const SPAN: u32> Asked<PAGES, SPAN> {
         assert!(rt; writer == Ok(want));
     }
 
-    /// The word at a physical address, at a position.
-    pub fn word(&mut self, rt: &impl Abort, position: u64, address: u32, want: u32) {
+    // The word at a physical address, at a position.
+    fn word(&mut self, rt: &impl Abort, position: u64, address: u32, want: u32) {
         let word = self.timeline.word_at(position, address);
         assert!(rt; word == Ok(want));
     }
@@ -151,10 +155,17 @@ impl<const PAGES: u32, const SPAN: u32> Asked<PAGES, SPAN> {
         assert!(rt; told);
     }
 
-    /// A byte on line 0.
-    pub fn add(&mut self, rt: &impl Abort, time: u64, byte: u8) {
+    // A byte on line 0.
+    fn add(&mut self, rt: &impl Abort, time: u64, byte: u8) {
         let added = self.timeline.add(time, 0, byte).is_ok();
         assert!(rt; added);
+    }
+
+    // So many bytes at once.
+    fn burst(&mut self, rt: &impl Abort, count: u32, time: u64, byte: u8) {
+        for _ in 0..count {
+            self.add(rt, time, byte);
+        }
     }
 
     // An event is deleted.
@@ -163,8 +174,8 @@ impl<const PAGES: u32, const SPAN: u32> Asked<PAGES, SPAN> {
         assert!(rt; deleted);
     }
 
-    /// An event has another byte.
-    pub fn set(&mut self, rt: &impl Abort, place: u64, byte: u8) {
+    // An event has another byte.
+    fn set(&mut self, rt: &impl Abort, place: u64, byte: u8) {
         let set = self.timeline.set(place, byte).is_ok();
         assert!(rt; set);
     }

@@ -1,11 +1,11 @@
 //! The record of a span and the records that are kept, by direct calls: values by hand. In the echo program turn i of the loop
 //! begins at step 9 + 11 * i, stores RBUF in its third step, and for a byte 0 in its seventh, and sends it in its ninth.
-ghost use Rattle.std.specs.Prelude.{◌≡◌, [], ◌∷◌, ◌+◌, ◌*◌, ◌^◌, ◌<◌, ◌≤◌, IfOk, IfSome};
+ghost use Rattle.std.specs.Prelude.{◌≡◌, [], ◌∷◌, ◌≤◌, IfOk, IfSome};
 ghost use Rattle.r3k_word.specs.declared.layout.TheConstants.{MAX_RAM_PAGES};
 ghost use Rattle.r3k_pages.specs.Pages.{SameOutside};
 ghost use Rattle.checkpoints.specs.Kept.{span_at};
 
-use crate::running::{FIRST, LOOP, Running, SECOND, differ_in, is_sent};
+use crate::running::{FIRST, LOOP, Running, SECOND, Then, echo, plays, record_of, shared};
 use crate::same::same;
 use checkpoints::Kept;
 use input_log::{Event, Log};
@@ -19,95 +19,39 @@ use std::process::Abort;
 use std::rc::Rc;
 use std::test::Fail;
 
-/// Where a machine stands, kept for several spans.
-pub fn shared<const PAGES: u32, const SPAN: u32>(
-    alloc: Global,
-    machine: &Running<PAGES, SPAN>,
-) -> Result<Rc<Boundary<PAGES>>, AllocError> {
-    Rc::new(alloc, machine.keep(alloc)?).map_err(|_| AllocError)
-}
-
-/// The record of the span of a number from a boundary on, with the events of its times.
-pub fn record_of<const PAGES: u32, const SPAN: u32>(
-    alloc: Global,
-    machine: &mut Running<PAGES, SPAN>,
-    start: &Rc<Boundary<PAGES>>,
-    index: u64,
-    log: &Log,
-) -> Result<Fact<PAGES, SPAN>, AllocError>
-    requires few { index < 2 ^ 31 }
-    requires time { (index + 1) * SPAN < 2 ^ 64 }
-    ensures index { IfOk result (λ fact. fact.index ≡ index) }
-    ensures start { IfOk result (λ fact. fact.start ≡ start.now.value) }
-{
-    let start = start.clone()?;
-    machine.live.load(&start);
-    let events = log.window(index * SPAN as u64, (index + 1) * SPAN as u64);
-    Fact::make(
-        alloc,
-        &mut machine.live,
-        &mut machine.recorder,
-        start,
-        index,
-        events,
-    )
-}
-
-// What a record tells: words by their addresses, each with its last step, if there is one; bytes with the steps that sent them;
-// pages stored into, and pages touched.
-fn tells<const PAGES: u32, const SPAN: u32>(
-    rt: &impl Abort,
-    fact: &Fact<PAGES, SPAN>,
-    writers: &[(u32, Option<u32>)],
-    sent: &[(u8, u32)],
-    dirty: &[u32],
-    touched: &[u32],
-) {
-    for (address, step) in writers {
-        assert_eq!(rt; fact.writer(*address), *step, "at {address:x}");
-    }
-    assert!(rt; is_sent(fact.sent(), sent));
-    assert!(rt; fact.dirty() == dirty);
-    assert!(rt; fact.touched() == touched);
-}
-
-/// The first span of the echo program, without events: turn 4 stores in step 55, and turn 5 begins behind the span.
+/// The first span of the echo program, without events: turn 4 stores in step 55, and turn 5 begins behind the span. The words beside
+/// the one that is stored into, an address of no word, one of ROM, and the first one past RAM have no writer. What is stored is 0, as
+/// before.
 #[test]
 fn first_span(rt: HostRuntime) -> Result<(), Fail> {
-    first_span_tells::<16, 64>(&rt, rt.alloc())
-}
-
-fn first_span_tells<const PAGES: u32, const SPAN: u32>(
-    rt: &impl Abort,
-    alloc: Global,
-) -> Result<(), Fail>
-    requires { PAGES ≤ MAX_RAM_PAGES }
-{
-    let mut machine = Running::<PAGES, SPAN>::boot(alloc)?;
-    let start = shared(alloc, &machine)?;
-    let fact = record_of(alloc, &mut machine, &start, 0, &Log::new(alloc))?;
-    machine.stands(rt, LOOP, 64);
-    same(rt, &fact.index(), &0);
-    assert!(rt; fact.events().is_empty());
-    assert!(rt; fact.start().core() == start.core());
-    differ_in(rt, fact.start(), &start, &[]);
-    // The words beside it, an address of no word, one of ROM, and the first one past RAM have no writer.
-    let writers = [
-        (0x100, Some(55)),
-        (0xFC, None),
-        (0x104, None),
-        (0x102, None),
-        (0x1FC0_0000, None),
-        (0x1_0000, None),
-    ];
-    tells(rt, &fact, &writers, &[], &[0], &[0, 16, 17]);
-    machine.load(&start);
-    machine.stands(rt, 0xBFC0_0000, 64);
-    machine.load(fact.end());
-    machine.stands(rt, LOOP, 64);
-    // What it stored was 0, as before.
-    differ_in(rt, fact.end(), &start, &[]);
-    Ok(())
+    plays(
+        &rt,
+        "the echo program",
+        echo(rt.alloc())?,
+        &[
+            Then::Record(0, 0, &[]),
+            Then::Stands(LOOP, 64),
+            Then::RecordIs(0, 0, &[]),
+            Then::RecordTells(
+                &[
+                    (0x100, Some(55)),
+                    (0xFC, None),
+                    (0x104, None),
+                    (0x102, None),
+                    (0x1FC0_0000, None),
+                    (0x1_0000, None),
+                ],
+                &[],
+                &[0],
+                &[0, 16, 17],
+            ),
+            Then::Load(0),
+            Then::Stands(0xBFC0_0000, 64),
+            Then::Load(1),
+            Then::Stands(LOOP, 64),
+            Then::Differ(1, 0, &[]),
+        ],
+    )
 }
 
 /// Spans that start where others end, with bytes of steps 70 and 200. By hand: the second span has the stores of step 121, its
@@ -115,37 +59,36 @@ fn first_span_tells<const PAGES: u32, const SPAN: u32>(
 /// steps 253 and 213, and the byte of step 215.
 #[test]
 fn spans_with_bytes(rt: HostRuntime) -> Result<(), Fail> {
-    spans_with_bytes_tell::<16, 64>(&rt, rt.alloc())
-}
-
-fn spans_with_bytes_tell<const PAGES: u32, const SPAN: u32>(
-    rt: &impl Abort,
-    alloc: Global,
-) -> Result<(), Fail>
-    requires { PAGES ≤ MAX_RAM_PAGES }
-{
-    let mut log = Log::new(alloc);
-    log.add(FIRST.time, 0, FIRST.byte)?;
-    log.add(SECOND.time, 0, SECOND.byte)?;
-    let mut machine = Running::<PAGES, SPAN>::boot(alloc)?;
-    let start = shared(alloc, &machine)?;
-    let zero = record_of(alloc, &mut machine, &start, 0, &log)?;
-    assert!(rt; zero.events().is_empty());
-    let one = record_of(alloc, &mut machine, zero.end(), 1, &log)?;
-    machine.stands(rt, 0xBFC0_1030, 128);
-    assert!(rt; one.events() == [FIRST].as_slice());
-    let writers = [(0x100, Some(57)), (0x104, Some(17))];
-    tells(rt, &one, &writers, &[(0x41, 19)], &[0], &[0, 17]);
-    let two = record_of(alloc, &mut machine, one.end(), 2, &log)?;
-    assert!(rt; two.events().is_empty());
-    let writers = [(0x100, Some(59)), (0x104, None)];
-    tells(rt, &two, &writers, &[], &[0], &[0, 17]);
-    let three = record_of(alloc, &mut machine, two.end(), 3, &log)?;
-    same(rt, &three.index(), &3);
-    assert!(rt; three.events() == [SECOND].as_slice());
-    let writers = [(0x100, Some(61)), (0x104, Some(21))];
-    tells(rt, &three, &writers, &[(0x42, 23)], &[0], &[0, 17]);
-    Ok(())
+    let log = [FIRST, SECOND];
+    plays(
+        &rt,
+        "the echo program",
+        echo(rt.alloc())?,
+        &[
+            Then::Record(0, 0, &log),
+            Then::RecordIs(0, 0, &[]),
+            Then::Record(1, 1, &log),
+            Then::Stands(0xBFC0_1030, 128),
+            Then::RecordIs(1, 1, &[(70, 0x41)]),
+            Then::RecordTells(
+                &[(0x100, Some(57)), (0x104, Some(17))],
+                &[(0x41, 19)],
+                &[0],
+                &[0, 17],
+            ),
+            Then::Record(2, 2, &log),
+            Then::RecordIs(2, 2, &[]),
+            Then::RecordTells(&[(0x100, Some(59)), (0x104, None)], &[], &[0], &[0, 17]),
+            Then::Record(3, 3, &log),
+            Then::RecordIs(3, 3, &[(200, 0x42)]),
+            Then::RecordTells(
+                &[(0x100, Some(61)), (0x104, Some(21))],
+                &[(0x42, 23)],
+                &[0],
+                &[0, 17],
+            ),
+        ],
+    )
 }
 
 // Steps 4 to 10 store into page 15, page 3, byte 3 of a word of page 1, load from page 5, store into ROM, which has no effect,
@@ -167,31 +110,29 @@ sh r8, 0x1002(r8)
 /// words stay. Behind the program there is no word, which is no operation.
 #[test]
 fn stores_into_pages(rt: HostRuntime) -> Result<(), Fail> {
-    stores_into_pages_tell::<16, 64>(&rt, rt.alloc())
-}
-
-fn stores_into_pages_tell<const PAGES: u32, const SPAN: u32>(
-    rt: &impl Abort,
-    alloc: Global,
-) -> Result<(), Fail>
-    requires { PAGES ≤ MAX_RAM_PAGES }
-{
-    let image = assemble(alloc, STORES.as_bytes())?;
-    let mut machine = Running::<PAGES, SPAN>::of(alloc, image)?;
-    let start = shared(alloc, &machine)?;
-    let fact = record_of(alloc, &mut machine, &start, 0, &Log::new(alloc))?;
-    machine.stands(rt, 0xBFC0_0100, 64);
-    let writers = [
-        (0x1000, Some(10)),
-        (0x3000, Some(9)),
-        (0x5000, None),
-        (0xF000, Some(4)),
-        (0x1FC0_0000, None),
-    ];
-    tells(rt, &fact, &writers, &[], &[1, 3, 15], &[1, 3, 5, 15, 16]);
-    machine.holds(rt, &[(0xC00, 0xA000_0000), (0x3C00, 0xA000_0000)]);
-    differ_in(rt, &start, fact.end(), &[3, 15]);
-    Ok(())
+    plays(
+        &rt,
+        "stores into several pages",
+        assemble(rt.alloc(), STORES.as_bytes())?,
+        &[
+            Then::Record(0, 0, &[]),
+            Then::Stands(0xBFC0_0100, 64),
+            Then::RecordTells(
+                &[
+                    (0x1000, Some(10)),
+                    (0x3000, Some(9)),
+                    (0x5000, None),
+                    (0xF000, Some(4)),
+                    (0x1FC0_0000, None),
+                ],
+                &[],
+                &[1, 3, 15],
+                &[1, 3, 5, 15, 16],
+            ),
+            Then::Holds(&[(0xC00, 0xA000_0000), (0x3C00, 0xA000_0000)]),
+            Then::Differ(0, 1, &[3, 15]),
+        ],
+    )
 }
 
 // An event of step 5, where the echo program has not turned its receiver on: nothing comes of it, but the events differ.
@@ -201,80 +142,62 @@ const EARLY: Event = Event {
     byte: 0x41,
 };
 
-/// A record is taken for its own span alone: not with an event more, and not from a start with another core.
+/// A record is taken for its own span alone: not with an event more, and not from a start with another core, as that of its end,
+/// where all words are the same. A machine that is made anew starts where this one did.
 #[test]
 fn record_of_the_first_span(rt: HostRuntime) -> Result<(), Fail> {
-    record_of_the_first_span_applies::<16, 64>(&rt, rt.alloc())
-}
-
-fn record_of_the_first_span_applies<const PAGES: u32, const SPAN: u32>(
-    rt: &impl Abort,
-    alloc: Global,
-) -> Result<(), Fail>
-    requires { PAGES ≤ MAX_RAM_PAGES }
-{
-    let mut machine = Running::<PAGES, SPAN>::boot(alloc)?;
-    let start = shared(alloc, &machine)?;
-    let fact = record_of(alloc, &mut machine, &start, 0, &Log::new(alloc))?;
-    let end = fact.end().clone()?;
-    let mut kept = Kept::<PAGES, SPAN>::new(alloc);
-    assert!(rt; kept.fact(0).is_none());
-    assert!(rt; !kept.applies(0, &start, &[], None));
-    kept.put(fact)?;
-    assert!(rt; kept.fact(0).is_some_and(|fact| fact.index() == 0));
-    assert!(rt; kept.fact(1).is_none());
-    assert!(rt; kept.applies(0, &start, &[], None));
-    assert!(rt; !kept.applies(1, &start, &[], None));
-    assert!(rt; !kept.applies(0, &start, &[EARLY], None));
-    // All words are the same where the span ends, and the core is not.
-    differ_in(rt, &start, &end, &[]);
-    assert!(rt; !kept.applies(0, &end, &[], None));
-    // A machine that is made anew stands where this one did.
-    let again = Running::<PAGES, SPAN>::boot(alloc)?.keep(alloc)?;
-    assert!(rt; kept.applies(0, &again, &[], None));
-    Ok(())
+    plays(
+        &rt,
+        "the echo program",
+        echo(rt.alloc())?,
+        &[
+            Then::Records(&[]),
+            Then::Applies(0, 0, &[], false),
+            Then::Record(0, 0, &[]),
+            Then::Put,
+            Then::Records(&[0]),
+            Then::Applies(0, 0, &[], true),
+            Then::Applies(1, 0, &[], false),
+            Then::Applies(0, 0, &[EARLY], false),
+            Then::Differ(0, 1, &[]),
+            Then::Applies(0, 1, &[], false),
+            Then::KeepReset,
+            Then::Applies(0, 2, &[], true),
+        ],
+    )
 }
 
 /// A record with an event is taken for that event alone.
 #[test]
 fn record_with_an_event(rt: HostRuntime) -> Result<(), Fail> {
-    record_with_an_event_applies::<16, 64>(&rt, rt.alloc())
-}
-
-fn record_with_an_event_applies<const PAGES: u32, const SPAN: u32>(
-    rt: &impl Abort,
-    alloc: Global,
-) -> Result<(), Fail>
-    requires { PAGES ≤ MAX_RAM_PAGES }
-{
-    let mut log = Log::new(alloc);
-    log.add(FIRST.time, 0, FIRST.byte)?;
-    let mut machine = Running::<PAGES, SPAN>::boot(alloc)?;
-    let reset = shared(alloc, &machine)?;
-    let start = record_of(alloc, &mut machine, &reset, 0, &log)?
-        .end()
-        .clone()?;
-    let fact = record_of(alloc, &mut machine, &start, 1, &log)?;
-    let mut kept = Kept::<PAGES, SPAN>::new(alloc);
-    kept.put(fact)?;
-    assert!(rt; kept.applies(1, &start, &[FIRST], None));
-    assert!(rt; !kept.applies(1, &start, &[], None));
-    assert!(rt; !kept.applies(1, &start, &[FIRST, FIRST], None));
-    for other in [
-        Event { time: 71, ..FIRST },
-        Event { line: 1, ..FIRST },
-        Event {
-            byte: 0x42,
-            ..FIRST
-        },
-    ] {
-        assert!(rt; !kept.applies(1, &start, &[other], None));
-    }
-    Ok(())
+    plays(
+        &rt,
+        "the echo program",
+        echo(rt.alloc())?,
+        &[
+            Then::Record(0, 0, &[FIRST]),
+            Then::Record(1, 1, &[FIRST]),
+            Then::Put,
+            Then::Applies(1, 1, &[FIRST], true),
+            Then::Applies(1, 1, &[], false),
+            Then::Applies(1, 1, &[FIRST, FIRST], false),
+            Then::Applies(1, 1, &[Event { time: 71, ..FIRST }], false),
+            Then::Applies(1, 1, &[Event { line: 1, ..FIRST }], false),
+            Then::Applies(
+                1,
+                1,
+                &[Event {
+                    byte: 0x42,
+                    ..FIRST
+                }],
+                false,
+            ),
+        ],
+    )
 }
 
 // A start with one word set, at a place of this page: what is outside the page stays.
-#[tactic(auto, using(crate::proofs::Starts::other_word))]
+
 fn with_word<const PAGES: u32>(
     rt: &impl Abort,
     alloc: Global,
@@ -378,20 +301,32 @@ fn nearly_and_not_applies<const PAGES: u32, const SPAN: u32>(
 {
     let mut machine = Running::<PAGES, SPAN>::boot(alloc)?;
     let start = shared(alloc, &machine)?;
-    let silent = Log::new(alloc);
-    let fact = record_of(alloc, &mut machine, &start, 0, &silent)?;
+    let fact = record_of(alloc, &mut machine, &start, 0, &Log::new(alloc))?;
     let mut kept = Kept::<PAGES, SPAN>::new(alloc);
-    assert!(rt; !kept.nearly(0, &start, &[], &[]));
+    assert!(rt; !is_near(&kept, 0, &start, &[]));
     kept.put(fact)?;
-    assert!(rt; kept.nearly(0, &start, &[], &[]));
-    assert!(rt; !kept.nearly(1, &start, &[], &[]));
-    assert!(rt; !kept.nearly(0, &start, &[EARLY], &[]));
+    assert!(rt; is_near(&kept, 0, &start, &[]));
+    assert!(rt; !is_near(&kept, 1, &start, &[]));
+    assert!(rt; !is_near(&kept, 0, &start, &[EARLY]));
     // Its end has the same words, and another core.
     let Some(fact) = kept.fact(0) else {
         return Err(AllocError.into());
     };
     assert!(rt; !kept.nearly(0, fact.end(), &[], fact.dirty()));
     Ok(())
+}
+
+// Whether the record of a span nearly applies, where its start is this one.
+#[tactic(auto, using(crate::proofs::Starts::same_words))]
+fn is_near<const PAGES: u32, const SPAN: u32>(
+    kept: &Kept<PAGES, SPAN>,
+    index: u64,
+    start: &Boundary<PAGES>,
+    events: &[Event],
+) -> bool
+    requires { IfSome (span_at kept.now index) (λ s. s.start ≡ start.now) }
+{
+    kept.nearly(index, start, events, &[])
 }
 
 /// Two spans one behind the other are tied, until either is put anew.
@@ -460,61 +395,46 @@ fn put_again<const PAGES: u32, const SPAN: u32>(
 /// The valid records are counted from the first on. One that is no longer valid is kept.
 #[test]
 fn valid_records(rt: HostRuntime) -> Result<(), Fail> {
-    valid_records_stay::<16, 64>(&rt, rt.alloc())
-}
-
-fn valid_records_stay<const PAGES: u32, const SPAN: u32>(
-    rt: &impl Abort,
-    alloc: Global,
-) -> Result<(), Fail>
-    requires { PAGES ≤ MAX_RAM_PAGES }
-{
-    let mut machine = Running::<PAGES, SPAN>::boot(alloc)?;
-    let start = shared(alloc, &machine)?;
-    let silent = Log::new(alloc);
-    let zero = record_of(alloc, &mut machine, &start, 0, &silent)?;
-    let one = record_of(alloc, &mut machine, zero.end(), 1, &silent)?;
-    let mut kept = Kept::<PAGES, SPAN>::new(alloc);
-    kept.put(zero)?;
-    kept.put(one)?;
-    assert_eq!(rt; kept.valid(), 0);
-    kept.join();
-    assert_eq!(rt; kept.valid(), 1);
-    kept.join();
-    for (index, valid) in [(5, 2), (2, 2), (1, 1), (3, 1), (0, 0)] {
-        kept.truncate_valid(index);
-        same(rt, &kept.valid(), &valid);
-        assert!(rt; kept.fact(0).is_some() && kept.fact(1).is_some());
-        assert!(rt; kept.applies(0, &start, &[], None));
-    }
-    Ok(())
+    plays(
+        &rt,
+        "the echo program",
+        echo(rt.alloc())?,
+        &[
+            Then::Record(0, 0, &[]),
+            Then::Put,
+            Then::Record(1, 1, &[]),
+            Then::Put,
+            Then::Valid(0),
+            Then::Join(1),
+            Then::Join(2),
+            Then::Truncate(5, 2),
+            Then::Truncate(2, 2),
+            Then::Truncate(1, 1),
+            Then::Truncate(3, 1),
+            Then::Truncate(0, 0),
+            Then::Records(&[0, 1]),
+            Then::Applies(0, 0, &[], true),
+        ],
+    )
 }
 
 /// Records of any order of numbers: none is kept between them.
 #[test]
 fn records_apart(rt: HostRuntime) -> Result<(), Fail> {
-    records_apart_are_kept::<16, 64>(&rt, rt.alloc())
-}
-
-fn records_apart_are_kept<const PAGES: u32, const SPAN: u32>(
-    rt: &impl Abort,
-    alloc: Global,
-) -> Result<(), Fail>
-    requires { PAGES ≤ MAX_RAM_PAGES }
-{
-    let mut machine = Running::<PAGES, SPAN>::boot(alloc)?;
-    let start = shared(alloc, &machine)?;
-    let silent = Log::new(alloc);
-    let mut kept = Kept::<PAGES, SPAN>::new(alloc);
-    kept.put(record_of(alloc, &mut machine, &start, 70, &silent)?)?;
-    kept.put(record_of(alloc, &mut machine, &start, 2, &silent)?)?;
-    for index in 0..72 {
-        let there = index == 2 || index == 70;
-        assert_eq!(rt; kept.applies(index, &start, &[], None), there, "at {index}");
-        assert_eq!(rt; kept.fact(index).is_some(), there, "at {index}");
-    }
-    assert!(rt; kept.fact(u64::MAX).is_none());
-    Ok(())
+    plays(
+        &rt,
+        "the echo program",
+        echo(rt.alloc())?,
+        &[
+            Then::Record(0, 70, &[]),
+            Then::Put,
+            Then::Record(0, 2, &[]),
+            Then::Put,
+            Then::Records(&[2, 70]),
+            Then::Applies(2, 0, &[], true),
+            Then::Applies(70, 0, &[], true),
+        ],
+    )
 }
 
 // The record of the first span, made again where memory was refused: then the machine made at most the span's steps.
@@ -570,8 +490,9 @@ fn refused_memory_changes_nothing<const PAGES: u32, const SPAN: u32>(
     let mut machine = Running::<PAGES, SPAN>::boot(alloc)?;
     let start = shared(alloc, &machine)?;
     let fact = first_or_again(rt, alloc, &mut machine, &start)?;
-    let writers = [(0x100, Some(55)), (0x104, None)];
-    tells(rt, &fact, &writers, &[], &[0], &[0, 16, 17]);
+    assert!(rt; fact.writer(0x100) == Some(55) && fact.writer(0x104).is_none());
+    assert!(rt; fact.sent().is_empty());
+    assert!(rt; fact.touched() == [0, 16, 17].as_slice());
     let mut kept = Kept::<PAGES, SPAN>::new(alloc);
     kept.put(fact)?;
     put_or_again(rt, alloc, &mut machine, &start, &mut kept)?;

@@ -1,22 +1,13 @@
 //! Runs of two bytes, or of a byte more, that differ in one thing where the second span starts: neither is taken for the other
 //! there, and from the span on that starts with all equal both are one.
-ghost use Rattle.std.specs.Prelude.{◌≤◌};
-ghost use Rattle.r3k_word.specs.declared.layout.TheConstants.{MAX_RAM_PAGES};
-ghost use Rattle.timeline.specs.Sizes.{AreSizes};
-
-use crate::asked::Asked;
-use crate::facts::{record_of, shared};
-use crate::running::{Running, differ_in};
-use crate::same::same;
-use checkpoints::Kept;
+use crate::asked::{Ask, asks};
+use crate::running::{Then, plays};
 use cop0::number::{RANDOM, STATUS};
-use input_log::Log;
-use r3k_asm::{AsmFault, assemble};
+use input_log::Event;
+use r3k_asm::assemble;
 use r3k_image::Image;
-use r3k_live::Boundary;
 use std::alloc::Global;
 use std::process::Abort;
-use std::rc::Rc;
 use std::test::Fail;
 
 // A step for each word from the start of ROM on, and none of them goes back. Base addresses of the serial part, RAM, the clock,
@@ -65,10 +56,13 @@ impl Thing {
         program(alloc, self.makes, self.mends)
     }
 
-    fn log(&self, alloc: Global, byte: u8) -> Result<Log, Fail> {
-        let mut log = Log::new(alloc);
-        log.add(self.time, 0, byte)?;
-        Ok(log)
+    // The byte that arrives, or the other one.
+    fn event(&self, byte: u8) -> Event {
+        Event {
+            time: self.time,
+            line: 0,
+            byte,
+        }
     }
 }
 
@@ -83,80 +77,66 @@ fn program(alloc: Global, makes: &str, mends: &str) -> Result<Image, Fail> {
 }
 
 // Two runs of an image, with two logs of the first span, that differ where the second one starts, and nowhere where it ends: a
-// record of the second span of one run is not taken in the other, and one of the third is.
-fn told_apart<const PAGES: u32, const SPAN: u32>(
-    rt: &impl Abort,
-    alloc: Global,
+// record of the second span of one run is not taken in the other, and one of the third is. Nothing else differed, as no step looked
+// at it but to take it away.
+fn told_apart<'a>(
+    rt: &(impl Abort + AllocGlobal),
     name: &str,
     image: Image,
-    logs: (&Log, &Log),
-) -> Result<(), Fail>
-    requires { AreSizes PAGES SPAN }
-{
-    let mut machine = Running::<PAGES, SPAN>::of(alloc, image)?;
-    let reset = shared(alloc, &machine)?;
-    let one = end_of(alloc, &mut machine, &reset, logs.0)?;
-    let other = end_of(alloc, &mut machine, &reset, logs.1)?;
-    let silent = Log::new(alloc);
-    let second = record_of(alloc, &mut machine, &one, 1, &silent)?;
-    let met = record_of(alloc, &mut machine, &other, 1, &silent)?;
-    let third = record_of(alloc, &mut machine, second.end(), 2, &silent)?;
-    // Nothing else differed: no step looked at it but to take it away.
-    assert!(rt; met.end().core() == second.end().core(), "{name}");
-    differ_in(rt, met.end(), second.end(), &[]);
-    let mut kept = Kept::<PAGES, SPAN>::new(alloc);
-    kept.put(second)?;
-    kept.put(third)?;
-    assert!(rt; kept.applies(1, &one, &[], None), "{name}");
-    assert!(rt; !kept.applies(1, &other, &[], None), "{name}");
-    assert!(rt; kept.applies(2, met.end(), &[], None), "{name}");
-    Ok(())
-}
-
-// Where the first span ends.
-fn end_of<const PAGES: u32, const SPAN: u32>(
-    alloc: Global,
-    machine: &mut Running<PAGES, SPAN>,
-    reset: &Rc<Boundary<PAGES>>,
-    log: &Log,
-) -> Result<Rc<Boundary<PAGES>>, Fail> {
-    Ok(record_of(alloc, machine, reset, 0, log)?.end().clone()?)
+    one: &'a [Event],
+    other: &'a [Event],
+) -> Result<(), Fail> {
+    plays(
+        rt,
+        name,
+        image,
+        &[
+            // Places 1 and 2 are where the first span ends.
+            Then::Record(0, 0, one),
+            Then::Record(0, 0, other),
+            // Place 3 is where the second one ends, and 4 where the third does.
+            Then::Record(1, 1, &[]),
+            Then::Put,
+            Then::Record(3, 2, &[]),
+            Then::Put,
+            // Place 5 is where the second span of the other run ends.
+            Then::Record(2, 1, &[]),
+            Then::SameCore(5, 3, true),
+            Then::Differ(5, 3, &[]),
+            Then::Applies(1, 1, &[], true),
+            Then::Applies(1, 2, &[], false),
+            Then::Applies(2, 5, &[], true),
+        ],
+    )
 }
 
 // A timeline of eight spans whose byte is changed: it runs the first span, as its event is another, and the second, as its start
 // is, and takes the other six, as they were.
-fn costs_two_spans<const PAGES: u32, const SPAN: u32>(
-    rt: &impl Abort,
-    alloc: Global,
-    thing: &Thing,
-) -> Result<(), Fail>
-    requires { AreSizes PAGES SPAN }
-{
-    let mut asked = Asked::<PAGES, SPAN>::of(alloc, thing.image(alloc)?)?;
-    asked.add(rt, thing.time, thing.one);
-    asked.word(rt, 512, 0, 0);
-    asked.costs(rt, 512);
-    asked.set(rt, 0, thing.other);
-    asked.word(rt, 512, 0, 0);
-    asked.costs(rt, 128);
-    asked.set(rt, 0, thing.one);
-    asked.word(rt, 512, 0, 0);
-    asked.costs(rt, 128);
-    Ok(())
+fn costs_two_spans(rt: &impl Abort, alloc: Global, thing: &Thing) -> Result<(), Fail> {
+    asks(
+        rt,
+        alloc,
+        thing.image(alloc)?,
+        &[
+            Ask::Add(thing.time, thing.one),
+            Ask::Word(512, 0, 0),
+            Ask::Costs(512),
+            Ask::Set(0, thing.other),
+            Ask::Word(512, 0, 0),
+            Ask::Costs(128),
+            Ask::Set(0, thing.one),
+            Ask::Word(512, 0, 0),
+            Ask::Costs(128),
+        ],
+    )
 }
 
-fn each_thing<const PAGES: u32, const SPAN: u32>(
-    rt: &impl Abort,
-    alloc: Global,
-    things: &[Thing],
-) -> Result<(), Fail>
-    requires { AreSizes PAGES SPAN }
-{
+fn each_thing(rt: &(impl Abort + AllocGlobal), things: &[Thing]) -> Result<(), Fail> {
     for thing in things {
-        let one = thing.log(alloc, thing.one)?;
-        let other = thing.log(alloc, thing.other)?;
-        told_apart::<PAGES, SPAN>(rt, alloc, thing.name, thing.image(alloc)?, (&one, &other))?;
-        costs_two_spans::<PAGES, SPAN>(rt, alloc, thing)?;
+        let one = [thing.event(thing.one)];
+        let other = [thing.event(thing.other)];
+        told_apart(rt, thing.name, thing.image(rt.alloc())?, &one, &other)?;
+        costs_two_spans(rt, rt.alloc(), thing)?;
     }
     Ok(())
 }
@@ -279,7 +259,7 @@ mtc0 r7, c12
 /// One thing of the processor differs.
 #[test]
 fn one_thing_of_the_processor(rt: HostRuntime) -> Result<(), Fail> {
-    each_thing::<16, 64>(&rt, rt.alloc(), &PROCESSOR)
+    each_thing(&rt, &PROCESSOR)
 }
 
 const CONTROL_REGISTERS: [Thing; 7] = [
@@ -351,18 +331,17 @@ mtc0 r0, c10
 ];
 
 // The bits of Status that a run of TS sets, and one that does not: TS is bit 21, beside BEV, bit 22.
-fn sets_ts<const PAGES: u32, const SPAN: u32>(
-    rt: &impl Abort,
-    alloc: Global,
-    thing: &Thing,
-) -> Result<(), Fail>
-    requires { AreSizes PAGES SPAN }
-{
+fn sets_ts(rt: &(impl Abort + AllocGlobal), thing: &Thing) -> Result<(), Fail> {
     for (byte, status) in [(thing.one, 0x0060_0000), (thing.other, 0x0040_0000)] {
-        let mut machine = Running::<PAGES, SPAN>::of(alloc, thing.image(alloc)?)?;
-        let log = thing.log(alloc, byte)?;
-        machine.run(0, log.window(0, 64), 64);
-        same(rt, &machine.live.core().cop0().read(STATUS), &status);
+        plays(
+            rt,
+            thing.name,
+            thing.image(rt.alloc())?,
+            &[
+                Then::Run(0, 64, &[thing.event(byte)]),
+                Then::Cop0(STATUS, status),
+            ],
+        )?;
     }
     Ok(())
 }
@@ -370,8 +349,8 @@ fn sets_ts<const PAGES: u32, const SPAN: u32>(
 /// One control register differs.
 #[test]
 fn one_control_register(rt: HostRuntime) -> Result<(), Fail> {
-    each_thing::<16, 64>(&rt, rt.alloc(), &CONTROL_REGISTERS)?;
-    sets_ts::<16, 64>(&rt, rt.alloc(), &CONTROL_REGISTERS[6])
+    each_thing(&rt, &CONTROL_REGISTERS)?;
+    sets_ts(&rt, &CONTROL_REGISTERS[6])
 }
 
 const DEVICES: [Thing; 11] = [
@@ -476,7 +455,7 @@ const DEVICES: [Thing; 11] = [
 /// One thing of a device differs.
 #[test]
 fn one_thing_of_a_device(rt: HostRuntime) -> Result<(), Fail> {
-    each_thing::<16, 64>(&rt, rt.alloc(), &DEVICES)
+    each_thing(&rt, &DEVICES)
 }
 
 // In the last one the byte is the page of the word: 255 is past RAM, where a store has no effect, so only one of the runs stores
@@ -511,17 +490,15 @@ const MEMORY: [Thing; 3] = [
 /// Words of memory differ, and the core does not.
 #[test]
 fn words_of_memory(rt: HostRuntime) -> Result<(), Fail> {
-    each_thing::<16, 64>(&rt, rt.alloc(), &MEMORY)
+    each_thing(&rt, &MEMORY)
 }
 
-// So many bytes of step 16, where line 0 receives.
-fn bytes(alloc: Global, count: u32) -> Result<Log, Fail> {
-    let mut log = Log::new(alloc);
-    for _ in 0..count {
-        log.add(16, 0, 0x41)?;
-    }
-    Ok(log)
-}
+// A byte of step 16, where line 0 receives.
+const EARLY: Event = Event {
+    time: 16,
+    line: 0,
+    byte: 0x41,
+};
 
 // Step 48 reads a byte; then the silo has 63, and the mark of a lost one stays. CLR, bit 4, returns the part to reset.
 const CLEARED: &str = "addiu r7, r0, 16\nsw r7, 0(r1)\naddu r7, r0, r0\n";
@@ -529,39 +506,34 @@ const CLEARED: &str = "addiu r7, r0, 16\nsw r7, 0(r1)\naddu r7, r0, r0\n";
 /// The silo takes 64 bytes of a step; the next one is lost, and marks its line.
 #[test]
 fn mark_of_a_lost_byte(rt: HostRuntime) -> Result<(), Fail> {
-    let image = program(rt.alloc(), "", CLEARED)?;
-    let full = bytes(rt.alloc(), 64)?;
-    let lost = bytes(rt.alloc(), 65)?;
-    told_apart::<16, 64>(
+    told_apart(
         &rt,
-        rt.alloc(),
         "the mark of a lost byte",
-        image,
-        (&full, &lost),
-    )?;
-    lost_byte_costs::<16, 64>(&rt, rt.alloc())
+        program(rt.alloc(), "", CLEARED)?,
+        &[EARLY; 64],
+        &[EARLY; 65],
+    )
 }
 
-fn lost_byte_costs<const PAGES: u32, const SPAN: u32>(
-    rt: &impl Abort,
-    alloc: Global,
-) -> Result<(), Fail>
-    requires { AreSizes PAGES SPAN }
-{
-    let mut asked = Asked::<PAGES, SPAN>::of(alloc, program(alloc, "", CLEARED)?)?;
-    for _ in 0..64 {
-        asked.add(rt, 16, 0x41);
-    }
-    asked.word(rt, 512, 0, 0);
-    asked.costs(rt, 512);
-    asked.add(rt, 16, 0x41);
-    asked.word(rt, 512, 0, 0);
-    asked.costs(rt, 128);
-    // One more leaves the mark as it is.
-    asked.add(rt, 16, 0x41);
-    asked.word(rt, 512, 0, 0);
-    asked.costs(rt, 64);
-    Ok(())
+/// What it costs that a byte more is lost. Another one leaves the mark as it is.
+#[test]
+fn lost_bytes(rt: HostRuntime) -> Result<(), Fail> {
+    asks(
+        &rt,
+        rt.alloc(),
+        program(rt.alloc(), "", CLEARED)?,
+        &[
+            Ask::Burst(64, EARLY.time, EARLY.byte),
+            Ask::Word(512, 0, 0),
+            Ask::Costs(512),
+            Ask::Add(EARLY.time, EARLY.byte),
+            Ask::Word(512, 0, 0),
+            Ask::Costs(128),
+            Ask::Add(EARLY.time, EARLY.byte),
+            Ask::Word(512, 0, 0),
+            Ask::Costs(64),
+        ],
+    )
 }
 
 // Register A of the clock is 0, so that its divider stands at 0; then the program goes round two words.
@@ -575,71 +547,55 @@ sll r0, r0, 0
 /// position it is the same in all runs.
 #[test]
 fn random(rt: HostRuntime) -> Result<(), Fail> {
-    random_told_apart::<16, 64>(&rt, rt.alloc())
-}
-
-fn random_told_apart<const PAGES: u32, const SPAN: u32>(
-    rt: &impl Abort,
-    alloc: Global,
-) -> Result<(), Fail>
-    requires { AreSizes PAGES SPAN }
-{
-    let image = assemble(alloc, ROUND.as_bytes())?;
-    let mut machine = Running::<PAGES, SPAN>::of(alloc, image)?;
-    machine.run(0, &[], 64);
-    same(rt, &machine.live.core().cop0().read(RANDOM), &(55 << 8));
-    let start = shared(alloc, &machine)?;
-    machine.run(64, &[], 2);
-    same(rt, &machine.live.core().cop0().read(RANDOM), &(53 << 8));
-    let later = machine.keep(alloc)?;
-    machine.run(66, &[], 54);
-    let round = machine.keep(alloc)?;
-    let mut kept = Kept::<PAGES, SPAN>::new(alloc);
-    kept.put(record_of(alloc, &mut machine, &start, 1, &Log::new(alloc))?)?;
-    assert!(rt; kept.applies(1, &start, &[], None));
-    assert!(rt; !kept.applies(1, &later, &[], None));
-    assert!(rt; kept.applies(1, &round, &[], None));
-    Ok(())
+    plays(
+        &rt,
+        "Random",
+        assemble(rt.alloc(), ROUND.as_bytes())?,
+        &[
+            Then::Run(0, 64, &[]),
+            Then::Cop0(RANDOM, 55 << 8),
+            Then::Keep,
+            Then::Run(64, 2, &[]),
+            Then::Cop0(RANDOM, 53 << 8),
+            Then::Keep,
+            Then::Run(66, 54, &[]),
+            Then::Keep,
+            Then::Record(1, 1, &[]),
+            Then::Put,
+            Then::Applies(1, 1, &[], true),
+            Then::Applies(1, 2, &[], false),
+            Then::Applies(1, 3, &[], true),
+        ],
+    )
 }
 
 // A timeline of nine spans whose byte stands in r12 from step 51 on. These steps in the end take it away, or none does. A change
 // of the byte costs so many steps at position 512, and so many more at 576.
-fn meets_late<const PAGES: u32, const SPAN: u32>(
-    rt: &impl Abort,
-    alloc: Global,
-    mends: &str,
-    costs: (u64, u64),
-) -> Result<(), Fail>
-    requires { AreSizes PAGES SPAN }
-{
-    let image = program(alloc, "addu r12, r6, r0\n", mends)?;
-    let mut asked = Asked::<PAGES, SPAN>::of(alloc, image)?;
-    asked.add(rt, 40, 0x41);
-    asked.word(rt, 576, 0, 0);
-    asked.costs(rt, 576);
-    asked.set(rt, 0, 0x42);
-    asked.word(rt, 512, 0, 0);
-    asked.costs(rt, costs.0);
-    asked.word(rt, 576, 0, 0);
-    asked.costs(rt, costs.1);
-    Ok(())
+fn meets_late(rt: &impl Abort, alloc: Global, mends: &str, costs: (u64, u64)) -> Result<(), Fail> {
+    asks(
+        rt,
+        alloc,
+        program(alloc, "addu r12, r6, r0\n", mends)?,
+        &[
+            Ask::Add(40, 0x41),
+            Ask::Word(576, 0, 0),
+            Ask::Costs(576),
+            Ask::Set(0, 0x42),
+            Ask::Word(512, 0, 0),
+            Ask::Costs(costs.0),
+            Ask::Word(576, 0, 0),
+            Ask::Costs(costs.1),
+        ],
+    )
 }
 
 /// Runs that meet where the last span starts, which alone is taken: step 447 is the last one before it. Where step 448 takes the
 /// difference away, they meet a span later; and where no step does, they never meet.
 #[test]
 fn late_meetings(rt: HostRuntime) -> Result<(), Fail> {
-    meets_late::<16, 64>(
-        &rt,
-        rt.alloc(),
-        ".org 0x1fc006fc\naddu r12, r0, r0\n",
-        (448, 0),
-    )?;
-    meets_late::<16, 64>(
-        &rt,
-        rt.alloc(),
-        ".org 0x1fc00700\naddu r12, r0, r0\n",
-        (512, 0),
-    )?;
-    meets_late::<16, 64>(&rt, rt.alloc(), "", (512, 64))
+    let mends = ".org 0x1fc006fc\naddu r12, r0, r0\n";
+    meets_late(&rt, rt.alloc(), mends, (448, 0))?;
+    let mends = ".org 0x1fc00700\naddu r12, r0, r0\n";
+    meets_late(&rt, rt.alloc(), mends, (512, 0))?;
+    meets_late(&rt, rt.alloc(), "", (512, 64))
 }

@@ -1,8 +1,9 @@
 -- The run from reset by spans.
-use Rattle.std.proofs.Common.{◌≡◌, ℕ, zero, suc, ◌≤◌, ◌==◌, None, IfSome, inl, inr, ◌+◌, ◌-◌, ◌*◌, List, Option, Some, unwrap_or, Result, Ok, Err, IfOk, MatchResult, OnErr, sym, ap, ◌∙◌, subst, arith, zero-add, refl}
+use Rattle.std.proofs.Common.{◌≡◌, ℕ, zero, suc, ◌≤◌, ◌==◌, None, IfSome, inl, inr, ◌+◌, ◌-◌, ◌*◌, List, Option, Some, unwrap_or, Result, Ok, Err, IfOk, MatchResult, OnErr, nat_eq, true, sym, ap, ◌∙◌, subst, arith, zero-add, refl}
 use Rattle.std.proofs.Math.Nat.{add-mul}
 use Rattle.std.proofs.Math.Path.{ap₂}
-use Rattle.std.proofs.lemmas.Bool.{cases_Bool}
+use Rattle.std.specs.Option.{option_eq}
+use Rattle.std.proofs.lemmas.Bool.{cases_Bool, eqb-true, false≢true}
 use Rattle.r3k_live.specs.Visits.{first_visit}
 use Rattle.input_log.specs.Event.{TimedByte}
 use Rattle.input_log.specs.Log.{window_of}
@@ -84,6 +85,11 @@ ok_all (Err e) X there = tt
 -- the value of an option that is known
 pub if_some : {A : Type 0} (P : A → Type 0) (o : Option A) (x : A) → o ≡ Some x → IfSome o P → P x
 if_some P o x is p = subst (λ o. IfSome o P) is p
+
+-- the value of an option of a number that a test found equal
+pub same_some : (o : Option ℕ) (n : ℕ) → option_eq nat_eq o (Some n) ≡ true → o ≡ Some n
+same_some None n is = absurd (false≢true is)
+same_some (Some m) n is = ap (λ (x : ℕ). Some x) (eqb-true m n is)
 
 -- going on from a position
 pub gone_within : (pages : ℕ) (image : Boot) (log : List TimedByte) (time to n : ℕ) → time + n ≤ to

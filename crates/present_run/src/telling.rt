@@ -44,7 +44,10 @@ impl<const PAGES: u32, const SPAN: u32> Runs<PAGES, SPAN> {
     {
         self.stand(alloc, inputs, position, near)?;
         let core = self.live.core().copy(alloc)?;
-        Box::new(alloc, core).map_err(|_| AllocError)
+        let Ok(core) = Box::new(alloc, core) else {
+            return Err(AllocError);
+        };
+        Ok(core)
     }
 
     /// The word at a place in the list of all words, at a position.

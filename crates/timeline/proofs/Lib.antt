@@ -1,2 +1,3 @@
 mod Landings
 mod Patches
+pub mod Plain

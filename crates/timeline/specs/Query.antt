@@ -60,9 +60,13 @@ writer_at pages h position address =
     of_word pages address (λ _. up_to_max position
     (Ok (writer_of (last_writer address (trace_at pages h.image h.log position)) (map.get h.image.words address))))
 
+-- the most steps that a search for a PC goes
+abbrev pub max_visit : ℕ
+max_visit = 1048576
+
 -- the next position at which the PC holds an address, at most so many steps behind a position
 abbrev pub next_pc : ℕ → History → (position address limit : ℕ) → Result ℕ Fault
 next_pc pages h position address limit =
-    if nat_le 1 limit && nat_le limit 1048576
+    if nat_le 1 limit && nat_le limit max_visit
     then (if address % 4 == 0 then up_to_max (position + limit) (ok_or (next_visit pages h.image h.log address position limit) NotFound) else Err Unaligned)
     else Err Range

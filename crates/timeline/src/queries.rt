@@ -36,10 +36,7 @@ impl<const PAGES: u32, const SPAN: u32> Timeline<PAGES, SPAN> {
         if position > MAX_POSITION {
             return Err(Fault::TooFar);
         }
-        match self.core_of(position) {
-            Ok(core) => Ok(core),
-            Err(_) => Err(Fault::Memory),
-        }
+        Ok(self.core_of(position)?)
     }
 
     /// The word of RAM or ROM at a physical address, at a position.
@@ -58,10 +55,7 @@ impl<const PAGES: u32, const SPAN: u32> Timeline<PAGES, SPAN> {
         if position > MAX_POSITION {
             return Err(Fault::TooFar);
         }
-        match self.word_of(position, place) {
-            Ok(word) => Ok(word),
-            Err(_) => Err(Fault::Memory),
-        }
+        Ok(self.word_of(position, place)?)
     }
 
     /// How many bytes were sent on a line before a position, and those from a place on, at most `count`. A line above 3 and a
@@ -86,13 +80,10 @@ impl<const PAGES: u32, const SPAN: u32> Timeline<PAGES, SPAN> {
         if position > MAX_POSITION {
             return Err(Fault::TooFar);
         }
-        match self
+        let shown = self
             .runs
-            .console(self.alloc, &self.inputs, position, line, from, count)
-        {
-            Ok(shown) => Ok((shown.total, shown.bytes)),
-            Err(_) => Err(Fault::Memory),
-        }
+            .console(self.alloc, &self.inputs, position, line, from, count)?;
+        Ok((shown.total, shown.bytes))
     }
 
     /// Who stored last into the word of RAM or ROM at a physical address, before a position.
@@ -112,13 +103,10 @@ impl<const PAGES: u32, const SPAN: u32> Timeline<PAGES, SPAN> {
             return Err(Fault::TooFar);
         }
         let set = self.inputs.image.word(address);
-        match self
+        let step = self
             .runs
-            .last_writer(self.alloc, &self.inputs, position, address)
-        {
-            Ok(step) => Ok(writer_of(step, set)),
-            Err(_) => Err(Fault::Memory),
-        }
+            .last_writer(self.alloc, &self.inputs, position, address)?;
+        Ok(writer_of(step, set))
     }
 
     /// The step that sent a byte of a line, by its place among the line's bytes, if that was before a position. A line above 3
@@ -135,14 +123,10 @@ impl<const PAGES: u32, const SPAN: u32> Timeline<PAGES, SPAN> {
         if position > MAX_POSITION {
             return Err(Fault::TooFar);
         }
-        match self
+        let sender = self
             .runs
-            .sender(self.alloc, &self.inputs, position, line, place)
-        {
-            Ok(Some(step)) => Ok(step),
-            Ok(None) => Err(Fault::NotFound),
-            Err(_) => Err(Fault::Memory),
-        }
+            .sender(self.alloc, &self.inputs, position, line, place)?;
+        sender.ok_or(Fault::NotFound)
     }
 
     /// The least position after one, at most `limit` steps behind it, at which the PC holds an address. A limit that is not 1
@@ -165,14 +149,10 @@ impl<const PAGES: u32, const SPAN: u32> Timeline<PAGES, SPAN> {
             return Err(Fault::TooFar);
         }
         let near = nearest_in_span::<PAGES, SPAN>(&self.landings, position);
-        match self
+        let found = self
             .runs
-            .next_visit(self.alloc, &self.inputs, position, address, last, near)
-        {
-            Ok(Some(found)) => Ok(found),
-            Ok(None) => Err(Fault::NotFound),
-            Err(_) => Err(Fault::Memory),
-        }
+            .next_visit(self.alloc, &self.inputs, position, address, last, near)?;
+        found.ok_or(Fault::NotFound)
     }
 }
 

@@ -58,14 +58,18 @@ abbrev pub IsSize : Option Text → ℕ → Type 0
 IsSize None size = size ≡ 0
 IsSize (Some text) size = IsNumeral 10 text × (digits_value 10 text ≡ size)
 
+-- the most bytes of an image or a log
+abbrev pub max_size : ℕ
+max_size = 67108864
+
 -- the words are good, and give this kind, this size and this size of the log
 pub record IsLine (words : List Text) (kind : Kind) (size log_size : ℕ) : Type 0 where
   pub good : faults_of words ≡ []
   pub kind_is : IsKind (value_in (codes "kind") (drop 1 words)) kind
   pub size_is : IsSize (value_in (codes "size") (drop 1 words)) size
-  pub in_range : size ≤ 67108864
+  pub in_range : size ≤ max_size
   pub log_size_is : IsSize (value_in (codes "log") (drop 1 words)) log_size
-  pub log_in_range : log_size ≤ 67108864
+  pub log_in_range : log_size ≤ max_size
 
 -- the words have a fault that is no call for help, or a value that is no kind or no size
 abbrev pub IsWrongLine : List Text → Type 0

@@ -1,5 +1,6 @@
 //! What the program's line asks for.
 ghost use Rattle.std.specs.Prelude.{◌≤◌};
+ghost use Rattle.wb_options.specs.Options.{max_size};
 
 /// What the input begins with.
 #[derive(Clone, Copy, Debug, PartialEq, Eq)]
@@ -24,6 +25,6 @@ pub struct Options {
     pub size: u32,
     /// How many bytes behind them the log takes. No byte is the empty log.
     pub log_size: u32,
-    ghost in_range: { size ≤ 67108864 },
-    ghost log_in_range: { log_size ≤ 67108864 },
+    ghost in_range: { size ≤ max_size },
+    ghost log_in_range: { log_size ≤ max_size },
 }

@@ -4,7 +4,7 @@ ghost use Rattle.std.specs.Option.{option_copied};
 ghost use Rattle.clap.specs.Words.{app_of, kind_of, rule_of};
 ghost use Rattle.clap.specs.declared.error.kind.ErrorKind.TheVariants.{InvalidValue};
 ghost use Rattle.wb_options.specs.Options.{command_line, option_rule, IsFaultOf, IsKind, IsSize};
-ghost use Rattle.wb_options.specs.Options.{IsLine, IsLineFault};
+ghost use Rattle.wb_options.specs.Options.{IsLine, IsLineFault, max_size};
 
 use crate::arguments::{Kind, MAX_SIZE, Options};
 use crate::fault::RunFault;
@@ -133,8 +133,8 @@ fn kind_named(value: Option<&str>) -> Option<Kind>
 
 fn size_named(value: Option<&str>) -> Option<u32>
     ensures { MatchOption result
-        ((size : ℕ) → size ≤ 67108864 → ¬ IsSize (option_copied value.entry) size)
-        (λ size. IsSize (option_copied value.entry) size × (size ≤ 67108864)) }
+        ((size : ℕ) → size ≤ max_size → ¬ IsSize (option_copied value.entry) size)
+        (λ size. IsSize (option_copied value.entry) size × (size ≤ max_size)) }
 {
     let Some(text) = value else {
         return Some(0);

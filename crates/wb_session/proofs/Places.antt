@@ -2,14 +2,15 @@
 use Rattle.std.proofs.Common.{◌≡◌, ℕ, zero, suc, ◌+◌, ◌*◌, ◌%◌, ◌<◌, ◌≤◌, ◌==◌, Bool, true, false, if◌then◌else◌, ltb, List, [], Option, Some, None, Result, Ok, Err, refl, sym, ap, ◌∙◌, arith, add-one, inl, inr, slice_index}
 use Rattle.std.specs.Option.{is_some, ok_or}
 use Rattle.std.specs.Result.{is_ok}
-use Rattle.std.proofs.lemmas.Bool.{cases_Bool, ltb-true, ltb-false, eq-eqb, eqb-true, le-leb, true≢false}
+use Rattle.std.proofs.lemmas.Bool.{cases_Bool, ltb-true, ltb-false, eq-eqb, eqb-true, true≢false}
 use Rattle.r3k_word.specs.Layout.{place_of_word}
 use Rattle.r3k_machine.specs.Run.{state_at}
 use Rattle.refusal.specs.Given.{GivesFault}
 use Rattle.refusal.specs.declared.fault.Fault.{Fault}
-use Rattle.refusal.specs.declared.fault.Fault.TheVariants.{Memory, NotMemory, TooFar, Unaligned}
+use Rattle.refusal.specs.declared.fault.Fault.TheVariants.{Memory, NotMemory, Unaligned}
 use Rattle.timeline.specs.History.{History, max_position}
-use Rattle.timeline.specs.Query.{of_place, up_to_max, word_at}
+use Rattle.timeline.proofs.Plain.{word_given}
+use Rattle.timeline.specs.Query.{word_at}
 use Rattle.wb_session.specs.Memory.{places_from, place_behind, places_of}
 
 pub places_from-zero : (pages address : ℕ) → places_from pages address 0 ≡ Some []
@@ -79,16 +80,6 @@ starts_even pages address count all h =
     not_odd : (even : Bool) (r : Result (List ℕ) Fault) → even ≡ false → (if even then r else Err Unaligned) ≡ Ok all → ⊥
     not_odd true r odd h = true≢false odd
     not_odd false r odd h = true≢false (ap (λ (r : Result (List ℕ) Fault). is_ok r) (sym h))
-
--- the word at a place
-pub word_given : (pages : ℕ) (h : History) (position address place : ℕ) → position ≤ max_position → address % 4 ≡ 0
-    → place_of_word pages address ≡ Some place → word_at pages h position address ≡ Ok (slice_index (state_at pages h.image h.log position).words place)
-word_given pages h position address place near even some =
-    let word = slice_index (state_at pages h.image h.log position).words place in
-    let reached : up_to_max position (Ok word) ≡ Ok word = ap (λ (near : Bool). if near then Ok word else Err TooFar) (le-leb position max_position near) in
-    let here : Option ℕ → Result ℕ Fault = λ o. of_place o (λ place. up_to_max position (Ok (slice_index (state_at pages h.image h.log position).words place))) in
-    ap (λ (even : Bool). if even then here (place_of_word pages address) else Err Unaligned) (eq-eqb (address % 4) 0 even)
-    ∙ (ap here some ∙ reached)
 
 value_of : Result ℕ Fault → ℕ
 value_of (Ok value) = value

@@ -6,7 +6,7 @@ use Rattle.input_log.specs.Event.{TimedByte}
 use Rattle.r3k_image.specs.Boot.{Boot, FitsRam}
 use Rattle.wb_options.specs.declared.fault.RunFault.{RunFault}
 use Rattle.wb_options.specs.declared.fault.RunFault.TheVariants.{Memory, BadImage, BadLog, BadSource, ReadFault, WriteFault, Usage, Help}
-use Rattle.workbench.specs.Runs.{RunsScript, ScriptRuns}
+use Rattle.workbench.specs.Runs.{RunsScript, ScriptRuns, max_reads}
 use Rattle.workbench.specs.Serve.{AsksFor, Layout, IsFrontFault, IsJudgement, Makes, ReadsAll, Refuses, Serves, ServesScript, image_in, log_in, size_of}
 use Rattle.wb_session.specs.Session.{IsNewFault, Triple}
 
@@ -70,7 +70,7 @@ no_log_serves T pages layout (Usage text) reads all j image made h = absurd j
 no_log_serves T pages layout (Help text) reads all j image made h = absurd j
 
 -- a run behind the bytes of an image and a log
-pub run_serves : {T : Type 0} (pages most : ℕ) (layout : Layout) (image : Boot) (log : List TimedByte) (r : Result T RunFault) (before reads writes : List Call) → ReadsAll (size_of layout) before → image_in layout (bytes_moved before) ≡ Ok image → log_in layout (bytes_moved before) ≡ Ok log → most ≡ 1048576 - length before → RunsScript pages most image log r reads writes → Serves pages layout r (before ++ reads) writes
+pub run_serves : {T : Type 0} (pages most : ℕ) (layout : Layout) (image : Boot) (log : List TimedByte) (r : Result T RunFault) (before reads writes : List Call) → ReadsAll (size_of layout) before → image_in layout (bytes_moved before) ≡ Ok image → log_in layout (bytes_moved before) ≡ Ok log → most ≡ max_reads - length before → RunsScript pages most image log r reads writes → Serves pages layout r (before ++ reads) writes
 run_serves pages most layout image log r before reads writes f m l e h = by_result r h
   where
     script : {U : Type 0} (r : Result U RunFault) → FitsRam pages image → ScriptRuns pages most (record { image = image; log = log; position = 0 }) r reads writes → ServesScript pages layout r (before ++ reads) writes

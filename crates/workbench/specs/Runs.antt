@@ -9,6 +9,10 @@ use Rattle.wb_options.specs.declared.fault.RunFault.TheVariants.{Memory, BadImag
 use Rattle.workbench.specs.Script.{IsText, Quits, QuitsAnyway, complete_lines, lines_of}
 use Rattle.wb_session.specs.Session.{Triple}
 
+-- the most reads of a run, those before its script among them
+abbrev pub max_reads : ℕ
+max_reads = 1048576
+
 -- a read of a script: it was asked for a piece of 4096 bytes and gave some
 abbrev pub IsPiece : Call → Type 0
 IsPiece call = (call.asked ≡ 4096) × MovesSome call

@@ -12,7 +12,7 @@ use Rattle.wb_options.specs.declared.arguments.Kind.TheVariants.{Rom, Image, Sou
 use Rattle.wb_options.specs.Fault.{run_fault_of_source}
 use Rattle.wb_options.specs.declared.fault.RunFault.{RunFault}
 use Rattle.wb_options.specs.declared.fault.RunFault.TheVariants.{Memory, BadImage, BadLog, BadSource, ReadFault}
-use Rattle.workbench.specs.Runs.{ScriptRuns}
+use Rattle.workbench.specs.Runs.{ScriptRuns, max_reads}
 
 -- the answer of a reading with its fault told as one of a run
 abbrev pub with_fault : {A E : Type 0} → (E → RunFault) → Result A E → Result A RunFault
@@ -86,7 +86,7 @@ pub record EndsWithin (size : ℕ) (reads : List Call) : Type 0 where
 
 abbrev pub IsCutWithin : ℕ → List Call → Type 0
 IsCutWithin size reads =
-    EndsWithin size reads ⊎ (AsksFor size reads × (length (bytes_moved reads) < size) × (length reads ≡ 1048576))
+    EndsWithin size reads ⊎ (AsksFor size reads × (length (bytes_moved reads) < size) × (length reads ≡ max_reads))
 
 -- Image and log were read and found good, and what followed was run as a script from position 0. All reads together are at
 -- most 2^20.
@@ -98,7 +98,7 @@ pub record ServesScript {T : Type 0} (pages : ℕ) (layout : Layout) (result : R
   pub reads_are : reads ≡ before ++ script
   pub read : ReadsAll (size_of layout) before
   pub good : IsGood pages layout (bytes_moved before) image log
-  pub runs : ScriptRuns pages (1048576 - length before) (record { image = image; log = log; position = 0 }) result script writes
+  pub runs : ScriptRuns pages (max_reads - length before) (record { image = image; log = log; position = 0 }) result script writes
 
 -- Image and log were read and refused, and this is why. Nothing is written.
 abbrev pub Refuses : ℕ → Layout → RunFault → (reads writes : List Call) → Type 0

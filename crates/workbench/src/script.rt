@@ -3,7 +3,7 @@ ghost use Rattle.std.specs.Prelude.{◌≡◌, ◌≤◌, ◌∷◌, ◌++◌, [
 ghost use Rattle.wb_io.specs.Calls.{Call, Reads, TakesAll, TakesFront, Writes};
 ghost use Rattle.wb_options.specs.declared.fault.RunFault.TheVariants.{WriteFault};
 ghost use Rattle.workbench.specs.LineBuffer.{HasNoFeed};
-ghost use Rattle.workbench.specs.Runs.{RunsScript, ScriptRuns, WritesText};
+ghost use Rattle.workbench.specs.Runs.{RunsScript, ScriptRuns, WritesText, max_reads};
 ghost use Rattle.workbench.specs.Script.{is_quit, lines_of};
 ghost use Rattle.timeline.specs.Sizes.{AreSizes};
 ghost use Rattle.workbench.specs.Taking.{Answered, IsLineOutcome, Stops, Took, Unanswered};
@@ -36,8 +36,8 @@ pub fn run<const PAGES: u32, const SPAN: u32, R: Source, W: Sink>(
     ensures { (reads : List Call) × (writes : List Call)
         × Reads (R.reads reader.old) (R.reads reader.new) (R.left reader.old) (R.left reader.new) reads
         × Writes (W.writes writer.old) (W.writes writer.new) (W.written writer.old) (W.written writer.new) writes
-        × (length reads ≤ 1048576)
-        × RunsScript PAGES 1048576 image log result reads writes }
+        × (length reads ≤ max_reads)
+        × RunsScript PAGES max_reads image log result reads writes }
 {
     run_with::<PAGES, SPAN, R, W>(alloc, image, log, reader, writer, MAX_READS)
 }

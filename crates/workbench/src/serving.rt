@@ -1,6 +1,7 @@
 //! The program on its input: an image and a log, and then a script.
 ghost use Rattle.std.specs.Prelude.{◌≡◌, ◌+◌, ◌≤◌, IfErr, List, MatchResult, length};
 ghost use Rattle.wb_io.specs.Calls.{Call, Reads, Writes, bytes_moved};
+ghost use Rattle.workbench.specs.Runs.{max_reads};
 ghost use Rattle.workbench.specs.Serve.{IsFrontFault, IsJudgement, Makes, ReadsAll, Serves, image_of, log_of};
 ghost use Rattle.timeline.specs.Sizes.{AreSizes};
 
@@ -27,7 +28,7 @@ pub fn serve<const PAGES: u32, const SPAN: u32, R: Source, W: Sink>(
     ensures { (reads : List Call) × (writes : List Call)
         × Reads (R.reads reader.old) (R.reads reader.new) (R.left reader.old) (R.left reader.new) reads
         × Writes (W.writes writer.old) (W.writes writer.new) (W.written writer.old) (W.written writer.new) writes
-        × (length reads ≤ 1048576)
+        × (length reads ≤ max_reads)
         × Serves PAGES (record { kind = options.kind; size = options.size; log_size = options.log_size }) result reads writes }
 {
     let size = options.size as usize;
@@ -58,9 +59,9 @@ struct Front {
 fn read_front<R: Source>(alloc: Global, size: usize, reader: &mut R) -> Result<Front, RunFault>
     ensures { (reads : List Call)
         × Reads (R.reads reader.old) (R.reads reader.new) (R.left reader.old) (R.left reader.new) reads
-        × (length reads ≤ 1048576)
+        × (length reads ≤ max_reads)
         × MatchResult result
-        (λ front. ReadsAll size reads × (front.bytes.items ≡ bytes_moved reads) × (front.reads_left + length reads ≡ 1048576))
+        (λ front. ReadsAll size reads × (front.bytes.items ≡ bytes_moved reads) × (front.reads_left + length reads ≡ max_reads))
         (IsFrontFault size reads) }
 {
     let mut bytes = Vec::new(alloc);

@@ -1,5 +1,6 @@
 use Rattle.std.proofs.Common.{◌≡◌, ◌≤◌, ◌+◌, List, length}
 use Rattle.wb_io.specs.Calls.{Call, Reads, bytes_moved}
+use Rattle.workbench.specs.Runs.{max_reads}
 use Rattle.workbench.specs.Serve.{AsksFor}
 use Rattle.workbench.proofs.serving.read_front.Given as goal
 
@@ -11,7 +12,7 @@ invariant-loop-piece g l =
     × AsksFor l.size reads
     × (l.bytes.items ≡ bytes_moved reads)
     × (length (bytes_moved reads) ≤ l.size)
-    × (l.reads_left + length reads ≡ 1048576)
+    × (l.reads_left + length reads ≡ max_reads)
     × (length l.piece ≡ 4096)
 
 abbrev pub decreases-loop-piece : goal.decreases-loop-piece

@@ -1,8 +1,10 @@
-use Rattle.std.proofs.Common.{◌/◌, ◌%◌, refl, ap, ◌∙◌, arith}
+use Rattle.std.proofs.Common.{ℕ, ◌*◌, ◌/◌, ◌%◌, refl, sym, ap, ◌∙◌, arith}
 use Rattle.std.proofs.Math.Nat.{mod-eq-sub-div-mul}
+use Rattle.r3k_live.specs.Recording.{Records}
 use Rattle.present_run.specs.Reuse.{Holding}
-use Rattle.present_run.specs.Runs.{holding_of}
+use Rattle.present_run.specs.Runs.{holding_of, steps_between}
 use Rattle.present_run.proofs.Counts.{reaches_more, spends_rest}
+use Rattle.present_run.proofs.Spans.{if_some, same_some}
 use Rattle.present_run.proofs.runs.Runs.record.Goals as goal
 
 pub returns-clause-spends : goal.returns-clause-spends
@@ -29,3 +31,13 @@ returns-clause-reaches g c =
     reaches_more pages span (c.args.position / span) (holding_of image log c.args.self.now) (holding_of image log c.reach.new.self) (holding_of image log c.go_on.new.self)
     (c.in_ok-reach.ensures {u = tt}).reaches refl (c.go_on.ensures.spans ∙ ap (λ (h : Holding). h.spans) c.stand_at_start.ensures.same)
     (omega (arith, c.go_on.ensures.least, steps))
+
+pub returns-then-eq-clause-recorded : goal.returns-then-eq-clause-recorded
+returns-then-eq-clause-recorded g c =
+    let pages = g.row.PAGES in
+    let span = g.row.SPAN in
+    let image = c.args.inputs.now.image in
+    let log = c.args.inputs.now.log in
+    let runs = c.reach.new.self in
+    if_some (λ (to : ℕ). Records pages (steps_between pages image log (to / span * span) to) runs.recorder) runs.recorded c.args.position
+    (same_some runs.recorded c.args.position (sym (c.if-eq.ensures {u = tt}))) c.reach.ensures.of.recorded
