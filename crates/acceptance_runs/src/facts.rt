@@ -408,12 +408,16 @@ fn valid_records(rt: HostRuntime) -> Result<(), Fail> {
             Then::Join(1),
             Then::Join(2),
             Then::Truncate(5, 2),
+            Then::Records(&[0, 1]),
             Then::Truncate(2, 2),
+            Then::Records(&[0, 1]),
             Then::Truncate(1, 1),
+            Then::Records(&[0, 1]),
             Then::Truncate(3, 1),
+            Then::Records(&[0, 1]),
             Then::Truncate(0, 0),
             Then::Records(&[0, 1]),
-            Then::Applies(0, 0, &[], true),
+            Then::AreTaken(0, &[0]),
         ],
     )
 }
@@ -431,8 +435,7 @@ fn records_apart(rt: HostRuntime) -> Result<(), Fail> {
             Then::Record(0, 2, &[]),
             Then::Put,
             Then::Records(&[2, 70]),
-            Then::Applies(2, 0, &[], true),
-            Then::Applies(70, 0, &[], true),
+            Then::AreTaken(0, &[2, 70]),
         ],
     )
 }
@@ -492,6 +495,7 @@ fn refused_memory_changes_nothing<const PAGES: u32, const SPAN: u32>(
     let fact = first_or_again(rt, alloc, &mut machine, &start)?;
     assert!(rt; fact.writer(0x100) == Some(55) && fact.writer(0x104).is_none());
     assert!(rt; fact.sent().is_empty());
+    assert!(rt; fact.dirty() == [0].as_slice());
     assert!(rt; fact.touched() == [0, 16, 17].as_slice());
     let mut kept = Kept::<PAGES, SPAN>::new(alloc);
     kept.put(fact)?;

@@ -87,8 +87,10 @@ pub enum Then<'a> {
     RecordTells(&'a [(u32, Option<u32>)], &'a [(u8, u32)], &'a [u32], &'a [u32]),
     /// Keeps it among the records.
     Put,
-    /// Of the first 72 spans, and of the last one that there is, these alone have a record.
+    /// Of the first 72 spans, and of the last one that there is, these alone have a record, which has their number.
     Records(&'a [u64]),
+    /// Of the first 72 spans the records of these alone are taken for a start, without events.
+    AreTaken(usize, &'a [u64]),
     /// So many records are valid.
     Valid(u64),
     /// One more becomes valid, which makes so many.
@@ -199,6 +201,7 @@ impl<const PAGES: u32, const SPAN: u32> Running<PAGES, SPAN> {
             }
             Then::Put => self.put()?,
             Then::Records(spans) => self.records(rt, spans),
+            Then::AreTaken(place, spans) => self.are_taken(rt, *place, spans)?,
             Then::Valid(want) => self.same(rt, &self.kept.valid(), want),
             Then::Join(want) => self.join(rt, *want),
             Then::Truncate(index, want) => self.truncate(rt, *index, *want),
@@ -467,13 +470,21 @@ impl<const PAGES: u32, const SPAN: u32> Running<PAGES, SPAN> {
         Ok(self.kept.put(fact)?)
     }
 
-    // Of the first 72 spans, and of the last one that there is, these alone have a record.
+    // Of the first 72 spans, and of the last one that there is, these alone have a record, which has their number.
     fn records(&self, rt: &impl Abort, spans: &[u64]) {
         for index in (0..72).chain([u64::MAX]) {
-            let there = spans.contains(&index);
-            let found = self.kept.fact(index).is_some();
-            self.same(rt, &(index, found), &(index, there));
+            let want = spans.contains(&index).then_some(index);
+            let found = self.kept.fact(index).map(|fact| fact.index());
+            self.same(rt, &(index, found), &(index, want));
         }
+    }
+
+    // Of the first 72 spans the records of these alone are taken for a start, without events.
+    fn are_taken(&self, rt: &impl Abort, start: usize, spans: &[u64]) -> Result<(), Fail> {
+        for index in 0..72 {
+            self.applies(rt, index, start, &[], spans.contains(&index))?;
+        }
+        Ok(())
     }
 
     // One more record becomes valid.
