@@ -1,3 +1,4 @@
+mod Edited
 mod Landings
 mod Patches
 pub mod Plain

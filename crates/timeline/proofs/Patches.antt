@@ -17,9 +17,10 @@ use Rattle.r3k_machine.specs.Reset.{reset, reset_core, reset_word, reset_words}
 use Rattle.r3k_machine.specs.State.{State}
 use Rattle.r3k_pages.specs.Pages.{SameOutside, holds}
 use Rattle.r3k_image.specs.Boot.{Boot, FitsRam}
-use Rattle.r3k_image.specs.Patch.{patched, patching}
+use Rattle.r3k_image.specs.Patch.{patched, patched_at, patching}
 use Rattle.r3k_image.proofs.Patched.{fits_patched, patch_taken_in}
 use Rattle.refusal.specs.declared.fault.Fault.{Fault}
+use Rattle.refusal.specs.declared.fault.Fault.TheVariants.{Unaligned}
 use Rattle.present_run.proofs.Spans.{some_is}
 
 abbrev image_or : Boot → Result Boot Fault → Boot
@@ -29,6 +30,13 @@ image_or other (Err fault) = other
 pub fits_after : (pages address word place : ℕ) (old new : Boot) → place_of_word pages address ≡ Some place → patched address word old ≡ new → FitsRam pages old → FitsRam pages new
 fits_after pages address word place old new is same fits =
     subst (λ (boot : Boot). FitsRam pages boot) same (fits_patched pages address word old (subst (λ (o : Option ℕ). IsSome o) (sym is) refl) fits)
+
+-- a word that has a place is patched
+pub patching_there : (pages address word place : ℕ) (old new : Boot) → address % 4 ≡ 0 → place_of_word pages address ≡ Some place → patched address word old ≡ new
+    → patching pages address word old ≡ Ok new
+patching_there pages address word place old new even is same =
+    ap (λ (even : Bool). if even then patched_at (place_of_word pages address) (patched address word old) else Err Unaligned) (eq-eqb (address % 4) 0 even)
+    ∙ (ap (λ (o : Option ℕ). patched_at o (patched address word old)) is ∙ ap (λ (boot : Boot). let r : Result Boot Fault = Ok boot in r) same)
 
 -- ---- reset of a patched image
 
@@ -57,7 +65,7 @@ high_address pages place high =
     ]
 
 -- the address of a place
-its_address : (pages address place : ℕ) → place_of_word pages address ≡ Some place → (place < word_count_of pages) × (address_of_place pages place ≡ address)
+pub its_address : (pages address place : ℕ) → place_of_word pages address ≡ Some place → (place < word_count_of pages) × (address_of_place pages place ≡ address)
 its_address pages address place is =
     let how = parts (address % 4 == 0) (nat_lt address (pages * PAGE_BYTES)) (nat_le ROM_START address && nat_lt address (ROM_START + ROM_BYTES))
     (address / 4) (pages * PAGE_WORDS + (address - ROM_START) / 4) place is in

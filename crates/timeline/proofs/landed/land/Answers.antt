@@ -14,3 +14,6 @@ returns-in-Ok-clause-among g c = λ e there.
       | inr old ↦ inr old
     ])
     (λ same. inr (subst (λ l. Contains l e) same there))
+
+pub returns-in-Ok-clause-start : goal.returns-in-Ok-clause-start
+returns-in-Ok-clause-start g c = λ is. absurd (c.if-position-eq0.false is)

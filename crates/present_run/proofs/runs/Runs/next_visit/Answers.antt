@@ -17,3 +17,9 @@ returns-clause-reaches g c =
     let log = c.args.inputs.now.log in
     reaches_more g.row.PAGES g.row.SPAN (c.args.position / g.row.SPAN) (holding_of image log c.args.self.now) (holding_of image log c.stand.new.self)
     (holding_of image log c.visit.new.self) (c.in_ok-stand.ensures {u = tt}).reaches refl c.visit.ensures.spans c.visit.ensures.least
+
+pub returns-clause-found : goal.returns-clause-found
+returns-clause-found g c = c.visit.ensures.found
+
+pub returns-clause-bound : goal.returns-clause-bound
+returns-clause-bound g c = c.visit.ensures.bound

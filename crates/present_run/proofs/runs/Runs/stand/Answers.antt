@@ -1,5 +1,5 @@
-use Rattle.std.proofs.Common.{◌/◌, ◌%◌, refl, ap, ◌∙◌, arith}
-use Rattle.std.proofs.Math.Nat.{mod-eq-sub-div-mul}
+use Rattle.std.proofs.Common.{◌/◌, ◌%◌, ◌<◌, refl, ap, ◌∙◌, arith}
+use Rattle.std.proofs.Math.Nat.{mod-eq-sub-div-mul, mod-lt}
 use Rattle.present_run.specs.Reuse.{Holding}
 use Rattle.present_run.specs.Runs.{holding_of}
 use Rattle.present_run.proofs.Counts.{reaches_more, spends_rest}
@@ -40,3 +40,9 @@ returns-clause-reaches g c =
     reaches_more pages span (c.args.position / span) (holding_of image log c.args.self.now) (holding_of image log c.reach.new.self) (holding_of image log c.go_on.new.self)
     (c.in_ok-reach.ensures {u = tt}).reaches refl (c.go_on.ensures.spans ∙ ap (λ (h : Holding). h.spans) c.stand_in.ensures.same)
     (omega (arith, c.go_on.ensures.least, steps))
+
+pub go_on-requires : goal.go_on-requires
+go_on-requires g c =
+    let there = c.in_ok-time.ensures {u = tt} in
+    let some : 0 < g.row.SPAN = omega (arith, c.requires.of.sizes.least_span) in
+    (omega arith, (c.stand_in.ensures.of, (there.stands, (there.before, omega (arith, mod-eq-sub-div-mul c.args.position g.row.SPAN, mod-lt c.args.position some, there.in_span)))))

@@ -1,10 +1,13 @@
-use Rattle.std.proofs.Common.{ℕ, ◌∷◌, [], List, slice_set, sym, ap, subst, ◌∙◌}
+use Rattle.std.proofs.Common.{ℕ, ◌∷◌, [], List, slice_set, sym, ap, subst, ◌∙◌, arith}
 use Rattle.r3k_image.specs.Boot.{Boot}
 use Rattle.r3k_machine.specs.Reset.{reset, reset_words}
 use Rattle.r3k_machine.specs.State.{State}
 use Rattle.r3k_pages.specs.Pages.{SameOutside}
+use Rattle.landings.specs.Landings.{positions_of}
+use Rattle.r3k_image.specs.Patch.{patching}
+use Rattle.timeline.proofs.Edited.{image_edited}
 use Rattle.timeline.proofs.Landings.{none}
-use Rattle.timeline.proofs.Patches.{fits_after, reset_patched, set_outside, taken_by_most}
+use Rattle.timeline.proofs.Patches.{fits_after, its_address, patching_there, reset_patched, set_outside, taken_by_most}
 use Rattle.timeline.proofs.timeline.Timeline.patch.Goals as goal
 
 pub invariant_of-self-2 : goal.invariant_of-self-2
@@ -35,3 +38,15 @@ returns-clause-fits g c =
     let is = sym c.place_of.ensures ∙ c.in-Some.is in
     fits_after pages c.args.address c.args.word c.in-Some.place c.self.inside.inputs.image c.patch.new.self is
     (taken_by_most pages c.args.address c.args.word c.in-Some.place c.self.inside.inputs.image c.patch.new.self old.sizes.most_pages is (c.in-Ok.ensures {u = tt})) old.fits
+
+pub reset_with-requires : goal.reset_with-requires
+reset_with-requires g c = (omega arith, (omega arith, (its_address g.row.PAGES c.args.address c.in-Some.place (sym c.place_of.ensures ∙ c.in-Some.is)).0))
+
+pub returns-clause-image : goal.returns-clause-image
+returns-clause-image g c =
+    let pages = g.row.PAGES in
+    let is = sym c.place_of.ensures ∙ c.in-Some.is in
+    let same = taken_by_most pages c.args.address c.args.word c.in-Some.place c.self.inside.inputs.image c.patch.new.self c.self.invariant.0.sizes.most_pages is (c.in-Ok.ensures {u = tt}) in
+    image_edited (patching pages c.args.address c.args.word) _ c.args.self.now c.patch.new.self _ _ _ c.self.view_is
+    (patching_there pages c.args.address c.args.word c.in-Some.place c.self.inside.inputs.image c.patch.new.self c.if-address-ne0.false is same)
+    c.restart.ensures.spans c.restart.ensures.steps (ap positions_of c.clear.ensures)

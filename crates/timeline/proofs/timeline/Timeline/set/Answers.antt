@@ -1,3 +1,7 @@
+use Rattle.std.proofs.Common.{ap}
+use Rattle.input_log.specs.Edits.{setting}
+use Rattle.landings.specs.Landings.{positions_of}
+use Rattle.timeline.proofs.Edited.{log_edited}
 use Rattle.timeline.proofs.Landings.{none}
 use Rattle.timeline.proofs.timeline.Timeline.set.Goals as goal
 
@@ -9,3 +13,8 @@ invariant_of-self-2 g c =
       c.forget.ensures.of c.self.inside.inputs.image _ runs.sizes runs.start runs.patches runs.agrees,
       λ e there. absurd (none _ e c.clear.ensures there),
     )
+
+pub returns : goal.returns
+returns g c =
+    log_edited (setting c.args.place c.args.byte) _ c.args.self.now c.set.new.self _ _ _ c.self.view_is (c.in_ok-set.ensures {u = tt}) c.forget.ensures.spans c.forget.ensures.steps
+    (ap positions_of c.clear.ensures)
