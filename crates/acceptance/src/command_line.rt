@@ -1,11 +1,12 @@
 //! The program's line: good and wrong words, the texts of usage and help, and the line of a fault.
-use crate::same::same;
+use crate::same::{same, same_at};
 use crate::served::run_program;
 use asm_line::kind::AsmKind;
 use r3k_image::ImageKind;
 use std::alloc::Global;
 use std::str;
 use std::test::Fail;
+use wb_options::MAX_SIZE;
 use workbench::{Kind, Plan, RunFault, fault_line, options, r3kwb, status};
 
 // What a line asks for, or the status that it ends with.
@@ -65,7 +66,7 @@ fn wrong_lines(rt: HostRuntime) {
         &["r3kwb", "--log", "1", "--log", "1"],
         &["r3kwb", "--logs", "1"],
     ] {
-        assert_eq!(rt; asked(alloc, words), Err(2), "{words:?}");
+        same_at(&rt, &words, &asked(alloc, words), &Err(2));
     }
 }
 
@@ -83,20 +84,23 @@ fn help_and_usage(rt: HostRuntime) -> Result<(), Fail> {
         "Statuses: 0 good, also for this help; 1 a bad image, source or log",
         "docs/USING.md",
     ] {
-        assert!(rt; help.contains(part), "{part:?} in {help:?}");
+        same_at(&rt, &part, &help.contains(part), &true);
+    }
+    for of in ["of it that", "behind them the log"] {
+        let part = format!(in alloc; "How many bytes {of} takes, 0 to {MAX_SIZE} [default: 0]")?;
+        same_at(&rt, &part, &help.contains(part.as_str()), &true);
     }
     assert!(rt; !help.contains("pos 0"));
     same(&rt, &run.told.len(), &0);
     same(&rt, &run.status, &0);
-    let run = run_program(alloc, &["r3kwb", "--size", "67108865"], b"pos\n", 1)?;
-    let usage = str::from_utf8(run.told.as_slice())?;
-    assert!(rt; usage.contains("--size is a number from 0 to 67108864"));
-    same(&rt, &run.output.len(), &0);
-    same(&rt, &run.status, &2);
-    let run = run_program(alloc, &["r3kwb", "--log", "67108865"], b"pos\n", 1)?;
-    let usage = str::from_utf8(run.told.as_slice())?;
-    assert!(rt; usage.contains("--log is a number from 0 to 67108864"));
-    same(&rt, &run.status, &2);
+    for option in ["--size", "--log"] {
+        let run = run_program(alloc, &["r3kwb", option, "67108865"], b"pos\n", 1)?;
+        let usage = str::from_utf8(run.told.as_slice())?;
+        let part = format!(in alloc; "{option} is a number from 0 to {MAX_SIZE}\n")?;
+        same_at(&rt, &part, &usage.contains(part.as_str()), &true);
+        same(&rt, &run.output.len(), &0);
+        same(&rt, &run.status, &2);
+    }
     Ok(())
 }
 

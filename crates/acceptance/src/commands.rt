@@ -1,5 +1,5 @@
 //! Moves, and queries of the processor: the worked examples, and values by hand.
-use crate::same::same;
+use crate::same::{same, same_at};
 use crate::served::run_program;
 use samples::LOAD_SLOT;
 use std::alloc::Global;
@@ -100,7 +100,7 @@ fn limits_of_moves(rt: HostRuntime) -> Result<(), Fail> {
     ];
     for (script, want) in cases {
         let output = replies(rt.alloc(), "rom", &[], script.as_bytes())?;
-        assert_eq!(rt; output.as_slice(), want.as_bytes(), "at {script:?}");
+        same_at(&rt, &script, &output.as_slice(), &want.as_bytes());
     }
     Ok(())
 }

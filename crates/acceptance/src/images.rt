@@ -1,5 +1,5 @@
 //! Boot images that are large, or that do not fit the machine.
-use crate::same::same;
+use crate::same::{same, same_at};
 use crate::served::{run_on, run_program};
 use r3k_image::read_image;
 use samples::EMPTY_IMAGE;
@@ -97,9 +97,9 @@ fn source(rt: HostRuntime) -> Result<(), Fail> {
         let size = format!(in alloc; "{size}")?;
         let words = ["r3kwb", "--kind", "source", "--size", size.as_str()];
         let run = run_on::<16, 64>(alloc, &words, &input, 3)?;
-        assert_eq!(rt; run.output.as_slice(), want.as_bytes(), "at {source:?}");
-        assert_eq!(rt; run.told.as_slice(), fault.as_bytes(), "at {source:?}");
-        assert_eq!(rt; run.status, status, "at {source:?}");
+        same_at(&rt, &source, &run.output.as_slice(), &want.as_bytes());
+        same_at(&rt, &source, &run.told.as_slice(), &fault.as_bytes());
+        same_at(&rt, &source, &run.status, &status);
     }
     Ok(())
 }

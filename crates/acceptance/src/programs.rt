@@ -1,5 +1,5 @@
 //! The program's worked runs.
-use crate::same::same;
+use crate::same::{same, same_at};
 use crate::served::run_program;
 use samples::{EMPTY_IMAGE, LOAD_SLOT};
 use std::test::Fail;
@@ -64,11 +64,7 @@ fn load_slot(rt: HostRuntime) -> Result<(), Fail> {
             &input,
             piece,
         )?;
-        assert_eq!(rt;
-            run.output.as_slice(),
-            want.as_bytes(),
-            "in pieces of {piece}"
-        );
+        same_at(&rt, &piece, &run.output.as_slice(), &want.as_bytes());
         same(&rt, &run.status, &0);
     }
     Ok(())
@@ -119,8 +115,8 @@ fn formats_and_the_program(rt: HostRuntime) -> Result<(), Fail> {
             input,
             4096,
         )?;
-        assert_eq!(rt; run.told.as_slice(), fault.as_bytes(), "at size {size}");
-        assert_eq!(rt; run.status, status, "at size {size}");
+        same_at(&rt, &size, &run.told.as_slice(), &fault.as_bytes());
+        same_at(&rt, &size, &run.status, &status);
         same(&rt, &run.output.len(), &0);
     }
     Ok(())

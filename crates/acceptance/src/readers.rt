@@ -1,5 +1,5 @@
 //! Readers and writers: pieces, calls that fail, and what is asked of std's.
-use crate::same::same;
+use crate::same::{same, same_at};
 use std::alloc::{AllocError, Global};
 use std::io;
 use std::io::{ErrorKind, Read, Write};
@@ -143,7 +143,7 @@ fn each_read_failing(rt: HostRuntime) -> Result<(), Fail> {
         );
         // The line feeds are the bytes 4 and 11, the read of the end is the 16th.
         let lines = usize::from(call > 4) + usize::from(call > 11);
-        assert_eq!(rt; writer.written(), &TEXT[..6 * lines], "at call {call}");
+        same_at(&rt, &call, &writer.written(), &&TEXT[..6 * lines]);
         same(&rt, &reader.calls, &call);
     }
     for call in 1..3u32 {
@@ -215,7 +215,7 @@ fn half_a_line(rt: HostRuntime) -> Result<(), Fail> {
         let outcome = serve::<16, 64, Plan, Plan>(alloc, NO_IMAGE, &mut reader, &mut writer);
         same(&rt, &status(&outcome), &0);
         let text = b"pos 0\nerror 2 Syntax\npos 0\n".as_slice();
-        assert_eq!(rt; writer.written(), text, "in pieces of {piece}");
+        same_at(&rt, &piece, &writer.written(), &text);
     }
     Ok(())
 }

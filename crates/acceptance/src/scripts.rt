@@ -1,5 +1,5 @@
 //! Scripts, good and hostile.
-use crate::same::same;
+use crate::same::{same, same_at};
 use crate::served::run_program;
 use std::test::Fail;
 
@@ -31,10 +31,11 @@ fn replies(rt: HostRuntime) -> Result<(), Fail> {
     for (script, want) in cases {
         for piece in [1, 4096] {
             let run = run_program(rt.alloc(), &["r3kwb"], script.as_bytes(), piece)?;
-            assert_eq!(rt;
-                run.output.as_slice(),
-                want.as_bytes(),
-                "at {script:?} in pieces of {piece}"
+            same_at(
+                &rt,
+                &(script, piece),
+                &run.output.as_slice(),
+                &want.as_bytes(),
             );
             same(&rt, &run.status, &0);
         }
@@ -63,7 +64,7 @@ fn cut_scripts(rt: HostRuntime) -> Result<(), Fail> {
     ];
     for (len, want) in wants.iter().enumerate() {
         let run = run_program(rt.alloc(), &["r3kwb"], &script[..len], 3)?;
-        assert_eq!(rt; run.output.as_slice(), want.as_bytes(), "of {len} bytes");
+        same_at(&rt, &len, &run.output.as_slice(), &want.as_bytes());
     }
     Ok(())
 }

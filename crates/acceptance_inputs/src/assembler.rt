@@ -1,6 +1,6 @@
 //! The assembler on its own: words of source, every fault alone and before those that come after it, numbers and targets at
 //! their bounds, places, lines and their ends.
-use crate::same::same;
+use crate::same::{same, same_at};
 use asm_line::kind::AsmKind;
 use r3k_asm::{AsmFault, assemble};
 use r3k_disasm::text;
@@ -143,7 +143,7 @@ fn word_lines() -> &'static [(&'static str, u32)] {
 fn words(rt: HostRuntime) {
     for (source, word) in word_lines() {
         let found = first_word(&rt, rt.alloc(), source);
-        assert_eq!(rt; found, Some(*word), "{source}");
+        same_at(&rt, &source, &found, &Some(*word));
     }
 }
 
@@ -352,7 +352,7 @@ fn fault_sources() -> &'static [(&'static str, u64, AsmKind)] {
 fn faults(rt: HostRuntime) {
     for (source, line, kind) in fault_sources() {
         let found = fault(rt.alloc(), source);
-        assert_eq!(rt; found, Some((*line, *kind)), "{source}");
+        same_at(&rt, &source, &found, &Some((*line, *kind)));
     }
 }
 
@@ -383,7 +383,7 @@ fn faults_in_two_lines(rt: HostRuntime) -> Result<(), Fail> {
                 (4 + *count, *kind)
             };
             let found = fault(rt.alloc(), source.as_str());
-            assert_eq!(rt; found, Some(expected), "{source}");
+            same_at(&rt, &source, &found, &Some(expected));
         }
     }
     Ok(())
@@ -405,14 +405,14 @@ fn faults_in_one_line(rt: HostRuntime) -> Result<(), Fail> {
         ] {
             let source = format!(in rt.alloc(); ".org 0\n.word 1\n{place}\n{line}")?;
             let found = fault(rt.alloc(), source.as_str());
-            assert_eq!(rt; found, Some((4, kind)), "{source}");
+            same_at(&rt, &source, &found, &Some((4, kind)));
         }
     }
     for line in ["j nowhere", "j 2"] {
         for (place, kind) in [(2, AsmKind::Place), (0, AsmKind::Overlap)] {
             let source = format!(in rt.alloc(); ".org 0\n.word 1\n.org {place}\n{line}")?;
             let found = fault(rt.alloc(), source.as_str());
-            assert_eq!(rt; found, Some((4, kind)), "{source}");
+            same_at(&rt, &source, &found, &Some((4, kind)));
         }
     }
     Ok(())
@@ -437,7 +437,7 @@ fn places_and_constants(rt: HostRuntime) {
         (0, Some(0x1000_FFFE)),
         (4, Some(0x0800_0004)),
     ] {
-        assert_eq!(rt; image.word(address), word, "at {address:x}");
+        same_at(&rt, &address, &image.word(address), &word);
     }
     same(&rt, &image.byte_time(), &65535);
     same(&rt, &image.unit(), &65535);

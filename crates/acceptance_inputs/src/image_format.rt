@@ -1,5 +1,5 @@
 //! The image format, raw ROMs, and images made word by word.
-use crate::same::same;
+use crate::same::{same, same_at};
 use r3k_image::{
     ClockStart, Constant, ImageFault, ImageKind, WordAddress, WordMap, raw_rom, read_image,
     write_image,
@@ -34,17 +34,13 @@ fn load_slot(rt: HostRuntime) -> Result<(), Fail> {
         (0x1FC0_0010, None),
         (0xFFFF_FFFC, None),
     ] {
-        assert_eq!(rt; image.word(address), word, "at {address:x}");
+        same_at(&rt, &address, &image.word(address), &word);
     }
     assert!(rt; !image.fits(0));
     assert!(rt; image.fits(1));
     for end in 0..LOAD_SLOT.len() {
         let fault = read_image(rt.alloc(), &LOAD_SLOT[..end]).err();
-        assert_eq!(rt;
-            fault,
-            Some(ImageFault::Bad(ImageKind::Short)),
-            "of {end} bytes"
-        );
+        same_at(&rt, &end, &fault, &Some(ImageFault::Bad(ImageKind::Short)));
     }
     Ok(())
 }
@@ -67,7 +63,7 @@ fn faults_of_the_header(rt: HostRuntime) {
         let mut bytes = EMPTY_IMAGE;
         bytes[place] = byte;
         let fault = read_image(rt.alloc(), &bytes).err();
-        assert_eq!(rt; fault, kind.map(ImageFault::Bad), "{byte} at {place}");
+        same_at(&rt, &(byte, place), &fault, &kind.map(ImageFault::Bad));
     }
 }
 
@@ -96,11 +92,7 @@ fn faults_of_segments(rt: HostRuntime) -> Result<(), Fail> {
             bytes.extend_from_slice(&[1, 2, 3, 4])?;
         }
         let fault = read_image(rt.alloc(), &bytes).err();
-        assert_eq!(rt;
-            fault,
-            kind.map(ImageFault::Bad),
-            "{count} words at {address:x}"
-        );
+        same_at(&rt, &(count, address), &fault, &kind.map(ImageFault::Bad));
     }
     Ok(())
 }
@@ -119,7 +111,7 @@ fn segments_may_touch(rt: HostRuntime) -> Result<(), Fail> {
         bytes.extend_from_slice(&second.to_le_bytes())?;
         bytes.extend_from_slice(b"\x01\0\0\0\x06\0\0\0")?;
         let fault = read_image(rt.alloc(), &bytes).err();
-        assert_eq!(rt; fault, kind.map(ImageFault::Bad), "at {second:x}");
+        same_at(&rt, &second, &fault, &kind.map(ImageFault::Bad));
     }
     Ok(())
 }
@@ -152,7 +144,7 @@ fn longest_raw_rom(rt: HostRuntime) -> Result<(), Fail> {
             same(&rt, &image.word(0x1FC3_FFFC), &last);
             same(&rt, &image.word(0x1FC4_0000), &None);
         }
-        assert_eq!(rt; image.err(), kind.map(ImageFault::Bad), "{len} bytes");
+        same_at(&rt, &len, &image.err(), &kind.map(ImageFault::Bad));
     }
     Ok(())
 }

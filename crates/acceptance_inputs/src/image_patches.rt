@@ -1,5 +1,5 @@
 //! Patches of an image.
-use crate::same::same;
+use crate::same::{same, same_at};
 use r3k_image::{read_image, write_image};
 use refusal::Fault;
 use samples::{EMPTY_IMAGE, LOAD_SLOT};
@@ -48,7 +48,7 @@ fn patches(rt: HostRuntime) -> Result<(), Fail> {
         (0x1FC0_0010, Some(0x2405_0011)),
         (0x1FC0_0014, None),
     ] {
-        assert_eq!(rt; image.word(address), word, "at {address:x}");
+        same_at(&rt, &address, &image.word(address), &word);
     }
     Ok(())
 }
@@ -60,7 +60,7 @@ fn patches_at_the_ends(rt: HostRuntime) -> Result<(), Fail> {
         image.patch(address, address)?;
     }
     for address in [0, 0x01FF_FFF8, 0x01FF_FFFC, 0x1FC0_0000, 0x1FC3_FFFC] {
-        assert_eq!(rt; image.word(address), Some(address), "at {address:x}");
+        same_at(&rt, &address, &image.word(address), &Some(address));
     }
     assert!(rt; image.fits(8192));
     assert!(rt; !image.fits(8191));
@@ -71,10 +71,11 @@ fn patches_at_the_ends(rt: HostRuntime) -> Result<(), Fail> {
 fn refused_patches(rt: HostRuntime) -> Result<(), Fail> {
     let mut image = read_image(rt.alloc(), &LOAD_SLOT)?;
     for address in [0x101, 0x102, 0x0200_0001, 0x1FE0_0002, 0xFFFF_FFFF] {
-        assert_eq!(rt;
-            image.patch(address, 0).err(),
-            Some(Fault::Unaligned),
-            "at {address:x}"
+        same_at(
+            &rt,
+            &address,
+            &image.patch(address, 0).err(),
+            &Some(Fault::Unaligned),
         );
     }
     for address in [
@@ -84,10 +85,11 @@ fn refused_patches(rt: HostRuntime) -> Result<(), Fail> {
         0x1FE0_0000,
         0xFFFF_FFFC,
     ] {
-        assert_eq!(rt;
-            image.patch(address, 0).err(),
-            Some(Fault::NotMemory),
-            "at {address:x}"
+        same_at(
+            &rt,
+            &address,
+            &image.patch(address, 0).err(),
+            &Some(Fault::NotMemory),
         );
     }
     same(

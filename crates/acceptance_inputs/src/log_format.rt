@@ -1,5 +1,5 @@
 //! The log format, and windows of a log.
-use crate::same::same;
+use crate::same::{same, same_at};
 use input_log::{Cursor, Event, Log, LogFault, LogKind, read_log, write_log};
 use std::test::Fail;
 
@@ -78,11 +78,7 @@ fn too_few_bytes_and_too_many(rt: HostRuntime) -> Result<(), Fail> {
     for bytes in [ONE.as_slice(), THREE.as_slice()] {
         for end in 0..bytes.len() {
             let fault = read_log(rt.alloc(), &bytes[..end]).err();
-            assert_eq!(rt;
-                fault,
-                Some(LogFault::Bad(LogKind::Short)),
-                "of {end} bytes"
-            );
+            same_at(&rt, &end, &fault, &Some(LogFault::Bad(LogKind::Short)));
         }
         let mut longer = bytes.to_vec(rt.alloc())?;
         longer.push(0)?;
@@ -124,11 +120,7 @@ fn first_fault(rt: HostRuntime) -> Result<(), Fail> {
         let mut bytes = THREE;
         *bytes.get_mut(place).ok_or("no byte there")? = byte;
         let fault = read_log(rt.alloc(), &bytes[..end.min(bytes.len())]).err();
-        assert_eq!(rt;
-            fault,
-            kind.map(LogFault::Bad),
-            "{byte} at {place} of {end}"
-        );
+        same_at(&rt, &(byte, place, end), &fault, &kind.map(LogFault::Bad));
     }
     Ok(())
 }
@@ -152,7 +144,7 @@ fn limits(rt: HostRuntime) {
         (b"R3KLOG1\n\x01\0\0\0\xfe\xff\xff\xff\x03\0", None),
     ] {
         let fault = read_log(rt.alloc(), bytes).err();
-        assert_eq!(rt; fault, kind.map(LogFault::Bad), "{bytes:?}");
+        same_at(&rt, &bytes, &fault, &kind.map(LogFault::Bad));
     }
 }
 

@@ -1,5 +1,5 @@
 //! Lines of a script, by example.
-use crate::same::same;
+use crate::same::{same, same_at};
 use refusal::Fault;
 use std::process::Abort;
 use std::test::Fail;
@@ -9,7 +9,7 @@ use wb_text::{
 };
 
 fn says(rt: &impl Abort, line: &[u8], wanted: Result<Option<Command>, Fault>) {
-    assert_eq!(rt; parse_line(line), wanted, "{line:?}");
+    same_at(rt, &line, &parse_line(line), &wanted);
 }
 
 #[test]

@@ -1,5 +1,5 @@
 //! Source to an image, in short.
-use crate::same::same;
+use crate::same::{same, same_at};
 use asm_line::kind::AsmKind;
 use r3k_asm::{AsmFault, assemble};
 use std::test::Fail;
@@ -19,7 +19,7 @@ beq r1, r0, start\nend:\naddiu r2, r2, -1\n.bytetime 2\n.unit 3\n.clock 1 2 3 4 
         (0x1FC0_000C, Some(0x2442_FFFF)),
         (0x1FC0_0010, None),
     ] {
-        assert_eq!(rt; image.word(address), word, "at {address:x}");
+        same_at(&rt, &address, &image.word(address), &word);
     }
     same(&rt, &(image.byte_time(), image.unit()), &(2, 3));
     same(
@@ -44,6 +44,6 @@ fn faults(rt: HostRuntime) {
         ("j nowhere\nfoo", 2, AsmKind::Name),
     ] {
         let fault = assemble(rt.alloc(), source.as_bytes()).err();
-        assert_eq!(rt; fault, Some(AsmFault::Bad { line, kind }), "{source}");
+        same_at(&rt, &source, &fault, &Some(AsmFault::Bad { line, kind }));
     }
 }

@@ -1,5 +1,5 @@
 //! The bus on its own: its regions, and its devices by their registers.
-use crate::same::same;
+use crate::same::{same, same_at};
 use dz_serial::Sent;
 use kn02_bus::{Bus, Device, Lines, Region};
 use std::test::Fail;
@@ -45,44 +45,33 @@ fn tick(bus: &mut Bus, ticks: u32) {
 // The first and the last address of each part, and those beside them.
 #[test]
 fn regions(rt: HostRuntime) {
-    for (pa, pages) in [(0, 16), (0x0000_FFFF, 16), (0x01FF_FFFF, 8192)] {
-        assert_eq!(rt; Region::of(pa, pages), Region::Ram, "{pa:x}");
-    }
-    for (pa, pages) in [(0x0001_0000, 16), (0x0200_0000, 8192)] {
-        assert_eq!(rt; Region::of(pa, pages), Region::Unassigned, "{pa:x}");
-    }
-    for pa in [0x1FC0_0000, 0x1FC3_FFFF] {
-        assert_eq!(rt; Region::of(pa, PAGES), Region::Rom, "{pa:x}");
-    }
-    for (pa, offset) in [(0x1FE0_0000, 0), (0x1FE0_000B, 8), (0x1FE0_001F, 28)] {
-        same(
-            &rt,
-            &Region::of(pa, PAGES),
-            &Region::Device(Device::Serial(offset)),
-        );
+    for (pa, pages, region) in [
+        (0, 16, Region::Ram),
+        (0x0000_FFFF, 16, Region::Ram),
+        (0x0001_0000, 16, Region::Unassigned),
+        (0x01FF_FFFF, 8192, Region::Ram),
+        (0x0200_0000, 8192, Region::Unassigned),
+        (0x1FBF_FFFF, PAGES, Region::Unassigned),
+        (0x1FC0_0000, PAGES, Region::Rom),
+        (0x1FC3_FFFF, PAGES, Region::Rom),
+        (0x1FC4_0000, PAGES, Region::Unassigned),
+        (0x1FDF_FFFF, PAGES, Region::Unassigned),
+        (0x1FE0_0000, PAGES, Region::Device(SERIAL_CSR)),
+        (0x1FE0_000B, PAGES, Region::Device(RBUF_LPR)),
+        (0x1FE0_001F, PAGES, Region::Device(Device::Serial(28))),
+        (0x1FE0_0020, PAGES, Region::Unassigned),
+        (0x1FE7_FFFF, PAGES, Region::Unassigned),
+        (0x1FE8_0100, PAGES, Region::Unassigned),
+        (0x1FEF_FFFF, PAGES, Region::Unassigned),
+        (0x1FF0_0000, PAGES, Region::Device(Device::Csr)),
+        (0x1FF0_0003, PAGES, Region::Device(Device::Csr)),
+        (0x1FF0_0004, PAGES, Region::Unassigned),
+        (0xFFFF_FFFF, PAGES, Region::Unassigned),
+    ] {
+        same_at(&rt, &pa, &Region::of(pa, pages), &region);
     }
     for (pa, number) in [(0x1FE8_0000, 0), (0x1FE8_002A, 10), (0x1FE8_00FF, 63)] {
-        assert_eq!(rt; clock_register(pa), Some(number), "{pa:x}");
-    }
-    for pa in [0x1FF0_0000, 0x1FF0_0003] {
-        assert_eq!(rt;
-            Region::of(pa, PAGES),
-            Region::Device(Device::Csr),
-            "{pa:x}"
-        );
-    }
-    for pa in [
-        0x1FBF_FFFF,
-        0x1FC4_0000,
-        0x1FDF_FFFF,
-        0x1FE0_0020,
-        0x1FE7_FFFF,
-        0x1FE8_0100,
-        0x1FEF_FFFF,
-        0x1FF0_0004,
-        0xFFFF_FFFF,
-    ] {
-        assert_eq!(rt; Region::of(pa, PAGES), Region::Unassigned, "{pa:x}");
+        same_at(&rt, &pa, &clock_register(pa), &Some(number));
     }
 }
 
@@ -145,7 +134,7 @@ fn clock(rt: HostRuntime) {
     );
     let want = [0, 0, 0, 0, 0, 0, 1, 0x29, 2, 4];
     for r in 0..10u32 {
-        assert_eq!(rt; bus.load(register(r)), want[r as usize], "register {r}");
+        same_at(&rt, &r, &bus.load(register(r)), &want[r as usize]);
     }
     same(&rt, &bus.load(register(12)), &0xB0);
     same(&rt, &bus.load(register(12)), &0);

@@ -1,5 +1,5 @@
 //! The clock on its own.
-use crate::same::same;
+use crate::same::{same, same_at};
 use mc146818::Clock;
 use mc146818::registers::{
     AF, AIE, DAY, DM, HOURS, HOURS_ALARM, IRQF, MINUTES, MINUTES_ALARM, MONTH, PF, PM, RAM,
@@ -67,7 +67,7 @@ fn clock(rt: HostRuntime) {
     tick(&mut clock, 2);
     let want = [0, 0, 0, 0, 0, 0, 1, 0x29, 2, 4];
     for r in 0..10u8 {
-        assert_eq!(rt; clock.read(r), want[r as usize], "register {r}");
+        same_at(&rt, &r, &clock.read(r), &want[r as usize]);
     }
     same(&rt, &clock.read(REGISTER_C), &0x30);
     same(&rt, &clock.read(REGISTER_C), &0);
@@ -77,7 +77,7 @@ fn clock(rt: HostRuntime) {
     tick(&mut clock, 8192);
     let want = [0, 0, 0, 0, 0x0c, 0, 1, 1, 1, 0];
     for r in 0..10u8 {
-        assert_eq!(rt; clock.read(r), want[r as usize], "register {r}");
+        same_at(&rt, &r, &clock.read(r), &want[r as usize]);
     }
     same(&rt, &clock.read(REGISTER_C), &0x10);
 
@@ -121,7 +121,7 @@ fn month_ends(rt: HostRuntime) {
             ] {
                 let at = [last_minute, last_minute, evening, 7, byte(b, day), month, 1];
                 let want = [0, 0, midnight, 1, byte(b, then), month_then, year_then];
-                assert_eq!(rt; second_later(b, at), want, "after {at:?} with B {b:x}");
+                same_at(&rt, &(at, b), &second_later(b, at), &want);
             }
         }
     }
@@ -159,7 +159,7 @@ fn next_seconds(rt: HostRuntime) {
         (0x06, 0x3B_3B_17_01_1E_00_01, 0x00_00_00_02_1F_00_01),
     ] {
         let later = second_later(b, fields(at));
-        assert_eq!(rt; later, fields(want), "after {at:x} with B {b:x}");
+        same_at(&rt, &(at, b), &later, &fields(want));
     }
 }
 
@@ -178,11 +178,7 @@ fn periodic_rates(rt: HostRuntime) {
                 tick(&mut clock, period.saturating_sub(1));
                 assert!(rt; !clock.interrupts(), "{rate} in round {round}");
                 clock.tick();
-                assert_eq!(rt;
-                    clock.read(REGISTER_C) & 0xC0,
-                    0xC0,
-                    "{rate} in round {round}"
-                );
+                same_at(&rt, &(rate, round), &(clock.read(REGISTER_C) & 0xC0), &0xC0);
             }
         }
     }
@@ -222,11 +218,7 @@ fn alarms(rt: HostRuntime) {
                 clock.write(HOURS_ALARM, hours);
                 tick(&mut clock, 8192);
                 let rings = rings_s && rings_m && rings_h;
-                assert_eq!(rt;
-                    clock.interrupts(),
-                    rings,
-                    "{seconds:x} {minutes:x} {hours:x}"
-                );
+                same_at(&rt, &(seconds, minutes, hours), &clock.interrupts(), &rings);
                 let want = if rings { IRQF | AF | UF } else { UF };
                 same(&rt, &clock.read(REGISTER_C), &want);
             }
@@ -301,11 +293,11 @@ fn writes(rt: HostRuntime) {
     clock.write(REGISTER_B, 0xFF);
     same(&rt, &clock.read(REGISTER_B), &0xEE);
     for r in RAM..64 {
-        assert_eq!(rt; clock.read(r), 0, "register {r}");
+        same_at(&rt, &r, &clock.read(r), &0);
         clock.write(r, r ^ 0xFF);
     }
     for r in RAM..64 {
-        assert_eq!(rt; clock.read(r), r ^ 0xFF, "register {r}");
+        same_at(&rt, &r, &clock.read(r), &(r ^ 0xFF));
     }
 }
 
@@ -363,7 +355,7 @@ fn quiet_periods(rt: HostRuntime) {
     let mut clock = Clock::new([0, 0, 0, 0, 0, 0, 1, 1, 1, 0, 0x20, 0x42], 3);
     for (rate, quiet) in [(0, 24_575), (1, 95), (2, 191), (3, 2), (4, 5), (15, 12_287)] {
         clock.write(REGISTER_A, 0x20 + rate);
-        assert_eq!(rt; clock.quiet(), quiet, "rate {rate}");
+        same_at(&rt, &rate, &clock.quiet(), &quiet);
     }
     pass(&mut clock, 200);
     same(&rt, &clock.quiet(), &12_087);

@@ -4,7 +4,7 @@ ghost use Rattle.r3k_word.specs.Layout.{word_count_of};
 ghost use Rattle.r3k_word.specs.declared.layout.TheConstants.{MAX_RAM_PAGES};
 ghost use Rattle.r3k_pages.specs.Pages.{SameOutside};
 
-use crate::same::same;
+use crate::same::{same, same_at};
 use r3k_pages::{PageMarks, Snapshot, page_laws};
 use r3k_word::layout::{PAGE_WORDS, ROM_PAGES, page_of, word_count};
 use std::alloc::{AllocError, Global};
@@ -98,7 +98,7 @@ fn holds<const PAGES: u32>(rt: &impl Abort, snapshot: &Snapshot<PAGES>, turned: 
         } else {
             first_word(place)
         };
-        assert_eq!(rt; snapshot.word(place), want, "at {place}");
+        same_at(rt, &place, &snapshot.word(place), &want);
     }
 }
 
@@ -113,8 +113,8 @@ fn differ_in<const PAGES: u32>(
 {
     for page in 0..PAGES + ROM_PAGES {
         let same = !pages.contains(&page);
-        assert_eq!(rt; one.same_page(page, other), same, "page {page}");
-        assert_eq!(rt; other.same_page(page, one), same, "page {page}");
+        same_at(rt, &page, &one.same_page(page, other), &same);
+        same_at(rt, &page, &other.same_page(page, one), &same);
     }
 }
 

@@ -8,3 +8,8 @@ use std::process::Abort;
 pub fn same<T: PartialEq + Debug>(rt: &impl Abort, found: &T, wanted: &T) {
     assert_eq!(rt; *found, *wanted);
 }
+
+/// The same at a place in a list, which the message tells.
+pub fn same_at<P: Debug, T: PartialEq + Debug>(rt: &impl Abort, place: &P, found: &T, wanted: &T) {
+    assert_eq!(rt; *found, *wanted, "at {place:?}");
+}

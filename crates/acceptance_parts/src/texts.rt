@@ -1,4 +1,5 @@
 //! Words as text.
+use crate::same::same_at;
 use r3k_disasm::text;
 
 // Words at addresses and their texts, with numbers and targets at their bounds: by hand from the table and the texts of its
@@ -26,6 +27,6 @@ fn corners(rt: HostRuntime) {
         (0x1FC0_0000, 0x0000_0001, ".word 0x00000001"),
         (0x1FC0_0000, 0xDEAD_BEEF, ".word 0xdeadbeef"),
     ] {
-        assert_eq!(rt; text(address, word).as_str(), expected, "{word:08x}");
+        same_at(&rt, &word, &text(address, word).as_str(), &expected);
     }
 }

@@ -1,4 +1,5 @@
 //! Words and texts of an independent assembler and disassembler.
+use crate::same::same_at;
 use r3k_asm::assemble;
 use r3k_disasm::text;
 use r3k_table::rows::table;
@@ -413,7 +414,7 @@ fn parts() -> [&'static [Vector]; 4] {
 fn texts_from(rt: &impl Abort, part: &[Vector], start: u32) -> u32 {
     let mut address = start;
     for (word, expected) in part {
-        assert_eq!(rt; text(address, *word).as_str(), *expected, "{word:08x}");
+        same_at(rt, &word, &text(address, *word).as_str(), expected);
         address = address.wrapping_add(4);
     }
     address
@@ -429,7 +430,7 @@ fn words_from(rt: &impl Abort, alloc: Global, part: &[Vector], start: u32) -> Re
     let image = assemble(alloc, source.as_bytes())?;
     let mut address = start;
     for (word, line) in part {
-        assert_eq!(rt; image.word(address), Some(*word), "{line}");
+        same_at(rt, &line, &image.word(address), &Some(*word));
         address = address.wrapping_add(4);
     }
     Ok(address)

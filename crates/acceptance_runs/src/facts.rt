@@ -6,7 +6,7 @@ ghost use Rattle.r3k_pages.specs.Pages.{SameOutside};
 ghost use Rattle.checkpoints.specs.Kept.{span_at};
 
 use crate::running::{FIRST, LOOP, Running, SECOND, Then, echo, plays, record_of, shared};
-use crate::same::same;
+use crate::same::{same, same_at};
 use checkpoints::Kept;
 use input_log::{Event, Log};
 use r3k_asm::assemble;
@@ -269,7 +269,7 @@ fn one_other_word_applies<const PAGES: u32, const SPAN: u32>(
         (17, 18 * 1024 - 1),
     ] {
         let taken = taken_with_word(rt, alloc, &kept, &start, at, 7)?;
-        assert_eq!(rt; taken, (false, false, false), "at {}", at.1);
+        same_at(rt, &at.1, &taken, &(false, false, false));
     }
     // Those of pages beside them, and the last ones of RAM and of ROM, where 0 stands.
     for at in [
@@ -280,9 +280,9 @@ fn one_other_word_applies<const PAGES: u32, const SPAN: u32>(
         (79, 80 * 1024 - 1),
     ] {
         let taken = taken_with_word(rt, alloc, &kept, &start, at, 7)?;
-        assert_eq!(rt; taken, (false, false, true), "at {}", at.1);
+        same_at(rt, &at.1, &taken, &(false, false, true));
         let taken = taken_with_word(rt, alloc, &kept, &start, at, 0)?;
-        assert_eq!(rt; taken, (true, true, true), "at {}", at.1);
+        same_at(rt, &at.1, &taken, &(true, true, true));
     }
     Ok(())
 }
@@ -347,10 +347,16 @@ fn tied_records_continue<const PAGES: u32, const SPAN: u32>(
     for later in [false, true] {
         put_and_tie(rt, alloc, &mut machine, &start, &mut kept)?;
         put_again(alloc, &mut machine, &start, &mut kept, later)?;
-        assert!(rt; !kept.continues(0));
-        assert!(rt; kept.fact(0).is_some() && kept.fact(1).is_some());
+        both_apart(rt, &kept);
     }
     Ok(())
+}
+
+// The first two records are kept, and not tied.
+fn both_apart<const PAGES: u32, const SPAN: u32>(rt: &impl Abort, kept: &Kept<PAGES, SPAN>) {
+    assert!(rt; !kept.continues(0));
+    assert!(rt; kept.fact(0).is_some());
+    assert!(rt; kept.fact(1).is_some());
 }
 
 // Keeps the first two records and ties them.
@@ -473,7 +479,7 @@ fn put_or_again<const PAGES: u32, const SPAN: u32>(
     }
     assert!(rt; kept.applies(0, start, &[], None));
     assert!(rt; !kept.applies(70, start, &[], None));
-    assert_eq!(rt; kept.valid(), 0);
+    same(rt, &kept.valid(), &0);
     kept.put(record_of(alloc, machine, start, 70, &silent)?)?;
     Ok(())
 }
@@ -493,16 +499,34 @@ fn refused_memory_changes_nothing<const PAGES: u32, const SPAN: u32>(
     let mut machine = Running::<PAGES, SPAN>::boot(alloc)?;
     let start = shared(alloc, &machine)?;
     let fact = first_or_again(rt, alloc, &mut machine, &start)?;
-    assert!(rt; fact.writer(0x100) == Some(55) && fact.writer(0x104).is_none());
-    assert!(rt; fact.sent().is_empty());
-    assert!(rt; fact.dirty() == [0].as_slice());
-    assert!(rt; fact.touched() == [0, 16, 17].as_slice());
+    tells_the_first_span(rt, &fact);
     let mut kept = Kept::<PAGES, SPAN>::new(alloc);
     kept.put(fact)?;
     put_or_again(rt, alloc, &mut machine, &start, &mut kept)?;
-    assert!(rt; kept.applies(0, &start, &[], None));
-    assert!(rt; kept.applies(70, &start, &[], None));
+    both_apply(rt, &kept, &start);
     Ok(())
+}
+
+// The record of the echo program's first span.
+fn tells_the_first_span<const PAGES: u32, const SPAN: u32>(
+    rt: &impl Abort,
+    fact: &Fact<PAGES, SPAN>,
+) {
+    same(rt, &fact.writer(0x100), &Some(55));
+    same(rt, &fact.writer(0x104), &None);
+    same(rt, &fact.sent().len(), &0);
+    same(rt, &fact.dirty(), &[0].as_slice());
+    same(rt, &fact.touched(), &[0, 16, 17].as_slice());
+}
+
+// The records of spans 0 and 70 are taken for a start.
+fn both_apply<const PAGES: u32, const SPAN: u32>(
+    rt: &impl Abort,
+    kept: &Kept<PAGES, SPAN>,
+    start: &Boundary<PAGES>,
+) {
+    assert!(rt; kept.applies(0, start, &[], None));
+    assert!(rt; kept.applies(70, start, &[], None));
 }
 
 /// The count of steps stands at its greatest value once it is reached. A machine that has made so many steps can not be had by
