@@ -1,46 +1,34 @@
 //! Moves, and queries of the processor: the worked examples, and values by hand.
 use crate::same::{same, same_at};
-use crate::served::run_program;
+use crate::served::run_image;
 use samples::LOAD_SLOT;
 use std::alloc::Global;
+use std::process::Abort;
 use std::str;
 use std::test::Fail;
 
-// What the program writes for an input of so many bytes of a kind and then a script.
-pub fn replies(alloc: Global, kind: &str, bytes: &[u8], script: &[u8]) -> Result<Vec<u8>, Fail> {
-    replies_with_log(alloc, kind, bytes, &[], script)
+// What the program writes for an image of a kind and a script.
+pub fn replies(alloc: Global, kind: &str, image: &[u8], script: &[u8]) -> Result<Vec<u8>, Fail> {
+    Ok(run_image::<2048, 65_536>(alloc, kind, image, &[], script, 4096)?.output)
 }
 
-// The same with the bytes of a log before the script.
-pub fn replies_with_log(
+/// Holds what the program writes for an image of a kind, a log and a script to the replies wanted.
+pub fn holds(
+    rt: &impl Abort,
     alloc: Global,
     kind: &str,
-    bytes: &[u8],
+    image: &[u8],
     log: &[u8],
     script: &[u8],
-) -> Result<Vec<u8>, Fail> {
-    let mut input = Vec::from_slice(alloc, bytes)?;
-    input.extend_from_slice(log)?;
-    input.extend_from_slice(script)?;
-    let size = bytes.len();
-    let size = format!(in alloc; "{size}")?;
-    let log_size = log.len();
-    let log_size = format!(in alloc; "{log_size}")?;
-    let words = [
-        "r3kwb",
-        "--kind",
-        kind,
-        "--size",
-        size.as_str(),
-        "--log",
-        log_size.as_str(),
-    ];
-    let run = run_program(alloc, &words, &input, 4096)?;
-    Ok(run.output)
+    want: &[u8],
+) -> Result<(), Fail> {
+    let run = run_image::<2048, 65_536>(alloc, kind, image, log, script, 4096)?;
+    same(rt, &run.output.as_slice(), &want);
+    Ok(())
 }
 
 // The bytes of a raw ROM of these words.
-fn rom_of(alloc: Global, words: &[u32]) -> Result<Vec<u8>, Fail> {
+pub fn rom_of(alloc: Global, words: &[u32]) -> Result<Vec<u8>, Fail> {
     let mut bytes = Vec::new(alloc);
     for word in words {
         bytes.extend_from_slice(&word.to_le_bytes())?;
@@ -52,10 +40,8 @@ fn rom_of(alloc: Global, words: &[u32]) -> Result<Vec<u8>, Fail> {
 #[test]
 fn load_slot(rt: HostRuntime) -> Result<(), Fail> {
     let script = b"goto 3\nreg 2\nreg 3\nstep 1\nreg 4\n";
-    let output = replies(rt.alloc(), "image", &LOAD_SLOT, script)?;
-    let want = b"pos 3\nr2 0x00000005\nr3 0x00000000\npos 4\nr4 0x00000005\n".as_slice();
-    same(&rt, &output.as_slice(), &want);
-    Ok(())
+    let want = b"pos 3\nr2 0x00000005\nr3 0x00000000\npos 4\nr4 0x00000005\n";
+    holds(&rt, rt.alloc(), "image", &LOAD_SLOT, &[], script, want)
 }
 
 /// The instruction behind the load adds 1 to r2, and its own write wins.
@@ -64,13 +50,9 @@ fn load_slot_loses_to_its_own_write(rt: HostRuntime) -> Result<(), Fail> {
     let mut image = LOAD_SLOT;
     // addiu r2, r2, 1
     image[60..64].copy_from_slice(&[1, 0, 0x42, 0x24]);
-    let output = replies(rt.alloc(), "image", &image, b"goto 3\nreg 2\n")?;
-    same(
-        &rt,
-        &output.as_slice(),
-        &b"pos 3\nr2 0x00000001\n".as_slice(),
-    );
-    Ok(())
+    let script = b"goto 3\nreg 2\n";
+    let want = b"pos 3\nr2 0x00000001\n";
+    holds(&rt, rt.alloc(), "image", &image, &[], script, want)
 }
 
 /// Positions are 0 to 4294967295, in whole numbers, and a refused move stays where it is.
@@ -110,24 +92,19 @@ fn registers_by_number(rt: HostRuntime) -> Result<(), Fail> {
     // lui r31, 0x1234; addiu r0, r31, 1: a write to r0 is dropped
     let rom = rom_of(rt.alloc(), &[0x3C1F_1234, 0x27E0_0001])?;
     let script = b"goto 2\nreg 31\nreg 0x1f\nreg 0\nreg\nreg 32\nreg 32 1\nreg r1\npos\n";
-    let output = replies(rt.alloc(), "rom", &rom, script)?;
     let want =
         b"pos 2\nr31 0x12340000\nr31 0x12340000\nr0 0x00000000\nerror 2 Syntax\nerror 3 Range\n\
-        error 2 Syntax\nerror 2 Syntax\npos 2\n"
-            .as_slice();
-    same(&rt, &output.as_slice(), &want);
-    Ok(())
+        error 2 Syntax\nerror 2 Syntax\npos 2\n";
+    holds(&rt, rt.alloc(), "rom", &rom, &[], script, want)
 }
 
 #[test]
 fn control_registers_at_reset(rt: HostRuntime) -> Result<(), Fail> {
-    let output = replies(rt.alloc(), "rom", &[], b"cp0\n")?;
+    let script = b"cp0\n";
     let want = b"index 0x00000000 random 0x00003f00 entrylo 0x00000000 context 0x00000000 \
         badvaddr 0x00000000 entryhi 0x00000000 status 0x00400000 cause 0x00000000 epc 0x00000000 \
-        prid 0x00000220\n"
-        .as_slice();
-    same(&rt, &output.as_slice(), &want);
-    Ok(())
+        prid 0x00000220\n";
+    holds(&rt, rt.alloc(), "rom", &[], &[], script, want)
 }
 
 /// The system call in the branch's delay slot: EPC is the branch, Cause has BD and Sys, and mode and interrupt bits move up.
@@ -142,13 +119,11 @@ fn system_call_in_a_delay_slot(rt: HostRuntime) -> Result<(), Fail> {
         0x0000_000C,
     ];
     let rom = rom_of(rt.alloc(), &words)?;
-    let output = replies(rt.alloc(), "rom", &rom, b"goto 5\ncp0\n")?;
+    let script = b"goto 5\ncp0\n";
     let want = b"pos 5\nindex 0x00000000 random 0x00003a00 entrylo 0x00000000 context 0x00000000 \
         badvaddr 0x00000000 entryhi 0x00000000 status 0x00400004 cause 0x80000020 epc 0xbfc0000c \
-        prid 0x00000220\n"
-        .as_slice();
-    same(&rt, &output.as_slice(), &want);
-    Ok(())
+        prid 0x00000220\n";
+    holds(&rt, rt.alloc(), "rom", &rom, &[], script, want)
 }
 
 /// A misaligned load: Cause has AdEL, and of the registers of translation only BadVAddr is loaded.
@@ -156,18 +131,13 @@ fn system_call_in_a_delay_slot(rt: HostRuntime) -> Result<(), Fail> {
 fn misaligned_load(rt: HostRuntime) -> Result<(), Fail> {
     // lui r1, 0xa000; lw r2, 2(r1)
     let rom = rom_of(rt.alloc(), &[0x3C01_A000, 0x8C22_0002])?;
-    let output = replies(
-        rt.alloc(),
-        "rom",
-        &rom,
-        b"step 2\ncp0\nback 1\nstep 1\ncp0\n",
-    )?;
+    let script = b"step 2\ncp0\nback 1\nstep 1\ncp0\n";
     let shown = "index 0x00000000 random 0x00003d00 entrylo 0x00000000 context 0x00000000 \
         badvaddr 0xa0000002 entryhi 0x00000000 status 0x00400000 cause 0x00000010 epc 0xbfc00004 \
         prid 0x00000220\n";
     let want = format!(in rt.alloc(); "pos 2\n{shown}pos 1\npos 2\n{shown}")?;
-    same(&rt, &output.as_slice(), &want.as_bytes());
-    Ok(())
+    let want = want.as_bytes();
+    holds(&rt, rt.alloc(), "rom", &rom, &[], script, want)
 }
 
 /// Random falls from 63 by one a step, to 8 and then to 63 again.
@@ -196,13 +166,10 @@ fn branch_in_a_delay_slot(rt: HostRuntime) -> Result<(), Fail> {
 fn translation_at_reset(rt: HostRuntime) -> Result<(), Fail> {
     let script =
         b"where 0x80000010\nwhere 0xbfc00000\nwhere 0x1000\nwhere 0xc0000000\nwhere 0\ntlb 63\n";
-    let output = replies(rt.alloc(), "rom", &[], script)?;
     let want =
         b"where 0x00000010 cached\nwhere 0x1fc00000 uncached\nwhere tlbl refill\nwhere tlbl\n\
-        where tlbl\ntlb 63 0x00000000 0x00000000\n"
-            .as_slice();
-    same(&rt, &output.as_slice(), &want);
-    Ok(())
+        where tlbl\ntlb 63 0x00000000 0x00000000\n";
+    holds(&rt, rt.alloc(), "rom", &[], &[], script, want)
 }
 
 /// Words are those of the position, told with their addresses.
@@ -211,12 +178,9 @@ fn words_of_memory(rt: HostRuntime) -> Result<(), Fail> {
     // lui r1, 0xa000; sw r1, 8(r1)
     let rom = rom_of(rt.alloc(), &[0x3C01_A000, 0xAC21_0008])?;
     let script = b"mem 8 1\ngoto 2\nmem 4 3\nback 1\nmem 8 1\n";
-    let output = replies(rt.alloc(), "rom", &rom, script)?;
     let want = b"0x00000008 0x00000000\npos 2\n0x00000004 0x00000000\n0x00000008 0xa0000000\n\
-        0x0000000c 0x00000000\npos 1\n0x00000008 0x00000000\n"
-        .as_slice();
-    same(&rt, &output.as_slice(), &want);
-    Ok(())
+        0x0000000c 0x00000000\npos 1\n0x00000008 0x00000000\n";
+    holds(&rt, rt.alloc(), "rom", &rom, &[], script, want)
 }
 
 /// Targets are counted from the physical address; a word without a row is told as one.
@@ -224,12 +188,10 @@ fn words_of_memory(rt: HostRuntime) -> Result<(), Fail> {
 fn words_as_instructions(rt: HostRuntime) -> Result<(), Fail> {
     // bgez r7, .+20; j 0x1fc00000; a word without a row
     let rom = rom_of(rt.alloc(), &[0x04E1_0004, 0x0BF0_0000, 0xFFFF_FFFF])?;
-    let output = replies(rt.alloc(), "rom", &rom, b"dis 0x1fc00000 3\n")?;
+    let script = b"dis 0x1fc00000 3\n";
     let want = b"0x1fc00000 0x04e10004 bgez r7, 0x1fc00014\n\
-        0x1fc00004 0x0bf00000 j 0x1fc00000\n0x1fc00008 0xffffffff .word 0xffffffff\n"
-        .as_slice();
-    same(&rt, &output.as_slice(), &want);
-    Ok(())
+        0x1fc00004 0x0bf00000 j 0x1fc00000\n0x1fc00008 0xffffffff .word 0xffffffff\n";
+    holds(&rt, rt.alloc(), "rom", &rom, &[], script, want)
 }
 
 /// The first and the last words of RAM and ROM are shown, and what is neither is refused, each refusal in its order.
@@ -259,19 +221,13 @@ fn limits_of_memory(rt: HostRuntime) -> Result<(), Fail> {
         want.extend_from_slice(reply.as_bytes())?;
         want.extend_from_slice(b"\n")?;
     }
-    let output = replies(rt.alloc(), "rom", &[], &script)?;
-    same(&rt, &output.as_slice(), &want.as_slice());
-    Ok(())
+    holds(&rt, rt.alloc(), "rom", &[], &[], &script, &want)
 }
 
 /// A query far along a run is answered: the empty ROM is `sll r0, r0, 0`, and behind its last word a fetch faults.
 #[test]
 fn query_at_twenty_million(rt: HostRuntime) -> Result<(), Fail> {
-    let output = replies(rt.alloc(), "rom", &[], b"goto 20000000\nreg 0\n")?;
-    same(
-        &rt,
-        &output.as_slice(),
-        &b"pos 20000000\nr0 0x00000000\n".as_slice(),
-    );
-    Ok(())
+    let script = b"goto 20000000\nreg 0\n";
+    let want = b"pos 20000000\nr0 0x00000000\n";
+    holds(&rt, rt.alloc(), "rom", &[], &[], script, want)
 }

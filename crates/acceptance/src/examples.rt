@@ -1,24 +1,7 @@
 //! The examples of `examples`, of `docs/USING.md` and of `bench/stored`, each with the replies that stand there. Made by
 //! `.ci/pages --write`: change those.
-use crate::commands::replies_with_log;
-use std::alloc::Global;
-use std::process::Abort;
+use crate::commands::holds;
 use std::test::Fail;
-
-// Holds the program's output on an image of a kind, a log and a script to the replies.
-fn holds(
-    rt: &impl Abort,
-    alloc: Global,
-    kind: &str,
-    image: &[u8],
-    log: &[u8],
-    script: &[u8],
-    want: &[u8],
-) -> Result<(), Fail> {
-    let output = replies_with_log(alloc, kind, image, log, script)?;
-    assert_eq!(rt; output.as_slice(), want);
-    Ok(())
-}
 
 const DRIVER: &[u8; 4014] = b"\
     # A driver by interrupts: what arrives at a serial line is sent back on the same line, from a ring of 16 bytes in RAM, and each\n\

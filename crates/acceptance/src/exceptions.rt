@@ -1,24 +1,15 @@
 //! Exceptions, seen by `regs`: values by hand from the manual's rules.
+use crate::commands::{replies, rom_of};
 use crate::logs::run;
 use crate::same::same;
-use crate::served::run_program;
 use std::alloc::Global;
 use std::str;
 use std::test::Fail;
 
 // The first two lines that `regs` shows at a position of a raw ROM of these words.
 fn shown(alloc: Global, words: &[u32], position: &str) -> Result<Vec<u8>, Fail> {
-    let mut input = Vec::new(alloc);
-    for word in words {
-        input.extend_from_slice(&word.to_le_bytes())?;
-    }
-    let size = (words.len() as u64).wrapping_mul(4);
-    input.extend_from_slice(b"goto ")?;
-    input.extend_from_slice(position.as_bytes())?;
-    input.extend_from_slice(b"\nregs\n")?;
-    let size = format!(in alloc; "{size}")?;
-    let run = run_program(alloc, &["r3kwb", "--size", size.as_str()], &input, 4096)?;
-    Ok(run.output)
+    let script = format!(in alloc; "goto {position}\nregs\n")?;
+    replies(alloc, "rom", &rom_of(alloc, words)?, script.as_bytes())
 }
 
 #[test]

@@ -1,6 +1,6 @@
 //! Boot images that are large, or that do not fit the machine.
 use crate::same::{same, same_at};
-use crate::served::{run_on, run_program};
+use crate::served::{run_image, run_on, run_program};
 use r3k_image::read_image;
 use samples::EMPTY_IMAGE;
 use std::test::Fail;
@@ -91,12 +91,14 @@ fn source(rt: HostRuntime) -> Result<(), Fail> {
         ),
     ];
     for (source, script, want, fault, status) in cases {
-        let mut input = Vec::from_slice(alloc, source.as_bytes())?;
-        input.extend_from_slice(script.as_bytes())?;
-        let size = source.len();
-        let size = format!(in alloc; "{size}")?;
-        let words = ["r3kwb", "--kind", "source", "--size", size.as_str()];
-        let run = run_on::<16, 64>(alloc, &words, &input, 3)?;
+        let run = run_image::<16, 64>(
+            alloc,
+            "source",
+            source.as_bytes(),
+            &[],
+            script.as_bytes(),
+            3,
+        )?;
         same_at(&rt, &source, &run.output.as_slice(), &want.as_bytes());
         same_at(&rt, &source, &run.told.as_slice(), &fault.as_bytes());
         same_at(&rt, &source, &run.status, &status);

@@ -1,6 +1,6 @@
 //! Logs that the program takes: their events reach the serial part, and what is no log is refused.
 use crate::same::same;
-use crate::served::{Served, run_on};
+use crate::served::{Served, run_image, run_on};
 use samples::ECHO;
 use std::alloc::Global;
 use std::test::Fail;
@@ -12,23 +12,14 @@ const ONE: [u8; 18] = [
 
 /// Runs a source, a log and a script, on a machine with 16 pages.
 pub fn run(alloc: Global, source: &str, log: &[u8], script: &str) -> Result<Served, Fail> {
-    let mut input = Vec::from_slice(alloc, source.as_bytes())?;
-    input.extend_from_slice(log)?;
-    input.extend_from_slice(script.as_bytes())?;
-    let size = source.len();
-    let size = format!(in alloc; "{size}")?;
-    let log_size = log.len();
-    let log_size = format!(in alloc; "{log_size}")?;
-    let words = [
-        "r3kwb",
-        "--kind",
+    run_image::<16, 64>(
+        alloc,
         "source",
-        "--size",
-        size.as_str(),
-        "--log",
-        log_size.as_str(),
-    ];
-    Ok(run_on::<16, 64>(alloc, &words, &input, 5)?)
+        source.as_bytes(),
+        log,
+        script.as_bytes(),
+        5,
+    )
 }
 
 // The echo program sends the byte of step 70 in step 83.

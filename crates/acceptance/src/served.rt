@@ -1,8 +1,9 @@
-//! A run of the program over memory.
+//! Runs of the program over memory.
 ghost use Rattle.std.specs.Prelude.{◌<◌};
 ghost use Rattle.timeline.specs.Sizes.{AreSizes};
 
 use std::alloc::{AllocError, Global};
+use std::test::Fail;
 use workbench::{Plan, r3kwb};
 
 /// What a run wrote to its output, what it told on its errors, and its status.
@@ -50,4 +51,35 @@ pub fn run_on<const PAGES: u32, const SPAN: u32>(
         told: Vec::from_slice(alloc, errors.written())?,
         status,
     })
+}
+
+/// Runs the program on such a machine on an image of a kind, a log and a script, one behind the other.
+pub fn run_image<const PAGES: u32, const SPAN: u32>(
+    alloc: Global,
+    kind: &str,
+    image: &[u8],
+    log: &[u8],
+    script: &[u8],
+    piece: usize,
+) -> Result<Served, Fail>
+    requires sizes { AreSizes PAGES SPAN }
+    requires piece { 0 < piece }
+{
+    let mut input = Vec::from_slice(alloc, image)?;
+    input.extend_from_slice(log)?;
+    input.extend_from_slice(script)?;
+    let size = image.len();
+    let size = format!(in alloc; "{size}")?;
+    let log_size = log.len();
+    let log_size = format!(in alloc; "{log_size}")?;
+    let words = [
+        "r3kwb",
+        "--kind",
+        kind,
+        "--size",
+        size.as_str(),
+        "--log",
+        log_size.as_str(),
+    ];
+    Ok(run_on::<PAGES, SPAN>(alloc, &words, &input, piece)?)
 }

@@ -1,7 +1,8 @@
 //! The two indexes over spans on their own: the last span that stored into a page, and the places of a line's bytes.
-use crate::same::same;
+use crate::same::{same, same_at};
 use console_index::ConsoleIndex;
 use std::alloc::{AllocError, Global};
+use std::process::Abort;
 use std::test::Fail;
 use write_index::{Asked, WriteIndex};
 
@@ -33,61 +34,84 @@ fn direct_calls(rt: HostRuntime) -> Result<(), Fail> {
     Ok(())
 }
 
+// Holds the last span below a given one with each page to what is wanted.
+fn last_are(rt: &impl Abort, index: &WriteIndex, wanted: &[(u32, u64, Option<u64>)]) {
+    for (page, before, span) in wanted {
+        same_at(rt, &(*page, *before), &last(index, *page, *before).0, span);
+    }
+}
+
 // Spans that share pages. Each is put anew in turn, and the others stay.
 #[test]
 fn shared_pages(rt: HostRuntime) -> Result<(), Fail> {
     let mut writes = WriteIndex::new(rt.alloc());
-    writes.replace(0, &[3, 7])?;
-    writes.replace(1, &[])?;
-    writes.replace(2, &[7, 8255])?;
-    writes.replace(3, &[3])?;
-    writes.replace(4, &[1, 3])?;
-    same(&rt, &last(&writes, 3, 5).0, &Some(4));
-    same(&rt, &last(&writes, 3, 4).0, &Some(3));
-    same(&rt, &last(&writes, 3, 3).0, &Some(0));
-    same(&rt, &last(&writes, 7, 5).0, &Some(2));
-    same(&rt, &last(&writes, 7, 2).0, &Some(0));
-    same(&rt, &last(&writes, 8255, u64::MAX).0, &Some(2));
-    same(&rt, &last(&writes, 8255, 2).0, &None);
-    same(&rt, &last(&writes, 4, 5).0, &None);
-
+    for (span, pages) in [
+        (0, [3, 7].as_slice()),
+        (1, &[]),
+        (2, &[7, 8255]),
+        (3, &[3]),
+        (4, &[1, 3]),
+    ] {
+        writes.replace(span, pages)?;
+    }
+    let wanted = [
+        (3, 5, Some(4)),
+        (3, 4, Some(3)),
+        (3, 3, Some(0)),
+        (7, 5, Some(2)),
+        (7, 2, Some(0)),
+        (8255, u64::MAX, Some(2)),
+        (8255, 2, None),
+        (4, 5, None),
+    ];
+    last_are(&rt, &writes, &wanted);
     writes.replace(2, &[4])?;
-    same(&rt, &last(&writes, 7, 5).0, &Some(0));
-    same(&rt, &last(&writes, 8255, 5).0, &None);
-    same(&rt, &last(&writes, 4, 5).0, &Some(2));
+    let wanted = [(7, 5, Some(0)), (8255, 5, None), (4, 5, Some(2))];
+    last_are(&rt, &writes, &wanted);
     writes.replace(0, &[])?;
-    same(&rt, &last(&writes, 7, 5).0, &None);
-    same(&rt, &last(&writes, 3, 3).0, &None);
-    same(&rt, &last(&writes, 3, 4).0, &Some(3));
+    let wanted = [(7, 5, None), (3, 3, None), (3, 4, Some(3))];
+    last_are(&rt, &writes, &wanted);
     Ok(())
 }
 
-// Spans between those that are put have no pages and no bytes.
+// Spans between those that are put have no pages.
 #[test]
 fn spans_between(rt: HostRuntime) -> Result<(), Fail> {
     let mut writes = WriteIndex::new(rt.alloc());
     writes.replace(6, &[2])?;
-    same(&rt, &last(&writes, 2, 7).0, &Some(6));
-    same(&rt, &last(&writes, 2, 6).0, &None);
+    last_are(&rt, &writes, &[(2, 7, Some(6)), (2, 6, None)]);
     writes.replace(1, &[2])?;
-    same(&rt, &last(&writes, 2, 6).0, &Some(1));
+    last_are(&rt, &writes, &[(2, 6, Some(1))]);
+    Ok(())
+}
 
+// Spans between those that are put have no bytes.
+#[test]
+fn bytes_between(rt: HostRuntime) -> Result<(), Fail> {
     let mut console = ConsoleIndex::new(rt.alloc());
     console.replace(6, [0, 5, 0, 1_048_576])?;
     same(&rt, &console.count(1, 6), &0);
     same(&rt, &console.count(1, 7), &5);
     console.replace(1, [0, 2, 9, 0])?;
-    same(&rt, &console.count(1, 1), &0);
-    same(&rt, &console.count(1, 2), &2);
-    same(&rt, &console.count(1, u64::MAX), &7);
-    same(&rt, &console.count(2, u64::MAX), &9);
-    same(&rt, &console.count(3, 7), &1_048_576);
-    same(&rt, &console.count(0, 7), &0);
-    same(&rt, &console.find(1, 1), &Some((1, 1)));
-    same(&rt, &console.find(1, 2), &Some((6, 0)));
-    same(&rt, &console.find(1, 6), &Some((6, 4)));
-    same(&rt, &console.find(1, 7), &None);
-    same(&rt, &console.find(3, 1_048_575), &Some((6, 1_048_575)));
+    for (line, before, count) in [
+        (1, 1, 0),
+        (1, 2, 2),
+        (1, u64::MAX, 7),
+        (2, u64::MAX, 9),
+        (3, 7, 1_048_576),
+        (0, 7, 0),
+    ] {
+        same_at(&rt, &(line, before), &console.count(line, before), &count);
+    }
+    for (line, place, found) in [
+        (1, 1, Some((1, 1))),
+        (1, 2, Some((6, 0))),
+        (1, 6, Some((6, 4))),
+        (1, 7, None),
+        (3, 1_048_575, Some((6, 1_048_575))),
+    ] {
+        same_at(&rt, &(line, place), &console.find(line, place), &found);
+    }
     Ok(())
 }
 
