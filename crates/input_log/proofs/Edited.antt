@@ -7,7 +7,7 @@ use Rattle.std.proofs.lemmas.Bool.{cases_Bool, leb-true, ltb-true, lt-leb, le-lt
 use Rattle.std.proofs.lemmas.List.{take-append-drop}
 use Rattle.std.proofs.lemmas.List.Elements.{filter-append}
 use Rattle.std.proofs.lemmas.Option.{slice_get_within, get_or_from_slice_get}
-use Rattle.input_log.specs.declared.limits.TheConstants.{MAX_EVENTS, MAX_TIME}
+use Rattle.input_log.specs.Limits.{max_events, max_time}
 use Rattle.input_log.specs.Event.{TimedByte, HoldsByte}
 use Rattle.input_log.specs.Log.{AreInOrder, IsLog, window_of}
 use Rattle.input_log.specs.Edits.{IsOutside, up_to, with_event, without, with_byte, at_time, made_of, adding, deleting, setting, moving}
@@ -29,13 +29,13 @@ passed false r d new h = absurd cc
 
 record Added (e : TimedByte) (log new : List TimedByte) : Type 0 where
   pub line : e.line ≤ 3
-  pub time : e.time ≤ MAX_TIME
-  pub few : length log < MAX_EVENTS
+  pub time : e.time ≤ max_time
+  pub few : length log < max_events
   pub is : with_event e log ≡ new
 
 added : (e : TimedByte) (log new : List TimedByte) → adding e log ≡ Ok new → Added e log new
 added e log new h =
-    let good = passed (leb e.line 3 && (leb e.time MAX_TIME && ltb (length log) MAX_EVENTS)) (Ok (with_event e log)) _ new h in
+    let good = passed (leb e.line 3 && (leb e.time max_time && ltb (length log) max_events)) (Ok (with_event e log)) _ new h in
     let line = and_parts _ _ good.0 in
     let time = and_parts _ _ line.1 in
     record { line = leb-true _ _ line.0; time = leb-true _ _ time.0; few = ltb-true _ _ time.1; is = cc }
@@ -70,13 +70,13 @@ log_set place byte log new good lt h =
 record Moved (place time : ℕ) (log new : List TimedByte) : Type 0 where
   pub event : TimedByte
   pub was : slice_get log place ≡ Some event
-  pub in_time : time ≤ MAX_TIME
+  pub in_time : time ≤ max_time
   pub is : with_event (at_time time event) (without place log) ≡ new
 
 moved : (place time : ℕ) (log new : List TimedByte) → moving place time log ≡ Ok new → Moved place time log new
 moved place time log new h =
     let make : TimedByte → List TimedByte = λ e. with_event (at_time time e) (without place log) in
-    let good = passed (leb time MAX_TIME) (made_of make (slice_get log place)) _ new h in
+    let good = passed (leb time max_time) (made_of make (slice_get log place)) _ new h in
     let parts = made_parts make (slice_get log place) new good.1 in
     record { event = parts.0; was = parts.1; in_time = leb-true _ _ good.0; is = parts.2 }
 

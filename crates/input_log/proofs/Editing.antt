@@ -9,7 +9,7 @@ use Rattle.std.proofs.lemmas.List.{ext_get_or, get_or-set_same, get_or-set_other
 use Rattle.std.proofs.lemmas.List.Edits.{length-insert, length-remove, get_or-insert_below, get_or-insert_at, get_or-insert_above, get_or-remove_below, get_or-remove_above}
 use Rattle.std.proofs.lemmas.Option.{slice_get-get_or}
 use Rattle.std.proofs.lemmas.List.Folds.{length-prefix_len}
-use Rattle.input_log.specs.declared.limits.TheConstants.{MAX_EVENTS, MAX_TIME}
+use Rattle.input_log.specs.Limits.{max_events, max_time}
 use Rattle.input_log.specs.Event.{TimedByte, LineExists, HoldsByte}
 use Rattle.input_log.specs.Log.{AreInOrder, IsLog, later_than}
 use Rattle.input_log.specs.Edits.{up_to, with_event, without, at_time, adding, moving}
@@ -188,17 +188,17 @@ log_without place xs good lt =
     subst IsLog (sym (is_remove place xs))
     (log_from_events (remove xs place) (omega (arith, good.few, length-remove xs place lt)) (kept_remove 0 xs place (events_from_log xs good)))
 
-pub log_with : (e : TimedByte) (xs : List TimedByte) → IsEvent e → length xs < MAX_EVENTS → IsLog xs → IsLog (with_event e xs)
+pub log_with : (e : TimedByte) (xs : List TimedByte) → IsEvent e → length xs < max_events → IsLog xs → IsLog (with_event e xs)
 log_with e xs event few good =
     let place : length (up_to e.time xs) ≤ length xs = length-filter-le (λ x. leb x.time e.time) xs in
     let long : length (with_event e xs) ≡ length xs + 1 = ap length (is_insert e xs good.in_order) ∙ length-insert xs _ e place in
     log_from_events (with_event e xs) (omega (arith, few, long)) (kept_with 0 e xs (omega arith) event (events_from_log xs good))
 
 -- what each edit makes, where it is not refused
-pub added : (e : TimedByte) (xs : List TimedByte) → e.line ≤ 3 → e.time ≤ MAX_TIME → length xs < MAX_EVENTS → adding e xs ≡ Ok (with_event e xs)
+pub added : (e : TimedByte) (xs : List TimedByte) → e.line ≤ 3 → e.time ≤ max_time → length xs < max_events → adding e xs ≡ Ok (with_event e xs)
 added e xs line time few = rw (le-leb _ _ line, le-leb _ _ time, lt-ltb _ _ few) refl
 
-pub relocated : (place time : ℕ) (xs : List TimedByte) (e : TimedByte) → time ≤ MAX_TIME → place < length xs → e ≡ get_or xs place e
+pub relocated : (place time : ℕ) (xs : List TimedByte) (e : TimedByte) → time ≤ max_time → place < length xs → e ≡ get_or xs place e
     → moving place time xs ≡ Ok (with_event (at_time time e) (without place xs))
 relocated place time xs e le lt is =
     let there : slice_get xs place ≡ Some e = slice_get-get_or xs place e lt ∙ ap (λ x. Some x) (sym is) in
@@ -211,7 +211,7 @@ put_there place xs to e good lt at =
     sym (is_insert e (without place xs) (log_without place xs good lt).in_order ∙ ap (λ n. insert (without place xs) n e) (sym at)
     ∙ ap (λ ys. insert ys to e) (is_remove place xs))
 
-pub log_relocated : (place time : ℕ) (xs : List TimedByte) (e : TimedByte) → IsLog xs → place < length xs → e ≡ get_or xs place e → time ≤ MAX_TIME
+pub log_relocated : (place time : ℕ) (xs : List TimedByte) (e : TimedByte) → IsLog xs → place < length xs → e ≡ get_or xs place e → time ≤ max_time
     → IsLog (with_event (at_time time e) (without place xs))
 log_relocated place time xs e good lt is le =
     let others : length (without place xs) ≡ length (remove xs place) = ap length (is_remove place xs) in

@@ -7,7 +7,7 @@ use Rattle.std.proofs.lemmas.List.{append-nil, nil_from_length}
 use Rattle.std.proofs.lemmas.List.Elements.{All-nil, All-cons, All-head, All-tail}
 use Rattle.std.proofs.lemmas.Slice.Eq.{bytes_eq-Decides}
 use Rattle.r3k_word.specs.Word.{bytes_of}
-use Rattle.input_log.specs.declared.limits.TheConstants.{MAX_EVENTS, MAX_TIME}
+use Rattle.input_log.specs.Limits.{max_events, max_time}
 use Rattle.input_log.specs.declared.format.TheConstants.{MAGIC}
 use Rattle.input_log.specs.declared.fault.LogKind.TheVariants as kinds
 use Rattle.input_log.specs.declared.fault.LogFault.{LogFault}
@@ -54,7 +54,7 @@ in_time : (last : ℕ) (es : List TimedByte) → AreEvents last es → All IsInT
 in_time last [] are = All-nil IsInTime
 in_time last (e ∷ es) are = All-cons IsInTime e es are.1.time (in_time e.time es are.2)
 
-pub log_from_events : (es : List TimedByte) → length es ≤ MAX_EVENTS → AreEvents 0 es → IsLog es
+pub log_from_events : (es : List TimedByte) → length es ≤ max_events → AreEvents 0 es → IsLog es
 log_from_events es few are = record { in_order = in_order 0 es are; few = few; lines_exist = lines 0 es are; hold_bytes = hold_bytes 0 es are; in_time = in_time 0 es are }
 
 events_from_parts : (last : ℕ) (es : List TimedByte) → ((d : TimedByte) → 0 < length es → last ≤ (get_or es 0 d).time) → AreInOrder es → All LineExists es → All HoldsByte es → All IsInTime es → AreEvents last es
@@ -74,10 +74,10 @@ events_from_log es log = events_from_parts 0 es (λ d some. omega arith) log.in_
 event_takes : (last : ℕ) (bytes : List ℕ) (e : TimedByte) (rest : List ℕ) → AreBytes bytes → event_at last bytes ≡ Ok (e, rest) → Takes bytes (event_bytes e) rest × (last ≤ e.time) × IsEvent e
 unfolding event_at
 event_takes last bytes e rest are eq =
-    let a = bind_ok (number_at bytes) (λ time. cond (nat_le last time.0 && nat_le time.0 MAX_TIME) (byte_at time.1) (Err kinds.Time) >>= λ line. cond (nat_le line.0 3) (byte_at line.1) (Err kinds.Line) >>= λ byte. Ok (record { time = time.0; line = line.0; byte = byte.0 }, byte.1)) (e, rest) eq in
-    let b = bind_ok (cond (nat_le last a.0.0 && nat_le a.0.0 MAX_TIME) (byte_at a.0.1) (Err kinds.Time)) (λ line. cond (nat_le line.0 3) (byte_at line.1) (Err kinds.Line) >>= λ byte. Ok (record { time = a.0.0; line = line.0; byte = byte.0 }, byte.1)) (e, rest) a.2 in
+    let a = bind_ok (number_at bytes) (λ time. cond (nat_le last time.0 && nat_le time.0 max_time) (byte_at time.1) (Err kinds.Time) >>= λ line. cond (nat_le line.0 3) (byte_at line.1) (Err kinds.Line) >>= λ byte. Ok (record { time = time.0; line = line.0; byte = byte.0 }, byte.1)) (e, rest) eq in
+    let b = bind_ok (cond (nat_le last a.0.0 && nat_le a.0.0 max_time) (byte_at a.0.1) (Err kinds.Time)) (λ line. cond (nat_le line.0 3) (byte_at line.1) (Err kinds.Line) >>= λ byte. Ok (record { time = a.0.0; line = line.0; byte = byte.0 }, byte.1)) (e, rest) a.2 in
     let c = bind_ok (cond (nat_le b.0.0 3) (byte_at b.0.1) (Err kinds.Line)) (λ byte. Ok (record { time = a.0.0; line = b.0.0; byte = byte.0 }, byte.1)) (e, rest) b.2 in
-    let in_range = passes (nat_le last a.0.0 && nat_le a.0.0 MAX_TIME) (byte_at a.0.1) kinds.Time b.0 b.1 in
+    let in_range = passes (nat_le last a.0.0 && nat_le a.0.0 max_time) (byte_at a.0.1) kinds.Time b.0 b.1 in
     let exists = passes (nat_le b.0.0 3) (byte_at b.0.1) kinds.Line c.0 c.1 in
     let both = and_parts _ _ in_range.0 in
     let t0 = number_takes bytes a.0.0 a.0.1 are a.1 in
@@ -103,19 +103,19 @@ events_take (suc n) last bytes es rest are eq =
     let made : List TimedByte × List ℕ = (a.0.0 ∷ b.0.0, b.0.1) in
     subst (λ (p : List TimedByte × List ℕ). Takes bytes (flat_map event_bytes p.0) p.1 × (length p.0 ≡ suc n) × AreEvents last p.0) (ok_is made (es, rest) b.2) (both, ap suc others.1, (first.1, first.2, others.2))
 
-count_takes : (bytes : List ℕ) (n : ℕ) (rest : List ℕ) → AreBytes bytes → count_at bytes ≡ Ok (n, rest) → Takes bytes (MAGIC ++ bytes_of n) rest × (n ≤ MAX_EVENTS)
+count_takes : (bytes : List ℕ) (n : ℕ) (rest : List ℕ) → AreBytes bytes → count_at bytes ≡ Ok (n, rest) → Takes bytes (MAGIC ++ bytes_of n) rest × (n ≤ max_events)
 unfolding count_at
 count_takes bytes n rest are eq =
-    let a = bind_ok (bytes_at 8 bytes) (λ magic. cond (bytes_eq magic.0 MAGIC) (number_at magic.1) (Err kinds.Magic) >>= λ count. cond (nat_le count.0 MAX_EVENTS) (Ok count) (Err kinds.Count)) (n, rest) eq in
-    let b = bind_ok (cond (bytes_eq a.0.0 MAGIC) (number_at a.0.1) (Err kinds.Magic)) (λ count. cond (nat_le count.0 MAX_EVENTS) (Ok count) (Err kinds.Count)) (n, rest) a.2 in
+    let a = bind_ok (bytes_at 8 bytes) (λ magic. cond (bytes_eq magic.0 MAGIC) (number_at magic.1) (Err kinds.Magic) >>= λ count. cond (nat_le count.0 max_events) (Ok count) (Err kinds.Count)) (n, rest) eq in
+    let b = bind_ok (cond (bytes_eq a.0.0 MAGIC) (number_at a.0.1) (Err kinds.Magic)) (λ count. cond (nat_le count.0 max_events) (Ok count) (Err kinds.Count)) (n, rest) a.2 in
     let m = passes (bytes_eq a.0.0 MAGIC) (number_at a.0.1) kinds.Magic b.0 b.1 in
-    let few = passes (nat_le b.0.0 MAX_EVENTS) (Ok b.0) kinds.Count (n, rest) b.2 in
+    let few = passes (nat_le b.0.0 max_events) (Ok b.0) kinds.Count (n, rest) b.2 in
     let magic : a.0.0 ≡ MAGIC = (bytes_eq-Decides a.0.0 MAGIC).0 m.0 in
     let t0 = bytes_take 8 bytes a.0.0 a.0.1 are a.1 in
     let t0m : Takes bytes MAGIC a.0.1 = subst (λ (x : List ℕ). Takes bytes x a.0.1) magic t0 in
     let t1 = number_takes a.0.1 b.0.0 b.0.1 t0.rest_bytes m.1 in
     let t01 = Takes-then bytes MAGIC a.0.1 (bytes_of b.0.0) b.0.1 t0m t1 in
-    subst (λ (p : ℕ × List ℕ). Takes bytes (MAGIC ++ bytes_of p.0) p.1 × (p.0 ≤ MAX_EVENTS)) (ok_is b.0 (n, rest) few.1) (t01, leb-true _ _ few.0)
+    subst (λ (p : ℕ × List ℕ). Takes bytes (MAGIC ++ bytes_of p.0) p.1 × (p.0 ≤ max_events)) (ok_is b.0 (n, rest) few.1) (t01, leb-true _ _ few.0)
 
 pub log_takes : (bytes : List ℕ) (log : List TimedByte) → AreBytes bytes → log_at bytes ≡ Ok log → (bytes ≡ spelling log) × IsLog log
 unfolding log_at
@@ -136,7 +136,7 @@ log_takes bytes log are eq =
 -- ---- what is spelled so is read
 
 -- the three fields of an event, one after the other
-event_steps : (last : ℕ) (bytes r1 r2 r3 : List ℕ) (e : TimedByte) → number_at bytes ≡ Ok (e.time, r1) → (nat_le last e.time && nat_le e.time MAX_TIME) ≡ true
+event_steps : (last : ℕ) (bytes r1 r2 r3 : List ℕ) (e : TimedByte) → number_at bytes ≡ Ok (e.time, r1) → (nat_le last e.time && nat_le e.time max_time) ≡ true
     → byte_at r1 ≡ Ok (e.line, r2) → nat_le e.line 3 ≡ true → byte_at r2 ≡ Ok (e.byte, r3) → event_at last bytes ≡ Ok (e, r3)
 unfolding event_at
 event_steps last bytes r1 r2 r3 e e1 in_range e2 exists e3 = rw (e1, in_range, e2, exists, e3) refl
@@ -165,7 +165,7 @@ events_at_again last (e ∷ es) rest are =
     (event_at_again last e (flat_map event_bytes es ++ rest) are.0 are.1)
     (events_at_again e.time es rest are.2)
 
-count_steps : (bytes r1 r2 : List ℕ) (n : ℕ) → bytes_at 8 bytes ≡ Ok (MAGIC, r1) → number_at r1 ≡ Ok (n, r2) → nat_le n MAX_EVENTS ≡ true → count_at bytes ≡ Ok (n, r2)
+count_steps : (bytes r1 r2 : List ℕ) (n : ℕ) → bytes_at 8 bytes ≡ Ok (MAGIC, r1) → number_at r1 ≡ Ok (n, r2) → nat_le n max_events ≡ true → count_at bytes ≡ Ok (n, r2)
 unfolding count_at
 count_steps bytes r1 r2 n e1 e2 few = rw (e1, e2, few) refl
 

@@ -1,6 +1,6 @@
 -- The edits of a log (own): an event is added, deleted, given another byte, or moved to another time.
 use Rattle.std.specs.Prelude.{ℕ, ◌+◌, ◌++◌, ◌∷◌, ◌<◌, ◌≤◌, ◌⊎◌, List, length, take, drop, filter, slice_get, slice_set, Option, Some, None, Result, Ok, Err, ◌&&◌, if◌then◌else◌, nat_le, nat_lt}
-use Rattle.input_log.specs.declared.limits.TheConstants.{MAX_EVENTS, MAX_TIME}
+use Rattle.input_log.specs.Limits.{max_events, max_time}
 use Rattle.input_log.specs.Event.{TimedByte}
 use Rattle.input_log.specs.Log.{later_than}
 use Rattle.refusal.specs.declared.fault.Fault.{Fault}
@@ -33,7 +33,7 @@ made_of make None = Err NoEvent
 -- an event is added, unless it is none of a log, or the log is full
 abbrev pub adding : TimedByte → List TimedByte → Result (List TimedByte) Fault
 adding event events =
-    if nat_le event.line 3 && (nat_le event.time MAX_TIME && nat_lt (length events) MAX_EVENTS)
+    if nat_le event.line 3 && (nat_le event.time max_time && nat_lt (length events) max_events)
     then Ok (with_event event events)
     else Err Range
 
@@ -48,7 +48,7 @@ setting place byte events = made_of (λ event. slice_set events place (with_byte
 -- the event of a place is deleted, and added again at another time
 abbrev pub moving : (place time : ℕ) → List TimedByte → Result (List TimedByte) Fault
 moving place time events =
-    if nat_le time MAX_TIME
+    if nat_le time max_time
     then made_of (λ event. with_event (at_time time event) (without place events)) (slice_get events place)
     else Err Range
 

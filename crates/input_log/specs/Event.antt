@@ -1,6 +1,6 @@
 -- A timed serial byte (own): the step at which a byte arrives at a line of the serial part.
 use Rattle.std.specs.Prelude.{ℕ, ◌^◌, ◌<◌, ◌≤◌}
-use Rattle.input_log.specs.declared.limits.TheConstants.{MAX_TIME}
+use Rattle.input_log.specs.Limits.{max_time}
 
 -- the step, the line and the byte
 pub record TimedByte : Type 0 where
@@ -18,4 +18,4 @@ HoldsByte event = event.byte < 2 ^ 8
 
 -- it arrives at a step that a run can have
 abbrev pub IsInTime : TimedByte → Type 0
-IsInTime event = event.time ≤ MAX_TIME
+IsInTime event = event.time ≤ max_time

@@ -2,7 +2,7 @@
 -- of the list.
 use Rattle.std.specs.Prelude.{ℕ, List, length, filter, All, ◌<◌, ◌≤◌, ◌&&◌, nat_le, nat_lt}
 use Rattle.std.specs.List.Sorted.{IsNonDecreasingBy}
-use Rattle.input_log.specs.declared.limits.TheConstants.{MAX_EVENTS}
+use Rattle.input_log.specs.Limits.{max_events}
 use Rattle.input_log.specs.Event.{TimedByte, LineExists, HoldsByte, IsInTime}
 
 -- in order of time
@@ -12,7 +12,7 @@ AreInOrder events = IsNonDecreasingBy (λ event. event.time) events
 -- in order of time, not too many, each a byte in time on a line of the serial part
 pub record IsLog (events : List TimedByte) : Type 0 where
   pub in_order : AreInOrder events
-  pub few : length events ≤ MAX_EVENTS
+  pub few : length events ≤ max_events
   pub lines_exist : All LineExists events
   pub hold_bytes : All HoldsByte events
   pub in_time : All IsInTime events

@@ -2,7 +2,7 @@
 use Rattle.std.specs.Prelude.{◌≡◌, ℕ, zero, suc, List, [], ◌∷◌, length, take, drop, Result, Ok, Err, IsOk, nat_lt, nat_le, ◌==◌, ◌&&◌, if◌then◌else◌}
 use Rattle.std.specs.Str.{bytes_eq}
 use Rattle.r3k_word.specs.Word.{word_of}
-use Rattle.input_log.specs.declared.limits.TheConstants.{MAX_EVENTS, MAX_TIME}
+use Rattle.input_log.specs.Limits.{max_events, max_time}
 use Rattle.input_log.specs.declared.format.TheConstants.{MAGIC}
 use Rattle.input_log.specs.declared.fault.LogKind.{LogKind}
 use Rattle.input_log.specs.declared.fault.LogKind.TheVariants as kinds
@@ -47,13 +47,13 @@ unfoldable pub count_at : List ℕ → Result (ℕ × List ℕ) LogKind
 count_at bytes = do
   magic ← bytes_at 8 bytes
   count ← if bytes_eq magic.0 MAGIC then number_at magic.1 else Err kinds.Magic
-  if nat_le count.0 MAX_EVENTS then Ok count else Err kinds.Count
+  if nat_le count.0 max_events then Ok count else Err kinds.Count
 
 -- an event behind one of the time last
 unfoldable pub event_at : ℕ → List ℕ → Result (TimedByte × List ℕ) LogKind
 event_at last bytes = do
   time ← number_at bytes
-  line ← if nat_le last time.0 && nat_le time.0 MAX_TIME then byte_at time.1 else Err kinds.Time
+  line ← if nat_le last time.0 && nat_le time.0 max_time then byte_at time.1 else Err kinds.Time
   byte ← if nat_le line.0 3 then byte_at line.1 else Err kinds.Line
   Ok (record { time = time.0; line = line.0; byte = byte.0 }, byte.1)
 

@@ -1,5 +1,5 @@
 -- Sets of pages by span (own). A set is an ascending list.
-use Rattle.std.specs.Prelude.{◌≡◌, ℕ, ◌*◌, ◌^◌, ◌<◌, ◌≤◌, Bool, ◌||◌, IsFalse, IsTrue, List, [], Option, None, Some, nat_eq, slice_index_or}
+use Rattle.std.specs.Prelude.{◌≡◌, ℕ, ◌^◌, ◌<◌, Bool, ◌||◌, IsFalse, IsTrue, List, [], Option, None, Some, nat_eq, slice_index_or}
 use Rattle.std.specs.List.{list_any}
 
 -- whether a page is in a set
@@ -20,6 +20,6 @@ IsLast sets page before None = (i : ℕ) → i < before → IsFalse (holds (page
 IsLast sets page before (Some span) =
     (span < before) × IsTrue (holds (pages_at sets span) page) × ((i : ℕ) → span < i → i < before → IsFalse (holds (pages_at sets i) page))
 
--- a number above zero has so many binary digits
+-- a number has at most so many binary digits, and zero has none
 abbrev pub HasDigits : ℕ → ℕ → Type 0
-HasDigits number digits = (number < 2 ^ digits) × (2 ^ digits ≤ 2 * number)
+HasDigits number digits = number < 2 ^ digits

@@ -1,6 +1,5 @@
 use Rattle.std.proofs.Common.{◌≡◌, rules, nat_eq, ◌&&◌, sym, ◌∙◌}
 use Rattle.std.specs.Prelude.{Decides}
-use Rattle.std.specs.Cmp.{unsigned_Decides}
 use Rattle.std.specs.Cmp.Lexicographic.{pointwise_decides}
 use Rattle.input_log.specs.Event.{TimedByte}
 use Rattle.input_log.proofs.event.same_events.Goals as goal

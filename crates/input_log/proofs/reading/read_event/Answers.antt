@@ -1,6 +1,6 @@
 use Rattle.std.proofs.Common.{◌≤◌, inl, inr, arith, refl}
 use Rattle.std.proofs.lemmas.Bool.{le-leb, lt-leb}
-use Rattle.input_log.specs.declared.limits.TheConstants.{MAX_TIME}
+use Rattle.input_log.specs.Limits.{max_time}
 use Rattle.input_log.specs.Reading.{event_at}
 use Rattle.input_log.proofs.reading.read_event.Goals as goal
 
@@ -8,7 +8,7 @@ pub returns : goal.returns
 unfolding event_at
 returns c =
     let behind : c.args.last ≤ c.in_ok-time.time = omega (arith, c.from-time.ensures) in
-    let within : c.in_ok-time.time ≤ MAX_TIME = omega (arith, c.from-time.ensures) in
+    let within : c.in_ok-time.time ≤ max_time = omega (arith, c.from-time.ensures) in
     rw (
       c.in_ok-time.ensures,
       le-leb _ _ behind,
