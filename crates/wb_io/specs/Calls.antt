@@ -1,6 +1,6 @@
 -- What a reader or a writer has done (own).
 use Rattle.std.specs.Prelude.{◌≡◌, ◌⊎◌, ℕ, ◌<◌, List, [], ◌∷◌, ◌++◌, Option, Some, None, Result, Ok, Err, refl, length, take, unwrap_or}
-use Rattle.std.specs.Io.KnownBytes.{Appends, Consumes}
+use Rattle.std.specs.Io.KnownBytes.{Appends, Consumes, IsAtEnd}
 use Rattle.std.specs.Coded.{Coded, code_by, coded×, coded_ℕ, coded_list, coded_option}
 
 -- a call: how many bytes it was asked to move at the most, and the bytes that it moved, or none where it failed
@@ -47,9 +47,16 @@ abbrev pub Each : (Call → Type 0) → List Call → Type 0
 Each P [] = Unit {0}
 Each P (call ∷ calls) = P call × Each P calls
 
+-- What a reader has left after calls: without one it is as it was, and where the last one moved none of the bytes that it was asked
+-- for, it is at its end.
+abbrev pub EndsWell : (left left' : Option (List ℕ)) → List Call → Type 0
+EndsWell left left' [] = left' ≡ left
+EndsWell left left' (call ∷ []) = MovesNone call → IsAtEnd left'
+EndsWell left left' (call ∷ (next ∷ calls)) = EndsWell left left' (next ∷ calls)
+
 -- A reader made these calls more, and what it has left lost the bytes that they moved, where it tells what is left.
 abbrev pub Reads : (reads reads' : List Call) (left left' : Option (List ℕ)) → List Call → Type 0
-Reads reads reads' left left' made = (reads' ≡ reads ++ made) × Consumes left left' (bytes_moved made)
+Reads reads reads' left left' made = (reads' ≡ reads ++ made) × Consumes left left' (bytes_moved made) × EndsWell left left' made
 
 -- A writer made these calls more, and what it holds grew by the bytes that they moved, where it tells what it holds.
 abbrev pub Writes : (writes writes' : List Call) (written written' : Option (List ℕ)) → List Call → Type 0

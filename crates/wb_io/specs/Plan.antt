@@ -1,13 +1,19 @@
 -- A plan as clauses see it (own).
-use Rattle.std.specs.Prelude.{ℕ, ◌-◌, List, length, min}
+use Rattle.std.specs.Prelude.{◌≡◌, ℕ, ◌-◌, ◌==◌, Bool, List, Option, Some, None, length, drop, min, ◌&&◌, if◌then◌else◌}
 use Rattle.wb_io.specs.Calls.{Call}
+use Rattle.wb_io.specs.declared.plan.Upset.{Upset}
 
--- the bytes that it still gives, those that it was given, and the room for these; a call gives or
--- takes at most `piece` bytes; the calls that were made
+-- A source that gives its input once or for ever, and a sink with room for so many bytes. A call gives or takes at most `piece`
+-- bytes. One read and one write may be upset, each after so many good ones: the read fails, and the write fails or takes none.
 pub record Planned : Type 0 where
+  pub input : List ℕ
+  pub for_ever : Bool
   pub left : List ℕ
+  pub good_reads : Option ℕ
   pub written : List ℕ
   pub room : ℕ
+  pub good_writes : Option ℕ
+  pub upset : Upset
   pub piece : ℕ
   pub reads : List Call
   pub writes : List Call
@@ -16,6 +22,25 @@ pub record Planned : Type 0 where
 abbrev pub given_count : Planned → ℕ → ℕ
 given_count p space = min (min space p.piece) (length p.left)
 
+-- what is left after a read that gives so many: where that is nothing, a plan that gives for ever begins again
+abbrev pub left_after : Planned → ℕ → List ℕ
+left_after p count =
+    let rest = drop count p.left in
+    if p.for_ever && (length rest == 0) then p.input else rest
+
 -- how many of so many bytes a write takes
 abbrev pub taken_count : Planned → ℕ → ℕ
 taken_count p count = min (min count p.piece) (p.room - length p.written)
+
+-- the call that comes is upset
+abbrev pub IsUpset : Option ℕ → Type 0
+IsUpset good = good ≡ Some 0
+
+-- how many good calls there are to come after one more
+abbrev pub good_after : Option ℕ → Option ℕ
+good_after None = None
+good_after (Some good) = if good == 0 then None else Some (good - 1)
+
+-- the bytes that a plan tells that it has left: none where it gives for ever
+abbrev pub told_left : Planned → Option (List ℕ)
+told_left p = if p.for_ever then None else Some p.left

@@ -7,7 +7,7 @@ mod sink;
 mod source;
 mod whole;
 
-pub use plan::Plan;
+pub use plan::{Plan, Upset};
 pub use sink::{Sink, ToWrite};
 pub use source::{Failed, FromRead, PIECE_BYTES, Source};
 pub use whole::write_whole;

@@ -1,7 +1,7 @@
-use Rattle.std.proofs.Common.{◌≡◌, ◌⊎◌, inl, inr, ℕ, ◌<◌, ◌≤◌, List, [], ◌∷◌, ◌++◌, length, take, drop, Option, Some, Ok, Err, Result, refl, sym, ap, ◌∙◌, append_assoc, arith}
+use Rattle.std.proofs.Common.{◌≡◌, ◌⊎◌, inl, inr, ℕ, ◌<◌, ◌≤◌, List, [], ◌∷◌, ◌++◌, length, take, drop, Some, Ok, Err, Result, refl, sym, ap, ◌∙◌, append_assoc, arith}
 use Rattle.std.proofs.lemmas.Bool.{eqb-false}
 use Rattle.std.proofs.lemmas.List.{append-nil, length-take-le, take-append-drop}
-use Rattle.wb_io.specs.Calls.{Call, Each, Fails, MovesNone, MovesSome, TakesFront, Writes, bytes_moved, call}
+use Rattle.wb_io.specs.Calls.{Call, Each, Fails, MovesNone, MovesSome, TakesFront, bytes_moved, call}
 use Rattle.wb_io.specs.declared.source.Failed.{Failed}
 use Rattle.wb_io.proofs.CallLemmas.{Each-append_one, Writes-one, Writes-trans, bytes_moved-append}
 use Rattle.wb_io.proofs.whole.write_whole.Goals as goal

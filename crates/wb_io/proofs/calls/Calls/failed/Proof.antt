@@ -1,7 +1,7 @@
 -- `failed` makes the empty struct, with the list that its clause names.
 use mathlib.Core.Path.{refl}
 use mathlib.Core.List.{[], ◌∷◌, ◌++◌}
-use Rattle.std.specs.Prelude.{Some, None}
+use Rattle.std.specs.Prelude.{None}
 use Rattle.wb_io.specs.declared.calls.Calls.{Calls}
 use base.Logic.{emp, via, fst∗}
 use base.Fml.{Fml}
@@ -12,16 +12,15 @@ use types.Kit.{‵, raw, ◌$◌, ◌∵◌, !, qed, move, suffices, done}
 use types.Run.{no_more, returns, enter}
 use types.Part.{agg}
 use types.ByLocal.{alloc_all, pass_all, free_all, look_at, sets}
-use denote.Builtin.{u8, usize}
+use denote.Builtin.{usize}
 use denote.Exit.{yes}
 use denote.Plain.{uint_vals, uint_Tells}
 use denote.RattleType.{owns}
 use denote.Ref.{shr_vals, shr_Tells}
-use denote.Slice.{shr_slice_vals, shr_slice_Tells}
 use denote.Shadow.{pure_i}
 use denote.Signature.{plain, types_at}
 use denote.Triple.Entry.{alive}
-use denote.Triple.Walked.{says, Stays, walk_of, ends_at, stay_none, Goes-none, stay_none_ref, Goes-none_ref, stay_none_slice, Goes-none_slice}
+use denote.Triple.Walked.{says, Stays, walk_of, ends_at, stay_none, Goes-none, stay_none_ref, Goes-none_ref}
 use Rattle.std.proofs.raw_atomic.Walks.{proved}
 use Rattle.wb_io.specs.contracts.calls.Calls.failed as f
 use Rattle.wb_io.specs.contracts.calls.Calls as made

@@ -1,7 +1,7 @@
 -- `moved` makes the empty struct, with the list that its clause names.
 use mathlib.Core.Path.{refl}
 use mathlib.Core.List.{[], ◌∷◌, ◌++◌}
-use Rattle.std.specs.Prelude.{Some, None}
+use Rattle.std.specs.Prelude.{Some}
 use Rattle.wb_io.specs.declared.calls.Calls.{Calls}
 use base.Logic.{emp, via, fst∗}
 use base.Fml.{Fml}
