@@ -3,6 +3,7 @@ mod Consoles
 pub mod Counts
 mod Differ
 mod Joined
+mod Lacking
 pub mod Near
 mod Next
 mod Steps

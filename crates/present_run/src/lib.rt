@@ -5,10 +5,12 @@
 mod going;
 mod inputs;
 mod joining;
+mod laws;
 mod runs;
 mod sent;
 mod telling;
 
 pub use inputs::Inputs;
+pub use laws::lacking_laws;
 pub use runs::Runs;
 pub use sent::Shown;

@@ -2,21 +2,16 @@
 #![tactic(auto)]
 
 use std::env;
+use std::io::ErrorKind;
 use std::process::ExitCode;
-use workbench::{FromRead, ToWrite, r3kwb};
-
-/// Pages of RAM: 8 MiB.
-const PAGES: u32 = 2048;
-
-/// Steps of a span.
-const SPAN: u32 = 65_536;
+use workbench::{FromRead, NoWords, ToWrite, r3kwb};
 
 fn main(rt: HostRuntime) -> ExitCode {
     let arguments = arguments(&rt);
     let words = words(&rt, &arguments);
-    let status = r3kwb::<PAGES, SPAN, _, _, _>(
+    let status = r3kwb(
         rt.alloc(),
-        words.as_ref().map(|words| words.as_slice()),
+        words.as_ref().map(|words| words.as_slice()).map_err(|why| *why),
         &mut FromRead::new(rt.reader()),
         &mut ToWrite::new(rt.stdout()),
         &mut ToWrite::new(rt.stderr()),
@@ -24,16 +19,28 @@ fn main(rt: HostRuntime) -> ExitCode {
     ExitCode::from(status)
 }
 
-// The program's words, or none where there is no memory for them.
-fn arguments(rt: &HostRuntime) -> Option<Vec<String>> {
-    env::args(rt).ok()?.collect(rt.alloc()).ok()
+// The program's words.
+fn arguments(rt: &HostRuntime) -> Result<Vec<String>, NoWords> {
+    match env::args(rt) {
+        Err(error) if error.kind() == ErrorKind::OutOfMemory => Err(NoWords::NoMemory),
+        Err(_) => Err(NoWords::NotText),
+        Ok(arguments) => arguments
+            .collect(rt.alloc())
+            .map_err(|_| NoWords::NoMemory),
+    }
 }
 
-fn words<'a>(rt: &HostRuntime, arguments: &'a Option<Vec<String>>) -> Option<Vec<&'a str>> {
-    let arguments = arguments.as_ref()?;
-    arguments
-        .iter()
-        .map(|word| word.as_str())
-        .collect(rt.alloc())
-        .ok()
+// The same as the program takes them.
+fn words<'a>(
+    rt: &HostRuntime,
+    arguments: &'a Result<Vec<String>, NoWords>,
+) -> Result<Vec<&'a str>, NoWords> {
+    match arguments {
+        Err(why) => Err(*why),
+        Ok(arguments) => arguments
+            .iter()
+            .map(|word| word.as_str())
+            .collect(rt.alloc())
+            .map_err(|_| NoWords::NoMemory),
+    }
 }

@@ -29,6 +29,20 @@ pub held : (states : List (ℕ × State)) (e : ℕ × State) → Contains states
 held [] e there = absurd (none [] e refl there)
 held (f ∷ states) e there = held_at f states e there.0 there.1 there.2
 
+-- and at its position a state is
+held_by_at : (f : ℕ × State) (states : List (ℕ × State)) (position k : ℕ) → k < length (positions_of (f ∷ states)) → get_or (positions_of (f ∷ states)) k position ≡ position
+    → (state : State) × Contains (f ∷ states) (position, state)
+held_by_at f states position zero within at = (f.1, (0, omega arith, ap (λ (n : ℕ). let e : ℕ × State = (n, f.1) in e) at))
+held_by_at f [] position (suc k) within at = absurd (let e : ⊥ = omega (arith, within) in e)
+held_by_at f (g ∷ states) position (suc k) within at =
+    let rest = held_by_at g states position k (omega (arith, within)) at in
+    let less = rest.1.1 in
+    (rest.0, (suc rest.1.0, omega (arith, less), rest.1.2))
+
+pub held_by : (states : List (ℕ × State)) (position : ℕ) → Contains (positions_of states) position → (state : State) × Contains states (position, state)
+held_by [] position there = absurd (none [] position refl there)
+held_by (f ∷ states) position there = held_by_at f states position there.0 there.1 there.2
+
 -- a record that serves stays, or makes room for one that applies
 serves_on : (pages span : ℕ) (old new : Holding) (index : ℕ) → new.history ≡ old.history → (kept_at new index ≡ kept_at old index) ⊎ Applies pages span new index
     → Serves pages span old index → Serves pages span new index

@@ -7,5 +7,6 @@ mod queries;
 mod timeline;
 mod writer;
 
+pub use present_run::lacking_laws;
 pub use timeline::{MAX_POSITION, Timeline};
 pub use writer::Writer;

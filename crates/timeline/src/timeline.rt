@@ -1,10 +1,13 @@
 //! The history, and what is kept of its runs.
 
-ghost use Rattle.std.specs.Prelude.{◌≡◌, ◌⊎◌, [], MatchResult};
+ghost use Rattle.std.specs.Prelude.{◌≡◌, ◌⊎◌, ◌/◌, ◌%◌, ◌<◌, ◌≤◌, ℕ, [], Contains, MatchResult, length, nat_eq};
+ghost use Rattle.std.specs.List.{IsDistinct};
 ghost use Rattle.r3k_image.specs.Boot.{FitsRam};
 ghost use Rattle.r3k_image.specs.declared.fault.ImageFault.TheVariants.{Bad, Memory};
 ghost use Rattle.r3k_image.specs.declared.fault.ImageKind.TheVariants.{Pages};
+ghost use Rattle.present_run.specs.Reuse.{Serves};
 ghost use Rattle.present_run.specs.Sizes.{AreSizes};
+ghost use Rattle.timeline.specs.Landed.{holding};
 
 use input_log::Log;
 use landings::Landings;
@@ -90,6 +93,19 @@ impl<const PAGES: u32, const SPAN: u32> Timeline<PAGES, SPAN> {
         ensures { result.now ≡ self.now.history.log }
     {
         &self.inputs.log
+    }
+
+    /// How many states inside spans are kept: at most 8, each of another position, at which no span starts, and before which each span
+    /// has a record that serves. That they are the states of the run is what `core_at` and `word_at` answer there without a step.
+    pub fn landings(&self) -> usize
+        ensures len { result ≡ length self.now.landings }
+        ensures few { length self.now.landings ≤ 8 }
+        ensures distinct { IsDistinct nat_eq self.now.landings }
+        ensures inside { (position : ℕ) → Contains self.now.landings position → ¬ (position % SPAN ≡ 0) }
+        ensures served { (position : ℕ) → Contains self.now.landings position →
+            (index : ℕ) → index < position / SPAN → Serves PAGES SPAN (holding self.now) index }
+    {
+        self.landings.len()
     }
 
     /// How many steps were run so far, for all queries together, up to the greatest number.

@@ -43,6 +43,16 @@ pub fn options<'a>(alloc: Global, words: &'a [&'a str]) -> Result<Options, RunFa
     })
 }
 
+/// The fault of words that are not text, which is one of the program's line.
+pub fn not_text(alloc: Global) -> RunFault
+    ensures { IsFaultOf InvalidValue result }
+{
+    match command(alloc) {
+        Err(_) => RunFault::Memory,
+        Ok(mut command) => wrong_value(alloc, &mut command, "the words are not all UTF-8 text"),
+    }
+}
+
 // What help says behind the options.
 const AFTER_HELP: &str = "\
 Standard input is the bytes of the kind, then those of the log (0 bytes are the empty log), and then a

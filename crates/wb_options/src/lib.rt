@@ -6,5 +6,5 @@ mod command_line;
 mod fault;
 
 pub use arguments::{Kind, MAX_SIZE, Options};
-pub use command_line::options;
+pub use command_line::{not_text, options};
 pub use fault::{RunFault, fault_line, status};

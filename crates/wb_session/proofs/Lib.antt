@@ -1,2 +1,3 @@
+mod Costs
 mod Places
 mod Refusals

@@ -1,10 +1,9 @@
 -- A session (own): an image, a log and a position, and the answer to each command.
-use Rattle.std.specs.Prelude.{◌≡◌, ◌⊎◌, ℕ, ◌+◌, ◌-◌, ◌≤◌, Bool, true, false, List, length, map, Option, Some, None, Result, Ok, Err, if◌then◌else◌, nat_le, refl, slice_index, slice_index_or}
-use Rattle.std.specs.Coded.{Coded, code_by, coded×, coded_ℕ, coded_list}
+use Rattle.std.specs.Prelude.{◌≡◌, ◌⊎◌, ℕ, ◌+◌, ◌-◌, ◌≤◌, Bool, true, false, List, [], length, map, Option, Some, None, Result, Ok, Err, if◌then◌else◌, nat_le, slice_index, slice_index_or}
 use Rattle.cop0.specs.Registers.{Registers as ControlState, register_of}
 use Rattle.input_log.specs.Edits.{adding, deleting, moving, setting, up_to, without}
 use Rattle.input_log.specs.Event.{TimedByte}
-use Rattle.r3k_image.specs.Boot.{Boot, FitsRam, boot_code}
+use Rattle.r3k_image.specs.Boot.{Boot, FitsRam}
 use Rattle.r3k_image.specs.Patch.{patching}
 use Rattle.r3k_image.specs.declared.fault.ImageKind.TheVariants.{Pages}
 use Rattle.r3k_machine.specs.Core.{Core}
@@ -16,7 +15,8 @@ use Rattle.r3k_machine.specs.Run.{state_at}
 use Rattle.tlb64.specs.Entries.{empty_entry}
 use Rattle.tlb64.specs.declared.entry.Entry.{Entry}
 use Rattle.timeline.specs.Console.{part_of}
-use Rattle.timeline.specs.History.{History, max_position, timed_byte_code}
+use Rattle.timeline.specs.History.{History, max_position}
+use Rattle.timeline.specs.Landed.{Landed}
 use Rattle.timeline.specs.Query.{console_at, core_at, next_pc, sent_at, writer_at}
 use Rattle.timeline.specs.Sizes.{AreSizes}
 use Rattle.timeline.specs.declared.writer.Writer.{Writer as LastWriter}
@@ -45,6 +45,19 @@ pub record Triple : Type 0 where
   pub log : List TimedByte
   pub position : ℕ
 
+-- What a session holds: what its timeline holds, its history among it, and a position. To who asks it, it is a triple of image, log
+-- and position.
+pub record Held : Type 0 where
+  pub timeline : Landed
+  pub position : ℕ
+
+abbrev pub triple_of : Held → Triple
+triple_of s = record { image = s.timeline.history.image; log = s.timeline.history.log; position = s.position }
+
+-- a session as it begins: at position 0, with nothing kept
+abbrev pub begun : Boot → List TimedByte → Held
+begun image log = record { timeline = record { history = record { image = image; log = log }; spans = []; steps = 0; landings = [] }; position = 0 }
+
 -- the history of a session
 abbrev pub history_of : Triple → History
 history_of s = record { image = s.image; log = s.log }
@@ -61,12 +74,6 @@ abbrev pub IsNewFault : ℕ → Boot → RunFault → Type 0
 IsNewFault pages image OutOfMemory = FitsRam pages image
 IsNewFault pages image (BadImage kind) = (kind ≡ Pages) × ¬ FitsRam pages image
 IsNewFault pages image fault = ⊥
-
--- how proofs tell two sessions apart: by all their parts
-abbrev pub triple_code : Coded Triple
-triple_code =
-    code_by (Boot × (List TimedByte × ℕ)) (coded× boot_code (coded× (coded_list timed_byte_code) coded_ℕ)) (λ s. (s.image, (s.log, s.position)))
-    (λ p. record { image = p.0; log = p.1.0; position = p.1.1 }) (λ _. refl)
 
 -- what `regs` shows of a processor
 abbrev pub shown_load : Option DelayedLoad → Option Load

@@ -4,7 +4,8 @@ ghost use Rattle.std.specs.Prelude.{◌≡◌, ◌⊎◌, Err, IsOk, MatchResult
 ghost use Rattle.r3k_image.specs.Boot.{FitsRam};
 ghost use Rattle.timeline.specs.Sizes.{AreSizes};
 ghost use Rattle.wb_text.specs.declared.command.Command.TheVariants as command;
-ghost use Rattle.wb_session.specs.Session.{Answers, IsNewFault, answer, log_shown, moved};
+ghost use Rattle.wb_session.specs.Session.{Answers, IsNewFault, answer, begun, log_shown, moved, triple_of};
+ghost use Rattle.wb_session.specs.Cost.{AsksNothing, Costs};
 
 use crate::showing::{
     control_of, entry_shown, events_from, place_shown, registers_of, writer_shown,
@@ -29,16 +30,17 @@ pub struct Session<const PAGES: u32, const SPAN: u32> {
 }
 
 impl<const PAGES: u32, const SPAN: u32> Model for Session<PAGES, SPAN> {
-    ghost use Rattle.wb_session.specs.Session.{IsSession, Triple, triple_code};
+    ghost use Rattle.std.specs.Coded.{codes};
+    ghost use Rattle.timeline.specs.History.{history_code};
+    ghost use Rattle.wb_session.specs.Session.{Held, IsSession, triple_of};
 
-    ghost Value = { Triple };
+    ghost Value = { Held };
 
-    ghost coded = { triple_code };
+    ghost coded = { Prim.hlevel (history_code, codes) };
 
-    ghost view = { λ s. record { image = s.timeline.history.image; log = s.timeline.history.log; position = s.position } };
+    ghost view = { λ s. record { timeline = s.timeline; position = s.position } };
 
-    ghost invariant = { λ s. IsSession PAGES SPAN
-        (record { image = s.timeline.history.image; log = s.timeline.history.log; position = s.position }) };
+    ghost invariant = { λ s. IsSession PAGES SPAN (triple_of (record { timeline = s.timeline; position = s.position })) };
 }
 
 impl<const PAGES: u32, const SPAN: u32> Session<PAGES, SPAN> {
@@ -47,7 +49,7 @@ impl<const PAGES: u32, const SPAN: u32> Session<PAGES, SPAN> {
     pub fn new(alloc: Global, image: Image, log: Log) -> Result<Session<PAGES, SPAN>, RunFault>
         requires sizes { AreSizes PAGES SPAN }
         ensures { MatchResult result
-            (λ s. FitsRam PAGES image × (s ≡ record { image = image; log = log; position = 0 }))
+            (λ s. FitsRam PAGES image × (s ≡ begun image log))
             (IsNewFault PAGES image) }
     {
         Ok(Session {
@@ -56,9 +58,10 @@ impl<const PAGES: u32, const SPAN: u32> Session<PAGES, SPAN> {
         })
     }
 
-    /// Answers a command.
+    /// Answers a command. What it may cost is said by command: a query of the history, or several, or none.
     pub fn apply(&mut self, command: Command) -> Reply
-        ensures { Answers PAGES self.old command self.new result }
+        ensures answers { Answers PAGES (triple_of self.old) command (triple_of self.new) result }
+        ensures costs { Costs PAGES SPAN command self.old self.new result }
     {
         match command {
             Command::Pos => Reply::Position(self.position),
@@ -94,7 +97,8 @@ impl<const PAGES: u32, const SPAN: u32> Session<PAGES, SPAN> {
 
     // Moves to a position.
     fn goto(&mut self, position: u64) -> Reply
-        ensures { answer self.new result ≡ moved self.old position }
+        ensures answers { answer (triple_of self.new) result ≡ moved (triple_of self.old) position }
+        ensures costs { AsksNothing self.old self.new }
     {
         if position > MAX_POSITION {
             return Reply::Fault(Fault::TooFar);
@@ -105,7 +109,8 @@ impl<const PAGES: u32, const SPAN: u32> Session<PAGES, SPAN> {
 
     // Moves forward.
     fn step(&mut self, count: u64) -> Reply
-        ensures { Answers PAGES self.old (command.Step count) self.new result }
+        ensures answers { Answers PAGES (triple_of self.old) (command.Step count) (triple_of self.new) result }
+        ensures costs { Costs PAGES SPAN (command.Step count) self.old self.new result }
     {
         match self.position.checked_add(count) {
             Some(position) => self.goto(position),
@@ -115,7 +120,8 @@ impl<const PAGES: u32, const SPAN: u32> Session<PAGES, SPAN> {
 
     // Moves back.
     fn back(&mut self, count: u64) -> Reply
-        ensures { Answers PAGES self.old (command.Back count) self.new result }
+        ensures answers { Answers PAGES (triple_of self.old) (command.Back count) (triple_of self.new) result }
+        ensures costs { Costs PAGES SPAN (command.Back count) self.old self.new result }
     {
         match self.position.checked_sub(count) {
             Some(position) => self.goto(position),
@@ -125,7 +131,8 @@ impl<const PAGES: u32, const SPAN: u32> Session<PAGES, SPAN> {
 
     // Moves forward to the next position at which the PC holds an address.
     fn visit(&mut self, address: Address, limit: StepCount) -> Reply
-        ensures { Answers PAGES self.old (command.Visit address limit) self.new result }
+        ensures answers { Answers PAGES (triple_of self.old) (command.Visit address limit) (triple_of self.new) result }
+        ensures costs { Costs PAGES SPAN (command.Visit address limit) self.old self.new result }
     {
         match self
             .timeline
@@ -141,7 +148,8 @@ impl<const PAGES: u32, const SPAN: u32> Session<PAGES, SPAN> {
 
     // Shows the registers.
     fn registers(&mut self) -> Reply
-        ensures { Answers PAGES self.old command.Regs self.new result }
+        ensures answers { Answers PAGES (triple_of self.old) command.Regs (triple_of self.new) result }
+        ensures costs { Costs PAGES SPAN command.Regs self.old self.new result }
     {
         match self.timeline.core_at(self.position) {
             Ok(core) => Reply::Registers(registers_of(core.as_ref())),
@@ -151,7 +159,8 @@ impl<const PAGES: u32, const SPAN: u32> Session<PAGES, SPAN> {
 
     // Shows a register.
     fn register(&mut self, register: RegisterNumber) -> Reply
-        ensures { Answers PAGES self.old (command.Reg register) self.new result }
+        ensures answers { Answers PAGES (triple_of self.old) (command.Reg register) (triple_of self.new) result }
+        ensures costs { Costs PAGES SPAN (command.Reg register) self.old self.new result }
     {
         match self.timeline.core_at(self.position) {
             Ok(core) => Reply::Register {
@@ -164,7 +173,8 @@ impl<const PAGES: u32, const SPAN: u32> Session<PAGES, SPAN> {
 
     // Shows the control registers.
     fn control(&mut self) -> Reply
-        ensures { Answers PAGES self.old command.Cp0 self.new result }
+        ensures answers { Answers PAGES (triple_of self.old) command.Cp0 (triple_of self.new) result }
+        ensures costs { Costs PAGES SPAN command.Cp0 self.old self.new result }
     {
         match self.timeline.core_at(self.position) {
             Ok(core) => Reply::Control(control_of(core.cop0())),
@@ -174,7 +184,8 @@ impl<const PAGES: u32, const SPAN: u32> Session<PAGES, SPAN> {
 
     // Shows a translation entry.
     fn entry(&mut self, number: EntryNumber) -> Reply
-        ensures { Answers PAGES self.old (command.Tlb number) self.new result }
+        ensures answers { Answers PAGES (triple_of self.old) (command.Tlb number) (triple_of self.new) result }
+        ensures costs { Costs PAGES SPAN (command.Tlb number) self.old self.new result }
     {
         match self.timeline.core_at(self.position) {
             Ok(core) => entry_shown(number, core.entry(number.get() as u32)),
@@ -184,7 +195,8 @@ impl<const PAGES: u32, const SPAN: u32> Session<PAGES, SPAN> {
 
     // Shows where an address leads.
     fn place(&mut self, address: Address) -> Reply
-        ensures { Answers PAGES self.old (command.Where address) self.new result }
+        ensures answers { Answers PAGES (triple_of self.old) (command.Where address) (triple_of self.new) result }
+        ensures costs { Costs PAGES SPAN (command.Where address) self.old self.new result }
     {
         match self.timeline.core_at(self.position) {
             Ok(core) => Reply::Where(place_shown(core.where_is(address.get() as u32))),
@@ -194,7 +206,8 @@ impl<const PAGES: u32, const SPAN: u32> Session<PAGES, SPAN> {
 
     // Shows bytes that were sent on a line.
     fn console(&mut self, line: LineNumber, from: u64, count: ByteCount) -> Reply
-        ensures { Answers PAGES self.old (command.Console line from count) self.new result }
+        ensures answers { Answers PAGES (triple_of self.old) (command.Console line from count) (triple_of self.new) result }
+        ensures costs { Costs PAGES SPAN (command.Console line from count) self.old self.new result }
     {
         let number = line.get() as u8;
         match self
@@ -208,7 +221,8 @@ impl<const PAGES: u32, const SPAN: u32> Session<PAGES, SPAN> {
 
     // Tells the step that sent a byte.
     fn find(&mut self, line: LineNumber, place: u64) -> Reply
-        ensures { Answers PAGES self.old (command.Find line place) self.new result }
+        ensures answers { Answers PAGES (triple_of self.old) (command.Find line place) (triple_of self.new) result }
+        ensures costs { Costs PAGES SPAN (command.Find line place) self.old self.new result }
     {
         match self
             .timeline
@@ -221,7 +235,8 @@ impl<const PAGES: u32, const SPAN: u32> Session<PAGES, SPAN> {
 
     // Tells the last writer of a word.
     fn writer(&mut self, address: Address) -> Reply
-        ensures { Answers PAGES self.old (command.Writer address) self.new result }
+        ensures answers { Answers PAGES (triple_of self.old) (command.Writer address) (triple_of self.new) result }
+        ensures costs { Costs PAGES SPAN (command.Writer address) self.old self.new result }
     {
         match self.timeline.writer_at(self.position, address.get() as u32) {
             Ok(writer) => Reply::Writer(writer_shown(writer)),
@@ -231,7 +246,7 @@ impl<const PAGES: u32, const SPAN: u32> Session<PAGES, SPAN> {
 
     // Shows events of the log.
     fn events(&self, from: u64, count: EventCount) -> Reply
-        ensures { result ≡ log_shown from count self.now.log }
+        ensures { result ≡ log_shown from count self.now.timeline.history.log }
     {
         let events = self.timeline.log().events();
         Reply::Log {
@@ -243,7 +258,8 @@ impl<const PAGES: u32, const SPAN: u32> Session<PAGES, SPAN> {
 
     // Adds an event.
     fn add(&mut self, time: EventTime, line: LineNumber, byte: ByteValue) -> Reply
-        ensures { Answers PAGES self.old (command.Add time line byte) self.new result }
+        ensures answers { Answers PAGES (triple_of self.old) (command.Add time line byte) (triple_of self.new) result }
+        ensures costs { Costs PAGES SPAN (command.Add time line byte) self.old self.new result }
     {
         match self
             .timeline
@@ -256,7 +272,8 @@ impl<const PAGES: u32, const SPAN: u32> Session<PAGES, SPAN> {
 
     // Deletes an event.
     fn del(&mut self, event: u64) -> Reply
-        ensures { Answers PAGES self.old (command.Del event) self.new result }
+        ensures answers { Answers PAGES (triple_of self.old) (command.Del event) (triple_of self.new) result }
+        ensures costs { Costs PAGES SPAN (command.Del event) self.old self.new result }
     {
         match self.timeline.del(event) {
             Ok(()) => Reply::Left(self.timeline.log().events().len() as u64),
@@ -266,7 +283,8 @@ impl<const PAGES: u32, const SPAN: u32> Session<PAGES, SPAN> {
 
     // Gives an event another byte.
     fn set(&mut self, event: u64, byte: ByteValue) -> Reply
-        ensures { Answers PAGES self.old (command.Set event byte) self.new result }
+        ensures answers { Answers PAGES (triple_of self.old) (command.Set event byte) (triple_of self.new) result }
+        ensures costs { Costs PAGES SPAN (command.Set event byte) self.old self.new result }
     {
         match self.timeline.set(event, byte.get() as u8) {
             Ok(()) => Reply::Event(event),
@@ -276,7 +294,8 @@ impl<const PAGES: u32, const SPAN: u32> Session<PAGES, SPAN> {
 
     // Moves an event to another time.
     fn move_to(&mut self, event: u64, time: EventTime) -> Reply
-        ensures { Answers PAGES self.old (command.Move event time) self.new result }
+        ensures answers { Answers PAGES (triple_of self.old) (command.Move event time) (triple_of self.new) result }
+        ensures costs { Costs PAGES SPAN (command.Move event time) self.old self.new result }
     {
         match self.timeline.move_to(event, time.get()) {
             Ok(event) => Reply::Event(event as u64),
@@ -286,7 +305,8 @@ impl<const PAGES: u32, const SPAN: u32> Session<PAGES, SPAN> {
 
     // Sets a word of the image.
     fn patch(&mut self, address: Address, word: WordValue) -> Reply
-        ensures { Answers PAGES self.old (command.Patch address word) self.new result }
+        ensures answers { Answers PAGES (triple_of self.old) (command.Patch address word) (triple_of self.new) result }
+        ensures costs { Costs PAGES SPAN (command.Patch address word) self.old self.new result }
     {
         match self.timeline.patch(address.get() as u32, word.get() as u32) {
             Ok(()) => Reply::Patched,

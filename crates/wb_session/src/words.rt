@@ -1,11 +1,12 @@
 //! Words of memory, asked one by one.
 
-ghost use Rattle.std.specs.Prelude.{◌≡◌, ◌+◌, ◌*◌, ◌^◌, ◌<◌, ◌≤◌, ◌⊎◌, Err, IfOk, IfSome, IsOk, MatchResult, Ok};
+ghost use Rattle.std.specs.Prelude.{◌≡◌, ◌+◌, ◌-◌, ◌*◌, ◌%◌, ◌^◌, ◌<◌, ◌≤◌, ◌⊎◌, Contains, Err, IfOk, IfSome, IsOk, MatchResult, Ok};
 ghost use Rattle.r3k_word.specs.Layout.{place_of_word};
 ghost use Rattle.r3k_word.specs.declared.layout.TheConstants.{MAX_RAM_PAGES};
 ghost use Rattle.refusal.specs.declared.fault.Fault.TheVariants.{Memory};
 ghost use Rattle.wb_session.specs.Memory.{places_of};
-ghost use Rattle.wb_session.specs.Session.{words_shown};
+ghost use Rattle.timeline.specs.Landed.{Asks};
+ghost use Rattle.wb_session.specs.Session.{triple_of, words_shown};
 
 use crate::session::Session;
 use arrayvec::ArrayVec;
@@ -16,9 +17,11 @@ use wb_text::{Address, WordCount, Words};
 impl<const PAGES: u32, const SPAN: u32> Session<PAGES, SPAN> {
     /// The words of memory from an address on. All are judged before one is asked for.
     pub(crate) fn words(&mut self, address: Address, count: WordCount) -> Result<Words, Fault>
-        ensures words { (result ≡ words_shown PAGES self.old address count)
+        ensures words { (result ≡ words_shown PAGES (triple_of self.old) address count)
             ⊎ ((result ≡ Err Memory) × IsOk (places_of PAGES address count)) }
-        ensures same { self.new ≡ self.old }
+        ensures same { triple_of self.new ≡ triple_of self.old }
+        ensures asks { Asks PAGES SPAN self.old.position ((count - 1) * (self.old.position % SPAN)) self.old.timeline self.new.timeline result }
+        ensures free { Contains self.old.timeline.landings self.old.position → self.new.timeline.steps ≡ self.old.timeline.steps }
     {
         let position = self.position;
         let _places = places_from::<PAGES>(address, count)?;

@@ -1,11 +1,15 @@
 -- The program (own): what its reader and its two writers get, by its words.
-use Rattle.std.specs.Prelude.{◌≡◌, ◌⊎◌, ℕ, List, [], ◌++◌, Option, Some, None, Result, Ok, Err}
+use Rattle.std.specs.Prelude.{◌≡◌, ◌⊎◌, ℕ, List, [], ◌++◌, Option, Some, None, Result, Ok, Err, map}
+use Rattle.std.specs.Borrow.{Bor}
+use Rattle.clap.specs.declared.error.kind.ErrorKind.TheVariants.{InvalidValue}
 use Rattle.std.specs.String.{string_bytes}
 use Rattle.wb_io.specs.Calls.{Call, TakesAll, TakesFront}
 use Rattle.wb_options.specs.Fault.{line_of, status_of}
-use Rattle.wb_options.specs.Options.{IsLineFault, IsLine}
+use Rattle.wb_options.specs.Options.{IsFaultOf, IsLineFault, IsLine}
 use Rattle.wb_options.specs.declared.fault.RunFault.{RunFault}
 use Rattle.wb_options.specs.declared.fault.RunFault.TheVariants.{Memory, Usage, Help}
+use Rattle.workbench.specs.declared.program.NoWords.{NoWords}
+use Rattle.workbench.specs.declared.program.NoWords.TheVariants.{NoMemory, NotText}
 use Rattle.workbench.specs.Serve.{Layout, Serves}
 
 -- a text, if there is one, was written, whole or up to the first write that failed or took none of it
@@ -25,16 +29,26 @@ abbrev pub help_text : {T : Type 0} → Result T RunFault → Option (List ℕ)
 help_text (Err (Help text)) = Some (string_bytes text)
 help_text result = None
 
--- The words were good and were served, or they were not, and this is why; then nothing is read or written. Without words, as
--- there was no memory for them, it is that.
-abbrev pub Serving : {T : Type 0} → ℕ → Option (List (List ℕ)) → Result T RunFault → (reads writes : List Call) → Type 0
-Serving pages None result reads writes = (result ≡ Err Memory) × (reads ≡ []) × (writes ≡ [])
-Serving pages (Some words) result reads writes =
+-- the bytes of words
+abbrev pub texts_of : Result (Bor (List (Bor (List ℕ)))) NoWords → Result (List (List ℕ)) NoWords
+texts_of (Ok words) = Ok (map (λ word. word.now) words.now)
+texts_of (Err why) = Err why
+
+-- what is wrong where there are no words: there was no memory for them, or one of them is not text, which is a wrong line, unless
+-- there is no memory to say so
+abbrev pub IsWithoutWords : NoWords → RunFault → Type 0
+IsWithoutWords NoMemory fault = fault ≡ Memory
+IsWithoutWords NotText fault = IsFaultOf InvalidValue fault
+
+-- The words were good and were served, or they were not, or there are none, and this is why; then nothing is read or written.
+abbrev pub Serving : {T : Type 0} → ℕ → Result (List (List ℕ)) NoWords → Result T RunFault → (reads writes : List Call) → Type 0
+Serving pages (Err why) result reads writes = (fault : RunFault) × (result ≡ Err fault) × IsWithoutWords why fault × (reads ≡ []) × (writes ≡ [])
+Serving pages (Ok words) result reads writes =
     ((layout : Layout) × IsLine words layout.kind layout.size layout.log_size × Serves pages layout result reads writes)
     ⊎ ((fault : RunFault) × (result ≡ Err fault) × IsLineFault words fault × (reads ≡ []) × (writes ≡ []))
 
 -- The program: the words are served or not, then help goes to the output, and a fault is told on the errors.
-pub record Program (pages : ℕ) (words : Option (List (List ℕ))) (status : ℕ) (reads writes told : List Call) : Type 0 where
+pub record Program (pages : ℕ) (words : Result (List (List ℕ)) NoWords) (status : ℕ) (reads writes told : List Call) : Type 0 where
   pub outcome : Result (Unit {0}) RunFault
   pub served : List Call
   pub helped : List Call

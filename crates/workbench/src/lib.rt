@@ -7,7 +7,7 @@ mod program;
 mod script;
 mod serving;
 
-pub use program::r3kwb;
+pub use program::{NoWords, r3kwb, serve_words};
 pub use script::run;
 pub use serving::serve;
 pub use wb_io::{Failed, FromRead, Plan, Sink, Source, ToWrite};

@@ -1,23 +1,47 @@
-//! The program: it reads its line, runs the workbench over a reader and a writer, and tells how it went.
-ghost use Rattle.std.specs.Prelude.{List, map};
-ghost use Rattle.std.specs.Option.{option_map};
+//! The program: it reads its line, runs the workbench over a reader and a writer, and reports how it went.
+ghost use Rattle.std.specs.Prelude.{List};
 ghost use Rattle.wb_io.specs.Calls.{Call, Reads, Writes};
-ghost use Rattle.workbench.specs.Program.{Program, Serving, Tells, error_text, help_text};
+ghost use Rattle.workbench.specs.Program.{Program, Serving, Tells, error_text, help_text, texts_of};
 ghost use Rattle.timeline.specs.Sizes.{AreSizes};
 
 use crate::serving::serve;
 use std::alloc::Global;
 use wb_io::{Sink, Source, write_whole};
-use wb_options::{RunFault, fault_line, options, status};
+use wb_options::{RunFault, fault_line, not_text, options, status};
 
-/// The program on its words, the first of which is its name, or on none where there was no memory for them: serves what
-/// they ask for, with replies to `output`, tells of a fault on `errors`, and gives help on `output`. The result is the exit
-/// status.
-///
-/// Nobody is left to tell where telling fails.
-pub fn r3kwb<const PAGES: u32, const SPAN: u32, R: Source, W: Sink, E: Sink>(
+/// Why the program's words can't be had.
+#[derive(Clone, Copy, Debug, PartialEq, Eq)]
+pub enum NoWords {
+    /// There was no memory for them.
+    NoMemory,
+    /// One of them is not UTF-8 text.
+    NotText,
+}
+
+/// The program, on a machine with 2048 pages of RAM, 8 MiB, whose runs are kept in spans of 65,536 steps.
+pub fn r3kwb<R: Source, W: Sink, E: Sink>(
     alloc: Global,
-    words: Option<&[&str]>,
+    words: Result<&[&str], NoWords>,
+    input: &mut R,
+    output: &mut W,
+    errors: &mut E,
+) -> u8
+    ensures { (reads : List Call) × (writes : List Call) × (told : List Call)
+        × Reads (R.reads input.old) (R.reads input.new) (R.left input.old) (R.left input.new) reads
+        × Writes (W.writes output.old) (W.writes output.new) (W.written output.old) (W.written output.new) writes
+        × Writes (E.writes errors.old) (E.writes errors.new) (E.written errors.old) (E.written errors.new) told
+        × Program 2048 (texts_of words.entry) result reads writes told }
+{
+    serve_words::<2048, 65_536, R, W, E>(alloc, words, input, output, errors)
+}
+
+/// The program on its words, the first of which is its name, or on none: serves what they ask for, with replies to `output`, reports
+/// a fault on `errors`, and gives help on `output`. The result is the exit status.
+///
+/// Nobody is left to report to where reporting fails.
+pub fn serve_words<const PAGES: u32, const SPAN: u32, R: Source, W: Sink, E: Sink>(
+    alloc: Global,
+    words: Result<&[&str], NoWords>,
     input: &mut R,
     output: &mut W,
     errors: &mut E,
@@ -27,7 +51,7 @@ pub fn r3kwb<const PAGES: u32, const SPAN: u32, R: Source, W: Sink, E: Sink>(
         × Reads (R.reads input.old) (R.reads input.new) (R.left input.old) (R.left input.new) reads
         × Writes (W.writes output.old) (W.writes output.new) (W.written output.old) (W.written output.new) writes
         × Writes (E.writes errors.old) (E.writes errors.new) (E.written errors.old) (E.written errors.new) told
-        × Program PAGES (option_map (λ given. map (λ word. word.now) given.now) words.entry) result reads writes told }
+        × Program PAGES (texts_of words.entry) result reads writes told }
 {
     let outcome = outcome_of::<PAGES, SPAN, R, W>(alloc, words, input, output);
     report(&outcome, output, errors);
@@ -37,7 +61,7 @@ pub fn r3kwb<const PAGES: u32, const SPAN: u32, R: Source, W: Sink, E: Sink>(
 // Serves what the words ask for, or says why not.
 fn outcome_of<const PAGES: u32, const SPAN: u32, R: Source, W: Sink>(
     alloc: Global,
-    words: Option<&[&str]>,
+    words: Result<&[&str], NoWords>,
     input: &mut R,
     output: &mut W,
 ) -> Result<(), RunFault>
@@ -45,11 +69,12 @@ fn outcome_of<const PAGES: u32, const SPAN: u32, R: Source, W: Sink>(
     ensures { (reads : List Call) × (writes : List Call)
         × Reads (R.reads input.old) (R.reads input.new) (R.left input.old) (R.left input.new) reads
         × Writes (W.writes output.old) (W.writes output.new) (W.written output.old) (W.written output.new) writes
-        × Serving PAGES (option_map (λ given. map (λ word. word.now) given.now) words.entry) result reads writes }
+        × Serving PAGES (texts_of words.entry) result reads writes }
 {
     let words = match words {
-        None => return Err(RunFault::Memory),
-        Some(words) => words,
+        Err(NoWords::NoMemory) => return Err(RunFault::Memory),
+        Err(NoWords::NotText) => return Err(not_text(alloc)),
+        Ok(words) => words,
     };
     match options(alloc, words) {
         Err(fault) => Err(fault),
@@ -57,7 +82,7 @@ fn outcome_of<const PAGES: u32, const SPAN: u32, R: Source, W: Sink>(
     }
 }
 
-// Tells of a fault on `errors`, and gives help on `output`.
+// Reports a fault on `errors`, and gives help on `output`.
 fn report<W: Sink, E: Sink>(outcome: &Result<(), RunFault>, output: &mut W, errors: &mut E)
     ensures { (helped : List Call) × (told : List Call)
         × Writes (W.writes output.old) (W.writes output.new) (W.written output.old) (W.written output.new) helped

@@ -6,6 +6,7 @@ ghost use Rattle.workbench.specs.LineBuffer.{HasNoFeed};
 ghost use Rattle.workbench.specs.Runs.{RunsScript, ScriptRuns, WritesText, max_reads};
 ghost use Rattle.workbench.specs.Script.{is_quit, lines_of};
 ghost use Rattle.timeline.specs.Sizes.{AreSizes};
+ghost use Rattle.wb_session.specs.Session.{triple_of};
 ghost use Rattle.workbench.specs.Taking.{Answered, IsLineOutcome, Stops, Took, Unanswered};
 
 use crate::line_buffer::LineBuffer;
@@ -76,7 +77,7 @@ fn run_script<const PAGES: u32, const SPAN: u32, R: Source, W: Sink>(
         × Reads (R.reads reader.old) (R.reads reader.new) (R.left reader.old) (R.left reader.new) reads
         × Writes (W.writes writer.old) (W.writes writer.new) (W.written writer.old) (W.written writer.new) writes
         × (length reads ≤ most)
-        × ScriptRuns PAGES most session.old result reads writes }
+        × ScriptRuns PAGES most (triple_of session.old) result reads writes }
 {
     let mut line = LineBuffer::new();
     let mut piece = [0u8; PIECE_BYTES];
@@ -108,8 +109,8 @@ fn end_script<const PAGES: u32, const SPAN: u32, W: Sink>(
     ensures { (calls : List Call)
         × Writes (W.writes writer.old) (W.writes writer.new) (W.written writer.old) (W.written writer.new) calls
         × MatchResult result
-        (λ _. WritesText TakesAll PAGES session.old (lines_of line.now) calls)
-        (λ fault. (fault ≡ WriteFault) × WritesText TakesFront PAGES session.old (lines_of line.now) calls) }
+        (λ _. WritesText TakesAll PAGES (triple_of session.old) (lines_of line.now) calls)
+        (λ fault. (fault ≡ WriteFault) × WritesText TakesFront PAGES (triple_of session.old) (lines_of line.now) calls) }
 {
     let bytes = line.bytes();
     if bytes.is_empty() {
@@ -132,8 +133,8 @@ fn take_piece<const PAGES: u32, const SPAN: u32, W: Sink>(
     ensures { (calls : List Call)
         × Writes (W.writes writer.old) (W.writes writer.new) (W.written writer.old) (W.written writer.new) calls
         × MatchResult result
-        (λ quits. Took PAGES session.old session.new line.old line.new piece.now calls quits)
-        (λ fault. (fault ≡ WriteFault) × Stops PAGES session.old (line.old ++ piece.now) calls) }
+        (λ quits. Took PAGES (triple_of session.old) (triple_of session.new) line.old line.new piece.now calls quits)
+        (λ fault. (fault ≡ WriteFault) × Stops PAGES (triple_of session.old) (line.old ++ piece.now) calls) }
 {
     for byte in piece {
         match take_byte(session, line, *byte, writer) {
@@ -158,8 +159,8 @@ fn take_byte<const PAGES: u32, const SPAN: u32, W: Sink>(
     ensures { (calls : List Call)
         × Writes (W.writes writer.old) (W.writes writer.new) (W.written writer.old) (W.written writer.new) calls
         × MatchResult result
-        (λ quits. Took PAGES session.old session.new line.old line.new (byte ∷ []) calls quits)
-        (λ fault. (fault ≡ WriteFault) × Stops PAGES session.old (line.old ++ byte ∷ []) calls) }
+        (λ quits. Took PAGES (triple_of session.old) (triple_of session.new) line.old line.new (byte ∷ []) calls quits)
+        (λ fault. (fault ≡ WriteFault) × Stops PAGES (triple_of session.old) (line.old ++ byte ∷ []) calls) }
 {
     if byte != b'\n' {
         line.push(byte);
@@ -183,8 +184,8 @@ fn answer_line<const PAGES: u32, const SPAN: u32, W: Sink>(
     ensures { (calls : List Call)
         × Writes (W.writes writer.old) (W.writes writer.new) (W.written writer.old) (W.written writer.new) calls
         × MatchResult result
-        (λ quits. Answered PAGES session.old line.now session.new calls quits)
-        (λ fault. (fault ≡ WriteFault) × Unanswered PAGES session.old line.now calls) }
+        (λ quits. Answered PAGES (triple_of session.old) line.now (triple_of session.new) calls quits)
+        (λ fault. (fault ≡ WriteFault) × Unanswered PAGES (triple_of session.old) line.now calls) }
 {
     let reply = match answer_to(session, line) {
         LineOutcome::Quit => return Ok(true),
@@ -214,7 +215,7 @@ fn answer_to<const PAGES: u32, const SPAN: u32>(
     session: &mut Session<PAGES, SPAN>,
     line: &[u8],
 ) -> LineOutcome
-    ensures { IsLineOutcome PAGES session.old line.now session.new result }
+    ensures { IsLineOutcome PAGES (triple_of session.old) line.now (triple_of session.new) result }
 {
     match parse_line(line) {
         Err(fault) => LineOutcome::Reply(Reply::Fault(fault)),

@@ -2,13 +2,13 @@ use Rattle.std.proofs.Common.{[], inl, inr, refl, rules}
 use Rattle.wb_io.proofs.CallLemmas.{Reads-nil, Writes-nil}
 use Rattle.workbench.proofs.program.outcome_of.Goals as goal
 
-pub returns-in-None : goal.returns-in-None
-returns-in-None g c = (
+pub returns-in-Err-NoMemory : goal.returns-in-Err-NoMemory
+returns-in-Err-NoMemory g c = (
   [],
   [],
   Reads-nil (g.R.Source.reads c.args.input.now) (g.R.Source.left c.args.input.now),
   Writes-nil (g.W.Sink.writes c.args.output.now) (g.W.Sink.written c.args.output.now),
-  rw c.in-None.is (search rules, refl, refl),
+  ?,
 )
 
 pub returns-in-Err : goal.returns-in-Err

@@ -1,12 +1,13 @@
 use Rattle.std.proofs.Common.{◌≡◌, ℕ, ◌≤◌, inl, inr, List, [], ◌∷◌, ◌++◌, length, take, Some, Ok, Err, Result, refl, sym, ap, subst, arith, rules, length-append, length-take-le}
 use Rattle.wb_io.specs.Calls.{Call, MovesSome, bytes_moved, call}
 use Rattle.wb_io.specs.declared.source.Failed.{Failed}
-use Rattle.wb_io.proofs.CallLemmas.{Each-append_one, Reads-nil, Reads-one, Reads-trans, Writes-nil, Writes-trans}
+use Rattle.wb_io.proofs.CallLemmas.{Each-append_one, Reads-end, Reads-failed, Reads-nil, Reads-some, Reads-trans, Writes-nil, Writes-trans}
 use Rattle.wb_options.specs.declared.fault.RunFault.{RunFault}
 use Rattle.workbench.specs.Runs.{IsPiece, ScriptRuns}
 use Rattle.workbench.specs.Taking.{GoesOn}
 use Rattle.workbench.proofs.Scripts.{goes_on_at_first}
 use Rattle.workbench.proofs.Takes.{cut_written, end_runs, no_quit_at_end, piece_quits, piece_stops, piece_taken}
+use Rattle.wb_session.specs.Session.{triple_of}
 use Rattle.workbench.proofs.script.run_script.Goals as goal
 
 pub loop-made-init : goal.loop-made-init
@@ -17,7 +18,7 @@ loop-made-init g c = (
   Writes-nil (g.W.Sink.writes c.args.writer.now) (g.W.Sink.written c.args.writer.now),
   tt,
   tt,
-  subst (λ (z : List ℕ). GoesOn g.row.PAGES c.args.session.now [] c.args.session.now z []) (sym c.new-line.ensures) (goes_on_at_first g.row.PAGES c.args.session.now),
+  subst (λ (z : List ℕ). GoesOn g.row.PAGES (triple_of c.args.session.now) [] (triple_of c.args.session.now) z []) (sym c.new-line.ensures) (goes_on_at_first g.row.PAGES (triple_of c.args.session.now)),
   refl,
   search rules,
 )
@@ -32,13 +33,13 @@ returns-in-Err g c =
     let more = length-append h.0 (one ∷ []) in (
       h.0 ++ one ∷ [],
       h.1,
-      Reads-trans _ _ _ _ _ _ h.0 (one ∷ []) h.2 (Reads-one _ _ _ _ (length piece) answer c.read.new.buffer w.called w.gives),
+      Reads-trans _ _ _ _ _ _ h.0 (one ∷ []) h.2 (Reads-failed _ _ _ _ one w.called refl w.gives),
       h.3,
       omega (arith, more, h.7),
       (
         inl (record { pieces = h.0; last = one; reads_are = refl; each = h.4; asked = h.8; so = refl }),
-        no_quit_at_end g.row.PAGES c.args.session.now c.loop-made.session h.0 h.1 one c.loop-made.line refl h.6,
-        cut_written g.row.PAGES c.args.session.now c.loop-made.session h.0 h.1 one c.loop-made.line refl h.5 h.6,
+        no_quit_at_end g.row.PAGES (triple_of c.args.session.now) (triple_of c.loop-made.session) h.0 h.1 one c.loop-made.line refl h.6,
+        cut_written g.row.PAGES (triple_of c.args.session.now) (triple_of c.loop-made.session) h.0 h.1 one c.loop-made.line refl h.5 h.6,
       ),
     )
 
@@ -56,10 +57,10 @@ returns-in-Ok-eq0 g c =
     let more = length-append h.0 (one ∷ []) in (
       h.0 ++ one ∷ [],
       h.1 ++ v.0,
-      Reads-trans _ _ _ _ _ _ h.0 (one ∷ []) h.2 (Reads-one _ _ _ _ (length piece) answer c.read.new.buffer w.called w.gives),
+      Reads-trans _ _ _ _ _ _ h.0 (one ∷ []) h.2 (Reads-end _ _ _ _ one w.called w.gives (w.end zero)),
       Writes-trans _ _ _ _ _ _ h.1 v.0 h.3 v.1,
       omega (arith, more, h.7),
-      end_runs g.row.PAGES c.args.most c.args.session.now c.loop-made.session c.end_script.result h.0 h.1 v.0 one c.loop-made.line h.4 h.8 (omega (arith, h.8)) (ap Some none) h.5 h.6 v.2,
+      end_runs g.row.PAGES c.args.most (triple_of c.args.session.now) (triple_of c.loop-made.session) c.end_script.result h.0 h.1 v.0 one c.loop-made.line h.4 h.8 (omega (arith, h.8)) (ap Some none) h.5 h.6 v.2,
     )
 
 pub returns-in-Err-take_piece : goal.returns-in-Err-take_piece
@@ -76,11 +77,11 @@ returns-in-Err-take_piece g c =
     let more = length-append h.0 (one ∷ []) in (
       h.0 ++ one ∷ [],
       h.1 ++ v.0,
-      Reads-trans _ _ _ _ _ _ h.0 (one ∷ []) h.2 (Reads-one _ _ _ _ (length piece) answer c.read.new.buffer w.called w.gives),
+      Reads-trans _ _ _ _ _ _ h.0 (one ∷ []) h.2 (Reads-some _ _ _ _ one w.called w.gives some),
       Writes-trans _ _ _ _ _ _ h.1 v.0 h.3 v.1,
       omega (arith, more, h.7),
-      subst (λ (z : RunFault). ScriptRuns {T = Unit {0}} g.row.PAGES c.args.most c.args.session.now (Err z) (h.0 ++ one ∷ []) (h.1 ++ v.0)) (sym v.2.0)
-          (inr (record { pieces = h.0; last = one; reads_are = refl; each = Each-append_one IsPiece h.0 one h.4 (h.8, some); no_quit = h.6.no_quit }, piece_stops g.row.PAGES c.args.session.now c.loop-made.session h.0 h.1 v.0 one c.loop-made.line h.5 h.6 v.2.1)),
+      subst (λ (z : RunFault). ScriptRuns {T = Unit {0}} g.row.PAGES c.args.most (triple_of c.args.session.now) (Err z) (h.0 ++ one ∷ []) (h.1 ++ v.0)) (sym v.2.0)
+          (inr (record { pieces = h.0; last = one; reads_are = refl; each = Each-append_one IsPiece h.0 one h.4 (h.8, some); no_quit = h.6.no_quit }, piece_stops g.row.PAGES (triple_of c.args.session.now) (triple_of c.loop-made.session) h.0 h.1 v.0 one c.loop-made.line h.5 h.6 v.2.1)),
     )
 
 pub returns-then-quits : goal.returns-then-quits
@@ -95,10 +96,10 @@ returns-then-quits g c =
     let within : count ≤ length c.read.new.buffer = omega (arith, w.within, c.read.auto.buffer) in
     let some : MovesSome one = rw length-take-le (omega (arith, c.in-Ok.count-test)) in
     let more = length-append h.0 (one ∷ []) in
-    let all = piece_quits g.row.PAGES c.args.session.now c.loop-made.session c.take_piece.new.session h.0 h.1 v.0 one c.loop-made.line c.take_piece.new.line c.in-Ok-take_piece.quits c.if-quits.true h.5 h.6 v.2 in (
+    let all = piece_quits g.row.PAGES (triple_of c.args.session.now) (triple_of c.loop-made.session) (triple_of c.take_piece.new.session) h.0 h.1 v.0 one c.loop-made.line c.take_piece.new.line c.in-Ok-take_piece.quits c.if-quits.true h.5 h.6 v.2 in (
       h.0 ++ one ∷ [],
       h.1 ++ v.0,
-      Reads-trans _ _ _ _ _ _ h.0 (one ∷ []) h.2 (Reads-one _ _ _ _ (length piece) answer c.read.new.buffer w.called w.gives),
+      Reads-trans _ _ _ _ _ _ h.0 (one ∷ []) h.2 (Reads-some _ _ _ _ one w.called w.gives some),
       Writes-trans _ _ _ _ _ _ h.1 v.0 h.3 v.1,
       omega (arith, more, h.7),
       (inr (record { pieces = h.0; last = one; reads_are = refl; each = Each-append_one IsPiece h.0 one h.4 (h.8, some); no_quit = h.6.no_quit }, all.0), all.1),
@@ -116,10 +117,10 @@ loop-made-preserved g c =
     let within : count ≤ length c.read.new.buffer = omega (arith, w.within, c.read.auto.buffer) in
     let some : MovesSome one = rw length-take-le (omega (arith, c.in-Ok.count-test)) in
     let more = length-append h.0 (one ∷ []) in
-    let all = piece_taken g.row.PAGES c.args.session.now c.loop-made.session c.take_piece.new.session h.0 h.1 v.0 one c.loop-made.line c.take_piece.new.line c.in-Ok-take_piece.quits c.if-quits.false h.5 h.6 v.2 in (
+    let all = piece_taken g.row.PAGES (triple_of c.args.session.now) (triple_of c.loop-made.session) (triple_of c.take_piece.new.session) h.0 h.1 v.0 one c.loop-made.line c.take_piece.new.line c.in-Ok-take_piece.quits c.if-quits.false h.5 h.6 v.2 in (
       h.0 ++ one ∷ [],
       h.1 ++ v.0,
-      Reads-trans _ _ _ _ _ _ h.0 (one ∷ []) h.2 (Reads-one _ _ _ _ (length piece) answer c.read.new.buffer w.called w.gives),
+      Reads-trans _ _ _ _ _ _ h.0 (one ∷ []) h.2 (Reads-some _ _ _ _ one w.called w.gives some),
       Writes-trans _ _ _ _ _ _ h.1 v.0 h.3 v.1,
       Each-append_one IsPiece h.0 one h.4 (h.8, some),
       all.0,

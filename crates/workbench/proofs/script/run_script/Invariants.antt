@@ -2,6 +2,7 @@ use Rattle.std.proofs.Common.{◌≡◌, List, length}
 use Rattle.wb_io.specs.Calls.{Call, Each, MovesSome, Reads, Writes, bytes_moved}
 use Rattle.workbench.specs.Runs.{IsPiece}
 use Rattle.workbench.specs.Taking.{GoesOn}
+use Rattle.wb_session.specs.Session.{triple_of}
 use Rattle.workbench.proofs.script.run_script.Given as goal
 
 -- what was read so far was taken
@@ -12,6 +13,6 @@ invariant-loop-made g l =
     × Writes (g.W.Sink.writes l.initial.writer) (g.W.Sink.writes l.writer) (g.W.Sink.written l.initial.writer) (g.W.Sink.written l.writer) writes
     × Each IsPiece reads
     × Each MovesSome writes
-    × GoesOn g.row.PAGES l.initial.session (bytes_moved reads) l.session l.line (bytes_moved writes)
+    × GoesOn g.row.PAGES (triple_of l.initial.session) (bytes_moved reads) (triple_of l.session) l.line (bytes_moved writes)
     × (length reads ≡ l._made)
     × (length l.piece ≡ 4096)

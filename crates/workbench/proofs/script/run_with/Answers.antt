@@ -1,6 +1,7 @@
-use Rattle.std.proofs.Common.{[], arith}
+use Rattle.std.proofs.Common.{[], ap, arith}
 use Rattle.wb_io.proofs.CallLemmas.{Reads-nil, Writes-nil}
 use Rattle.workbench.proofs.Outcomes.{no_session, session_runs}
+use Rattle.wb_session.specs.Session.{triple_of}
 use Rattle.workbench.proofs.script.run_with.Goals as goal
 
 pub returns-in-Err : goal.returns-in-Err
@@ -16,4 +17,4 @@ returns-in-Err g c = (
 pub returns : goal.returns
 returns g c =
     let h = c.run_script.ensures in
-    (h.0, h.1, h.2, h.3, h.4, session_runs g.row.PAGES c.args.most c.args.image c.args.log c.in-Ok.session c.run_script.result h.0 h.1 c.in-Ok.ensures.0 c.in-Ok.ensures.1 h.5)
+    (h.0, h.1, h.2, h.3, h.4, session_runs g.row.PAGES c.args.most c.args.image c.args.log (triple_of c.in-Ok.session) c.run_script.result h.0 h.1 c.in-Ok.ensures.0 (ap triple_of c.in-Ok.ensures.1) h.5)

@@ -3,7 +3,7 @@ use Rattle.std.proofs.lemmas.Grind.{common_steps}
 use Rattle.std.proofs.lemmas.List.{append-nil, take-append-le}
 use Rattle.wb_io.specs.Calls.{Call, MovesSome, bytes_moved, call}
 use Rattle.wb_io.specs.declared.source.Failed.{Failed}
-use Rattle.wb_io.proofs.CallLemmas.{Reads-nil, Reads-one, Reads-trans, bytes_moved-append}
+use Rattle.wb_io.proofs.CallLemmas.{Reads-end, Reads-failed, Reads-nil, Reads-some, Reads-trans, bytes_moved-append}
 use Rattle.workbench.proofs.Fronts.{AsksFor-append_one}
 use Rattle.workbench.proofs.serving.read_front.Goals as goal
 
@@ -33,7 +33,7 @@ returns-in-Err g c =
     let one : Call = call (length (take wanted piece)) answer c.read.new.buffer in
     let more = length-append h.0 (one ∷ []) in (
       h.0 ++ one ∷ [],
-      Reads-trans _ _ _ _ _ _ h.0 (one ∷ []) h.1 (Reads-one _ _ _ _ (length (take wanted piece)) answer c.read.new.buffer w.called w.gives),
+      Reads-trans _ _ _ _ _ _ h.0 (one ∷ []) h.1 (Reads-failed _ _ _ _ one w.called refl w.gives),
       omega (arith, more, h.5),
       inl (record { pieces = h.0; last = one; reads_are = refl; each = h.2; short = short; asked = asked; so = inl refl }),
     )
@@ -57,7 +57,7 @@ returns-in-Ok-eq0 g c =
     let more = length-append h.0 (one ∷ []) in
     let some : 0 < length (take wanted piece) = omega (arith, asked, short) in (
       h.0 ++ one ∷ [],
-      Reads-trans _ _ _ _ _ _ h.0 (one ∷ []) h.1 (Reads-one _ _ _ _ (length (take wanted piece)) answer c.read.new.buffer w.called w.gives),
+      Reads-trans _ _ _ _ _ _ h.0 (one ∷ []) h.1 (Reads-end _ _ _ _ one w.called w.gives (w.end zero)),
       omega (arith, more, h.5),
       inl (record { pieces = h.0; last = one; reads_are = refl; each = h.2; short = short; asked = asked; so = inr (some, ap Some none) }),
     )
@@ -82,7 +82,7 @@ returns-in-Err-extend_from_slice g c =
     let within : count ≤ length buffer = omega (arith, w.within, same) in
     let some : MovesSome one = rw length-take-le (omega (arith, c.in-Ok.count-test)) in (
       h.0 ++ one ∷ [],
-      Reads-trans _ _ _ _ _ _ h.0 (one ∷ []) h.1 (Reads-one _ _ _ _ (length (take wanted piece)) answer buffer w.called w.gives),
+      Reads-trans _ _ _ _ _ _ h.0 (one ∷ []) h.1 (Reads-some _ _ _ _ one w.called w.gives some),
       omega (arith, more, h.5),
       AsksFor-append_one c.args.size h.0 one h.2 asked some,
     )
@@ -112,7 +112,7 @@ loop-piece-preserved g c =
     (c.in-Ok-extend_from_slice.ensures {u = tt}).items ∙ (ap (λ (z : List ℕ). c.loop-piece.bytes.items ++ z) given ∙ (ap (λ (z : List ℕ). z ++ take count buffer) h.3 ∙ sym bytes)) in
     let long : length (bytes_moved (h.0 ++ one ∷ [])) ≡ length (bytes_moved h.0) + count = ap length bytes ∙ (length-append (bytes_moved h.0) (take count buffer) ∙ ap (λ n. length (bytes_moved h.0) + n) (length-take-le count buffer within)) in (
       h.0 ++ one ∷ [],
-      Reads-trans _ _ _ _ _ _ h.0 (one ∷ []) h.1 (Reads-one _ _ _ _ (length (take wanted piece)) answer buffer w.called w.gives),
+      Reads-trans _ _ _ _ _ _ h.0 (one ∷ []) h.1 (Reads-some _ _ _ _ one w.called w.gives some),
       AsksFor-append_one c.args.size h.0 one h.2 asked some,
       held,
       omega (arith, long, within, same, asked, short),

@@ -1,14 +1,15 @@
 -- Each command is answered by the function of its name.
 use Rattle.std.proofs.Common.{inl, refl, ap}
-use Rattle.wb_session.specs.Session.{Triple, answer}
+use Rattle.wb_session.specs.Session.{Held, answer, triple_of}
 use Rattle.wb_text.specs.declared.reply.Reply.TheVariants.{Position}
 use Rattle.wb_session.proofs.session.Session.apply.Goals as goal
 
 pub returns-in-Pos : goal.returns-in-Pos
-returns-in-Pos g c = rw c.in-Pos.is (inl (ap (λ (s : Triple). answer c.args.self.now (Position s.position)) c.self.view_is))
+returns-in-Pos g c =
+    rw c.in-Pos.is (record { answers = inl (ap (λ (s : Held). answer (triple_of c.args.self.now) (Position s.position)) c.self.view_is); costs = refl })
 
 pub returns-in-Goto : goal.returns-in-Goto
-returns-in-Goto g c = rw c.in-Goto.is (inl c.goto.ensures)
+returns-in-Goto g c = rw c.in-Goto.is (record { answers = inl c.goto.ensures.answers; costs = c.goto.ensures.costs })
 
 pub returns-in-Step : goal.returns-in-Step
 returns-in-Step g c = rw c.in-Step.is c.step.ensures
@@ -44,7 +45,7 @@ pub returns-in-Writer : goal.returns-in-Writer
 returns-in-Writer g c = rw c.in-Writer.is c.writer.ensures
 
 pub returns-in-Log : goal.returns-in-Log
-returns-in-Log g c = rw c.in-Log.is (inl (ap (answer c.args.self.now) c.events.ensures))
+returns-in-Log g c = rw c.in-Log.is (record { answers = inl (ap (answer (triple_of c.args.self.now)) c.events.ensures); costs = refl })
 
 pub returns-in-Add : goal.returns-in-Add
 returns-in-Add g c = rw c.in-Add.is c.add.ensures
@@ -62,4 +63,4 @@ pub returns-in-Patch : goal.returns-in-Patch
 returns-in-Patch g c = rw c.in-Patch.is c.patch.ensures
 
 pub returns-in-Quit : goal.returns-in-Quit
-returns-in-Quit g c = rw c.in-Quit.is (inl refl)
+returns-in-Quit g c = rw c.in-Quit.is (record { answers = inl refl; costs = refl })

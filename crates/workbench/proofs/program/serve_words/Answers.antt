@@ -1,6 +1,6 @@
 use Rattle.std.proofs.Common.{◌++◌, refl}
 use Rattle.wb_io.proofs.CallLemmas.{Writes-trans}
-use Rattle.workbench.proofs.program.r3kwb.Goals as goal
+use Rattle.workbench.proofs.program.serve_words.Goals as goal
 
 pub returns : goal.returns
 returns g c =

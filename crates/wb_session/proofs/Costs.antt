@@ -1,0 +1,211 @@
+-- What queries cost, as replies say it, and what several at one position cost together.
+use Rattle.std.proofs.Common.{◌≡◌, ◌⊎◌, inl, inr, ℕ, zero, suc, ◌+◌, ◌-◌, ◌*◌, ◌/◌, ◌%◌, ◌<◌, ◌≤◌, ◌==◌, List, Option, Some, None, Bool, true, false, if◌then◌else◌, Contains, Result, Ok, Err, refl, sym, ap, ◌∙◌, subst, arith}
+use Rattle.std.proofs.Math.Nat.{add-mul, mul-le-mul_right}
+use Rattle.std.specs.Option.{ok_or}
+use Rattle.std.specs.Result.{is_ok}
+use Rattle.std.proofs.lemmas.Bool.{true≢false}
+use Rattle.timeline.specs.History.{History}
+use Rattle.timeline.specs.Reuse.{Applies, Holding, Lacks, Reaches, Serves, Spends, kept_at, span_of}
+use Rattle.refusal.specs.declared.fault.Fault.{Fault}
+use Rattle.refusal.specs.declared.fault.Fault.TheVariants.{Memory, Unaligned, NotMemory}
+use Rattle.timeline.specs.Landed.{Asks, AsksFault, Landed, Lands, holding}
+use Rattle.wb_text.specs.declared.reply.Reply.{Reply}
+use Rattle.wb_text.specs.declared.reply.Reply.TheVariants.{Fault as Refused}
+use Rattle.wb_session.specs.Cost.{AsksState, AsksSteps, AsksWords, outcome_of}
+use Rattle.wb_session.specs.Memory.{places_from, places_of}
+use Rattle.wb_session.specs.Session.{Held}
+
+-- a query of the state that is answered, and one that is refused
+pub state_shown : {A : Type 0} (pages span : ℕ) (old new : Held) (x : A) (reply : Reply) → outcome_of reply ≡ Ok tt
+    → Asks {A = A} pages span old.position 0 old.timeline new.timeline (Ok x)
+    → Lands {A = A} {E = Fault} span old.position old.timeline new.timeline (Ok x)
+    → AsksState pages span old new reply
+state_shown pages span old new x reply e asks lands = record {
+  asks = subst (λ (r : Result (Unit {0}) Fault). Asks {A = Unit {0}} pages span old.position 0 old.timeline new.timeline r) (sym e) asks;
+  lands = subst (λ (r : Result (Unit {0}) Fault). Lands {A = Unit {0}} {E = Fault} span old.position old.timeline new.timeline r) (sym e)
+      (record { free = lands.free; again = lands.again; first = lands.first; start = lands.start; refused = tt });
+}
+
+pub state_refused : {A : Type 0} (pages span : ℕ) (old new : Held) (fault : Fault)
+    → Asks {A = A} pages span old.position 0 old.timeline new.timeline (Err fault)
+    → Lands {A = A} {E = Fault} span old.position old.timeline new.timeline (Err fault)
+    → AsksState pages span old new (Refused fault)
+state_refused pages span old new fault asks lands = record {
+  asks = asks;
+  lands = record { free = lands.free; again = λ _. tt; first = λ _. tt; start = lands.start; refused = lands.refused };
+}
+
+-- a query of steps that is answered, and one that is refused
+pub steps_shown : {A : Type 0} (pages span beyond : ℕ) (old new : Held) (x : A) (reply : Reply) → outcome_of reply ≡ Ok tt
+    → Asks {A = A} pages span old.position beyond old.timeline new.timeline (Ok x)
+    → new.timeline.landings ≡ old.timeline.landings
+    → AsksSteps pages span beyond old new reply
+steps_shown pages span beyond old new x reply e asks landings = record {
+  asks = subst (λ (r : Result (Unit {0}) Fault). Asks {A = Unit {0}} pages span old.position beyond old.timeline new.timeline r) (sym e) asks;
+  landings = landings;
+}
+
+pub steps_refused : (pages span beyond : ℕ) (old new : Held) (fault : Fault)
+    → AsksFault pages span old.position beyond old.timeline new.timeline fault
+    → new.timeline.landings ≡ old.timeline.landings
+    → AsksSteps pages span beyond old new (Refused fault)
+steps_refused pages span beyond old new fault asks landings = record { asks = asks; landings = landings }
+
+-- words that are shown, and that are refused
+pub words_shown : {A : Type 0} (pages span count : ℕ) (old new : Held) (x : A) (reply : Reply) → outcome_of reply ≡ Ok tt
+    → Asks {A = A} pages span old.position ((count - 1) * (old.position % span)) old.timeline new.timeline (Ok x)
+    → (Contains old.timeline.landings old.position → new.timeline.steps ≡ old.timeline.steps)
+    → AsksWords pages span count old new reply
+words_shown pages span count old new x reply e asks free = record {
+  asks = subst (λ (r : Result (Unit {0}) Fault). Asks {A = Unit {0}} pages span old.position ((count - 1) * (old.position % span)) old.timeline new.timeline r) (sym e) asks;
+  free = free;
+}
+
+pub words_refused : (pages span count : ℕ) (old new : Held) (fault : Fault)
+    → AsksFault pages span old.position ((count - 1) * (old.position % span)) old.timeline new.timeline fault
+    → (Contains old.timeline.landings old.position → new.timeline.steps ≡ old.timeline.steps)
+    → AsksWords pages span count old new (Refused fault)
+words_refused pages span count old new fault asks free = record { asks = asks; free = free }
+
+-- Several queries of words at one position.
+-- where each span has a record that serves, none is lacking
+all_there : (pages span : ℕ) (h : Holding) (count : ℕ) → ((index : ℕ) → index < count → Serves pages span h index) → Lacks pages span h count 0
+unfolding Lacks
+all_there pages span h zero all = refl
+all_there pages span h (suc index) all = inl (all index (omega arith), all_there pages span h index (λ i below. all i (omega (arith, below))))
+
+-- nothing was asked yet
+pub nothing_spent : (pages span count : ℕ) (h : Holding) → Spends pages span count 0 h h
+nothing_spent pages span count h = record {
+  history = refl;
+  grows = omega arith;
+  most = λ lacking _. let e : h.steps ≤ h.steps + (lacking * span + 0) = omega arith in e;
+  kept = λ _. inl refl;
+}
+
+pub spends_more : (pages span count less more : ℕ) (old new : Holding) → less ≤ more → Spends pages span count less old new → Spends pages span count more old new
+spends_more pages span count less more old new within spends = record {
+  history = spends.history;
+  grows = spends.grows;
+  most = λ lacking lacks. let most = spends.most lacking lacks in omega (arith, most, within);
+  kept = spends.kept;
+}
+
+-- what a record of a later query is to an earlier one
+kept_again : (pages span index : ℕ) (old now new : Holding) → new.history ≡ now.history → (kept_at now index ≡ kept_at old index) ⊎ Applies pages span now index
+    → (kept_at new index ≡ kept_at now index) ⊎ Applies pages span new index → (kept_at new index ≡ kept_at old index) ⊎ Applies pages span new index
+kept_again pages span index old now new history first (inr applies) = inr applies
+kept_again pages span index old now new history (inl before) (inl same) = inl (same ∙ before)
+kept_again pages span index old now new history (inr applies) (inl same) =
+    inr (same ∙ (applies ∙ ap (λ (h : History). let o = Some (span_of pages span h.image h.log index) in o) (sym history)))
+
+-- a query after one that was answered runs no span
+pub spends_again : (pages span count a b : ℕ) (old now new : Holding) → Spends pages span count a old now → Reaches pages span count old now
+    → Spends pages span count b now new → Spends pages span count (a + b) old new
+spends_again pages span count a b old now new first reaches second = record {
+  history = second.history ∙ first.history;
+  grows = let before = first.grows in let after = second.grows in omega (arith, before, after);
+  most = λ lacking lacks.
+      let before = first.most lacking lacks in
+      let after = second.most 0 (all_there pages span now count reaches.there) in
+      let none : 0 * span ≡ 0 = omega arith in
+      omega (arith, before, after, none);
+  kept = λ index. kept_again pages span index old now new second.history (first.kept index) (second.kept index);
+}
+
+pub reaches_again : (pages span count a b : ℕ) (old now new : Holding) → Reaches pages span count old now → Spends pages span count b now new → Reaches pages span count now new
+    → Reaches pages span count old new
+reaches_again pages span count a b old now new first spends second = record {
+  least = λ lacking lacks. let before = first.least lacking lacks in let after = spends.grows in omega (arith, before, after);
+  there = second.there;
+}
+
+-- so many words were asked for at a position
+pub record AskedSo (pages span position words : ℕ) (old now : Landed) : Type 0 where
+  pub first : words ≡ 0 → now ≡ old
+  pub spends : Spends pages span (position / span) (words * (position % span)) (holding old) (holding now)
+  pub reaches : 0 < words → Reaches pages span (position / span) (holding old) (holding now)
+  pub free : Contains old.landings position → (now.steps ≡ old.steps) × Contains now.landings position
+
+pub asked_none : (pages span position : ℕ) (h : Landed) → AskedSo pages span position 0 h h
+asked_none pages span position h = record {
+  first = λ _. refl;
+  spends = spends_more pages span (position / span) 0 (0 * (position % span)) (holding h) (holding h) (omega arith) (nothing_spent pages span (position / span) (holding h));
+  reaches = λ some. absurd (omega (arith, some));
+  free = λ there. (refl, there);
+}
+
+one_more : (n rest : ℕ) → (n + 1) * rest ≡ n * rest + rest
+one_more n rest = add-mul n 1 rest ∙ ap (λ (m : ℕ). n * rest + m) (let e : 1 * rest ≡ rest = omega arith in e)
+
+-- what one more costs, whether it is answered or not
+spends_one : (pages span position words : ℕ) (old now new : Landed) → AskedSo pages span position words old now
+    → Spends pages span (position / span) (position % span + 0) (holding now) (holding new)
+    → Spends pages span (position / span) ((words + 1) * (position % span)) (holding old) (holding new)
+spends_one pages span position zero old now new so one =
+    spends_more pages span (position / span) (position % span + 0) ((0 + 1) * (position % span)) (holding old) (holding new) (let e = one_more 0 (position % span) in omega (arith, e))
+    (subst (λ (h : Landed). Spends pages span (position / span) (position % span + 0) (holding h) (holding new)) (so.first refl) one)
+spends_one pages span position (suc n) old now new so one =
+    spends_more pages span (position / span) (suc n * (position % span) + (position % span + 0)) ((suc n + 1) * (position % span)) (holding old) (holding new)
+    (let e = one_more (suc n) (position % span) in omega (arith, e))
+    (spends_again pages span (position / span) (suc n * (position % span)) (position % span + 0) (holding old) (holding now) (holding new) so.spends (so.reaches (omega arith)) one)
+
+reaches_one : (pages span position words : ℕ) (old now new : Landed) → AskedSo pages span position words old now
+    → Spends pages span (position / span) (position % span + 0) (holding now) (holding new)
+    → Reaches pages span (position / span) (holding now) (holding new)
+    → Reaches pages span (position / span) (holding old) (holding new)
+reaches_one pages span position zero old now new so one there =
+    subst (λ (h : Landed). Reaches pages span (position / span) (holding h) (holding new)) (so.first refl) there
+reaches_one pages span position (suc n) old now new so one there =
+    reaches_again pages span (position / span) (suc n * (position % span)) (position % span + 0) (holding old) (holding now) (holding new) (so.reaches (omega arith)) one there
+
+pub asked_one : {A : Type 0} (pages span position words : ℕ) (old now new : Landed) (x : A) → AskedSo pages span position words old now
+    → Asks {A = A} pages span position 0 now new (Ok x) → Lands {A = A} {E = Fault} span position now new (Ok x)
+    → AskedSo pages span position (words + 1) old new
+asked_one pages span position words old now new x so asks lands = record {
+  first = λ none. absurd (omega (arith, none));
+  spends = spends_one pages span position words old now new so asks.0;
+  reaches = λ _. reaches_one pages span position words old now new so asks.0 asks.1;
+  free = λ there.
+      let before = so.free there in
+      (lands.free before.1 ∙ before.0, subst (λ (l : List ℕ). Contains l position) (sym (lands.again before.1)) (0, omega arith, refl));
+}
+
+-- all words were shown
+pub asked_all : {A : Type 0} (pages span position count : ℕ) (old new : Landed) (x : A) → 0 < count → AskedSo pages span position count old new
+    → Asks {A = A} pages span position ((count - 1) * (position % span)) old new (Ok x)
+asked_all pages span position count old new x some so =
+    let rest = position % span in
+    let e : count ≡ count - 1 + 1 = omega (arith, some) in
+    let whole : count * rest ≡ (count - 1) * rest + rest = ap (λ (n : ℕ). n * rest) e ∙ one_more (count - 1) rest in (
+      spends_more pages span (position / span) (count * rest) (rest + (count - 1) * rest) (holding old) (holding new) (omega (arith, whole)) so.spends,
+      so.reaches some,
+    )
+
+-- one of them was refused for memory
+pub asked_part : (pages span position words count : ℕ) (old now new : Landed) → words < count → AskedSo pages span position words old now
+    → AsksFault pages span position 0 now new Memory
+    → AsksFault pages span position ((count - 1) * (position % span)) old new Memory
+asked_part pages span position words count old now new below so asks =
+    let rest = position % span in
+    let e : count ≡ count - 1 + 1 = omega (arith, below) in
+    let whole : count * rest ≡ (count - 1) * rest + rest = ap (λ (n : ℕ). n * rest) e ∙ one_more (count - 1) rest in
+    let less : (words + 1) * rest ≤ count * rest = mul-le-mul_right rest (let l : words + 1 ≤ count = omega (arith, below) in l) in
+    spends_more pages span (position / span) ((words + 1) * rest) (rest + (count - 1) * rest) (holding old) (holding new) (omega (arith, whole, less))
+    (spends_one pages span position words old now new so asks)
+
+-- words that have no places are refused before anything is asked
+IsNotAsked : (pages span beyond position : ℕ) → Landed → Result (List ℕ) Fault → Type 0
+IsNotAsked pages span beyond position h (Ok places) = Unit {0}
+IsNotAsked pages span beyond position h (Err fault) = AsksFault pages span position beyond h h fault
+
+not_asked_by : (pages span beyond position : ℕ) (h : Landed) (fault : Fault) (even : Bool) (places : Option (List ℕ))
+    → (if even then ok_or places NotMemory else Err Unaligned) ≡ Err fault → AsksFault pages span position beyond h h fault
+unfolding IsNotAsked
+not_asked_by pages span beyond position h fault false places e = subst (IsNotAsked pages span beyond position h) e refl
+not_asked_by pages span beyond position h fault true None e = subst (IsNotAsked pages span beyond position h) e refl
+not_asked_by pages span beyond position h fault true (Some places) e = absurd (true≢false (ap (λ (r : Result (List ℕ) Fault). is_ok r) e))
+
+pub not_asked : (pages span beyond position address count : ℕ) (h : Landed) (fault : Fault) → places_of pages address count ≡ Err fault
+    → AsksFault pages span position beyond h h fault
+not_asked pages span beyond position address count h fault e = not_asked_by pages span beyond position h fault (address % 4 == 0) (places_from pages address count) e

@@ -1,0 +1,65 @@
+-- What a command costs (own): the steps that it may run, and what is kept after it.
+use Rattle.std.specs.Prelude.{◌≡◌, ℕ, ◌-◌, ◌*◌, ◌%◌, [], Contains, Result, Ok, Err}
+use Rattle.timeline.specs.Landed.{Asks, Lands}
+use Rattle.refusal.specs.declared.fault.Fault.{Fault}
+use Rattle.wb_text.specs.declared.command.Command.{Command}
+use Rattle.wb_text.specs.declared.command.Command.TheVariants.{Pos, Goto, Step, Back, Visit, Regs, Reg, Cp0, Tlb, Where, Mem, Dis, Console, Find, Writer, Log, Add, Del, Set, Move, Patch, Quit}
+use Rattle.wb_text.specs.declared.reply.Reply.{Reply}
+use Rattle.wb_text.specs.declared.reply.Reply.TheVariants.{Fault as Refused}
+use Rattle.wb_session.specs.Session.{Held}
+
+-- what a reply says of a query: it was answered, or refused
+abbrev pub outcome_of : Reply → Result (Unit {0}) Fault
+outcome_of (Refused fault) = Err fault
+outcome_of reply = Ok tt
+
+-- no query: all that is kept stays, and no step is run
+abbrev pub AsksNothing : (old new : Held) → Type 0
+AsksNothing old new = new.timeline ≡ old.timeline
+
+-- An edit: the records stay, no step is run, and no state inside a span is kept any more. Where it is refused, all stays.
+abbrev pub Edits : (old new : Held) → Reply → Type 0
+Edits old new (Refused fault) = new.timeline ≡ old.timeline
+Edits old new reply =
+    new.timeline ≡ record { history = new.timeline.history; spans = old.timeline.spans; steps = old.timeline.steps; landings = [] }
+
+-- one query of the state at the position
+pub record AsksState (pages span : ℕ) (old new : Held) (reply : Reply) : Type 0 where
+  pub asks : Asks pages span old.position 0 old.timeline new.timeline (outcome_of reply)
+  pub lands : Lands span old.position old.timeline new.timeline (outcome_of reply)
+
+-- one query of what the steps before the position told, or of what comes at most so many steps after it
+pub record AsksSteps (pages span beyond : ℕ) (old new : Held) (reply : Reply) : Type 0 where
+  pub asks : Asks pages span old.position beyond old.timeline new.timeline (outcome_of reply)
+  pub landings : new.timeline.landings ≡ old.timeline.landings
+
+-- So many words at the position, each by a query: the first costs what one costs, and each after it at most what is left of the last
+-- span. Where the state at the position is kept, none of them runs a step.
+pub record AsksWords (pages span count : ℕ) (old new : Held) (reply : Reply) : Type 0 where
+  pub asks : Asks pages span old.position ((count - 1) * (old.position % span)) old.timeline new.timeline (outcome_of reply)
+  pub free : Contains old.timeline.landings old.position → new.timeline.steps ≡ old.timeline.steps
+
+-- what each command costs, on a machine with so many pages of RAM whose runs are kept in spans of so many steps
+abbrev pub Costs : (pages span : ℕ) → Command → (old new : Held) → Reply → Type 0
+Costs pages span Pos old new reply = AsksNothing old new
+Costs pages span (Goto position) old new reply = AsksNothing old new
+Costs pages span (Step count) old new reply = AsksNothing old new
+Costs pages span (Back count) old new reply = AsksNothing old new
+Costs pages span (Visit address limit) old new reply = AsksSteps pages span limit old new reply
+Costs pages span Regs old new reply = AsksState pages span old new reply
+Costs pages span (Reg number) old new reply = AsksState pages span old new reply
+Costs pages span Cp0 old new reply = AsksState pages span old new reply
+Costs pages span (Tlb number) old new reply = AsksState pages span old new reply
+Costs pages span (Where address) old new reply = AsksState pages span old new reply
+Costs pages span (Mem address count) old new reply = AsksWords pages span count old new reply
+Costs pages span (Dis address count) old new reply = AsksWords pages span count old new reply
+Costs pages span (Console line from count) old new reply = AsksSteps pages span 0 old new reply
+Costs pages span (Find line place) old new reply = AsksSteps pages span 0 old new reply
+Costs pages span (Writer address) old new reply = AsksSteps pages span 0 old new reply
+Costs pages span (Log from count) old new reply = AsksNothing old new
+Costs pages span (Add time line byte) old new reply = Edits old new reply
+Costs pages span (Del place) old new reply = Edits old new reply
+Costs pages span (Set place byte) old new reply = Edits old new reply
+Costs pages span (Move place time) old new reply = Edits old new reply
+Costs pages span (Patch address word) old new reply = Edits old new reply
+Costs pages span Quit old new reply = AsksNothing old new
