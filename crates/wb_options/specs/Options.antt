@@ -8,7 +8,7 @@ use Rattle.std.specs.Str.Parse.{IsNumeral, digits_value}
 use Rattle.clap.specs.Words.{App, IsAmong, Kinds, Rule, Text, fault_of, new_app, new_rule}
 use Rattle.clap.specs.Words.{with_rule}
 use Rattle.clap.specs.declared.error.kind.ErrorKind.{ErrorKind}
-use Rattle.clap.specs.declared.error.kind.ErrorKind.TheVariants.{DisplayHelp, OutOfMemory}
+use Rattle.clap.specs.declared.error.kind.ErrorKind.TheVariants.{DisplayHelp, InvalidValue, OutOfMemory}
 use Rattle.wb_options.specs.declared.fault.RunFault.{RunFault}
 use Rattle.wb_options.specs.declared.fault.RunFault.TheVariants.{Memory, Usage, Help}
 use Rattle.wb_options.specs.declared.arguments.Kind.{Kind}
@@ -90,3 +90,7 @@ IsFaultOf kind Memory = ⊤
 IsFaultOf kind (Usage text) = (kind ≢ DisplayHelp) × (kind ≢ OutOfMemory)
 IsFaultOf kind (Help text) = kind ≡ DisplayHelp
 IsFaultOf kind _ = ⊥
+
+-- the fault of words that are not text: that of a wrong value
+abbrev pub IsNotText : RunFault → Type 0
+IsNotText fault = IsFaultOf InvalidValue fault

@@ -3,7 +3,7 @@ ghost use Rattle.std.specs.Prelude.{◌≡◌, ◌≤◌, ℕ, false, map, IfOk,
 ghost use Rattle.std.specs.Option.{option_copied};
 ghost use Rattle.clap.specs.Words.{app_of, kind_of, rule_of};
 ghost use Rattle.clap.specs.declared.error.kind.ErrorKind.TheVariants.{InvalidValue};
-ghost use Rattle.wb_options.specs.Options.{command_line, option_rule, IsFaultOf, IsKind, IsSize};
+ghost use Rattle.wb_options.specs.Options.{command_line, option_rule, IsFaultOf, IsKind, IsNotText, IsSize};
 ghost use Rattle.wb_options.specs.Options.{IsLine, IsLineFault, max_size};
 
 use crate::arguments::{Kind, MAX_SIZE, Options};
@@ -45,7 +45,7 @@ pub fn options<'a>(alloc: Global, words: &'a [&'a str]) -> Result<Options, RunFa
 
 /// The fault of words that are not text, which is one of the program's line.
 pub fn not_text(alloc: Global) -> RunFault
-    ensures { IsFaultOf InvalidValue result }
+    ensures { IsNotText result }
 {
     match command(alloc) {
         Err(_) => RunFault::Memory,

@@ -1,11 +1,10 @@
 -- The program (own): what its reader and its two writers get, by its words.
 use Rattle.std.specs.Prelude.{◌≡◌, ◌⊎◌, ℕ, List, [], ◌++◌, Option, Some, None, Result, Ok, Err, map}
 use Rattle.std.specs.Borrow.{Bor}
-use Rattle.clap.specs.declared.error.kind.ErrorKind.TheVariants.{InvalidValue}
 use Rattle.std.specs.String.{string_bytes}
 use Rattle.wb_io.specs.Calls.{Call, TakesAll, TakesFront}
 use Rattle.wb_options.specs.Fault.{line_of, status_of}
-use Rattle.wb_options.specs.Options.{IsFaultOf, IsLineFault, IsLine}
+use Rattle.wb_options.specs.Options.{IsLineFault, IsLine, IsNotText}
 use Rattle.wb_options.specs.declared.fault.RunFault.{RunFault}
 use Rattle.wb_options.specs.declared.fault.RunFault.TheVariants.{Memory, Usage, Help}
 use Rattle.workbench.specs.declared.program.NoWords.{NoWords}
@@ -38,7 +37,7 @@ texts_of (Err why) = Err why
 -- there is no memory to say so
 abbrev pub IsWithoutWords : NoWords → RunFault → Type 0
 IsWithoutWords NoMemory fault = fault ≡ Memory
-IsWithoutWords NotText fault = IsFaultOf InvalidValue fault
+IsWithoutWords NotText fault = IsNotText fault
 
 -- The words were good and were served, or they were not, or there are none, and this is why; then nothing is read or written.
 abbrev pub Serving : {T : Type 0} → ℕ → Result (List (List ℕ)) NoWords → Result T RunFault → (reads writes : List Call) → Type 0

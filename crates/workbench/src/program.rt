@@ -1,7 +1,7 @@
 //! The program: it reads its line, runs the workbench over a reader and a writer, and reports how it went.
 ghost use Rattle.std.specs.Prelude.{List};
 ghost use Rattle.wb_io.specs.Calls.{Call, Reads, Writes};
-ghost use Rattle.workbench.specs.Program.{Program, Serving, Tells, error_text, help_text, texts_of};
+ghost use Rattle.workbench.specs.Program.{IsWithoutWords, Program, Serving, Tells, error_text, help_text, texts_of};
 ghost use Rattle.timeline.specs.Sizes.{AreSizes};
 
 use crate::serving::serve;
@@ -72,13 +72,22 @@ fn outcome_of<const PAGES: u32, const SPAN: u32, R: Source, W: Sink>(
         × Serving PAGES (texts_of words.entry) result reads writes }
 {
     let words = match words {
-        Err(NoWords::NoMemory) => return Err(RunFault::Memory),
-        Err(NoWords::NotText) => return Err(not_text(alloc)),
+        Err(why) => return Err(without_words(alloc, why)),
         Ok(words) => words,
     };
     match options(alloc, words) {
         Err(fault) => Err(fault),
         Ok(options) => serve::<PAGES, SPAN, R, W>(alloc, options, input, output),
+    }
+}
+
+// What is wrong where there are no words.
+fn without_words(alloc: Global, why: NoWords) -> RunFault
+    ensures { IsWithoutWords why result }
+{
+    match why {
+        NoWords::NoMemory => RunFault::Memory,
+        NoWords::NotText => not_text(alloc),
     }
 }
 
