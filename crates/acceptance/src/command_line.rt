@@ -7,7 +7,7 @@ use std::alloc::Global;
 use std::str;
 use std::test::Fail;
 use wb_options::MAX_SIZE;
-use workbench::{Kind, Plan, RunFault, fault_line, options, r3kwb, status};
+use workbench::{Kind, NoWords, Plan, RunFault, fault_line, options, r3kwb, status};
 
 // What a line asks for, or the status that it ends with.
 fn asked<'a>(alloc: Global, words: &'a [&'a str]) -> Result<(Kind, u32, u32), u8> {
@@ -104,28 +104,24 @@ fn help_and_usage(rt: HostRuntime) -> Result<(), Fail> {
     Ok(())
 }
 
-/// Without words there was no memory for them.
+/// Where there are no words, nothing is read.
 #[test]
 fn no_words(rt: HostRuntime) -> Result<(), Fail> {
     let alloc = rt.alloc();
-    let mut input = Plan::new(alloc, b"pos\n", 1, 0)?;
-    let mut output = Plan::new(alloc, &[], 1, 100)?;
-    let mut errors = Plan::new(alloc, &[], 1, 100)?;
-    let status = r3kwb::<16, 64, Plan, Plan, Plan>(
-        alloc,
-        None,
-        &mut input,
-        &mut output,
-        &mut errors,
-    );
-    same(&rt, &status, &4);
-    same(&rt, &input.left().len(), &4);
-    same(&rt, &output.written().len(), &0);
-    same(
-        &rt,
-        &errors.written(),
-        &b"r3kwb: error 1 Memory\n".as_slice(),
-    );
+    for (why, fault, part) in [
+        (NoWords::NoMemory, 4, "r3kwb: error 1 Memory\n"),
+        (NoWords::NotText, 2, "the words are not all UTF-8 text"),
+    ] {
+        let mut input = Plan::new(alloc, b"pos\n", 1, 0)?;
+        let mut output = Plan::new(alloc, &[], 1, 100)?;
+        let mut errors = Plan::new(alloc, &[], 1, 1000)?;
+        let status = r3kwb(alloc, Err(why), &mut input, &mut output, &mut errors);
+        same_at(&rt, &why, &status, &fault);
+        same_at(&rt, &why, &input.left().len(), &4);
+        same_at(&rt, &why, &output.written().len(), &0);
+        let told = str::from_utf8(errors.written())?;
+        same_at(&rt, &why, &told.contains(part), &true);
+    }
     Ok(())
 }
 

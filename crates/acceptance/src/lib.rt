@@ -12,6 +12,8 @@ mod examples;
 #[cfg(test)]
 mod exceptions;
 #[cfg(test)]
+mod failing;
+#[cfg(test)]
 mod images;
 #[cfg(test)]
 mod logs;

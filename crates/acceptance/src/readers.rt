@@ -5,7 +5,7 @@ use std::io;
 use std::io::{ErrorKind, Read, Write};
 use std::test::Fail;
 use workbench::{
-    Failed, FromRead, Kind, Options, Plan, RunFault, Sink, Source, ToWrite, serve, status,
+    Failed, FromRead, Kind, Options, Plan, Sink, Source, ToWrite, serve, status,
 };
 
 const NO_IMAGE: Options = Options {
@@ -120,74 +120,6 @@ fn one_call_for_one(rt: HostRuntime) -> Result<(), Fail> {
     same(&rt, &writer.calls, &2);
     same(&rt, &ToWrite::new(&mut writer).write(b"z"), &Ok(1));
     same(&rt, &writer.written.as_slice(), &b"xyz".as_slice());
-    Ok(())
-}
-
-// A script of three commands in 13 bytes, and its text of 18.
-const SCRIPT: &[u8] = b"pos\ngoto 7\npos";
-
-const TEXT: &[u8] = b"pos 0\npos 7\npos 7\n";
-
-/// The k-th read fails, in pieces of one byte and of all: the replies of the complete lines before it are out.
-#[test]
-fn each_read_failing(rt: HostRuntime) -> Result<(), Fail> {
-    let alloc = rt.alloc();
-    for call in 1..16u32 {
-        let mut reader = Counting::new(alloc, SCRIPT, 1, call)?;
-        let mut writer = Plan::new(alloc, &[], 4096, 100)?;
-        let mut source = FromRead::new(&mut reader);
-        let outcome = serve::<16, 64, _, Plan>(alloc, NO_IMAGE, &mut source, &mut writer);
-        assert!(rt;
-            matches!(&outcome, Err(RunFault::ReadFault)),
-            "at call {call}"
-        );
-        // The line feeds are the bytes 4 and 11, the read of the end is the 16th.
-        let lines = usize::from(call > 4) + usize::from(call > 11);
-        same_at(&rt, &call, &writer.written(), &&TEXT[..6 * lines]);
-        same(&rt, &reader.calls, &call);
-    }
-    for call in 1..3u32 {
-        let mut reader = Counting::new(alloc, SCRIPT, 4096, call)?;
-        let mut writer = Plan::new(alloc, &[], 4096, 100)?;
-        let mut source = FromRead::new(&mut reader);
-        let outcome = serve::<16, 64, _, Plan>(alloc, NO_IMAGE, &mut source, &mut writer);
-        same(&rt, &status(&outcome), &3);
-        let out: &[u8] = if call == 1 { b"" } else { b"pos 0\npos 7\n" };
-        same(&rt, &writer.written(), &out);
-    }
-    Ok(())
-}
-
-/// The k-th write fails, byte by byte: what went out is a front of the text, and nothing follows it.
-#[test]
-fn each_write_failing(rt: HostRuntime) -> Result<(), Fail> {
-    let alloc = rt.alloc();
-    for call in 1..19u32 {
-        let mut reader = Plan::new(alloc, SCRIPT, 4096, 0)?;
-        let mut writer = Counting::new(alloc, b"", 1, call)?;
-        let mut sink = ToWrite::new(&mut writer);
-        let outcome = serve::<16, 64, Plan, _>(alloc, NO_IMAGE, &mut reader, &mut sink);
-        assert!(rt;
-            matches!(&outcome, Err(RunFault::WriteFault)),
-            "at call {call}"
-        );
-        same(&rt, &writer.written.as_slice(), &&TEXT[..call as usize - 1]);
-        same(&rt, &writer.calls, &call);
-    }
-    Ok(())
-}
-
-/// A writer that is full takes none of its bytes.
-#[test]
-fn writer_that_is_full(rt: HostRuntime) -> Result<(), Fail> {
-    let alloc = rt.alloc();
-    for (room, fault) in [(100, 0), (18, 0), (17, 3), (9, 3), (0, 3)] {
-        let mut reader = Plan::new(alloc, SCRIPT, 3, 0)?;
-        let mut writer = Plan::new(alloc, &[], 4, room)?;
-        let outcome = serve::<16, 64, Plan, Plan>(alloc, NO_IMAGE, &mut reader, &mut writer);
-        same(&rt, &status(&outcome), &fault);
-        same(&rt, &writer.written(), &&TEXT[..room.min(18)]);
-    }
     Ok(())
 }
 

@@ -42,29 +42,3 @@ fn replies(rt: HostRuntime) -> Result<(), Fail> {
     }
     Ok(())
 }
-
-/// A script that is cut after each of its bytes.
-#[test]
-fn cut_scripts(rt: HostRuntime) -> Result<(), Fail> {
-    let script = b"goto 2\npos 1";
-    let wants = [
-        "",
-        "error 2 Syntax\n",
-        "error 2 Syntax\n",
-        "error 2 Syntax\n",
-        "error 2 Syntax\n",
-        "error 2 Syntax\n",
-        "pos 2\n",
-        "pos 2\n",
-        "pos 2\nerror 2 Syntax\n",
-        "pos 2\nerror 2 Syntax\n",
-        "pos 2\npos 2\n",
-        "pos 2\npos 2\n",
-        "pos 2\nerror 2 Syntax\n",
-    ];
-    for (len, want) in wants.iter().enumerate() {
-        let run = run_program(rt.alloc(), &["r3kwb"], &script[..len], 3)?;
-        same_at(&rt, &len, &run.output.as_slice(), &want.as_bytes());
-    }
-    Ok(())
-}

@@ -4,7 +4,7 @@ ghost use Rattle.timeline.specs.Sizes.{AreSizes};
 
 use std::alloc::{AllocError, Global};
 use std::test::Fail;
-use workbench::{Plan, r3kwb};
+use workbench::{Plan, serve_words};
 
 /// What a run wrote to its output, what it told on its errors, and its status.
 #[derive(Drop)]
@@ -39,9 +39,9 @@ pub fn run_on<const PAGES: u32, const SPAN: u32>(
     let mut input = Plan::new(alloc, input, piece, 0)?;
     let mut output = Plan::new(alloc, &[], 4096, 65_536)?;
     let mut errors = Plan::new(alloc, &[], 4096, 4096)?;
-    let status = r3kwb::<PAGES, SPAN, Plan, Plan, Plan>(
+    let status = serve_words::<PAGES, SPAN, Plan, Plan, Plan>(
         alloc,
-        Some(words),
+        Ok(words),
         &mut input,
         &mut output,
         &mut errors,
