@@ -58,6 +58,13 @@ impl<const PAGES: u32, const SPAN: u32> Session<PAGES, SPAN> {
         })
     }
 
+    /// The history of the session, and what is kept of its runs.
+    pub fn timeline(&self) -> &Timeline<PAGES, SPAN>
+        ensures { result.now ≡ self.now.timeline }
+    {
+        &self.timeline
+    }
+
     /// Answers a command. What it may cost is said by command: a query of the history, or several, or none.
     pub fn apply(&mut self, command: Command) -> Reply
         ensures answers { Answers PAGES (triple_of self.old) command (triple_of self.new) result }
