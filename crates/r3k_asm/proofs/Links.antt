@@ -1,5 +1,5 @@
 -- One line or one reference more.
-use Rattle.std.proofs.Common.{◌≡◌, ℕ, zero, suc, ◌+◌, ◌<◌, ◌≤◌, List, [], ◌∷◌, length, get_or, drop, Result, Ok, Err, refl, sym, ap, ◌∙◌, arith}
+use Rattle.std.proofs.Common.{◌≡◌, ℕ, zero, suc, ◌+◌, ◌<◌, ◌≤◌, List, [], ◌∷◌, length, get_or, drop, Result, Ok, Err, inl, inr, refl, sym, ap, subst, ◌∙◌, arith}
 use Rattle.std.specs.Prelude.{unwrap_or}
 use Rattle.std.specs.Ordering.{nat_cmp}
 use Rattle.r3k_image.specs.Boot.{Boot, plain_byte_time, plain_clock_start, plain_unit}
@@ -12,7 +12,8 @@ use Rattle.r3k_asm.specs.declared.fault.AsmFault.TheVariants.{Memory, Bad}
 use Rattle.r3k_asm.specs.declared.reference.Reference.{Reference}
 use Rattle.r3k_asm.specs.Reference.{LabelMap, word_of_reference}
 use Rattle.r3k_asm.specs.Source.{State, started, read, FailsOrLacks as FailsAt}
-use Rattle.r3k_asm.specs.Meaning.{at_line, passed, linked, FailsOrLacks, image_of, ◌>>=◌}
+use Rattle.asm_line.specs.Statement.{statement_of}
+use Rattle.r3k_asm.specs.Meaning.{HasNoFaultBefore, SetsOne, at_line, passed, linked, FailsOrLacks, image_of, ◌>>=◌}
 
 pub line_more : (line : ℕ) (s next : State) (text front rest : List ℕ) → lines text ≡ front ∷ lines rest → read line s front ≡ Ok next
     → passed (line + 1) next (lines rest) ≡ passed line s (lines text)
@@ -31,6 +32,20 @@ line_fails line s text front rest (Bad at kind) e h =
 pub line_none : (line : ℕ) (s : State) (rest : List ℕ) → length rest ≡ 0 → passed line s (lines rest) ≡ Ok s
 unfolding passed
 line_none line s rest none = ap (λ (r : List ℕ). passed line s (lines r)) (nil_from_length rest none)
+
+-- lines without a fault before what asks for memory, one more at their front
+pub asks_first : (line : ℕ) (s : State) (text front rest : List ℕ) → lines text ≡ front ∷ lines rest → SetsOne (statement_of front) → HasNoFaultBefore line s (lines text)
+unfolding HasNoFaultBefore
+asks_first line s text front rest e sets = subst (λ (ls : List (List ℕ)). HasNoFaultBefore line s ls) (sym e) (inl sets)
+
+pub asks_later : (line : ℕ) (s next : State) (text front rest : List ℕ) → lines text ≡ front ∷ lines rest → read line s front ≡ Ok next
+    → HasNoFaultBefore (line + 1) next (lines rest) → HasNoFaultBefore line s (lines text)
+unfolding HasNoFaultBefore
+asks_later line s next text front rest e is later = subst (λ (ls : List (List ℕ)). HasNoFaultBefore line s ls) (sym e) (inr (next, is, later))
+
+pub asks_at_end : (line : ℕ) (s : State) (rest : List ℕ) → length rest ≡ 0 → HasNoFaultBefore line s (lines rest)
+unfolding HasNoFaultBefore
+asks_at_end line s rest none = subst (λ (r : List ℕ). HasNoFaultBefore line s (lines r)) (sym (nil_from_length rest none)) tt
 
 pub fails_same : (fault : AsmFault) (a b : Result State AsmFault) → a ≡ b → FailsOrLacks fault a → FailsOrLacks fault b
 fails_same Memory a b e h = tt

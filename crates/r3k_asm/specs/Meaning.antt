@@ -1,11 +1,14 @@
 -- What a source means (own): the image that its lines make in two passes, or the first fault. The second pass is made only
 -- where the first has no fault.
-use Rattle.std.specs.Prelude.{◌≡◌, ℕ, ◌+◌, List, [], ◌∷◌, Result, Ok, Err, unwrap_or}
+use Rattle.std.specs.Prelude.{◌≡◌, ◌⊎◌, ℕ, ◌+◌, List, [], ◌∷◌, Result, Ok, Err, unwrap_or}
 use Rattle.std.specs.Ordering.{nat_cmp}
 use Rattle.std.specs.FinMap as map
 use Rattle.std.specs.Str.Lines.{lines}
 use Rattle.r3k_image.specs.Boot.{Boot, plain_byte_time, plain_clock_start, plain_unit}
 use Rattle.asm_line.specs.declared.kind.AsmKind.{AsmKind}
+use Rattle.asm_line.specs.declared.statement.Statement.{Statement}
+use Rattle.asm_line.specs.declared.statement.Statement.TheVariants.{Label, Word}
+use Rattle.asm_line.specs.Statement.{statement_of}
 use Rattle.r3k_asm.specs.declared.fault.AsmFault.{AsmFault}
 use Rattle.r3k_asm.specs.declared.fault.AsmFault.TheVariants.{Memory, Bad}
 use Rattle.r3k_asm.specs.declared.reference.Reference.{Reference}
@@ -26,6 +29,18 @@ abbrev pub ◌>>=◌ : {A B : Type 0} → Result A AsmFault → (A → Result B 
 unfoldable pub passed : ℕ → State → List (List ℕ) → Result State AsmFault
 passed line s [] = Ok s
 passed line s (l ∷ ls) = at_line line (read line s l) (λ next. passed (line + 1) next ls)
+
+-- what a line says sets a word or a label
+abbrev pub SetsOne : Result Statement AsmKind → Type 0
+SetsOne (Ok (Label name)) = Unit {0}
+SetsOne (Ok (Word word target)) = Unit {0}
+SetsOne said = ⊥
+
+-- No line has a fault before one that sets a word or a label, or before the end, if none sets one: memory is asked for there at
+-- the earliest.
+unfoldable pub HasNoFaultBefore : ℕ → State → List (List ℕ) → Type 0
+HasNoFaultBefore line s [] = Unit {0}
+HasNoFaultBefore line s (l ∷ ls) = SetsOne (statement_of l) ⊎ ((next : State) × (read line s l ≡ Ok next) × HasNoFaultBefore (line + 1) next ls)
 
 -- the second pass: each word gets the part that its target gives
 unfoldable pub linked : LabelMap → map.FinMap nat_cmp ℕ → List Reference → Result (map.FinMap nat_cmp ℕ) AsmFault

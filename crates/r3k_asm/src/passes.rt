@@ -1,10 +1,10 @@
 //! The two passes over a source.
 
-ghost use Rattle.std.specs.Prelude.{◌≡◌, length};
+ghost use Rattle.std.specs.Prelude.{◌≡◌, IfOk, IsErrOf, length};
 ghost use Rattle.std.specs.Str.Lines.{lines};
 ghost use Rattle.r3k_image.specs.Boot.{IsBoot};
 ghost use Rattle.r3k_asm.specs.Source.{seen, started};
-ghost use Rattle.r3k_asm.specs.Meaning.{Answers, passed, linked, image_of};
+ghost use Rattle.r3k_asm.specs.Meaning.{Answers, HasNoFaultBefore, passed, linked, image_of};
 
 use crate::fault::AsmFault;
 use crate::labels::Labels;
@@ -16,7 +16,9 @@ use std::alloc::Global;
 
 // The first pass: what all lines say, or the first fault.
 fn first_pass(alloc: Global, text: &[u8]) -> Result<Source<'_>, AsmFault>
-    ensures { Answers seen result (passed 1 started (lines text.now)) }
+    ensures lines { Answers seen result (passed 1 started (lines text.now)) }
+    ensures memory { IsErrOf result AsmFault.Memory → HasNoFaultBefore 1 started (lines text.now) }
+    ensures whole { IfOk result (λ _. HasNoFaultBefore 1 started (lines text.now)) }
 {
     let mut source = Source::new(alloc);
     let mut line = 0u64;
@@ -51,7 +53,10 @@ fn second_pass(
 
 /// The image of a source, or the first fault in it.
 pub fn assemble(alloc: Global, text: &[u8]) -> Result<Image, AsmFault>
-    ensures { Answers (λ image. image) result (image_of text.now) }
+    // What it means, unless memory runs out: its image, or its first fault.
+    ensures exact { Answers (λ image. image) result (image_of text.now) }
+    // Memory is asked for only once a line without a fault before it sets a word or a label, or no line has a fault.
+    ensures memory { IsErrOf result AsmFault.Memory → HasNoFaultBefore 1 started (lines text.now) }
 {
     let Source {
         words,

@@ -28,7 +28,9 @@ pub struct Source<'a> {
 }
 
 impl<'a> Source<'a> {
-    ghost use Rattle.std.specs.Prelude.{◌≡◌};
+    ghost use Rattle.std.specs.Prelude.{◌≡◌, IsErrOf};
+    ghost use Rattle.asm_line.specs.Statement.{statement_of};
+    ghost use Rattle.r3k_asm.specs.Meaning.{SetsOne};
     ghost use Rattle.r3k_asm.specs.Source.{ReadsOrLacks, seen, added, with_word, read, started};
 
     /// What no line says.
@@ -72,7 +74,8 @@ impl<'a> Source<'a> {
     // One more statement.
     #[tactic(auto, unfolding(crate::specs::Source::added))]
     fn add(&mut self, line: u64, statement: Statement<'a>) -> Result<(), AsmFault>
-        ensures { ReadsOrLacks line (seen self.new) result (added line (seen self.old) statement.entry) }
+        ensures added { ReadsOrLacks line (seen self.new) result (added line (seen self.old) statement.entry) }
+        ensures memory { IsErrOf result AsmFault.Memory → SetsOne (Ok statement.entry) }
     {
         match statement {
             Statement::Empty => {}
@@ -108,7 +111,9 @@ impl<'a> Source<'a> {
     /// One more line.
     #[tactic(auto, unfolding(crate::specs::Source::read))]
     pub fn read(&mut self, line: u64, text: &'a [u8]) -> Result<(), AsmFault>
-        ensures { ReadsOrLacks line (seen self.new) result (read line (seen self.old) text.now) }
+        ensures read { ReadsOrLacks line (seen self.new) result (read line (seen self.old) text.now) }
+        // Memory is asked for a word or a label alone.
+        ensures memory { IsErrOf result AsmFault.Memory → SetsOne (statement_of text.now) }
     {
         match read_line(text) {
             Ok(statement) => self.add(line, statement),
