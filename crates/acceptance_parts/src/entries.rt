@@ -40,6 +40,7 @@ fn translation_lookup(rt: HostRuntime) {
         several: true,
         ..found
     };
+    same(&rt, &tlb.lookup(0x3000, 0), &Some(several));
     same(&rt, &tlb.lookup(0x3FFF, 0), &Some(several));
     same(&rt, &tlb.probe(0x3000), &Some(several));
     // What several entries match is never kept; what one matches is, of its process and for its use alone.

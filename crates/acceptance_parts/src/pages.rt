@@ -5,8 +5,11 @@ ghost use Rattle.r3k_word.specs.declared.layout.TheConstants.{MAX_RAM_PAGES};
 ghost use Rattle.r3k_pages.specs.Pages.{SameOutside};
 
 use crate::same::{same, same_at};
+use r3k_asm::assemble;
+use r3k_image::Image;
 use r3k_pages::{PageMarks, Snapshot, page_laws};
-use r3k_word::layout::{PAGE_WORDS, ROM_PAGES, page_of, word_count};
+use r3k_word::layout::{PAGE_WORDS, ROM_PAGES, address_of, page_of, word_count};
+use samples::ECHO;
 use std::alloc::{AllocError, Global};
 use std::process::Abort;
 use std::test::Fail;
@@ -256,6 +259,34 @@ fn pages_of_another(rt: HostRuntime) -> Result<(), Fail> {
     holds(&rt, &both, &[1, 16, 31, 79]);
     holds(&rt, &own, &[]);
     holds(&rt, &other, &all);
+    Ok(())
+}
+
+// The memory that an image sets, of 16 pages of RAM.
+fn memory_of(alloc: Global, image: &Image) -> Result<Vec<u32>, AllocError>
+    ensures { IfOk result (λ words. length words.items ≡ word_count_of 16) }
+{
+    let mut words = vec![in alloc; 0; word_count(16)]?;
+    for place in 0..word_count(16) {
+        words[place] = image.word(address_of(16, place)).unwrap_or(0);
+    }
+    Ok(words)
+}
+
+// The first page of ROM of the echo program, with another word in it.
+#[test]
+fn page_of_the_echo_program(rt: HostRuntime) -> Result<(), Fail> {
+    let mut image = assemble(rt.alloc(), ECHO.as_bytes())?;
+    let words = memory_of(rt.alloc(), &image)?;
+    let own = Snapshot::<16>::capture(rt.alloc(), &words, None, &[])?;
+    let patched = image.patch(0x1FC0_0010, 0x2405_0011).is_ok();
+    same(&rt, &patched, &true);
+    let words = memory_of(rt.alloc(), &image)?;
+    let other = Snapshot::<16>::capture(rt.alloc(), &words, None, &[])?;
+    let both = own.overlay(rt.alloc(), &[16], &other)?;
+    same(&rt, &own.word(16 * 1024 + 4), &0x2405_0001);
+    same(&rt, &both.word(16 * 1024 + 4), &0x2405_0011);
+    differ_in(&rt, &own, &both, &[16]);
     Ok(())
 }
 

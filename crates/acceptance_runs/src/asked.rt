@@ -39,6 +39,8 @@ pub enum Ask<'a> {
     Set(u64, u8),
     /// A word of the image is set, by its physical address.
     Patch(u32, u32),
+    /// A patch at an address is refused.
+    RefusesPatch(u32, Fault),
     /// An address that is none, and numbers out of their ranges, are refused.
     Refuses,
 }
@@ -98,6 +100,7 @@ impl<const PAGES: u32, const SPAN: u32> Asked<PAGES, SPAN> {
             Ask::Del(place) => self.del(rt, *place),
             Ask::Set(place, byte) => self.set(rt, *place, *byte),
             Ask::Patch(address, word) => self.patch(rt, *address, *word),
+            Ask::RefusesPatch(address, fault) => self.refuses_patch(rt, *address, *fault),
             Ask::Refuses => self.refuses(rt),
         }
     }
@@ -190,6 +193,12 @@ impl<const PAGES: u32, const SPAN: u32> Asked<PAGES, SPAN> {
         assert!(rt; line);
         let limit = self.timeline.next_pc(256, 0xBFC0_1000, 0).is_err();
         assert!(rt; limit);
+    }
+
+    // A word of the image is not set, for this reason.
+    fn refuses_patch(&mut self, rt: &impl Abort, address: u32, fault: Fault) {
+        let patched = self.timeline.patch(address, 0);
+        same(rt, &patched, &Err(fault));
     }
 
     // A word of the image is set.

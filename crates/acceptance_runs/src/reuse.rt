@@ -68,9 +68,9 @@ fn two_edits(rt: HostRuntime) -> Result<(), Fail> {
     )
 }
 
-/// A patched word that the first span overwrites costs that span alone.
+/// A patched word that the first span overwrites costs that span alone, and so does one of the start, whose page is carried over.
 #[test]
-fn patched_word(rt: HostRuntime) -> Result<(), Fail> {
+fn patches(rt: HostRuntime) -> Result<(), Fail> {
     asks(
         &rt,
         rt.alloc(),
@@ -90,6 +90,13 @@ fn patched_word(rt: HostRuntime) -> Result<(), Fail> {
             Ask::CostsAtMost(12),
             Ask::Writer(12, RECEIVED, Writer::Step(11)),
             Ask::CostsAtMost(12),
+            Ask::Patch(0x1FC0_0010, 0x2405_0011),
+            Ask::Costs(0),
+            Ask::Writer(256, RECEIVED, Writer::Step(253)),
+            Ask::CostsAtMost(64),
+            Ask::Word(256, 0x1FC0_0010, 0x2405_0011),
+            Ask::RefusesPatch(0x1FE0_0000, Fault::NotMemory),
+            Ask::RefusesPatch(0x102, Fault::Unaligned),
         ],
     )
 }
