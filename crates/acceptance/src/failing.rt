@@ -7,10 +7,12 @@ use std::test::Fail;
 use workbench::{Kind, Options, Plan, Upset, serve, status};
 
 // The script of the edited echo, and its replies, a line for each of its lines.
-const SCRIPT: &[u8] = b"goto 256\nwriter 0x100\nwriter 0x104\nconsole 0 0 8\nadd 70 0 0x41\nwriter 0x104\nwriter 0x100\n\
+const SCRIPT: &[u8] =
+    b"goto 256\nwriter 0x100\nwriter 0x104\nconsole 0 0 8\nadd 70 0 0x41\nwriter 0x104\nwriter 0x100\n\
 console 0 0 8\nfind 0 0\nfind 0 1\n";
 
-const REPLIES: &[u8] = b"pos 256\nwriter 253\nwriter never\nconsole 0 0 none\nevent 0\nwriter 81\nwriter 253\n\
+const REPLIES: &[u8] =
+    b"pos 256\nwriter 253\nwriter never\nconsole 0 0 none\nevent 0\nwriter 81\nwriter 253\n\
 console 0 1 41\nfind 83\nerror 8 NotFound\n";
 
 // How many line feeds stand among bytes.
@@ -73,14 +75,30 @@ fn each_read_failing(rt: HostRuntime) -> Result<(), Fail> {
         reader.fail_read(good as u64);
         let mut writer = Plan::new(alloc, &[], 4096, 4096)?;
         let out = first_replies(feeds(&input[front..good]));
-        ends(&rt, alloc, good, source_options(), &mut reader, &mut writer, (3, out));
+        ends(
+            &rt,
+            alloc,
+            good,
+            source_options(),
+            &mut reader,
+            &mut writer,
+            (3, out),
+        );
     }
     // In large pieces the reads are that of the source, that of the script, and that of the end.
     for (good, out) in [(0, &b""[..]), (1, b""), (2, REPLIES)] {
         let mut reader = Plan::new(alloc, &input, 4096, 0)?;
         reader.fail_read(good);
         let mut writer = Plan::new(alloc, &[], 4096, 4096)?;
-        ends(&rt, alloc, good as usize, source_options(), &mut reader, &mut writer, (3, out));
+        ends(
+            &rt,
+            alloc,
+            good as usize,
+            source_options(),
+            &mut reader,
+            &mut writer,
+            (3, out),
+        );
     }
     Ok(())
 }
@@ -96,14 +114,30 @@ fn each_write_upset(rt: HostRuntime) -> Result<(), Fail> {
             let mut writer = Plan::new(alloc, &[], 4096, 4096)?;
             writer.upset_write(good as u64, upset);
             let out = first_replies(good);
-            ends(&rt, alloc, good, source_options(), &mut reader, &mut writer, (3, out));
+            ends(
+                &rt,
+                alloc,
+                good,
+                source_options(),
+                &mut reader,
+                &mut writer,
+                (3, out),
+            );
         }
         for good in 0..REPLIES.len() {
             let mut reader = Plan::new(alloc, &input, 4096, 0)?;
             let mut writer = Plan::new(alloc, &[], 1, 4096)?;
             writer.upset_write(good as u64, upset);
             let out = &REPLIES[..good];
-            ends(&rt, alloc, good, source_options(), &mut reader, &mut writer, (3, out));
+            ends(
+                &rt,
+                alloc,
+                good,
+                source_options(),
+                &mut reader,
+                &mut writer,
+                (3, out),
+            );
         }
     }
     Ok(())
@@ -115,11 +149,25 @@ fn narrow_writers(rt: HostRuntime) -> Result<(), Fail> {
     let alloc = rt.alloc();
     let input = edited_echo(alloc)?;
     let all = REPLIES.len();
-    for (piece, room, fault) in [(1, all, 0), (4, all, 0), (4, all - 1, 3), (4, 9, 3), (4, 0, 3)] {
+    for (piece, room, fault) in [
+        (1, all, 0),
+        (4, all, 0),
+        (4, all - 1, 3),
+        (4, 9, 3),
+        (4, 0, 3),
+    ] {
         let mut reader = Plan::new(alloc, &input, 3, 0)?;
         let mut writer = Plan::new(alloc, &[], piece, room)?;
         let out = &REPLIES[..room];
-        ends(&rt, alloc, room, source_options(), &mut reader, &mut writer, (fault, out));
+        ends(
+            &rt,
+            alloc,
+            room,
+            source_options(),
+            &mut reader,
+            &mut writer,
+            (fault, out),
+        );
     }
     Ok(())
 }
@@ -177,7 +225,15 @@ fn cut_scripts(rt: HostRuntime) -> Result<(), Fail> {
     for len in 0..12 {
         let mut reader = Plan::new(alloc, &input[..68 + len], 5, 0)?;
         let mut writer = Plan::new(alloc, &[], 4096, 4096)?;
-        ends(&rt, alloc, len, options, &mut reader, &mut writer, (0, cut(len)));
+        ends(
+            &rt,
+            alloc,
+            len,
+            options,
+            &mut reader,
+            &mut writer,
+            (0, cut(len)),
+        );
         let mut reader = Plan::new(alloc, &input[..68 + len], 1, 0)?;
         reader.fail_read(68 + len as u64);
         let mut writer = Plan::new(alloc, &[], 4096, 4096)?;

@@ -4,9 +4,7 @@ use std::alloc::{AllocError, Global};
 use std::io;
 use std::io::{ErrorKind, Read, Write};
 use std::test::Fail;
-use workbench::{
-    Failed, FromRead, Kind, Options, Plan, Sink, Source, ToWrite, serve, status,
-};
+use workbench::{Failed, FromRead, Kind, Options, Plan, Sink, Source, ToWrite, serve, status};
 
 const NO_IMAGE: Options = Options {
     kind: Kind::Rom,

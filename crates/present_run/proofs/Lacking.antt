@@ -1,5 +1,5 @@
 -- The number of spans that lack a record.
-use Rattle.std.proofs.Common.{◌≡◌, inl, inr, ℕ, zero, suc, ◌+◌, ◌-◌, ◌*◌, ◌<◌, ◌≤◌, leb, refl, sym, ◌∙◌, subst, arith}
+use Rattle.std.proofs.Common.{◌≡◌, inl, inr, ℕ, zero, suc, ◌+◌, ◌-◌, ◌*◌, ◌≤◌, leb, refl, sym, ◌∙◌, subst, arith}
 use Rattle.std.proofs.Math.Nat.{mul-le-mul_right}
 use Rattle.std.proofs.lemmas.Bool.{cases_Bool, leb-true, leb-false}
 use Rattle.present_run.specs.Reuse.{Holding, Lacks, Serves}
@@ -37,8 +37,8 @@ pub lacks_some : (pages span : ℕ) (h : Holding) (count : ℕ) → ¬ ¬ ((lack
 lacks_some pages span h zero none = none (0, at_first pages span h)
 lacks_some pages span h (suc index) none =
     lacks_some pages span h index (λ some.
-        let not : ¬ Serves pages span h index = λ serves. none (some.0, with_one pages span h index some.0 serves some.1) in
-        none (some.0 + 1, without_one pages span h index some.0 not some.1))
+    let not : ¬ Serves pages span h index = λ serves. none (some.0, with_one pages span h index some.0 serves some.1) in
+    none (some.0 + 1, without_one pages span h index some.0 not some.1))
 
 pub bounded : (pages span : ℕ) (h : Holding) (count cost more : ℕ) → ((lacking : ℕ) → Lacks pages span h count lacking → cost ≤ lacking * span + more) → cost ≤ count * span + more
 bounded pages span h count cost more each =

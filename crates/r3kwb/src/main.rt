@@ -11,7 +11,10 @@ fn main(rt: HostRuntime) -> ExitCode {
     let words = words(&rt, &arguments);
     let status = r3kwb(
         rt.alloc(),
-        words.as_ref().map(|words| words.as_slice()).map_err(|why| *why),
+        words
+            .as_ref()
+            .map(|words| words.as_slice())
+            .map_err(|why| *why),
         &mut FromRead::new(rt.reader()),
         &mut ToWrite::new(rt.stdout()),
         &mut ToWrite::new(rt.stderr()),
@@ -24,9 +27,7 @@ fn arguments(rt: &HostRuntime) -> Result<Vec<String>, NoWords> {
     match env::args(rt) {
         Err(error) if error.kind() == ErrorKind::OutOfMemory => Err(NoWords::NoMemory),
         Err(_) => Err(NoWords::NotText),
-        Ok(arguments) => arguments
-            .collect(rt.alloc())
-            .map_err(|_| NoWords::NoMemory),
+        Ok(arguments) => arguments.collect(rt.alloc()).map_err(|_| NoWords::NoMemory),
     }
 }
 

@@ -205,7 +205,7 @@ impl Sink for Plan {
     fn write(&mut self, bytes: &[u8]) -> Result<usize, Failed>
         ensures answer { MatchResult result
             (λ count. ((¬ IsUpset self.old.good_writes) × (count ≡ taken_count self.old (length bytes.now)))
-                ⊎ (IsUpset self.old.good_writes × (self.old.upset ≡ TakesNone) × (count ≡ 0)))
+            ⊎ (IsUpset self.old.good_writes × (self.old.upset ≡ TakesNone) × (count ≡ 0)))
             (λ _. IsUpset self.old.good_writes × (self.old.upset ≡ Fails)) }
         ensures plan { self.new ≡ record self.old {
           written = self.new.written;

@@ -1,5 +1,4 @@
-use Rattle.std.proofs.Common.{◌≡◌, ◌/◌, ◌%◌, ◌<◌, ℕ, Contains, sym, ap, subst}
-use Rattle.landings.specs.Landings.{positions_of}
+use Rattle.std.proofs.Common.{Contains, subst, sym}
 use Rattle.present_run.specs.Reuse.{Serves}
 use Rattle.timeline.specs.Landed.{Landed, holding}
 use Rattle.timeline.proofs.Landings.{held_by}
