@@ -3,8 +3,8 @@
 
     .ci/sessions.py
 
-plays each of them with the program that is shipped, and is silent where the replies are those that stand there. The status is 1 where
-one has others.
+plays each of them with the program that is shipped, and starts it on lines with a fault, with words that are not text and for help. It
+is silent where replies, faults and statuses are those that stand here. The status is 1 where one is another.
 """
 import hashlib
 import re
@@ -44,6 +44,26 @@ def sessions():
     yield "random", "The random images of `bench/stored`.", list(map(stored, sorted(ROOT.glob("bench/stored/*.img"))))
 
 
+# An image of 32 bytes that sets no word.
+EMPTY = b"R3KIMG1\n\x10\0\0\0\x01\0\0\0\0\0\0\0\0\0\x01\x01\x01\0\x20\x06\0\0\0\0"
+
+# Words, the input, the status, what standard output is, and what stands in standard error.
+LINES = [
+    (["--kind", "image", "--size", "32"], EMPTY, 0, b"", b""),
+    (["--kind", "image", "--size", "32"], EMPTY + b"pos\n", 0, b"pos 0\n", b""),
+    (["--kind", "image", "--size", "31"], EMPTY[:31], 1, b"", b"r3kwb: error 9 BadImage Short\n"),
+    (["--kind", "image", "--size", "33"], EMPTY + b"\0", 1, b"", b"r3kwb: error 9 BadImage Extra\n"),
+    (["--kind", "image", "--size", "40"], EMPTY, 3, b"", b"r3kwb: error 11 ReadFault\n"),
+    (["--kind", "source", "--size", "9"], b"j nowhere", 1, b"", b"r3kwb: error 13 BadSource 1 Label\n"),
+    (["--log", "17"], b"R3KLOG1\n\x01\0\0\0\x46\0\0\0\0", 1, b"", b"r3kwb: error 10 BadLog Short\n"),
+    # 2,048 pages of RAM: the last word of it, and the word after it, which is neither RAM nor ROM.
+    ([], b"mem 0x7ffffc 1\nmem 0x800000 1\n", 0, b"0x007ffffc 0x00000000\nerror 6 NotMemory\n", b""),
+    (["--size", "67108865"], b"pos\n", 2, b"", b"--size is a number from 0 to 67108864"),
+    ([b"\xff"], b"pos\n", 2, b"", b"the words are not all UTF-8 text"),
+    (["--help"], b"pos\n", 0, b"Usage: r3kwb [OPTIONS]", b""),
+]
+
+
 def about():
     """What bin/r3kwb.txt says of the program that is shipped: its checksum, that of its sources, and the toolchain."""
     file = ROOT / "bin/r3kwb.txt"
@@ -63,8 +83,17 @@ def played():
                 yield f"session {number} of {name}: status {ran.returncode}, {first[0]!r} for {first[1]!r} {ran.stderr.decode(errors='replace')}"
 
 
+def started():
+    """What is wrong with how the program ends by its words and its input."""
+    for words, given, status, output, errors in LINES:
+        ran = subprocess.run([ROOT / "bin/r3kwb", *words], input=given, capture_output=True)
+        same = ran.stdout == output or words == ["--help"] and output in ran.stdout
+        if not same or ran.returncode != status or errors not in ran.stderr or bool(errors) != bool(ran.stderr):
+            yield f"r3kwb {words}: status {ran.returncode}, {ran.stdout[:200]!r}, {ran.stderr[:200]!r}"
+
+
 def main():
-    wrong = list(played())
+    wrong = [*played(), *started()]
     if hashlib.sha256(PROGRAM.read_bytes()).hexdigest() != about().get("program"):
         wrong.append(f"{PROGRAM.relative_to(ROOT)} is not the program that is shipped")
     for it in wrong:

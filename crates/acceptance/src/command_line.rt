@@ -17,8 +17,9 @@ fn asked<'a>(alloc: Global, words: &'a [&'a str]) -> Result<(Kind, u32, u32), u8
     }
 }
 
+/// Good lines are taken: a program that always reports usage is none.
 #[test]
-fn good_lines(rt: HostRuntime) {
+fn always_usage(rt: HostRuntime) {
     let alloc = rt.alloc();
     same(&rt, &asked(alloc, &["r3kwb"]), &Ok((Kind::Rom, 0, 0)));
     same(&rt, &asked(alloc, &[]), &Ok((Kind::Rom, 0, 0)));

@@ -3,8 +3,9 @@ use crate::same::{same, same_at};
 use crate::served::run_program;
 use std::test::Fail;
 
+/// Scripts are answered where memory is ample: a program that is always out of memory is none.
 #[test]
-fn replies(rt: HostRuntime) -> Result<(), Fail> {
+fn always_out_of_memory(rt: HostRuntime) -> Result<(), Fail> {
     let long = [b' '; 257];
     let text = std::str::from_utf8(&long)?;
     let cases = [
