@@ -63,6 +63,21 @@ def write(events: Sequence[Event]) -> bytes:
     return MAGIC + len(events).to_bytes(4, "little") + packed
 
 
+def changes(now: Sequence[Event], wanted: Sequence[Event]) -> list[str]:
+    """The commands that make one log of another."""
+    begin = 0
+    while begin < min(len(now), len(wanted)) and now[begin] == wanted[begin]:
+        begin += 1
+    end = 0
+    while end < min(len(now), len(wanted)) - begin and now[-1 - end] == wanted[-1 - end]:
+        end += 1
+    # An event is added after all of its time, so those of the same time after it are added anew too.
+    while 0 < end < len(wanted) - begin and wanted[-end].time == wanted[-end - 1].time:
+        end -= 1
+    added = [f"add {it.time} {it.line} {it.byte}" for it in wanted[begin:len(wanted) - end]]
+    return [f"del {begin}"] * (len(now) - end - begin) + added
+
+
 def read_file(path: Path) -> list[Event]:
     return read(path.read_bytes(), str(path))
 

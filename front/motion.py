@@ -1,0 +1,115 @@
+"""Runs and steps both ways as gdb asks for them, and the replies that say where they stopped."""
+from __future__ import annotations
+
+from typing import Callable
+
+from . import output, through, travel
+from .driver import Driver
+from .errors import Interrupted
+from .limits import GREATEST_POSITION
+from .rsp import PACKET_BYTES, Link
+from .travel import Pause, Reason, Stop, Stops
+
+TRAP, INTERRUPTED = b"T05", b"T02"
+REPLIES = {
+    Reason.BEGIN: b"T05replaylog:begin;",
+    Reason.END: b"T05replaylog:end;",
+    Reason.STUCK: b"T05replaylog:end;",
+    Reason.WAITING: b"T05replaylog:end;",
+    Reason.INTERRUPTED: INTERRUPTED,
+}
+
+
+class Motion:
+    """The run of one driver, under one debugger."""
+
+    def __init__(self, driver: Driver, link: Link, *, exceptions_whole: bool) -> None:
+        self.stops = Stops()
+        self._driver = driver
+        self._link = link
+        self._exceptions_whole = exceptions_whole
+        self._transcript = output.Transcript()
+        self._told = 0  # what was sent before this position is told
+
+    def go_on(self) -> bytes:
+        return self._forward(lambda: travel.forward(self._driver, self.stops, self._pause))
+
+    def leave(self, addresses: range) -> bytes:
+        return self._forward(lambda: travel.leave(self._driver, addresses, self.stops, self._pause))
+
+    def step(self) -> bytes:
+        return self._forward(self._one_step)
+
+    def go_back(self) -> bytes:
+        return self._backward(lambda: travel.backward(self._driver, self.stops, self._link.interrupted))
+
+    def step_back(self) -> bytes:
+        return self._backward(self._one_step_back)
+
+    def say(self, text: bytes) -> None:
+        """Shows a text in the debugger's console."""
+        half = PACKET_BYTES // 2 - 1
+        for first in range(0, len(text), half):
+            self._link.send(b"O" + text[first:first + half].hex().encode())
+
+    def _one_step(self) -> Stop:
+        here = self._driver.position
+        if here == GREATEST_POSITION:
+            return Stop(Reason.END, here)
+        watch = travel.changed(self._driver, self.stops, here)
+        if watch:
+            return Stop(Reason.WATCH, here, watch)
+        self._driver.goto(here)
+        if self._exceptions_whole:
+            return Stop(Reason.STEPPED, through.after(self._driver))
+        return Stop(Reason.STEPPED, here + 1)
+
+    def _one_step_back(self) -> Stop:
+        here = self._driver.position
+        if not here:
+            return Stop(Reason.BEGIN, here)
+        watch = travel.changed(self._driver, self.stops, here - 1)
+        if watch:
+            return Stop(Reason.WATCH, here - 1, watch)
+        self._driver.goto(here)
+        if self._exceptions_whole:
+            return Stop(Reason.STEPPED, through.before(self._driver))
+        return Stop(Reason.STEPPED, here - 1)
+
+    def _forward(self, run: Callable[[], Stop]) -> bytes:
+        """A move on. gdb takes MIPS watches to stop before the store, and steps over it by itself."""
+        self._told = start = self._driver.position
+        try:
+            stop = run()
+        except Interrupted:
+            stop = Stop(Reason.INTERRUPTED, max(start, self._told))
+        self._tell(stop.position)
+        return self._reply(stop)
+
+    def _backward(self, run: Callable[[], Stop]) -> bytes:
+        """A move back. It stops after the store, so that the step that gdb makes over it goes before it."""
+        start = self._driver.position
+        try:
+            stop = run()
+        except Interrupted:
+            stop = Stop(Reason.INTERRUPTED, start)
+        self._driver.goto(stop.position + (stop.reason is Reason.WATCH))
+        return self._reply(stop)
+
+    def _pause(self) -> bool:
+        self._tell(self._driver.position)
+        return self._link.interrupted()
+
+    def _tell(self, position: int) -> None:
+        """Shows what was sent up to a position, and goes there."""
+        if position > self._told:
+            self.say(self._transcript.text(output.between(self._driver, self._told, position)))
+            self._told = position
+        self._driver.goto(position)
+
+    def _reply(self, stop: Stop) -> bytes:
+        if stop.watch:
+            return b"T05watch:%x;" % stop.watch.address
+        if stop.reason in (Reason.STUCK, Reason.WAITING):
+            self.say(b"\n[From position %d on the run is %s.]\n" % (stop.position, stop.reason.value.encode()))
+        return REPLIES.get(stop.reason, TRAP)

@@ -1,0 +1,196 @@
+"""Going on and back along a run, to the nearest place where it is to stop."""
+from __future__ import annotations
+
+from dataclasses import dataclass, field
+from enum import Enum
+from typing import Callable, Optional
+
+from . import memory, replies, search
+from .driver import Driver
+from .errors import Interrupted
+from .limits import GREATEST_POSITION
+from .standstill import Standstill, standstill
+
+# A run goes in pieces: after each one its reader is told, and may end it.
+FIRST_PIECE = 1 << 16
+LONGEST_PIECE = 1 << 22
+
+IDLE_STORES = 256  # stores that change nothing are passed over, so many in a piece
+BATCH = 64  # steps that are asked for together
+
+Pause = Callable[[], bool]
+
+
+class Reason(Enum):
+    """Why a run stops."""
+
+    BREAKPOINT = "a breakpoint"
+    WATCH = "a watch"
+    STEPPED = "the end of a step"
+    BEGIN = "the machine at reset"
+    END = "the last position"
+    STUCK = Standstill.STUCK.value
+    WAITING = Standstill.WAITING.value
+    INTERRUPTED = "Ctrl-C"
+
+
+@dataclass(frozen=True)
+class Watch:
+    """Bytes that are watched: their virtual address, and where they stand in memory."""
+
+    address: int
+    size: int
+    place: int
+
+    def words(self) -> range:
+        return range(self.place & ~3, self.place + self.size, 4)
+
+    def changes(self, driver: Driver, step: int) -> bool:
+        """Whether a step changes one of the bytes."""
+        driver.goto(step)
+        before = memory.at(driver, self.place, self.size)
+        driver.goto(step + 1)
+        return memory.at(driver, self.place, self.size) != before
+
+
+@dataclass
+class Stops:
+    """Where a run is to stop: at addresses of instructions, and where bytes are changed."""
+
+    breakpoints: set[int] = field(default_factory=set)
+    watches: set[Watch] = field(default_factory=set)
+
+
+@dataclass(frozen=True)
+class Stop:
+    """Where a run stops, and why. For a watch `position` is the step that changes its bytes: the change shows one further on."""
+
+    reason: Reason
+    position: int
+    watch: Optional[Watch] = None
+
+
+def forward(driver: Driver, stops: Stops, pause: Pause) -> Stop:
+    """The first stop above the position, or a watch that is changed from it on. `pause` is called at the end of each piece, and says
+    whether the run is to end there."""
+    start, length = driver.position, FIRST_PIECE
+    while True:
+        here = driver.position
+        stop, end = _first(driver, stops, here, min(here + length, GREATEST_POSITION))
+        if stop:
+            return stop
+        driver.goto(end)
+        if end == GREATEST_POSITION:
+            return Stop(Reason.END, end)
+        if pause():
+            return Stop(Reason.INTERRUPTED, end)
+        still = standstill(driver)
+        if still:
+            return Stop(Reason(still.value), _stands_from(driver, start, end))
+        length = min(4 * length, LONGEST_PIECE)
+
+
+def leave(driver: Driver, addresses: range, stops: Stops, pause: Pause) -> Stop:
+    """Single steps, until the PC is none of the addresses or there is a stop."""
+    while True:
+        start = driver.position
+        end = min(start + BATCH, GREATEST_POSITION)
+        if start == end:
+            return Stop(Reason.END, end)
+        commands = [command for it in range(start + 1, end + 1) for command in (f"goto {it}", "regs")]
+        counters = [replies.registers(reply).pc for reply in driver.ask_all(commands)[1::2]]
+        outside = next((start + at for at, pc in enumerate(counters, 1) if pc not in addresses), None)
+        stop, reached = _first(driver, stops, start, outside or end)
+        if stop and stop.position != outside:
+            return stop
+        driver.goto(reached)
+        if reached == outside:
+            return Stop(Reason.STEPPED, reached)
+        if pause():
+            return Stop(Reason.INTERRUPTED, reached)
+        still = standstill(driver)
+        if still:
+            return Stop(Reason(still.value), _stands_from(driver, start, reached))
+
+
+def backward(driver: Driver, stops: Stops, pause: Pause) -> Stop:
+    """The last breakpoint below the position, or the last step below it that changes a watch, or position 0."""
+    start = driver.position
+    stop = Stop(Reason.BEGIN, 0)
+    lowest = 0
+    for watch in stops.watches:
+        step = _last_change(driver, watch, lowest, start, pause)
+        if step is not None:
+            stop, lowest = Stop(Reason.WATCH, step, watch), step + 1
+    driver.goto(start)
+    if stops.breakpoints:
+        found = search.last_visit(driver, stops.breakpoints, lowest)
+        if found is not None:
+            stop = Stop(Reason.BREAKPOINT, found)
+    return stop
+
+
+def changed(driver: Driver, stops: Stops, step: int) -> Optional[Watch]:
+    """The watch that a step changes."""
+    driver.goto(step + 1)
+    stored = [watch for watch in stops.watches if any(driver.writer(word).step == step for word in watch.words())]
+    return next((watch for watch in stored if watch.changes(driver, step)), None)
+
+
+def _first(driver: Driver, stops: Stops, start: int, end: int) -> tuple[Optional[Stop], int]:
+    """The first stop above `start`, at most at `end`, and up to where that is known."""
+    stop = None
+    driver.goto(start)
+    if stops.breakpoints and start < end:
+        found = search.next_visit(driver, stops.breakpoints, end - start)
+        if found is not None:
+            stop, end = Stop(Reason.BREAKPOINT, found), found
+    for watch in stops.watches:
+        changed, known = _first_change(driver, watch, start, end)
+        if changed is not None:
+            stop = Stop(Reason.WATCH, changed, watch)
+        elif known < end:
+            stop = None
+        end = known
+    return stop, end
+
+
+def _first_change(driver: Driver, watch: Watch, start: int, end: int) -> tuple[Optional[int], int]:
+    """The first step from `start` to below `end` that changes the bytes, and up to where that is known."""
+    for _ in range(IDLE_STORES):
+        driver.goto(start)
+        found = [search.first_store(driver, word, end - start) for word in watch.words()] if start < end else []
+        steps = [step for step in found if step is not None]
+        if not steps:
+            return None, end
+        if watch.changes(driver, min(steps)):
+            return min(steps), min(steps)
+        start = min(steps) + 1
+    return None, start
+
+
+def _last_change(driver: Driver, watch: Watch, lowest: int, end: int, pause: Pause) -> Optional[int]:
+    """The last step below `end`, and not below `lowest`, that changes the bytes."""
+    while True:
+        driver.goto(end)
+        found = [search.last_store(driver, word) for word in watch.words()]
+        steps = [step for step in found if step is not None and step >= lowest]
+        if not steps:
+            return None
+        if watch.changes(driver, max(steps)):
+            return max(steps)
+        end = max(steps)
+        if pause():
+            raise Interrupted
+
+
+def _stands_from(driver: Driver, low: int, high: int) -> int:
+    """The first position from which the run stands still, as it does from `high` on."""
+    while low < high:
+        middle = (low + high) // 2
+        driver.goto(middle)
+        if standstill(driver):
+            high = middle
+        else:
+            low = middle + 1
+    return high
