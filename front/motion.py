@@ -8,7 +8,7 @@ from .driver import Driver
 from .errors import Interrupted
 from .limits import GREATEST_POSITION
 from .rsp import PACKET_BYTES, Link
-from .travel import Pause, Reason, Stop, Stops
+from .travel import Reason, Stop, Stops
 
 TRAP, INTERRUPTED = b"T05", b"T02"
 REPLIES = {
@@ -30,6 +30,13 @@ class Motion:
         self._exceptions_whole = exceptions_whole
         self._transcript = output.Transcript()
         self._told = 0  # what was sent before this position is told
+        self._moving = False
+        self._interrupted = False  # the debugger wants the present move to end
+
+    def wants_stop(self) -> bool:
+        """Whether the debugger wants the present move to end."""
+        self._interrupted = self._moving and (self._interrupted or self._link.interrupted())
+        return self._interrupted
 
     def go_on(self) -> bytes:
         return self._forward(lambda: travel.forward(self._driver, self.stops, self._pause))
@@ -41,7 +48,7 @@ class Motion:
         return self._forward(self._one_step)
 
     def go_back(self) -> bytes:
-        return self._backward(lambda: travel.backward(self._driver, self.stops, self._link.interrupted))
+        return self._backward(lambda: travel.backward(self._driver, self.stops, self.wants_stop))
 
     def step_back(self) -> bytes:
         return self._backward(self._one_step_back)
@@ -78,27 +85,31 @@ class Motion:
 
     def _forward(self, run: Callable[[], Stop]) -> bytes:
         """A move on. gdb takes MIPS watches to stop before the store, and steps over it by itself."""
-        self._told = start = self._driver.position
-        try:
-            stop = run()
-        except Interrupted:
-            stop = Stop(Reason.INTERRUPTED, max(start, self._told))
+        self._told = self._driver.position
+        stop = self._moved(run)
         self._tell(stop.position)
         return self._reply(stop)
 
     def _backward(self, run: Callable[[], Stop]) -> bytes:
         """A move back. It stops after the store, so that the step that gdb makes over it goes before it."""
-        start = self._driver.position
-        try:
-            stop = run()
-        except Interrupted:
-            stop = Stop(Reason.INTERRUPTED, start)
+        self._told = self._driver.position
+        stop = self._moved(run)
         self._driver.goto(stop.position + (stop.reason is Reason.WATCH))
         return self._reply(stop)
 
+    def _moved(self, run: Callable[[], Stop]) -> Stop:
+        """Where a move stops. One that is interrupted stops where the last piece of it ended."""
+        self._moving = True
+        try:
+            return run()
+        except Interrupted:
+            return Stop(Reason.INTERRUPTED, self._told)
+        finally:
+            self._moving = self._interrupted = False
+
     def _pause(self) -> bool:
         self._tell(self._driver.position)
-        return self._link.interrupted()
+        return self.wants_stop()
 
     def _tell(self, position: int) -> None:
         """Shows what was sent up to a position, and goes there."""

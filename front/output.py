@@ -3,6 +3,7 @@ from __future__ import annotations
 
 from typing import Iterable
 
+from . import replies
 from .driver import Driver
 from .limits import LINES
 
@@ -10,7 +11,7 @@ from .limits import LINES
 def counts(driver: Driver, position: int) -> list[int]:
     """How many bytes each line sent before a position. The driver stands there afterwards."""
     driver.goto(position)
-    return [driver.sent(line) for line in range(LINES)]
+    return [replies.console(reply)[0] for reply in driver.values([f"console {line} 0 1" for line in range(LINES)])]
 
 
 def between(driver: Driver, first: int, last: int) -> list[tuple[int, int]]:

@@ -9,7 +9,7 @@ from __future__ import annotations
 from enum import Enum
 from typing import Optional
 
-from . import image, replies
+from . import replies
 from .driver import Driver
 from .limits import GREATEST_POSITION, RAM, ROM
 from .replies import Registers
@@ -65,7 +65,7 @@ class _Loop:
         log = self._driver.log
         if log and log[-1].time >= self._start:
             return None
-        if self._unready and not self._stays(turn, image.boot(self._driver.image).byte_time + 1):
+        if self._unready and not self._stays(turn, self._driver.boot().byte_time + 1):
             return None
         return Standstill.WAITING
 
@@ -93,7 +93,7 @@ class _Loop:
             return False
         known = len(self._states)
         commands = [command for it in range(first, first + steps) for command in (f"goto {it}", "regs")]
-        self._states += [replies.registers(reply) for reply in self._driver.ask_all(commands)[1::2]]
+        self._states += [replies.registers(reply) for reply in self._driver.values(commands)[1::2]]
         pairs = zip(self._states[known - 1:], self._states[known:])
         return all(self._keeps(before, after) for before, after in pairs)
 

@@ -98,7 +98,7 @@ def leave(driver: Driver, addresses: range, stops: Stops, pause: Pause) -> Stop:
         if start == end:
             return Stop(Reason.END, end)
         commands = [command for it in range(start + 1, end + 1) for command in (f"goto {it}", "regs")]
-        counters = [replies.registers(reply).pc for reply in driver.ask_all(commands)[1::2]]
+        counters = [replies.registers(reply).pc for reply in driver.values(commands)[1::2]]
         outside = next((start + at for at, pc in enumerate(counters, 1) if pc not in addresses), None)
         stop, reached = _first(driver, stops, start, outside or end)
         if stop and stop.position != outside:
@@ -124,8 +124,8 @@ def backward(driver: Driver, stops: Stops, pause: Pause) -> Stop:
             stop, lowest = Stop(Reason.WATCH, step, watch), step + 1
     driver.goto(start)
     if stops.breakpoints:
-        found = search.last_visit(driver, stops.breakpoints, lowest)
-        if found is not None:
+        found = search.last_visit(driver, stops.breakpoints)
+        if found is not None and found >= lowest:
             stop = Stop(Reason.BREAKPOINT, found)
     return stop
 
