@@ -122,5 +122,5 @@ class Motion:
         if stop.watch:
             return b"T05watch:%x;" % stop.watch.address
         if stop.reason in (Reason.STUCK, Reason.WAITING):
-            self.say(b"\n[From position %d on the run is %s.]\n" % (stop.position, stop.reason.value.encode()))
+            self.say(f"\n[From position {stop.position:,} on the program {stop.reason.value}.]\n".encode())
         return REPLIES.get(stop.reason, TRAP)

@@ -1,8 +1,8 @@
 """Whether a run stands still: it goes round in a loop and will do so for ever.
 
-That is exact. It holds where a turn leaves the processor as it was; no step of it takes an exception, stores, or has to do with the
-control registers; no interrupt can come; and its loads are from memory, or from the serial part once what that shows can't change.
-A loop that reads the clock, or that counts in memory, does not stand still.
+That is exact. It holds where a turn leaves the processor as it was; no step of it takes an exception, changes a word of memory, or has
+to do with the control registers; no interrupt can come; and its loads are from memory, or from the serial part once what that shows
+can't change. A loop that reads the clock, or that counts in memory, does not stand still.
 """
 from __future__ import annotations
 
@@ -17,28 +17,30 @@ from .replies import Registers
 TURN = 4096  # the longest turn that is looked at, in steps
 BATCH = 64
 
-INTERRUPTS_ON, DEVICE_MASK = 0x1, 0xC00  # bits of Status
+INTERRUPTS_ON, DEVICE_MASK, ISOLATED = 0x1, 0xC00, 0x1_0000  # bits of Status
 
 COPROCESSOR_0 = 0x10
 STORES = range(0x28, 0x2F)
 LOADS = range(0x20, 0x27)
-WIDTHS = {0x20: 0xFF, 0x21: 0xFFFF, 0x23: 0xFFFF_FFFF, 0x24: 0xFF, 0x25: 0xFFFF}  # what a load shows of its word: lwl and lwr show less
+SHOWN = {0x20: 0xFF, 0x21: 0xFFFF, 0x23: 0xFFFF_FFFF, 0x24: 0xFF, 0x25: 0xFFFF}  # of a word, by each load; lwl and lwr count as none
 
 SERIAL = range(0x1FE0_0000, 0x1FE0_0020)
 CSR, RBUF = 0x1FE0_0000, 0x1FE0_0008
-READY, VALID = 0x8000, 0x8000  # bit 15 of each
+READY = VALID = 0x8000  # of CSR, that a byte can be sent; of RBUF, that there is one
 
 
 class Standstill(Enum):
-    STUCK = "a loop that nothing can leave"
-    WAITING = "a loop that waits for the serial part, where no byte arrives any more"
+    """What a run does that stands still."""
+
+    STUCK = "goes round in a loop that nothing can leave"
+    WAITING = "waits for a byte, and the log has no more"
 
 
 def standstill(driver: Driver) -> Optional[Standstill]:
     """Whether the run stands still from the position on, which stays."""
     start = driver.position
     status = driver.control()["status"]
-    if status & INTERRUPTS_ON and status & DEVICE_MASK:
+    if status & ISOLATED or status & INTERRUPTS_ON and status & DEVICE_MASK:
         return None
     try:
         return _Loop(driver).judge()
@@ -47,12 +49,14 @@ def standstill(driver: Driver) -> Optional[Standstill]:
 
 
 class _Loop:
+    """The states of a run from a position on, as far as they keep what they have to."""
+
     def __init__(self, driver: Driver) -> None:
         self._driver = driver
         self._start = driver.position
         self._states = [driver.registers()]
-        self._words: dict[int, int] = {}  # the instructions, by their addresses
-        self._places: dict[int, Optional[int]] = {}  # the physical addresses of loads
+        self._instructions: dict[int, int] = {}
+        self._places: dict[int, Optional[int]] = {}  # the physical addresses of loads and stores
         self._asks_serial = False
         self._unready = False  # the serial part was seen not to be ready: it may be later
 
@@ -70,63 +74,71 @@ class _Loop:
         return Standstill.WAITING
 
     def _turn(self) -> Optional[int]:
-        """The steps of a turn, if the loop keeps all."""
+        """The steps of a turn, if there is one."""
         while len(self._states) <= TURN:
             known = len(self._states)
-            if not self._follow(BATCH):
+            if not self._follow():
                 return None
             if self._states[0] in self._states[known:]:
                 return self._states.index(self._states[0], known)
         return None
 
     def _stays(self, turn: int, steps: int) -> bool:
-        """Whether the turns are the same for so many steps: after them a line that sends has sent its byte."""
+        """Whether the turns are the same for so many steps: after them each line has sent its byte, and is ready or will never be."""
         while len(self._states) <= steps:
-            if not self._follow(BATCH):
+            if not self._follow():
                 return False
         return self._states[turn:] == self._states[:-turn]
 
-    def _follow(self, steps: int) -> bool:
+    def _follow(self) -> bool:
         """Takes more steps, and says whether all of them keep what they have to."""
-        first = self._start + len(self._states)
-        if first + steps > GREATEST_POSITION:
-            return False
         known = len(self._states)
-        commands = [command for it in range(first, first + steps) for command in (f"goto {it}", "regs")]
+        first = self._start + known
+        if first + BATCH > GREATEST_POSITION:
+            return False
+        commands = [command for it in range(first, first + BATCH) for command in (f"goto {it}", "regs")]
         self._states += [replies.registers(reply) for reply in self._driver.values(commands)[1::2]]
-        pairs = zip(self._states[known - 1:], self._states[known:])
-        return all(self._keeps(before, after) for before, after in pairs)
+        return all(self._keeps(step) for step in range(known - 1, len(self._states) - 1))
 
-    def _keeps(self, before: Registers, after: Registers) -> bool:
+    def _keeps(self, step: int) -> bool:
+        before, after = self._states[step], self._states[step + 1]
         if after.pc != before.next_pc:
             return False  # an exception
-        word = self._word(before.pc)
+        word = self._instruction(before.pc)
         code = word >> 26
-        if code == COPROCESSOR_0 or code in STORES:
-            return False
-        return code not in LOADS or self._loads(word, before, after)
-
-    def _word(self, address: int) -> int:
-        if address not in self._words:
-            place = self._driver.physical(address)
-            assert place is not None, "an instruction that was run was fetched"
-            self._words[address] = self._driver.words(place, 1)[0]
-        return self._words[address]
-
-    def _loads(self, word: int, before: Registers, after: Registers) -> bool:
-        """Whether a load will always give what it gives here."""
+        if code not in LOADS and code not in STORES:
+            return code != COPROCESSOR_0
         address = (before.general[word >> 21 & 31] + ((word & 0xFFFF) ^ 0x8000) - 0x8000) & 0xFFFF_FFFF
         if address not in self._places:
             self._places[address] = self._driver.physical(address)
         place = self._places[address]
-        if place is None or place in RAM or place in ROM:
-            return place is not None
-        if place not in SERIAL:
+        if place is None:
             return False
+        return self._stores(step, place) if code in STORES else self._loads(word, place, after)
+
+    def _instruction(self, address: int) -> int:
+        if address not in self._instructions:
+            place = self._driver.physical(address)
+            assert place is not None, "an instruction that was run was fetched"
+            self._instructions[address] = self._driver.words(place, 1)[0]
+        return self._instructions[address]
+
+    def _stores(self, step: int, place: int) -> bool:
+        """Whether a store leaves its word as it was."""
+        if place not in RAM:
+            return place in ROM
+        commands = [command for it in (step, step + 1) for command in (f"goto {self._start + it}", f"mem {place & ~3} 1")]
+        _, before, _, after = self._driver.values(commands)
+        return before == after
+
+    def _loads(self, word: int, place: int, after: Registers) -> bool:
+        """Whether a load will always give what it gives here."""
+        if place not in SERIAL:
+            return place in RAM or place in ROM
         self._asks_serial = True
         shift = 8 * (place & 3)
-        seen = WIDTHS.get(word >> 26, 0) << shift if word >> 16 & 31 else 0
-        value = (after.load[1] << shift if after.load else 0) & seen
+        shown = SHOWN.get(word >> 26, 0) << shift if after.load else 0
+        value = (after.load[1] << shift if after.load else 0) & shown
         if place & ~3 == CSR and not value & READY:
             self._unready = True
-        return place & ~3 != RBUF or bool(seen & VALID and not value & VALID)
+        return place & ~3 != RBUF or bool(shown & VALID and not value & VALID)

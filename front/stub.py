@@ -5,19 +5,24 @@ import re
 import sys
 from typing import Callable, Optional
 
-from . import memory, monitor, target
+from . import loading, memory, monitor, target
+from .arguments import parse
 from .driver import Driver
 from .errors import Problem
 from .motion import TRAP, Motion
 from .rsp import PACKET_BYTES, Link
 from .travel import Watch
 
+USAGE = "usage: bin/wb stub [--log FILE] [--kind KIND] [--through] IMAGE"
+OPTIONS = {"--log": "a file", "--kind": "a kind", "--through": ""}
+
 FEATURES = (b"PacketSize=%x;QStartNoAckMode+;qXfer:features:read+;ReverseStep+;ReverseContinue+;vContSupported+;error-message+"
             % PACKET_BYTES)
 OK, FAILED, NOT_KNOWN, GONE = b"OK", b"E01", b"", b"W00"
 CODE, CODE_IN_HARDWARE, WRITE, READ, ACCESS = range(5)  # the kinds of breakpoints and watches
 
-TOLD = "a past that is told can't be changed in place: edit the bytes that arrive or the image, or go to another position"
+NOT_HERE = ("registers can't be written: they follow from the image and the bytes that arrive, which can be edited. To run other "
+            "code, patch it; to call a function, let the program call it")
 
 
 class Malformed(Exception):
@@ -99,13 +104,13 @@ class Stub:
 
     def _set_registers(self, rest: bytes) -> bytes:
         if rest.lower() != self._registers(b""):
-            raise Problem(TOLD)
+            raise Problem(NOT_HERE)
         return OK
 
     def _set_register(self, rest: bytes) -> bytes:
         number, _ = _numbers(rb"(\w+)=(\w+)", rest)
         if rest.split(b"=")[1].lower() != target.Registers.of(self._driver).text(number):
-            raise Problem(f"a register can't be written: {TOLD}")
+            raise Problem(NOT_HERE)
         return OK
 
     def _read(self, rest: bytes) -> bytes:
@@ -259,17 +264,13 @@ def _from_digits(digits: bytes) -> bytes:
 
 
 def main(arguments: list[str]) -> int:
-    from . import elf as elves, log as logs
-    from .image import Image, kind_of
-    from pathlib import Path
-    log = []
-    through = False
-    args = list(arguments)
-    if "--through" in args:
-        args.remove("--through"); through = True
-    if args[0] == "--log":
-        log = logs.read_file(Path(args[1])); args = args[2:]
-    content = Path(args[0]).read_bytes()
-    driver = Driver.start(Image(args[0], kind_of(args[0], content), content), log)
-    Stub(driver, Link(0, 1), exceptions_whole=through).serve()
+    """Serves one debugger on standard input and output."""
+    line = parse(arguments, OPTIONS, USAGE)
+    if len(line.words) != 1:
+        raise Problem(USAGE)
+    driver = loading.start(loading.image(line.words[0], line.get("--kind")), line.get("--log"))
+    try:
+        Stub(driver, Link(sys.stdin.fileno(), sys.stdout.fileno()), exceptions_whole=line.has("--through")).serve()
+    finally:
+        driver.close()
     return 0

@@ -27,8 +27,8 @@ class Reason(Enum):
     BREAKPOINT = "a breakpoint"
     WATCH = "a watch"
     STEPPED = "the end of a step"
-    BEGIN = "the machine at reset"
-    END = "the last position"
+    BEGIN = "the begin of the run"
+    END = "the greatest position"
     STUCK = Standstill.STUCK.value
     WAITING = Standstill.WAITING.value
     INTERRUPTED = "Ctrl-C"

@@ -1,0 +1,53 @@
+"""Runs inside gdb, where `bin/wb gdb` loads it: the command `wb`, and a prompt that shows the position."""
+import re
+
+import gdb
+
+MOVES_OR_EDITS = ("goto", "step", "back", "visit", "run", "starti", "add", "del", "set", "move", "patch")
+
+
+def flush():
+    """Lets gdb forget what it read: the stub's run has moved, or is another one."""
+    gdb.execute("maintenance flush register-cache", to_string=True)
+    gdb.execute("maintenance flush dcache", to_string=True)
+
+
+def as_number(word):
+    """A word of a command: a number stays, and anything else is an expression of gdb's, without blanks."""
+    if re.fullmatch(r"\d\w*", word):
+        return word
+    return str(int(gdb.parse_and_eval(word)) & 0xFFFF_FFFF)
+
+
+class Workbench(gdb.Command):
+    """Asks the workbench: wb LINE. `wb help` lists the commands.
+Numbers may be expressions without blanks: wb writer &session.length, wb goto $position-100."""
+
+    def __init__(self):
+        super().__init__("wb", gdb.COMMAND_RUNNING)
+
+    def invoke(self, line, from_terminal):
+        name, *words = line.split() or ["help"]
+        gdb.execute(" ".join(["monitor", name, *map(as_number, words)]))
+        if name in MOVES_OR_EDITS:
+            flush()
+            gdb.execute("frame")
+
+
+def prompt(present):
+    """The prompt, with the position where there is a run."""
+    try:
+        return f"({int(gdb.newest_frame().read_register('position')):,}) "
+    except gdb.error:
+        return present
+
+
+def forget_arguments(event):
+    """Lets the position of `run N` and `starti N` be that of one start: gdb would take it for the next one too."""
+    gdb.execute("set args")
+
+
+Workbench()
+gdb.prompt_hook = prompt
+gdb.events.memory_changed.connect(lambda event: flush())
+gdb.events.stop.connect(forget_arguments)
