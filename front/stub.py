@@ -10,6 +10,7 @@ from .arguments import parse
 from .driver import Driver
 from .errors import Problem
 from .motion import TRAP, Motion
+from .replies import number_of
 from .rsp import PACKET_BYTES, Link
 from .travel import Watch
 
@@ -193,10 +194,11 @@ class Stub:
     def _run(self, rest: bytes) -> bytes:
         """Starts again, at the position that is the first word after the file's name."""
         words = [_from_digits(word).decode("latin-1") for word in rest.split(b";")[1:]]
+        position = number_of(words[0]) if words else 0
+        if position is None:
+            raise Problem(f"{words[0]} is no position")
+        self._driver.goto(position)
         self._killed = False
-        self._driver.goto(0)
-        if words:
-            monitor.answer(self._driver, f"run {words[0]}")
         return TRAP
 
     def _kill(self, rest: bytes) -> bytes:

@@ -1,0 +1,96 @@
+"""The debugger's end of a stub, for tests: packets go in as gdb would send them, and replies come out."""
+from __future__ import annotations
+
+import socket
+import threading
+from typing import Optional
+
+from front.driver import Driver
+from front.rsp import Link
+from front.stub import Stub
+
+TIMEOUT = 30
+
+
+def packed(payload: bytes) -> bytes:
+    """A packet as gdb sends it, of a payload without characters that are escaped."""
+    return b"$%s#%02x" % (payload, sum(payload) % 256)
+
+
+class Wire:
+    """A stub on a driver, in a thread of its own."""
+
+    def __init__(self, driver: Driver, *, exceptions_whole: bool = False) -> None:
+        self.driver = driver
+        self.console = b""  # what was shown while the program ran
+        self._ours, self._theirs = socket.socketpair()
+        self._ours.settimeout(TIMEOUT)
+        self._unread = b""
+        stub = Stub(driver, Link(self._theirs.fileno(), self._theirs.fileno()), exceptions_whole=exceptions_whole)
+        self._thread = threading.Thread(target=self._serve, args=(stub,), daemon=True)
+        self._thread.start()
+
+    def _serve(self, stub: Stub) -> None:
+        try:
+            stub.serve()
+        finally:
+            self._theirs.shutdown(socket.SHUT_WR)
+
+    def close(self) -> None:
+        """Closes the debugger's end, as gdb does when it ends, and waits for the stub."""
+        if self._ours.fileno() < 0:
+            return
+        self._ours.shutdown(socket.SHUT_WR)
+        self._thread.join(TIMEOUT)
+        self.driver.close()
+        self._ours.close()
+        self._theirs.close()
+
+    def serves(self) -> bool:
+        return self._thread.is_alive()
+
+    def put(self, raw: bytes) -> None:
+        self._ours.sendall(raw)
+
+    def take(self, count: int) -> bytes:
+        """The next bytes, whatever they are."""
+        while len(self._unread) < count:
+            piece = self._ours.recv(4096)
+            if not piece:
+                break
+            self._unread += piece
+        taken, self._unread = self._unread[:count], self._unread[count:]
+        return taken
+
+    def reply(self) -> Optional[bytes]:
+        """The payload of the next packet that is no console text, or None at the end."""
+        while True:
+            while (byte := self.take(1)) == b"+":
+                pass
+            if byte != b"$":
+                return None
+            payload = b""
+            while (byte := self.take(1)) != b"#":
+                payload += byte
+            self.take(2)
+            self.put(b"+")
+            if not (payload.startswith(b"O") and payload != b"OK"):
+                return payload
+            self.console += bytes.fromhex(payload[1:].decode())
+
+    def ask(self, payload: str) -> str:
+        """The reply to a packet."""
+        self.put(packed(payload.encode()))
+        reply = self.reply()
+        assert reply is not None, f"no reply to {payload}"
+        return reply.decode("latin-1")
+
+    def command(self, line: str) -> str:
+        """What `monitor LINE` shows; an error of it is `E01`."""
+        kept, self.console = self.console, b""
+        reply = self.ask("qRcmd," + line.encode().hex())
+        shown, self.console = self.console, kept
+        return shown.decode() if reply == "OK" else reply
+
+    def position(self) -> int:
+        return int(self.command("pos").split()[1])
