@@ -44,8 +44,8 @@ def kind_of(name: str, content: bytes) -> str:
     return "source" if name.endswith(".s") else "rom"
 
 
-HOW_TO_LINK = ("Make an ELF of it, and boot that: mipsel-linux-gnu-gcc -EL -march=r3000 -mno-abicalls -nostdlib -static "
-               "-Wl,-Ttext=0xbfc00000 -Wl,-e,0xbfc00000 -o boot.elf FILE")
+HOW_TO_LINK = ("Make an ELF of it, and boot that: mipsel-linux-gnu-gcc -march=r3000 -mfp32 -mno-abicalls -fno-pic -nostdlib "
+               "-static -Wl,-Ttext=0xbfc00000 -Wl,-e,0xbfc00000 -o boot.elf FILE")
 
 
 def is_gnu_source(content: bytes) -> bool:

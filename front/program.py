@@ -130,19 +130,19 @@ class Program:
     def _receive(self) -> None:
         content = os.read(self._output, 1 << 16)
         if not content:
-            raise Ended(self._reason())
+            raise self._end()
         *whole, self._partial = (self._partial + content).split(b"\n")
         self._lines.extend(line.decode("ascii", "replace") for line in whole)
 
-    def _reason(self) -> str:
+    def _end(self) -> Ended:
         """Why the program ended, as far as it says so."""
         status = self._process.wait()
         self._errors.seek(0)
         said = self._errors.read().decode("utf-8", "replace").strip()
         self.close()
         if status < 0:
-            return f"the program was ended by {signal.Signals(-status).name}"
-        return said or f"the program ended with status {status}"
+            return Ended(f"the program was ended by {signal.Signals(-status).name}", 128 - status)
+        return Ended(said or f"the program ended with status {status}", status)
 
     def close(self) -> None:
         """Ends the program, where it has not ended."""
