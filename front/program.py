@@ -35,7 +35,7 @@ def build() -> None:
     """Proves and builds the program where it isn't; what that takes is shown on standard error."""
     if "WB_PROGRAM" in os.environ:
         return
-    status = subprocess.run([path()], stdin=subprocess.DEVNULL).returncode
+    status = subprocess.run([path()], stdin=subprocess.DEVNULL, stdout=subprocess.DEVNULL).returncode
     if status:
         raise Problem("", status)
 

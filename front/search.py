@@ -28,17 +28,17 @@ def next_visit(driver: Driver, addresses: Collection[int], limit: int) -> Option
     return None
 
 
-def last_visit(driver: Driver, addresses: Collection[int]) -> Optional[int]:
-    """The greatest position below the present one whose PC is one of the addresses."""
+def last_visit(driver: Driver, addresses: Collection[int], lowest: int = 0) -> Optional[int]:
+    """The greatest position below the present one, and not below `lowest`, whose PC is one of the addresses."""
     begin = driver.position
     with _search(driver) as tell:
-        for low, high in _backward(begin):
+        for low, high in _backward(lowest, begin):
             last = low if low == 0 < high and RESET_PC in addresses else None
             for address in addresses:
                 last = _last_visit(driver, address, low - 1 if last is None else last, high) or last
             if last is not None:
                 return last
-            tell(begin - low, begin)
+            tell(begin - low, begin - lowest)
     return None
 
 
@@ -90,14 +90,15 @@ def _forward(begin: int, end: int) -> Iterator[tuple[int, int]]:
         low = high
 
 
-def _backward(end: int) -> Iterator[tuple[int, int]]:
-    """Windows down from a position: of each the least position, and the one after the greatest."""
+def _backward(begin: int, end: int) -> Iterator[tuple[int, int]]:
+    """Windows down from an end to a beginning: of each the least position, and the one after the greatest."""
     high, size = end, 0
-    while high > 0:
-        low = max(high - WINDOWS[min(size, len(WINDOWS) - 1)], 0)
+    while high > begin:
+        low = max(high - WINDOWS[min(size, len(WINDOWS) - 1)], begin)
         size += 1
-        if high - low >= SPAN:
-            low = min(-(-low // SPAN) * SPAN + 1, high - 1)
+        if high - low >= SPAN and low > begin:
+            # The position before the window, where it is looked at from, begins a span.
+            low = -(-low // SPAN) * SPAN + 1
         yield low, high
         high = low
 

@@ -29,18 +29,19 @@ class Searches(unittest.TestCase):
         stores = [stored(words, it) for it in run]
         for _ in range(CASES):
             here, limit = source.randrange(STEPS // 2), source.randrange(1, STEPS // 2)
+            lowest = source.choice((0, 0, source.randrange(STEPS // 2)))
             places = {0xBFC0_0000 + 4 * source.randrange(len(words)) for _ in range(source.randrange(1, 5))}
             word = DATA + 4 * source.randrange(4)
             driver.goto(here)
             ahead, back = range(here + 1, here + limit + 1), range(here - 1, -1, -1)
             want = [
                 next((it for it in ahead if pcs[it] in places), None),
-                next((it for it in back if pcs[it] in places), None),
+                next((it for it in back if pcs[it] in places and it >= lowest), None),
                 next((it for it in range(here, here + limit) if stores[it] == word), None),
                 next((it for it in back if stores[it] == word), None),
             ]
             got = [
-                search.next_visit(driver, places, limit), search.last_visit(driver, places),
+                search.next_visit(driver, places, limit), search.last_visit(driver, places, lowest),
                 search.first_store(driver, word, limit), search.last_store(driver, word),
             ]
             self.assertEqual(got, want, f"at {here}, limit {limit}, word {word:#x}, {sorted(map(hex, places))}")
