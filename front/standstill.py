@@ -15,7 +15,7 @@ from .limits import GREATEST_POSITION, RAM, ROM
 from .replies import Registers
 
 TURN = 4096  # the longest turn that is looked at, in steps
-BATCH = 64
+BATCH = 32
 
 INTERRUPTS_ON, DEVICE_MASK, ISOLATED = 0x1, 0xC00, 0x1_0000  # bits of Status
 
@@ -74,13 +74,11 @@ class _Loop:
         return Standstill.WAITING
 
     def _turn(self) -> Optional[int]:
-        """The steps of a turn, if there is one."""
-        while len(self._states) <= TURN:
-            known = len(self._states)
-            if not self._follow():
-                return None
-            if self._states[0] in self._states[known:]:
-                return self._states.index(self._states[0], known)
+        """The steps of a turn, if the first state comes again. It does not where a later one comes again without it."""
+        while len(self._states) <= TURN and self._follow():
+            *earlier, last = self._states
+            if last in earlier:
+                return self._states.index(self._states[0], 1) if self._states[0] in self._states[1:] else None
         return None
 
     def _stays(self, turn: int, steps: int) -> bool:

@@ -33,9 +33,10 @@ class Malformed(Exception):
 class Stub:
     """Answers packets, one by one."""
 
-    def __init__(self, driver: Driver, link: Link, *, exceptions_whole: bool = False) -> None:
+    def __init__(self, driver: Driver, link: Link, *, exceptions_whole: bool = False, tell: Callable[[str], None] = loading.say) -> None:
         self._driver = driver
         self._link = link
+        self._tell = tell  # for the sentences that gdb doesn't show: it shows what a stub writes to standard error
         self._motion = Motion(driver, link, exceptions_whole=exceptions_whole)
         self._steps_ranges = not exceptions_whole
         self._breakpoints: set[tuple[int, int]] = set()  # kinds and addresses
@@ -61,15 +62,11 @@ class Stub:
                 try:
                     return answer(self, packet[len(prefix):])
                 except Problem as problem:
-                    return self._refuse(str(problem))
+                    self._tell(str(problem))
+                    return FAILED
                 except Malformed:
                     return FAILED
         return NOT_KNOWN
-
-    def _refuse(self, sentence: str) -> bytes:
-        """An error with its reason, which gdb doesn't show for all packets: it shows what a stub writes to standard error."""
-        print(sentence, file=sys.stderr, flush=True)
-        return FAILED
 
     # What the stub is
 

@@ -74,7 +74,7 @@ def _taken(driver: Driver, following: int) -> Optional[int]:
     if place is None or driver.words(place, 1)[0] != RETURN:
         return None
     addresses = {following - 4, following, following + 4}
-    step = search.last_visit(driver, addresses)
+    step = search.last_visit(driver, addresses, max(0, here - HANDLER))
     taken = step if step is not None and _exception(driver, step) else None
     driver.goto(here)
     return taken

@@ -124,8 +124,8 @@ def backward(driver: Driver, stops: Stops, pause: Pause) -> Stop:
             stop, lowest = Stop(Reason.WATCH, step, watch), step + 1
     driver.goto(start)
     if stops.breakpoints:
-        found = search.last_visit(driver, stops.breakpoints)
-        if found is not None and found >= lowest:
+        found = search.last_visit(driver, stops.breakpoints, lowest)
+        if found is not None:
             stop = Stop(Reason.BREAKPOINT, found)
     return stop
 

@@ -40,6 +40,12 @@ class StubTest(unittest.TestCase):
         for packet, expected in exchanges:
             self.assertEqual(wire.ask(packet), expected, packet)
 
+    def refusals(self, wire: Wire, *refusals: tuple[str, str]) -> None:
+        """Packets that are refused, each with words of the reason."""
+        for packet, reason in refusals:
+            self.dialog(wire, (packet, "E01"))
+            self.assertIn(reason, wire.notes.pop(), packet)
+
     def stops(self, wire: Wire, *stops: tuple[str, str, int]) -> None:
         """Packets that move, each with its reply and the position after it."""
         for packet, expected, position in stops:
@@ -72,7 +78,8 @@ class Registers(StubTest):
     def test_they_are_not_written(self) -> None:
         wire = self.wire(COUNTER)
         everything = wire.ask("g")
-        self.dialog(wire, ("G" + everything, "OK"), ("P25=0000c0bf", "OK"), ("P25=0400c0bf", "E01"), ("G" + "1" * len(everything), "E01"))
+        self.dialog(wire, ("G" + everything, "OK"), ("P25=0000c0bf", "OK"))
+        self.refusals(wire, ("P25=0400c0bf", "registers can't be written"), ("G" + "1" * len(everything), "registers can't be written"))
         self.assertEqual(wire.ask("g"), everything)
 
     def test_the_description_comes_in_pieces(self) -> None:
@@ -109,11 +116,13 @@ class Memory(StubTest):
         wire = self.wire(COUNTER)
         self.dialog(wire, ("Ma0000200,4:01020304", "OK"), ("m80000200,4", "01020304"))
         wire.command("goto 1")
-        self.dialog(wire, ("Ma0000200,4:05060708", "E01"), ("m80000200,4", "01020304"))
+        self.refusals(wire, ("Ma0000200,4:05060708", "RAM can't be written at position 1"))
+        self.dialog(wire, ("m80000200,4", "01020304"))
 
     def test_a_write_is_whole_or_not_at_all(self) -> None:
         wire = self.wire([0])
-        self.dialog(wire, ("Ma07ffffc,8:0102030405060708", "E01"), ("ma07ffffc,4", "00000000"), ("Xbfc00000,0:", "OK"))
+        self.refusals(wire, ("Ma07ffffc,8:0102030405060708", "no RAM or ROM stands at 0xa0800000"))
+        self.dialog(wire, ("ma07ffffc,4", "00000000"), ("Xbfc00000,0:", "OK"))
 
 
 class Runs(StubTest):
@@ -188,9 +197,10 @@ class Runs(StubTest):
 
     def test_what_cannot_be_stopped_at_is_refused(self) -> None:
         wire = self.wire(ECHO)
-        for packet in "Z3,a0000100,4", "Z4,a0000100,4", "Z0,bfc01002,4", "Z2,bfe00000,4", "Z2,400000,4", "Z0,bfc01000", "Zx,1,1":
-            self.dialog(wire, (packet, "E01"))
-        self.dialog(wire, ("z0,bfc01000,4", "OK"), ("z2,400000,4", "OK"))
+        self.refusals(wire, ("Z3,a0000100,4", "reads can't be watched"), ("Z4,a0000100,4", "reads can't be watched"),
+                      ("Z0,bfc01002,4", "no multiple of 4"), ("Z2,bfe00000,4", "no memory stands at 0xbfe00000"),
+                      ("Z2,400000,4", "no memory stands at 0x00400000"))
+        self.dialog(wire, ("Z0,bfc01000", "E01"), ("Zx,1,1", "E01"), ("z0,bfc01000,4", "OK"), ("z2,400000,4", "OK"))
 
     def test_a_range_is_stepped_through(self) -> None:
         wire = self.wire(ECHO)
@@ -256,7 +266,7 @@ class Commands(StubTest):
         wire = self.wire(COUNTER)
         self.dialog(wire, ("!", "OK"), ("vKill;1", "OK"), ("?", "W00"))
         self.stops(wire, ("vRun;;" + b"40".hex(), "T05", 40), ("vRun;", "T05", 0))
-        self.dialog(wire, ("vRun;;" + b"x".hex(), "E01"))
+        self.refusals(wire, ("vRun;;" + b"x".hex(), "x is no position"))
 
     def test_the_debugger_leaves(self) -> None:
         for packet, reply in (b"$D;1#b0", b"+$OK#9a"), (b"$k#6b", b"+"):
@@ -285,7 +295,7 @@ class Hostile(StubTest):
         process = wire.driver._program._process
         os.kill(process.pid, signal.SIGKILL)
         process.wait()
-        self.assertEqual(wire.ask("g"), "E01")
+        self.refusals(wire, ("g", "the program was ended by SIGKILL"))
         self.assertEqual([wire.command(it) for it in ("pos", "writer 0x104", "mem 0x200 1")],
                          ["pos 256\n", "writer 81\n", "0x00000200 0x00000007\n"])
 

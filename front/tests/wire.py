@@ -22,11 +22,13 @@ class Wire:
 
     def __init__(self, driver: Driver, *, exceptions_whole: bool = False) -> None:
         self.driver = driver
+        self.notes: list[str] = []  # the reasons for errors
         self.console = b""  # what was shown while the program ran
         self._ours, self._theirs = socket.socketpair()
         self._ours.settimeout(TIMEOUT)
         self._unread = b""
-        stub = Stub(driver, Link(self._theirs.fileno(), self._theirs.fileno()), exceptions_whole=exceptions_whole)
+        stub = Stub(driver, Link(self._theirs.fileno(), self._theirs.fileno()), exceptions_whole=exceptions_whole,
+                    tell=self.notes.append)
         self._thread = threading.Thread(target=self._serve, args=(stub,), daemon=True)
         self._thread.start()
 
