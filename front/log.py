@@ -87,10 +87,10 @@ def read_file(path: Path) -> list[Event]:
 TEXT_HELP = """\
 Each line is `TIME LINE 'BYTES' [GAP]`: the bytes arrive at serial line LINE from step TIME on, GAP steps apart
 (without a gap all in that step). A TIME of +N is N steps after the last byte of the line before. In BYTES stand
-\\r, \\n, \\t, \\e, \\\\, \\' and \\xNN. What follows # is a comment."""
+\\b, \\t, \\n, \\r, \\e, \\\\, \\' and \\xNN. What follows # is a comment."""
 
-_ESCAPES = {"r": 13, "n": 10, "t": 9, "e": 27, "0": 0, "\\": 92, "'": 39, '"': 34}
-_SHOWN = {13: "\\r", 10: "\\n", 9: "\\t", 27: "\\e", 92: "\\\\", 39: "\\'"}
+_ESCAPES = {"b": 8, "t": 9, "n": 10, "r": 13, "e": 27, "0": 0, "\\": 92, "'": 39, '"': 34}
+_SHOWN = {8: "\\b", 9: "\\t", 10: "\\n", 13: "\\r", 27: "\\e", 92: "\\\\", 39: "\\'"}
 _TEXT_LINE = re.compile(r"(\+?)(\w+)\s+(\w+)\s+'((?:[^'\\]|\\.)*)'(?:\s+(\w+))?\s*(?:#.*)?")
 
 
@@ -110,7 +110,7 @@ def unquoted(text: str) -> bytes:
         elif escape in _ESCAPES:
             made.append(_ESCAPES[escape])
         else:
-            raise Problem(f"\\{escape} is no escape: there are \\r \\n \\t \\e \\0 \\\\ \\' \\\" and \\xNN")
+            raise Problem(f"\\{escape} is no escape: there are \\b \\t \\n \\r \\e \\0 \\\\ \\' \\\" and \\xNN")
     return bytes(made)
 
 
@@ -118,16 +118,20 @@ def show(events: Sequence[Event]) -> Iterator[str]:
     """The text of a log, line by line: as few lines as its order allows."""
     at = 0
     while at < len(events):
-        first, end = events[at], at + 1
-        gap = 0
-        if end < len(events):
-            gap = events[end].time - first.time
-        while end < len(events) and events[end].line == first.line and events[end].time - events[end - 1].time == gap:
-            end += 1
-        count = end - at
+        first = events[at]
+        end, gap = _run(events, at)
         text = quoted(it.byte for it in events[at:end])
-        yield f"{first.time} {first.line} {text}" + (f" {gap}" if gap and count > 1 else "")
+        yield f"{first.time} {first.line} {text}" + (f" {gap}" if gap else "")
         at = end
+
+
+def _run(events: Sequence[Event], at: int) -> tuple[int, int]:
+    """The end of the events from one on that are of its line and have equal gaps, and the gap. Two alone have one only if it is 0."""
+    end = at + 1
+    gap = events[end].time - events[at].time if end < len(events) else 0
+    while end < len(events) and events[end].line == events[at].line and events[end].time - events[end - 1].time == gap:
+        end += 1
+    return (end, gap) if not gap or end > at + 2 else (at + 1, 0)
 
 
 def make(lines: Iterable[str], name: str) -> list[Event]:

@@ -54,7 +54,7 @@ class Symbols:
 
 
 # A symbol without a size reaches to the next one, but not beyond this many bytes.
-_UNSIZED = 0x1_0000
+_UNSIZED = 0x1000
 
 
 def symbols_of(image: Image) -> Symbols:
