@@ -71,8 +71,35 @@ class Stop:
 
 
 def forward(driver: Driver, stops: Stops, pause: Pause) -> Stop:
-    """The first stop above the position, or a watch that is changed from it on. `pause` is called at the end of each piece, and says
-    whether the run is to end there."""
+    """The first stop above the position, or a watch that is changed from it on; the driver stands there afterwards. `pause` is called at
+    the end of each piece, and says whether the run is to end there."""
+    return _at(driver, _forward(driver, stops, pause))
+
+
+def leave(driver: Driver, addresses: range, stops: Stops, pause: Pause) -> Stop:
+    """The same, of a run that ends too where the PC is none of the addresses."""
+    return _at(driver, _leave(driver, addresses, stops, pause))
+
+
+def backward(driver: Driver, stops: Stops, pause: Pause) -> Stop:
+    """The last breakpoint below the position, or the last step below it that changes a watch, or position 0; the driver stands there
+    afterwards."""
+    return _at(driver, _backward(driver, stops, pause))
+
+
+def changed(driver: Driver, stops: Stops, step: int) -> Optional[Watch]:
+    """The watch that a step changes."""
+    driver.goto(step + 1)
+    stored = [watch for watch in stops.watches if any(driver.writer(word).step == step for word in watch.words())]
+    return next((watch for watch in stored if watch.changes(driver, step)), None)
+
+
+def _at(driver: Driver, stop: Stop) -> Stop:
+    driver.goto(stop.position)
+    return stop
+
+
+def _forward(driver: Driver, stops: Stops, pause: Pause) -> Stop:
     start, length = driver.position, FIRST_PIECE
     while True:
         here = driver.position
@@ -90,8 +117,8 @@ def forward(driver: Driver, stops: Stops, pause: Pause) -> Stop:
         length = min(4 * length, LONGEST_PIECE)
 
 
-def leave(driver: Driver, addresses: range, stops: Stops, pause: Pause) -> Stop:
-    """Single steps, until the PC is none of the addresses or there is a stop."""
+def _leave(driver: Driver, addresses: range, stops: Stops, pause: Pause) -> Stop:
+    """Looks at each step, in batches."""
     while True:
         start = driver.position
         end = min(start + BATCH, GREATEST_POSITION)
@@ -113,8 +140,7 @@ def leave(driver: Driver, addresses: range, stops: Stops, pause: Pause) -> Stop:
             return Stop(Reason(still.value), _stands_from(driver, start, reached))
 
 
-def backward(driver: Driver, stops: Stops, pause: Pause) -> Stop:
-    """The last breakpoint below the position, or the last step below it that changes a watch, or position 0."""
+def _backward(driver: Driver, stops: Stops, pause: Pause) -> Stop:
     start = driver.position
     stop = Stop(Reason.BEGIN, 0)
     lowest = 0
@@ -128,13 +154,6 @@ def backward(driver: Driver, stops: Stops, pause: Pause) -> Stop:
         if found is not None:
             stop = Stop(Reason.BREAKPOINT, found)
     return stop
-
-
-def changed(driver: Driver, stops: Stops, step: int) -> Optional[Watch]:
-    """The watch that a step changes."""
-    driver.goto(step + 1)
-    stored = [watch for watch in stops.watches if any(driver.writer(word).step == step for word in watch.words())]
-    return next((watch for watch in stored if watch.changes(driver, step)), None)
 
 
 def _first(driver: Driver, stops: Stops, start: int, end: int) -> tuple[Optional[Stop], int]:
