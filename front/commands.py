@@ -35,6 +35,12 @@ class Command:
 
 COMMANDS: dict[str, Command] = {}
 
+# The groups of the help, in order.
+MOVES, STOPS = "Moving", "Stops"
+HOLDS, BEFORE = "What the machine holds", "What happened before"
+SERIAL, PAST, FILES, SHELL = "The serial lines", "The past", "Files", "The shell"
+GROUPS = (MOVES, STOPS, HOLDS, BEFORE, SERIAL, PAST, FILES, SHELL)
+
 # Short names, as gdb has them.
 SHORT = {"s": "step", "si": "step", "rs": "back", "rsi": "back", "c": "continue", "rc": "reverse-continue", "b": "break",
          "p": "print", "x": "mem", "q": "quit", "h": "help", "r": "regs", "d": "delete"}

@@ -73,7 +73,7 @@ class Driver:
 
     def ask_all(self, commands: Sequence[str]) -> list[list[str]]:
         """The replies of several commands, which are under way together."""
-        if any(words_of(it)[:1] == ["patch"] for it in commands):
+        if any(words_of(it)[:1] == ("patch",) for it in commands):
             self.boot()
         answers: list[list[str]] = []
         with self.long_run():
@@ -327,7 +327,8 @@ class Driver:
 
 
 def _moves(command: str) -> bool:
-    return bool(_MOVES.intersection(words_of(command)[:1]))
+    words = words_of(command)
+    return bool(words) and words[0] in _MOVES
 
 
 def _pieces(first: int, count: int, most: int, size: int) -> Iterator[tuple[int, int]]:

@@ -19,7 +19,7 @@ Addresses of mem, dis, writer and patch are physical, or virtual from 0x80000000
 
 def answer(driver: Driver, line: str) -> str:
     """The reply to a command, with its line ends."""
-    words = words_of(line)
+    words = list(words_of(line))
     if words[:1] == ["help"]:
         return HELP
     if words[:1] == ["quit"]:

@@ -111,7 +111,7 @@ def _feed(pipe: IO[bytes], head: bytes, script: int) -> None:
 def _by_replies(driver: Driver, script: IO[bytes], line: Line) -> int:
     for number, raw in enumerate(iter(script.readline, b""), 1):
         command = raw.decode("utf-8", "surrogateescape").rstrip("\n").removesuffix("\r")
-        if replies.words_of(command) == ["quit"]:
+        if replies.words_of(command) == ("quit",):
             break
         lines = driver.ask(command)
         _show(command, lines, line)

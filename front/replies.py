@@ -3,6 +3,7 @@ from __future__ import annotations
 
 import re
 from dataclasses import dataclass
+from functools import lru_cache
 from typing import Any, Optional, Sequence, Union
 
 from .errors import Refused
@@ -40,9 +41,10 @@ class Writer:
     step: Optional[int]
 
 
-def words_of(command: str) -> list[str]:
+@lru_cache(1 << 12)
+def words_of(command: str) -> tuple[str, ...]:
     """The words of a command, as the program divides it."""
-    return [word for word in re.split("[ \t]+", command) if word]
+    return tuple(word for word in command.replace("\t", " ").split(" ") if word)
 
 
 def number_of(word: str) -> Optional[int]:
@@ -52,12 +54,13 @@ def number_of(word: str) -> Optional[int]:
     return int(word) if re.fullmatch("[0-9]+", word) else None
 
 
+@lru_cache(1 << 12)
 def has_reply(command: str) -> bool:
     """Whether a command has a reply: blank lines, comments and `quit` have none, lines that are too long are refused."""
     if len(command.encode("utf-8", "surrogateescape")) > COMMAND_BYTES:
         return True
     words = words_of(command)
-    return bool(words) and not words[0].startswith("#") and words != ["quit"]
+    return bool(words) and not words[0].startswith("#") and words != ("quit",)
 
 
 def lines_after(command: str, first: str) -> int:

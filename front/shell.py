@@ -9,7 +9,7 @@ from typing import Iterator, Optional, Sequence, TextIO
 
 from . import expressions, loading, shell_edits, shell_moves, shell_views  # noqa: F401 - they fill the table of commands
 from .arguments import parse
-from .commands import COMMANDS, SHORT, command, find, words_of
+from .commands import COMMANDS, GROUPS, SHELL, SHORT, command, find, words_of
 from .errors import Ended, Interrupted, Problem, Refused
 from .explain import explain
 from .progress import on_terminal
@@ -140,7 +140,7 @@ class Shell:
 
 # Help
 
-@command("help [NAME]", "shows all commands, or more of one, or `help numbers`", "Help")
+@command("help [NAME]", "shows all commands, or more of one, or `help numbers`", SHELL)
 def help_(session: Session, words: list[str]) -> None:
     if not words:
         session.tell(help_text().rstrip())
@@ -152,18 +152,19 @@ def help_(session: Session, words: list[str]) -> None:
         session.tell(f"{found.usage}: {found.text}" + (f" (short: {', '.join(short)})" if short else ""))
 
 
-@command("quit", "leaves; what is not saved is told first", "Help")
+@command("quit", "leaves; what is not saved is told first", SHELL)
 def quit_(session: Session, words: list[str]) -> None:
     raise AssertionError("the shell leaves by itself")
 
 
 def help_text() -> str:
     """All commands, by their groups."""
-    groups: dict[str, list[str]] = {}
     width = max(len(it.usage) for it in COMMANDS.values())
-    for it in COMMANDS.values():
-        groups.setdefault(it.group, []).append(f"  {it.usage:{width}}  {it.text}")
-    text = "\n\n".join("\n".join([f"{group}:", *lines]) for group, lines in groups.items())
+    parts = []
+    for group in GROUPS:
+        lines = [f"  {it.usage:{width}}  {it.text}" for it in COMMANDS.values() if it.group == group]
+        parts.append("\n".join([f"{group}:", *lines]))
+    text = "\n\n".join(parts)
     return f"{text}\n\n{expressions.HELP}\nThe beginning of a name is enough where it is that of one command alone.\n"
 
 

@@ -4,7 +4,7 @@ from __future__ import annotations
 import re
 
 from . import log as logs
-from .commands import command
+from .commands import FILES, PAST, SERIAL, SHELL, command
 from .errors import Problem
 from .image_command import content_for
 from .limits import GREATEST_POSITION, GREATEST_TIME, LINES
@@ -12,8 +12,6 @@ from .log import quoted, unquoted
 from .saving import save
 from .session import Session
 from .standstill import standstill
-
-EDITS, FILES, SERIAL = "The past", "Files", "The serial lines"
 
 # Bytes that are typed are at least so many steps apart, and twice the time that the serial part takes to send one: a program
 # that asks for them in its loop, or is interrupted, has taken each, and sent it back, before the next one comes.
@@ -23,36 +21,36 @@ _LEAST_GAP = 1000
 _PIECE = 1 << 20
 
 
-@command("add T L B", "lets byte B arrive at line L in step T", EDITS, edits=True)
+@command("add T L B", "lets byte B arrive at line L in step T", PAST, edits=True)
 def add(session: Session, words: list[str]) -> None:
     time, line, byte = map(session.number, words)
     session.tell(f"event {session.driver.add(time, line, byte)}")
 
 
-@command("del I", "takes event I out of the log", EDITS, edits=True)
+@command("del I", "takes event I out of the log", PAST, edits=True)
 def del_(session: Session, words: list[str]) -> None:
     session.driver.delete(session.number(words[0]))
     session.tell(f"{len(session.driver.log):,} events are left")
 
 
-@command("set I B", "changes the byte of event I to B", EDITS, edits=True)
+@command("set I B", "changes the byte of event I to B", PAST, edits=True)
 def set_(session: Session, words: list[str]) -> None:
     session.tell(f"event {session.driver.set_byte(*map(session.number, words))}")
 
 
-@command("move I T", "moves event I to step T", EDITS, edits=True)
+@command("move I T", "moves event I to step T", PAST, edits=True)
 def move(session: Session, words: list[str]) -> None:
     session.tell(f"event {session.driver.move(*map(session.number, words))}")
 
 
-@command("patch A W", "starts the machine with word W at virtual address A", EDITS, edits=True)
+@command("patch A W", "starts the machine with word W at virtual address A", PAST, edits=True)
 def patch(session: Session, words: list[str]) -> None:
     address, physical = session.word_at(words[0])
     session.driver.patch(physical, session.number(words[1]) & 0xFFFF_FFFF)
     session.tell(f"the image sets {session.address(address)}; what steps before this position stored stands over it")
 
 
-@command("undo", "takes the last edit back", EDITS)
+@command("undo", "takes the last edit back", PAST)
 def undo(session: Session, words: list[str]) -> None:
     if not session.edits:
         raise Problem("there is no edit to take back")
@@ -143,7 +141,7 @@ def save_image(session: Session, words: list[str]) -> None:
     session.tell(f"{len(content):,} bytes are saved in {words[0]}")
 
 
-@command("wb LINE ..", "gives a line to the workbench as it is, with physical addresses, and shows its reply", "The workbench", edits=True)
+@command("wb LINE ..", "gives a line to the workbench as it is, with physical addresses, and shows its reply", SHELL, edits=True)
 def wb(session: Session, words: list[str]) -> None:
     for line in session.driver.ask(" ".join(words)):
         session.tell(line)

@@ -4,7 +4,7 @@ from __future__ import annotations
 from typing import Callable
 
 from . import memory, travel
-from .commands import command
+from .commands import MOVES, STOPS, command
 from .driver import Driver
 from .errors import Problem
 from .limits import GREATEST_POSITION
@@ -12,8 +12,6 @@ from .log import quoted
 from .search import next_visit
 from .session import Mark, Session
 from .travel import Reason, Stop, Stops, Watch
-
-MOVES, STOPS = "Moving", "Stops"
 
 
 @command("pos", "shows the position", MOVES)

@@ -2,13 +2,11 @@
 from __future__ import annotations
 
 from . import expressions
-from .commands import command
+from .commands import BEFORE, HOLDS, SERIAL, command
 from .errors import Problem
 from .expressions import REGISTERS, register_number
 from .limits import LINES, WORDS
 from .session import UNMAPPED, Session, distance
-
-HOLDS, BEFORE = "What the machine holds", "What happened before"
 
 _CODES = {0: "interrupt", 1: "store to a page that is not dirty", 2: "no entry for a load or fetch", 3: "no entry for a store",
           4: "address error of a load or fetch", 5: "address error of a store", 6: "bus error of a fetch",
@@ -136,7 +134,7 @@ def writer(session: Session, words: list[str]) -> None:
         session.tell(f"no step before this position stored at {session.address(address)}, and the image does not set it")
 
 
-@command("console [L] [F] [C]", "shows what line L sent as text: C bytes from place F on, or all", BEFORE)
+@command("console [L] [F] [C]", "shows what line L sent as text: C bytes from place F on, or all", SERIAL)
 def console(session: Session, words: list[str]) -> None:
     numbers = [session.number(it) for it in words]
     if not numbers:
@@ -165,12 +163,12 @@ def text_of(content: bytes) -> str:
     return "".join(chr(it) if it == 10 or 32 <= it < 127 else f"\\x{it:02x}" for it in text)
 
 
-@command("find L P", "shows the step that sent the byte at place P of line L", BEFORE)
+@command("find L P", "shows the step that sent the byte at place P of line L", SERIAL)
 def find(session: Session, words: list[str]) -> None:
     session.tell(session.step(session.driver.find(session.number(words[0]), session.number(words[1]))))
 
 
-@command("log [F] [C]", "shows C events of the log from number F on, or those around the position", BEFORE)
+@command("log [F] [C]", "shows C events of the log from number F on, or those around the position", SERIAL)
 def log(session: Session, words: list[str]) -> None:
     events, here = session.driver.log, session.driver.position
     count = session.number(words[1]) if len(words) > 1 else _EVENTS

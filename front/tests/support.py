@@ -2,12 +2,15 @@
 from __future__ import annotations
 
 import random
+from pathlib import Path
 from typing import Optional, Sequence
 
 from front.driver import Driver
 from front.image import Image
 from front.log import Event
 from front.replies import Registers, registers
+
+ROOT = Path(__file__).resolve().parents[2]
 
 # Registers of the random programs: r8 has the data in kseg1, r9 to r12 are counted and compared.
 DATA = 0x100
