@@ -28,8 +28,8 @@ class Command:
     def check(self, words: list[str]) -> None:
         """Refuses another number of words than the command has."""
         wanted = self.usage.split()[1:]
-        least = sum(not it.startswith("[") for it in wanted)
-        if not least <= len(words) <= (1000 if ".." in self.usage else len(wanted)):
+        least = sum(it[0] not in "[." for it in wanted)
+        if len(words) < least or len(words) > len(wanted) and ".." not in wanted:
             raise Problem(f"usage: {self.usage}")
 
 

@@ -226,8 +226,8 @@ class Driver:
                 if stop() > 1:
                     raise Interrupted() from None
                 raise
-        if count < len(commands):
-            raise Interrupted()
+            if stop() or count < len(commands):
+                raise Interrupted()
 
     def _started(self) -> Program:
         """The program, started where it is not."""

@@ -55,6 +55,7 @@ class Program:
                 words(kind, len(content), len(log)), stdin=subprocess.PIPE, stdout=subprocess.PIPE, stderr=self._errors,
                 start_new_session=True, bufsize=0)
         except OSError as error:
+            self._errors.close()
             raise Problem(f"{path()} can't be started: {error.strerror}", 70) from None
         assert self._process.stdin and self._process.stdout
         self._input, self._output = self._process.stdin.fileno(), self._process.stdout.fileno()

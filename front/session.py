@@ -148,9 +148,13 @@ UNMAPPED = {
 }
 
 
+def counted(count: int, name: str) -> str:
+    """`1,001 steps`, `1 step`."""
+    return f"{count:,} {name}" + ("" if count == 1 else "s")
+
+
 def distance(step: int, here: int) -> str:
     """`1,001 steps ago`, as seen from a position."""
     if step == here:
         return "now"
-    count = abs(step - here)
-    return f"{count:,} {'step' if count == 1 else 'steps'} {'ago' if step < here else 'ahead'}"
+    return f"{counted(abs(step - here), 'step')} {'ago' if step < here else 'ahead'}"

@@ -69,12 +69,12 @@ class Shell:
         lines = self._typed() if is_typed else iter(script or sys.stdin)
         if is_typed:
             _begin_readline(self._session)
-            self._do("pos")
+            self.do("pos")
         for line in lines:
             line = line.strip()
             if echo and line:
                 print(f"> {line}", flush=True)
-            self._do(line)
+            self.do(line)
             sys.stdout.flush()
             if self._left:
                 break
@@ -94,7 +94,7 @@ class Shell:
                 if self._left:
                     return
 
-    def _do(self, line: str) -> None:
+    def do(self, line: str) -> None:
         """Runs a line, and tells what goes wrong."""
         if not line or line.startswith("#"):
             return

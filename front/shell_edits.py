@@ -10,7 +10,7 @@ from .image_command import content_for
 from .limits import GREATEST_POSITION, GREATEST_TIME, LINES
 from .log import quoted, unquoted
 from .saving import save
-from .session import Session
+from .session import Session, counted
 from .standstill import standstill
 
 # Bytes that are typed are at least so many steps apart, and twice the time that the serial part takes to send one: a program
@@ -30,7 +30,7 @@ def add(session: Session, words: list[str]) -> None:
 @command("del I", "takes event I out of the log", PAST, edits=True)
 def del_(session: Session, words: list[str]) -> None:
     session.driver.delete(session.number(words[0]))
-    session.tell(f"{len(session.driver.log):,} events are left")
+    session.tell(f"{counted(len(session.driver.log), 'event')} left")
 
 
 @command("set I B", "changes the byte of event I to B", PAST, edits=True)
@@ -68,7 +68,7 @@ def type_(session: Session, words: list[str]) -> None:
     if here + gap * (len(content) - 1) > GREATEST_TIME:
         raise Problem(f"there are no steps for it left: the last one is {GREATEST_TIME:,}")
     session.driver.values([f"add {here + gap * place} {line} {byte}" for place, byte in enumerate(content)])
-    session.tell(f"{len(content)} bytes arrive at line {line} from this step on, {gap:,} steps apart, the last in step "
+    session.tell(f"{counted(len(content), 'byte')} for line {line}, from this step on, {gap:,} steps apart: the last one arrives in step "
                  f"{here + gap * (len(content) - 1):,}")
 
 
@@ -130,7 +130,7 @@ def _line_and_text(session: Session, words: list[str], usage: str) -> tuple[int,
 def save_log(session: Session, words: list[str]) -> None:
     save(words[0], logs.write(session.driver.log))
     session.saved_log = list(session.driver.log)
-    session.tell(f"{len(session.driver.log):,} events are saved in {words[0]}")
+    session.tell(f"{counted(len(session.driver.log), 'event')} saved in {words[0]}")
 
 
 @command("save-image FILE", "saves the image, with all patches: a name that ends in .img, or a raw ROM", FILES)
@@ -138,7 +138,7 @@ def save_image(session: Session, words: list[str]) -> None:
     content = content_for(words[0], session.driver.boot())
     save(words[0], content)
     session.saved_patches = len(session.driver.patches)
-    session.tell(f"{len(content):,} bytes are saved in {words[0]}")
+    session.tell(f"{counted(len(content), 'byte')} saved in {words[0]}")
 
 
 @command("wb LINE ..", "gives a line to the workbench as it is, with physical addresses, and shows its reply", SHELL, edits=True)

@@ -10,7 +10,7 @@ from .errors import Problem
 from .limits import GREATEST_POSITION
 from .log import quoted
 from .search import next_visit
-from .session import Mark, Session
+from .session import Mark, Session, counted
 from .travel import Reason, Stop, Stops, Watch
 
 
@@ -65,7 +65,7 @@ def break_(session: Session, words: list[str]) -> None:
 def watch(session: Session, words: list[str]) -> None:
     address = session.number(words[0])
     size = session.number(words[1]) if len(words) > 1 else _size(session, address)
-    text = f"watch of {size} {'byte' if size == 1 else 'bytes'} at {session.address(address)}"
+    text = f"watch of {counted(size, 'byte')} at {session.address(address)}"
     _put(session, Mark(_free(session), text, address, Watch(address, size, session.physical(address))))
 
 
@@ -74,6 +74,7 @@ def _size(session: Session, address: int) -> int:
     return found[0].size if found and not found[1] and 0 < found[0].size <= _WATCHED else 4
 
 
+_FEW = 4  # so many bytes are shown as a number
 _WATCHED = 64  # the most bytes that are watched without being asked for
 
 
@@ -147,12 +148,12 @@ def _reason(session: Session, stop: Stop) -> str:
 
 
 def _show_change(session: Session, watched: Watch, step: int) -> None:
-    """The bytes of a watch that a step changed, from the first to the last of them."""
+    """The bytes of a watch that a step changed: all of a few, or else from the first to the last of them."""
     mark = next(it for it in session.marks if it.watch == watched)
     before, after = (_bytes_at(session, watched, at) for at in (step, step + 1))
     differ = [place for place in range(watched.size) if before[place] != after[place]]
-    part = slice(differ[0], differ[-1] + 1)
-    session.tell(f"{mark.number}: {session.address(watched.address + differ[0])}: {_shown(before[part])} became {_shown(after[part])}")
+    part = slice(differ[0], differ[-1] + 1) if watched.size > _FEW else slice(0, watched.size)
+    session.tell(f"{mark.number}: {session.address(watched.address + part.start)}: {_shown(before[part])} became {_shown(after[part])}")
     session.tell(f"   in {session.step(step)}")
 
 
@@ -163,7 +164,7 @@ def _bytes_at(session: Session, watched: Watch, position: int) -> bytes:
 
 def _shown(content: bytes) -> str:
     """A few bytes as a number, with its character if it is one, or more of them as text."""
-    if len(content) > 4:
+    if len(content) > _FEW:
         return quoted(content)
     number = int.from_bytes(content, "little")
     return f"{number:#0{2 + 2 * len(content)}x}" + (f" {quoted(content)}" if len(content) == 1 and 32 <= number < 127 else "")

@@ -6,7 +6,7 @@ from .commands import BEFORE, HOLDS, SERIAL, command
 from .errors import Problem
 from .expressions import REGISTERS, register_number
 from .limits import LINES, WORDS
-from .session import UNMAPPED, Session, distance
+from .session import UNMAPPED, Session, counted, distance
 
 _CODES = {0: "interrupt", 1: "store to a page that is not dirty", 2: "no entry for a load or fetch", 3: "no entry for a store",
           4: "address error of a load or fetch", 5: "address error of a store", 6: "bus error of a fetch",
@@ -141,7 +141,7 @@ def console(session: Session, words: list[str]) -> None:
         sent = {line: session.driver.console(line) for line in range(LINES)}
         for line, content in sent.items():
             if content:
-                _show_console(session, f"line {line} sent {len(content):,} bytes:", content)
+                _show_console(session, f"line {line} sent {counted(len(content), 'byte')}:", content)
         if not any(sent.values()):
             session.tell("nothing was sent before this position")
         return
@@ -174,7 +174,7 @@ def log(session: Session, words: list[str]) -> None:
     count = session.number(words[1]) if len(words) > 1 else _EVENTS
     next_one = next((number for number, it in enumerate(events) if it.time >= here), len(events))
     first = session.number(words[0]) if words else max(0, min(next_one - count // 2, len(events) - count))
-    session.tell(f"{len(events):,} {'event' if len(events) == 1 else 'events'}, {next_one:,} before this position")
+    session.tell(f"{counted(len(events), 'event')}, {next_one:,} before this position")
     for number, it in enumerate(events[first:first + count], first):
         character = f" {chr(it.byte)!r}" if 32 <= it.byte < 127 else ""
         session.tell(f"{number:6}: step {it.time:,}, line {it.line}, {it.byte:#04x}{character}, {distance(it.time, here)}")

@@ -93,7 +93,7 @@ class Values(unittest.TestCase):
         self.assertEqual(self.driver.writer(0x300).kind, "image")
         self.driver.revert(self.driver.log, [])
         self.assertEqual(self.driver.writer(0x300).kind, "never")
-        self.assertEqual(self.driver.words(0x1FC0_1014, 1), self.driver.boot().word(0x1FC0_1014) and [0])
+        self.assertEqual((self.driver.words(0x1FC0_1014, 1), self.driver.boot().word(0x1FC0_1014)), ([0], 0))
 
 
 class Mirrors(unittest.TestCase):
@@ -157,6 +157,8 @@ class Ends(unittest.TestCase):
     def test_ctrl_c(self) -> None:
         """Ctrl-C ends a turn that would take minutes, between two commands."""
         self.driver.add(300, 0, 0x43)
+        before = signal.signal(signal.SIGINT, signal.default_int_handler)
+        self.addCleanup(signal.signal, signal.SIGINT, before)
         ended = threading.Timer(0.2, os.kill, (os.getpid(), signal.SIGINT))
         ended.start()
         begin = time.monotonic()
