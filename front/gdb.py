@@ -4,14 +4,34 @@ from __future__ import annotations
 import os
 import shlex
 import shutil
+import sys
 from pathlib import Path
+from typing import Sequence
 
+from . import loading, stub
+from .arguments import parse
 from .errors import Problem
-from .image import ELF_MAGIC
 from .program import ROOT, build
 
 DEBUGGER = "gdb-multiarch"
 IN_GDB = Path(__file__).resolve().parent / "in_gdb.py"
+
+USAGE = "usage: bin/wb gdb [--log FILE] [--kind KIND] [--through] IMAGE [GDB-ARGUMENTS]"
+HELP = f"""\
+{USAGE}
+
+gdb on the run of an image, forward and back. What stands after the image is gdb's own. In gdb `wb LINE` asks the workbench, and
+`wb help` says what; docs/DEBUGGING.md describes the rest.
+
+  --log FILE    the bytes that arrive at the serial lines
+  --kind KIND   what the image is, where it can't be seen: elf, image, rom or source
+  --through     single steps run exceptions whole, with their handlers
+  --help        this text
+
+Example:
+
+  bin/wb gdb --log examples/login/log examples/login/login.elf
+"""
 
 SETTINGS = (
     "set osabi none",  # or gdb would step by breakpoints of its own, past delay slots and exceptions
@@ -22,35 +42,33 @@ SETTINGS = (
 WITHOUT_ELF = ("set architecture mips:3000", "set endian little")
 
 
-def main(arguments: list[str]) -> int:
-    """Replaces the process by gdb. The words after the image are gdb's own."""
-    options, image, own = _divided(arguments)
+def main(arguments: Sequence[str]) -> int:
+    """Replaces the process by gdb."""
+    count = _stub_words(arguments)
+    line = parse(arguments[:count], stub.OPTIONS, USAGE)
+    if line.has("--help"):
+        sys.stdout.write(HELP)
+        return 0
+    if not line.words:
+        raise Problem(USAGE)
+    image = loading.image(line.words[0], line.get("--kind"))
     debugger = shutil.which(DEBUGGER)
     if debugger is None:
-        raise Problem(f"{DEBUGGER} is not installed. On Debian: apt-get install {DEBUGGER}")
+        raise Problem(f"{DEBUGGER} is not installed; on Debian: apt-get install {DEBUGGER}")
     build()
-    stub = shlex.join([str(ROOT / "bin/wb"), "stub", *options, image])
-    settings = [*SETTINGS, *(() if _is_elf(image) else WITHOUT_ELF)]
+    command = shlex.join([str(ROOT / "bin/wb"), "stub", *arguments[:count]])
+    settings = SETTINGS if image.elf else SETTINGS + WITHOUT_ELF
     words = [debugger, "-q", *(word for setting in settings for word in ("-iex", setting))]
-    if _is_elf(image):
-        words += ["--readnow", image, "-ex", f"directory {Path(image).resolve().parent}"]
-    words += ["-ex", f"target extended-remote | {stub}", "-x", str(IN_GDB), *own]
-    os.execv(debugger, words)
+    if image.elf:
+        # Without --readnow gdb finds no lines of assembler sources.
+        words += ["--readnow", "--directory", str(Path(image.name).resolve().parent), image.name]
+    sys.stdout.flush()
+    os.execv(debugger, [*words, "-ex", f"target extended-remote | {command}", "-x", str(IN_GDB), *arguments[count:]])
 
 
-def _is_elf(name: str) -> bool:
-    try:
-        with open(name, "rb") as file:
-            return file.read(len(ELF_MAGIC)) == ELF_MAGIC
-    except OSError as error:
-        raise Problem(f"{name} can't be read: {error.strerror}") from None
-
-
-def _divided(arguments: list[str]) -> tuple[list[str], str, list[str]]:
-    """The options of the stub, the image, and gdb's arguments."""
-    at = 0
-    while at < len(arguments) and arguments[at].startswith("-"):
-        at += 2 if arguments[at] in ("--log", "--kind") else 1
-    if at >= len(arguments):
-        raise Problem("usage: bin/wb gdb [--log FILE] [--through] ELF [GDB-ARGUMENTS]")
-    return arguments[:at], arguments[at], arguments[at + 1:]
+def _stub_words(arguments: Sequence[str]) -> int:
+    """How many words there are up to the image, which is the first one that is no option and no option's value."""
+    count = 0
+    while count < len(arguments) and arguments[count].startswith("--"):
+        count += 2 if stub.OPTIONS.get(arguments[count]) else 1
+    return min(count + 1, len(arguments))

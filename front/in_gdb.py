@@ -7,9 +7,13 @@ MOVES_OR_EDITS = ("goto", "step", "back", "visit", "run", "starti", "add", "del"
 
 
 def flush():
-    """Lets gdb forget what it read: the stub's run has moved, or is another one."""
+    """Lets gdb forget what it read, the values that it compares watches with too: the run has moved, or is another one."""
     gdb.execute("maintenance flush register-cache", to_string=True)
     gdb.execute("maintenance flush dcache", to_string=True)
+    for watch in gdb.breakpoints():
+        if watch.type == gdb.BP_HARDWARE_WATCHPOINT and watch.enabled:
+            watch.enabled = False
+            watch.enabled = True
 
 
 def as_number(word):

@@ -152,7 +152,7 @@ class _Drawing:
                 free = x + CHARACTER * (len(text) + 1)
 
     def _function(self, top: int, function: Function) -> Iterator[str]:
-        yield from self._row(top, function.name, f"{100 * function.share:.1f} %")
+        yield from self._row(top, function.name, f"{100 * function.share:.1f} %" if function.share >= 0.001 else "<0.1 %")
         base = top + ROW - 6
         bins = min(BINS, self._picture.end)
         of_all, of_this = [0] * bins, [0] * bins

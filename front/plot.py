@@ -6,7 +6,7 @@ from collections import Counter
 from dataclasses import dataclass
 from typing import Optional, Sequence
 
-from . import loading, replies, saving
+from . import loading, replies, saving, search
 from .arguments import parse
 from .driver import Driver
 from .errors import Problem
@@ -18,15 +18,37 @@ from .symbols import Symbols, symbols_of
 USAGE = ("usage: bin/wb plot --to N [--log FILE] [--words NAME,..] [--edits 'COMMAND; ..'] [--background light|dark] [--kind KIND] "
          "IMAGE [OUT]")
 OPTIONS = {"--to": "a position", "--log": "a file", "--words": "names or addresses", "--edits": "commands", "--background": "light or dark",
-           "--kind": "a kind"}
+           "--kind": "a kind", "--help": ""}
+HELP = f"""\
+{USAGE}
+
+One picture of a run, as SVG, in OUT or on standard output: the bytes at each serial line, the stores into the words that are named,
+which functions ran, and where edits met the run.
+
+  --to N              the run's end
+  --log FILE          the bytes that arrive at the serial lines
+  --words NAME,..     words of memory: symbols, also with a number of bytes after them, or addresses
+  --edits 'LINE; ..'  edits that are made first: add, del, set, move, patch
+  --background NAME   light or dark; without it the picture follows the page that it is on
+  --kind KIND         what the image is, where it can't be seen: elf, image, rom or source
+  --help              this text
+
+Example:
+
+  bin/wb plot --to 130000 --log examples/login/log --words session+32 examples/login/login.elf login.svg
+"""
 EDITS = ("add", "del", "set", "move", "patch")
-SAMPLES = 8 * COLUMNS  # of the PC, in a run that has more steps
+MOST_STEPS = 4096  # of the bytes that a line sent
+SAMPLES = 2 * COLUMNS  # of the PC, in a run that has more steps
 FUNCTIONS = 12  # those with the greatest shares have a row
 UNNAMED = 256  # bytes of code that stand for a function, where no symbol is known
 
 
-def main(arguments: list[str]) -> int:
+def main(arguments: Sequence[str]) -> int:
     line = parse(arguments, OPTIONS, USAGE)
+    if line.has("--help"):
+        sys.stdout.write(HELP)
+        return 0
     if len(line.words) not in (1, 2) or not line.has("--to"):
         raise Problem(USAGE)
     end = line.number("--to", 0)
@@ -59,14 +81,12 @@ class _Word:
 
 
 class _Plot:
-    """What a run up to a position did, column by column of the picture."""
+    """What a run did up to a position."""
 
     def __init__(self, driver: Driver, symbols: Symbols, end: int) -> None:
         self._driver = driver
         self._symbols = symbols
         self._end = end
-        columns = min(COLUMNS, end)
-        self._bounds = [end * column // columns for column in range(columns + 1)]
 
     def picture(self, name: str, edits: list[Mark], words: list[_Word]) -> Picture:
         lanes = [lane for number in range(LINES) for lane in (self._received(number), self._sent(number)) if lane]
@@ -94,12 +114,13 @@ class _Plot:
         return Lane(f"line {number} receives", [(event.time, event.byte) for event in events]) if events else None
 
     def _sent(self, number: int) -> Optional[Lane]:
-        """The bytes that a line sent, each at the end of its column."""
-        commands = [command for bound in self._bounds for command in (f"goto {bound}", f"console {number} 0 1")]
-        counts = [replies.console(reply)[0] for reply in self._driver.values(commands)[1::2]]
+        """The bytes that a line sent. Of very many, some have their steps, and the others stand with the one before."""
         self._driver.goto(self._end)
         content = self._driver.console(number)
-        sent = [(bound - 1, byte) for bound, first, last in zip(self._bounds[1:], counts, counts[1:]) for byte in content[first:last]]
+        apart = -(-len(content) // MOST_STEPS) or 1
+        commands = [f"find {number} {place}" for place in range(0, len(content), apart)]
+        steps = [replies.last_number(reply) for reply in self._driver.values(commands)]
+        sent = [(steps[place // apart], byte) for place, byte in enumerate(content)]
         return Lane(f"line {number} sends", sent) if sent else None
 
     # Words
@@ -119,14 +140,17 @@ class _Plot:
 
     def _stores(self, word: _Word) -> Stores:
         """The last store of each column into a word, and what the word holds after it."""
-        commands = [command for bound in self._bounds[1:] for command in (f"goto {bound}", f"writer {word.place}", f"mem {word.place} 1")]
-        answers = self._driver.values(commands)
         stores = []
-        for first, writer, memory in zip(self._bounds, answers[1::3], answers[2::3]):
-            step = replies.writer(writer).step
-            if step is not None and step >= first:
-                stores.append((step, replies.memory(memory)[0]))
-        return Stores(word.name, stores)
+        end = self._end
+        while end:
+            self._driver.goto(end)
+            step = search.last_store(self._driver, word.place)
+            if step is None:
+                break
+            self._driver.goto(step + 1)
+            stores.append((step, self._driver.words(word.place, 1)[0]))
+            end = self._end * (step * COLUMNS // self._end) // COLUMNS  # the begin of its column
+        return Stores(word.name, stores[::-1])
 
     # Functions
 

@@ -3,7 +3,7 @@ from __future__ import annotations
 
 import re
 import sys
-from typing import Callable, Optional
+from typing import Callable, Optional, Sequence
 
 from . import loading, memory, monitor, target
 from .arguments import parse
@@ -15,7 +15,22 @@ from .rsp import PACKET_BYTES, Link
 from .travel import Watch
 
 USAGE = "usage: bin/wb stub [--log FILE] [--kind KIND] [--through] IMAGE"
-OPTIONS = {"--log": "a file", "--kind": "a kind", "--through": ""}
+OPTIONS = {"--log": "a file", "--kind": "a kind", "--through": "", "--help": ""}
+HELP = f"""\
+{USAGE}
+
+Serves a debugger by gdb's remote serial protocol, on standard input and output. `bin/wb gdb` starts gdb on it; docs/DEBUGGING.md says
+what another debugger needs.
+
+  --log FILE    the bytes that arrive at the serial lines
+  --kind KIND   what the image is, where it can't be seen: elf, image, rom or source
+  --through     single steps run exceptions whole, with their handlers
+  --help        this text
+
+Example, in gdb:
+
+  target extended-remote | bin/wb stub --log examples/login/log examples/login/login.elf
+"""
 
 FEATURES = (b"PacketSize=%x;QStartNoAckMode+;qXfer:features:read+;ReverseStep+;ReverseContinue+;vContSupported+;error-message+"
             % PACKET_BYTES)
@@ -262,9 +277,12 @@ def _from_digits(digits: bytes) -> bytes:
     return bytes.fromhex(digits.decode())
 
 
-def main(arguments: list[str]) -> int:
+def main(arguments: Sequence[str]) -> int:
     """Serves one debugger on standard input and output."""
     line = parse(arguments, OPTIONS, USAGE)
+    if line.has("--help"):
+        sys.stdout.write(HELP)
+        return 0
     if len(line.words) != 1:
         raise Problem(USAGE)
     driver = loading.start(loading.image(line.words[0], line.get("--kind")), line.get("--log"))

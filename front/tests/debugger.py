@@ -46,6 +46,6 @@ def batch(image: str, *commands: str, log: Optional[str] = None, options: Sequen
 
 def run(line: Sequence[str], typed: str = "") -> str:
     """What a command shows."""
-    done = subprocess.run(line, cwd=ROOT, env=dict(os.environ, TERM="dumb"), input=typed, text=True, timeout=TIMEOUT,
+    done = subprocess.run(line, cwd=ROOT, env=dict(os.environ, TERM="dumb"), input=typed, encoding="latin-1", timeout=TIMEOUT,
                           stdout=subprocess.PIPE, stderr=subprocess.STDOUT)
     return done.stdout

@@ -122,7 +122,7 @@ class Driver(GdbTest):
         # Step 100 is the interrupt, in place of the store in the jump's delay slot. Byte 0 of line 0 goes out in step 269.
         lines = self.batch("break *0xbfc00180", "continue", POSITION, 'printf "%x %x\\n", $cause, $epc', "stepi", "reverse-stepi", "reverse-stepi",
                            POSITION, 'printf "%x %d\\n", $pc, $delay', "wb goto 270", "reverse-continue", POSITION)
-        self.holds(lines, "at 101", "80000400 bfc00078", "at 100", "bfc0007c 1", "at 101")
+        self.holds(lines, "at 101", "80000400 bfc00054", "at 100", "bfc00058 1", "at 101")
 
     def test_the_clock_is_watched_both_ways(self) -> None:
         lines = self.batch("watch *(int *) 0xa0001000", "continue", POSITION, "continue", POSITION, "wb goto 16000", "reverse-continue", POSITION)
@@ -135,7 +135,8 @@ class Driver(GdbTest):
 
     def test_the_debugger_ends_a_long_run(self) -> None:
         line = [*debugger.words(self.IMAGE, self.LOG), "-ex", "continue", "-ex", POSITION, "-ex", "stepi", "-ex", "quit"]
-        process = subprocess.Popen(line, cwd=debugger.ROOT, stdin=subprocess.PIPE, stdout=subprocess.PIPE, stderr=subprocess.STDOUT, text=True)
+        process = subprocess.Popen(line, cwd=debugger.ROOT, stdin=subprocess.PIPE, stdout=subprocess.PIPE, stderr=subprocess.STDOUT,
+                                   encoding="latin-1")
         assert process.stdout
         shown = ""
         while "[serial line 3]" not in shown:
@@ -150,20 +151,22 @@ class UserProgram(GdbTest):
     IMAGE = "user-mode/boot.s"
 
     def test_its_memory_is_read_where_it_leads(self) -> None:
-        # The fetch of step 9 misses, and has its entry from step 16 on; the store of step 21, from 28 on, and is made in step 31.
-        lines = batch(self.IMAGE, "starti 9", "x/xw 0x400000", "starti 20", "x/2xw 0x400000", "x/xw 0x500000", "starti 32", "x/xw 0x500000",
-                      "x/xw 0x80011000", "starti 35", "x/xw 0x500000")
-        self.holds(lines, "Cannot access memory at address 0x400000", "0x400000:\t0x3c080050\t0x3409002a", "Cannot access memory at address 0x500000",
+        # The fetch of step 8 misses, and has its entry from step 15 on; the store of step 20, from 27 on, and is made in step 30. The system
+        # call is taken in step 33.
+        lines = batch(self.IMAGE, "starti 8", "x/xw 0x400000", "starti 19", "x/2xw 0x400000", "x/xw 0x500000", "starti 31", "x/xw 0x500000",
+                      "x/xw 0x80011000", "starti 34", "x/xw 0x500000")
+        self.holds(lines, "0x400000:\tCannot access memory at address 0x400000", "0x400000:\t0x3c080050\t0x3409002a",
+                   "0x500000:\tCannot access memory at address 0x500000",
                    "0x500000:\t0x0000002a", "0x80011000:\t0x0000002a", "0x500000:\t0x0000002a")
 
     def test_its_word_is_watched(self) -> None:
-        lines = batch(self.IMAGE, "starti 43", "watch *(int *) 0x500000", "reverse-continue", POSITION)
-        self.holds(lines, "Old value = 42", "New value = 0", "at 31")
+        lines = batch(self.IMAGE, "starti 42", "watch *(int *) 0x500000", "reverse-continue", POSITION)
+        self.holds(lines, "Old value = 42", "New value = 0", "at 30")
 
     def test_steps_run_exceptions_whole(self) -> None:
-        lines = batch(self.IMAGE, "starti 9", *["stepi", POSITION] * 6, *["reverse-stepi", POSITION] * 2, options=["--through"])
+        lines = batch(self.IMAGE, "starti 8", *["stepi", POSITION] * 6, *["reverse-stepi", POSITION] * 2, options=["--through"])
         self.assertEqual([line for line in lines if line.startswith("at ")],
-                         ["at 20", "at 21", "at 32", "at 33", "at 34", "at 43", "at 34", "at 33"])
+                         ["at 19", "at 20", "at 31", "at 32", "at 33", "at 42", "at 33", "at 32"])
 
 
 class Reads(GdbTest):
