@@ -32,7 +32,9 @@ Numbers may be expressions without blanks: wb writer &session.length, wb goto $p
 
     def invoke(self, line, from_terminal):
         name, *words = line.split() or ["help"]
-        gdb.execute(" ".join(["monitor", name, *map(as_number, words)]))
+        if not name.startswith("save-"):
+            words = map(as_number, words)
+        gdb.execute(" ".join(["monitor", name, *words]))
         if name in MOVES_OR_EDITS:
             flush()
             gdb.execute("frame")

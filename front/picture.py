@@ -147,7 +147,7 @@ class _Drawing:
             x = self._x(step)
             yield f'<rect class="store" x="{x:.1f}" y="{base - 8}" width="1.5" height="8"/>'
             text = f"{value:x}"
-            if x >= free:
+            if free <= x <= RIGHT - CHARACTER * len(text):
                 yield _text(x, base - 11, text, "store fixed")
                 free = x + CHARACTER * (len(text) + 1)
 

@@ -9,7 +9,7 @@ from __future__ import annotations
 from enum import Enum
 from typing import Optional
 
-from . import replies
+from . import instruction, replies
 from .driver import Driver
 from .limits import GREATEST_POSITION, RAM, ROM
 from .replies import Registers
@@ -19,9 +19,6 @@ BATCH = 32
 
 INTERRUPTS_ON, DEVICE_MASK, ISOLATED = 0x1, 0xC00, 0x1_0000  # bits of Status
 
-COPROCESSOR_0 = 0x10
-STORES = range(0x28, 0x2F)
-LOADS = range(0x20, 0x27)
 SHOWN = {0x20: 0xFF, 0x21: 0xFFFF, 0x23: 0xFFFF_FFFF, 0x24: 0xFF, 0x25: 0xFFFF}  # of a word, by each load; lwl and lwr count as none
 
 SERIAL = range(0x1FE0_0000, 0x1FE0_0020)
@@ -55,7 +52,7 @@ class _Loop:
         self._driver = driver
         self._start = driver.position
         self._states = [driver.registers()]
-        self._instructions: dict[int, int] = {}
+        self._words: dict[int, int] = {}  # the instructions, by their addresses
         self._places: dict[int, Optional[int]] = {}  # the physical addresses of loads and stores
         self._asks_serial = False
         self._unready = False  # the serial part was seen not to be ready: it may be later
@@ -102,24 +99,22 @@ class _Loop:
         before, after = self._states[step], self._states[step + 1]
         if after.pc != before.next_pc:
             return False  # an exception
-        word = self._instruction(before.pc)
-        code = word >> 26
-        if code not in LOADS and code not in STORES:
-            return code != COPROCESSOR_0
-        address = (before.general[word >> 21 & 31] + ((word & 0xFFFF) ^ 0x8000) - 0x8000) & 0xFFFF_FFFF
+        word = self._word(before)
+        code = instruction.code(word)
+        if code not in instruction.LOADS and code not in instruction.STORES:
+            return code != instruction.COPROCESSOR_0
+        address = instruction.address(word, before)
         if address not in self._places:
             self._places[address] = self._driver.physical(address)
         place = self._places[address]
         if place is None:
             return False
-        return self._stores(step, place) if code in STORES else self._loads(word, place, after)
+        return self._stores(step, place) if code in instruction.STORES else self._loads(word, place, after)
 
-    def _instruction(self, address: int) -> int:
-        if address not in self._instructions:
-            place = self._driver.physical(address)
-            assert place is not None, "an instruction that was run was fetched"
-            self._instructions[address] = self._driver.words(place, 1)[0]
-        return self._instructions[address]
+    def _word(self, state: Registers) -> int:
+        if state.pc not in self._words:
+            self._words[state.pc] = instruction.next_word(self._driver, state)
+        return self._words[state.pc]
 
     def _stores(self, step: int, place: int) -> bool:
         """Whether a store leaves its word as it was."""
@@ -135,7 +130,7 @@ class _Loop:
             return place in RAM or place in ROM
         self._asks_serial = True
         shift = 8 * (place & 3)
-        shown = SHOWN.get(word >> 26, 0) << shift if after.load else 0
+        shown = SHOWN.get(instruction.code(word), 0) << shift if after.load else 0
         value = (after.load[1] << shift if after.load else 0) & shown
         if place & ~3 == CSR and not value & READY:
             self._unready = True

@@ -7,13 +7,12 @@ from __future__ import annotations
 
 from typing import Optional
 
-from . import search
+from . import instruction, search
 from .driver import Driver
 from .limits import GREATEST_POSITION
 
 HANDLER = 1 << 20  # the steps that a handler may take
 NESTED = 64  # the exceptions that one step may meet
-RETURN = 0x4200_0010  # the instruction rfe
 
 
 def after(driver: Driver) -> int:
@@ -70,8 +69,7 @@ def _exception(driver: Driver, step: int) -> bool:
 def _taken(driver: Driver, following: int) -> Optional[int]:
     """The step that took the exception from which the next step returns to an address, if it does return from one."""
     here = driver.position
-    place = driver.physical(driver.registers().pc)
-    if place is None or driver.words(place, 1)[0] != RETURN:
+    if instruction.next_word(driver, driver.registers()) != instruction.RETURN:
         return None
     addresses = {following - 4, following, following + 4}
     step = search.last_visit(driver, addresses, max(0, here - HANDLER))

@@ -89,9 +89,7 @@ def backward(driver: Driver, stops: Stops, pause: Pause) -> Stop:
 
 def changed(driver: Driver, stops: Stops, step: int) -> Optional[Watch]:
     """The watch that a step changes."""
-    driver.goto(step + 1)
-    stored = [watch for watch in stops.watches if any(driver.writer(word).step == step for word in watch.words())]
-    return next((watch for watch in stored if watch.changes(driver, step)), None)
+    return next((watch for watch in stops.watches if watch.changes(driver, step)), None)
 
 
 def _at(driver: Driver, stop: Stop) -> Stop:

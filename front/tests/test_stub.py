@@ -4,8 +4,11 @@ The words of the programs were assembled by hand or are those of the worked exam
 from __future__ import annotations
 
 import os
+import random
 import signal
+import tempfile
 import unittest
+from pathlib import Path
 from typing import Sequence
 
 from front.driver import Driver
@@ -258,9 +261,29 @@ class Commands(StubTest):
         for line, expected in (
                 ("goto 256", "pos 256\n"), ("writer 0x100", "writer 253\n"), ("writer 0xa0000104", "writer 213\n"),
                 ("console 0 0 8", "console 0 2 4142\n"), ("del 1", "log 1\n"), ("writer 0x104", "writer 81\n"), ("log 0 8", "log 1\n0 70 0 0x41\n"),
-                ("run 9", "pos 9\n"), ("starti 0x14", "pos 20\n"), ("foo", "error 2 Syntax\n"), ("mem 0x1 1", "error 5 Unaligned\n"),
+                ("run 9", "pos 9\n"), ("starti 0x14", "pos 20\n"), ("foo", "error 2 Syntax\n"), ("find 0 9", "error 8 NotFound\n"),
                 ("", ""), ("mem 0xc0000000 1", "E01"), ("quit", "E01")):
             self.assertEqual(wire.command(line), expected, line)
+
+    def test_refusals_say_what_would_be_right(self) -> None:
+        wire = self.wire(ECHO, TYPED)
+        for line, reason in (("mem 1 1", "error 5 Unaligned: 1 is no multiple of 4"), ("del 2", "error 4 NoEvent: there is no event 2"),
+                             ("mem 0x1fe00000 1", "error 6 NotMemory: "), ("add 5 4 0", "error 3 Range: "), ("goto 4294967296", "error 7 TooFar: ")):
+            self.assertIn(reason, wire.command(line))
+
+    def test_the_log_and_the_image_are_saved(self) -> None:
+        wire = self.wire([0x24010001], TYPED)
+        wire.command("del 0")
+        wire.command("patch 0x1fc00004 7")
+        with tempfile.TemporaryDirectory() as folder:
+            self.assertEqual(wire.command(f"save-log {folder}/log"), f"saved in {folder}/log\n")
+            # One event: step 200, line 0, 0x42.
+            self.assertEqual(Path(folder, "log").read_bytes(), b"R3KLOG1\n" + bytes([1, 0, 0, 0, 200, 0, 0, 0, 0, 0x42]))
+            wire.command(f"save-image {folder}/rom")
+            self.assertEqual(Path(folder, "rom").read_bytes(), bytes([1, 0, 1, 0x24, 7, 0, 0, 0]))
+            self.assertEqual(wire.command(f"save-log {folder}/none/log"), "E01")
+            self.assertIn("can't be written", wire.notes.pop())
+            self.assertEqual((wire.command("save-log"), wire.command("save-image a b")), ("E01", "E01"))
 
     def test_a_run_starts_again_at_a_position(self) -> None:
         wire = self.wire(COUNTER)
@@ -286,6 +309,17 @@ class Hostile(StubTest):
                        "m99999999999999999,4"):
             self.assertEqual(wire.ask(packet), "E01", packet)
         self.assertEqual(wire.position(), 0)
+
+    def test_garbage(self) -> None:
+        # The program stands still, so that each run ends at once.
+        wire = self.wire([0x1000FFFF, 0])
+        source = random.Random(1)
+        begins = ["q", "qRcmd,", "qXfer:features:read:", "v", "vCont", "vRun;", "vKill", "g", "G", "p", "P", "m", "M", "X", "Z", "z", "b", "c", "s", "H", "?"]
+        for _ in range(300):
+            characters = source.choices("0123456789abcdef,;:=.cs+ \x00\x7f", k=source.randrange(12))
+            wire.ask(source.choice(begins) + "".join(characters))
+        wire.command("goto 0")
+        self.dialog(wire, ("g", wire.ask("g")), ("mbfc00000,4", "ffff0010"))
 
     def test_a_program_that_dies_is_started_again_with_all_edits(self) -> None:
         wire = self.wire(ECHO, TYPED)
