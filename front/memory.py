@@ -36,8 +36,7 @@ def write(driver: Driver, address: int, content: bytes) -> None:
         place = _writable(driver, virtual)
         words |= _patched(driver, place, content[done:done + size])
         done += size
-    for word, value in words.items():
-        driver.patch(word, value)
+    driver.values([f"patch {word} {value}" for word, value in words.items()])
 
 
 def _writable(driver: Driver, virtual: int) -> int:

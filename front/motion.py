@@ -63,25 +63,22 @@ class Motion:
         here = self._driver.position
         if here == GREATEST_POSITION:
             return Stop(Reason.END, here)
-        watch = travel.changed(self._driver, self.stops, here)
-        if watch:
-            return Stop(Reason.WATCH, here, watch)
+        end = Stop(Reason.STEPPED, here + 1)
+        if not self._exceptions_whole:
+            return travel.step_to(self._driver, self.stops, here, end)
+        end = Stop(Reason.STEPPED, through.after(self._driver))
         self._driver.goto(here)
-        if self._exceptions_whole:
-            return Stop(Reason.STEPPED, through.after(self._driver))
-        return Stop(Reason.STEPPED, here + 1)
+        return travel.within(self._driver, self.stops, end.position) or end
 
     def _one_step_back(self) -> Stop:
         here = self._driver.position
         if not here:
             return Stop(Reason.BEGIN, here)
-        watch = travel.changed(self._driver, self.stops, here - 1)
-        if watch:
-            return Stop(Reason.WATCH, here - 1, watch)
+        if not self._exceptions_whole:
+            return travel.step_to(self._driver, self.stops, here - 1, Stop(Reason.STEPPED, here - 1))
+        begin = Stop(Reason.STEPPED, through.before(self._driver))
         self._driver.goto(here)
-        if self._exceptions_whole:
-            return Stop(Reason.STEPPED, through.before(self._driver))
-        return Stop(Reason.STEPPED, here - 1)
+        return travel.backward(self._driver, self.stops, self.wants_stop, begin)
 
     def _forward(self, run: Callable[[], Stop]) -> bytes:
         """A move on. gdb takes MIPS watches to stop before the store, and steps over it by itself."""

@@ -14,8 +14,7 @@ from .driver import Driver
 from .limits import GREATEST_POSITION, RAM, ROM
 from .replies import Registers
 
-TURN = 4096  # the longest turn that is looked at, in steps
-BATCH = 32
+BATCH = 16  # states that are asked for together
 
 INTERRUPTS_ON, DEVICE_MASK, ISOLATED = 0x1, 0xC00, 0x1_0000  # bits of Status
 
@@ -33,14 +32,14 @@ class Standstill(Enum):
     WAITING = "waits for a byte, and the log has no more"
 
 
-def standstill(driver: Driver) -> Optional[Standstill]:
-    """Whether the run stands still from the position on, which stays."""
+def standstill(driver: Driver, turn: int) -> Optional[Standstill]:
+    """Whether the run stands still from the position on, which stays, in a loop whose turns have at most so many steps."""
     start = driver.position
     status = driver.control()["status"]
     if status & ISOLATED or status & INTERRUPTS_ON and status & DEVICE_MASK:
         return None
     try:
-        return _Loop(driver).judge()
+        return _Loop(driver).judge(turn)
     finally:
         driver.goto(start)
 
@@ -57,8 +56,8 @@ class _Loop:
         self._asks_serial = False
         self._unready = False  # the serial part was seen not to be ready: it may be later
 
-    def judge(self) -> Optional[Standstill]:
-        turn = self._turn()
+    def judge(self, most: int) -> Optional[Standstill]:
+        turn = self._turn(most)
         if not turn:
             return None
         if not self._asks_serial:
@@ -70,12 +69,17 @@ class _Loop:
             return None
         return Standstill.WAITING
 
-    def _turn(self) -> Optional[int]:
-        """The steps of a turn, if the first state comes again. It does not where a later one comes again without it."""
-        while len(self._states) <= TURN and self._follow():
-            *earlier, last = self._states
-            if last in earlier:
-                return self._states.index(self._states[0], 1) if self._states[0] in self._states[1:] else None
+    def _turn(self, most: int) -> Optional[int]:
+        """The steps of a turn, if the first state comes again. It does not where another one comes again before it."""
+        known = {_key(self._states[0])}
+        while len(self._states) <= most:
+            at = len(self._states)
+            if not self._follow():
+                return None
+            for number, state in enumerate(self._states[at:], at):
+                if _key(state) in known:
+                    return number if state == self._states[0] else None
+                known.add(_key(state))
         return None
 
     def _stays(self, turn: int, steps: int) -> bool:
@@ -135,3 +139,7 @@ class _Loop:
         if place & ~3 == CSR and not value & READY:
             self._unready = True
         return place & ~3 != RBUF or bool(shown & VALID and not value & VALID)
+
+
+def _key(state: Registers) -> tuple[object, ...]:
+    return state.pc, state.next_pc, state.hi, state.lo, state.delay, state.load, *state.general

@@ -9,6 +9,7 @@ from . import loading, memory, monitor, target
 from .arguments import parse
 from .driver import Driver
 from .errors import Problem
+from .limits import RAM, ROM
 from .motion import TRAP, Motion
 from .replies import number_of
 from .rsp import PACKET_BYTES, Link
@@ -37,8 +38,10 @@ FEATURES = (b"PacketSize=%x;QStartNoAckMode+;qXfer:features:read+;ReverseStep+;R
 OK, FAILED, NOT_KNOWN, GONE = b"OK", b"E01", b"", b"W00"
 CODE, CODE_IN_HARDWARE, WRITE, READ, ACCESS = range(5)  # the kinds of breakpoints and watches
 
-NOT_HERE = ("registers can't be written: they follow from the image and the bytes that arrive, which can be edited. To run other "
-            "code, patch it; to call a function, let the program call it")
+WATCHED = 256  # bytes of a watch at most
+
+NOT_WRITTEN = ("registers can't be written: they follow from the image and the bytes that arrive, which can be edited. To run other "
+               "code, patch it; to call a function, let the program call it")
 
 
 class Malformed(Exception):
@@ -109,21 +112,24 @@ class Stub:
     # Registers and memory
 
     def _registers(self, rest: bytes) -> bytes:
-        return target.Registers.of(self._driver).all_text()
+        return target.all_text(target.values(self._driver))
 
     def _register(self, rest: bytes) -> bytes:
         number, = _numbers(rb"(\w+)", rest)
-        return target.Registers.of(self._driver).text(number) or FAILED
+        if number >= len(target.NAMES):
+            raise Malformed
+        return target.text(target.values(self._driver), number)
 
     def _set_registers(self, rest: bytes) -> bytes:
         if rest.lower() != self._registers(b""):
-            raise Problem(NOT_HERE)
+            raise Problem(NOT_WRITTEN)
         return OK
 
     def _set_register(self, rest: bytes) -> bytes:
-        number, _ = _numbers(rb"(\w+)=(\w+)", rest)
-        if rest.split(b"=")[1].lower() != target.Registers.of(self._driver).text(number):
-            raise Problem(NOT_HERE)
+        _numbers(rb"(\w+)=(\w+)", rest)
+        number, _, value = rest.partition(b"=")
+        if value.lower() != self._register(number):
+            raise Problem(NOT_WRITTEN)
         return OK
 
     def _read(self, rest: bytes) -> bytes:
@@ -171,8 +177,10 @@ class Stub:
         place = self._driver.physical(address)
         if place is None:
             place = self._places.get(address)
-        if place is None or len(memory.read(self._driver, address, size)) < size:
+        if place is None or not all(it in RAM or it in ROM for it in (place, place + size - 1)):
             raise Problem(f"no memory stands at 0x{address:08x} at position {self._driver.position:,}")
+        if size > WATCHED or address % memory.PAGE + size > memory.PAGE:
+            raise Problem(f"a watch has at most {WATCHED:,} bytes, all in one page: watch a part of it")
         self._places[address] = place
         return Watch(address, size, place)
 

@@ -6,8 +6,6 @@ The project's own feature has what a MIPS description has no name for.
 
 from __future__ import annotations
 
-from dataclasses import dataclass
-
 from .driver import Driver
 
 GENERAL = [f"r{number}" for number in range(32)]
@@ -43,28 +41,21 @@ def _register(name: str) -> str:
     return f'<reg name="{name}" bitsize="32" type="{kind}" regnum="{NUMBERS[name]}"{group}/>'
 
 
-@dataclass(frozen=True)
-class Registers:
-    """All registers at a position, each by the name that the description gives it."""
+def values(driver: Driver) -> dict[str, int]:
+    """All registers that have a value at the position, each by the name that the description gives it."""
+    registers = driver.registers()
+    load_register, load_value = registers.load or (0, 0)
+    own = {"position": driver.position, "nextpc": registers.next_pc, "delay": int(registers.delay), "loadreg": load_register,
+           "loadval": load_value}
+    others = {"pc": registers.pc, "hi": registers.hi, "lo": registers.lo}
+    return {**dict(zip(GENERAL, registers.general)), **driver.control(), **others, **own}
 
-    values: dict[str, int]
 
-    @classmethod
-    def of(cls, driver: Driver) -> Registers:
-        registers = driver.registers()
-        load_register, load_value = registers.load or (0, 0)
-        values = dict(zip(GENERAL, registers.general)) | driver.control()
-        values |= {"pc": registers.pc, "nextpc": registers.next_pc, "hi": registers.hi, "lo": registers.lo}
-        values |= {"position": driver.position, "delay": int(registers.delay)}
-        values |= {"loadreg": load_register, "loadval": load_value}
-        return cls(values)
+def text(registers: dict[str, int], number: int) -> bytes:
+    """The hexadecimal digits of a register, low byte first, or `x` where it has no value."""
+    value = registers.get(NAMES[number])
+    return b"xxxxxxxx" if value is None else value.to_bytes(4, "little").hex().encode()
 
-    def text(self, number: int) -> bytes | None:
-        """The hexadecimal digits of register `number`, low byte first, `x` where it has no value, or None where there is none."""
-        if number >= len(NAMES):
-            return None
-        value = self.values.get(NAMES[number])
-        return b"xxxxxxxx" if value is None else value.to_bytes(4, "little").hex().encode()
 
-    def all_text(self) -> bytes:
-        return b"".join(self.text(number) or b"" for number in range(len(NAMES)))
+def all_text(registers: dict[str, int]) -> bytes:
+    return b"".join(text(registers, number) for number in range(len(NAMES)))

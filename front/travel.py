@@ -3,6 +3,7 @@ from __future__ import annotations
 
 from dataclasses import dataclass, field
 from enum import Enum
+from itertools import count
 from typing import Callable, Optional
 
 from . import memory, replies, search
@@ -16,7 +17,9 @@ FIRST_PIECE = 1 << 16
 LONGEST_PIECE = 1 << 22
 
 IDLE_STORES = 256  # stores that change nothing are passed over, so many in a piece
-BATCH = 64  # steps that are asked for together
+BATCH = 64  # single steps that are asked for together
+TURN = 1024  # the longest turn of a loop of which it is seen that nothing can leave it
+STEPS_A_STATE = 4096  # to look at the states of a loop costs more than to run it: so many steps are run for each state
 
 Pause = Callable[[], bool]
 
@@ -81,15 +84,26 @@ def leave(driver: Driver, addresses: range, stops: Stops, pause: Pause) -> Stop:
     return _at(driver, _leave(driver, addresses, stops, pause))
 
 
-def backward(driver: Driver, stops: Stops, pause: Pause) -> Stop:
-    """The last breakpoint below the position, or the last step below it that changes a watch, or position 0; the driver stands there
-    afterwards."""
-    return _at(driver, _backward(driver, stops, pause))
+def backward(driver: Driver, stops: Stops, pause: Pause, otherwise: Stop = Stop(Reason.BEGIN, 0)) -> Stop:
+    """The last breakpoint below the position, or the last step below it that changes a watch; or another stop, where both would be below
+    that one. The driver stands there afterwards."""
+    return _at(driver, _backward(driver, stops, pause, otherwise))
 
 
-def changed(driver: Driver, stops: Stops, step: int) -> Optional[Watch]:
-    """The watch that a step changes."""
-    return next((watch for watch in stops.watches if watch.changes(driver, step)), None)
+def within(driver: Driver, stops: Stops, end: int) -> Optional[Stop]:
+    """The first stop that forward() would come to, if it is before a position that is near."""
+    here = driver.position
+    while here < end:
+        stop, here = _first(driver, stops, here, end)
+        if stop:
+            return stop if stop.position < end else None
+    return None
+
+
+def step_to(driver: Driver, stops: Stops, step: int, end: Stop) -> Stop:
+    """The end of a single step, one way or the other, or the watch that the step changes."""
+    watch = next((watch for watch in stops.watches if watch.changes(driver, step)), None)
+    return Stop(Reason.WATCH, step, watch) if watch else end
 
 
 def _at(driver: Driver, stop: Stop) -> Stop:
@@ -109,19 +123,18 @@ def _forward(driver: Driver, stops: Stops, pause: Pause) -> Stop:
             return Stop(Reason.END, end)
         if pause():
             return Stop(Reason.INTERRUPTED, end)
-        still = standstill(driver)
-        if still:
-            return Stop(Reason(still.value), _stands_from(driver, start, end))
+        stop = _standstill(driver, start, min(length // STEPS_A_STATE, TURN))
+        if stop:
+            return stop
         length = min(4 * length, LONGEST_PIECE)
 
 
 def _leave(driver: Driver, addresses: range, stops: Stops, pause: Pause) -> Stop:
     """Looks at each step, in batches."""
-    while True:
+    begin = driver.position
+    for batch in count(1):
         start = driver.position
         end = min(start + BATCH, GREATEST_POSITION)
-        if start == end:
-            return Stop(Reason.END, end)
         commands = [command for it in range(start + 1, end + 1) for command in (f"goto {it}", "regs")]
         counters = [replies.registers(reply).pc for reply in driver.values(commands)[1::2]]
         outside = next((start + at for at, pc in enumerate(counters, 1) if pc not in addresses), None)
@@ -131,17 +144,18 @@ def _leave(driver: Driver, addresses: range, stops: Stops, pause: Pause) -> Stop
         driver.goto(reached)
         if reached == outside:
             return Stop(Reason.STEPPED, reached)
+        if reached == GREATEST_POSITION:
+            return Stop(Reason.END, reached)
         if pause():
             return Stop(Reason.INTERRUPTED, reached)
-        still = standstill(driver)
-        if still:
-            return Stop(Reason(still.value), _stands_from(driver, start, reached))
+        stop = _standstill(driver, begin, TURN) if batch * BATCH % STEPS_A_STATE == 0 else None
+        if stop:
+            return stop
+    raise AssertionError("a run has an end")
 
 
-def _backward(driver: Driver, stops: Stops, pause: Pause) -> Stop:
-    start = driver.position
-    stop = Stop(Reason.BEGIN, 0)
-    lowest = 0
+def _backward(driver: Driver, stops: Stops, pause: Pause, otherwise: Stop) -> Stop:
+    start, stop, lowest = driver.position, otherwise, otherwise.position
     for watch in stops.watches:
         step = _last_change(driver, watch, lowest, start, pause)
         if step is not None:
@@ -201,13 +215,17 @@ def _last_change(driver: Driver, watch: Watch, lowest: int, end: int, pause: Pau
             raise Interrupted
 
 
-def _stands_from(driver: Driver, low: int, high: int) -> int:
-    """The first position from which the run stands still, as it does from `high` on."""
+def _standstill(driver: Driver, low: int, turn: int) -> Optional[Stop]:
+    """The first position, not below `low`, from which the run stands still, if it does so from the present one on."""
+    still = standstill(driver, turn)
+    if still is None:
+        return None
+    high = driver.position
     while low < high:
         middle = (low + high) // 2
         driver.goto(middle)
-        if standstill(driver):
+        if standstill(driver, turn):
             high = middle
         else:
             low = middle + 1
-    return high
+    return Stop(Reason(still.value), high)

@@ -202,7 +202,8 @@ class Runs(StubTest):
         wire = self.wire(ECHO)
         self.refusals(wire, ("Z3,a0000100,4", "reads can't be watched"), ("Z4,a0000100,4", "reads can't be watched"),
                       ("Z0,bfc01002,4", "no multiple of 4"), ("Z2,bfe00000,4", "no memory stands at 0xbfe00000"),
-                      ("Z2,400000,4", "no memory stands at 0x00400000"))
+                      ("Z2,400000,4", "no memory stands at 0x00400000"), ("Z2,a07ffffe,4", "no memory stands at 0xa07ffffe"),
+                      ("Z2,a0000000,101", "at most 256 bytes"), ("Z2,a0000ffe,4", "all in one page"))
         self.dialog(wire, ("Z0,bfc01000", "E01"), ("Zx,1,1", "E01"), ("z0,bfc01000,4", "OK"), ("z2,400000,4", "OK"))
 
     def test_a_range_is_stepped_through(self) -> None:
@@ -354,6 +355,12 @@ class ExceptionsWhole(StubTest):
         # Steps 0; 1, which is taken; 2 to 6 the handler; 7.
         wire = self.wire(self.program(), exceptions_whole=True)
         self.stops(wire, ("s", "T05", 1), ("s", "T05", 7), ("s", "T05", 8), ("bs", "T05", 7), ("bs", "T05", 1), ("bs", "T05", 0))
+
+    def test_stops_on_the_way_are_met(self) -> None:
+        # The handler's first instruction is run in step 2, and its last but one in step 5.
+        wire = self.wire(self.program(), exceptions_whole=True)
+        self.dialog(wire, ("Z0,bfc0018c,4", "OK"))
+        self.stops(wire, ("s", "T05", 1), ("s", "T05", 5), ("s", "T05", 6), ("s", "T05", 7), ("bs", "T05", 5))
 
     def test_else_it_goes_into_it(self) -> None:
         wire = self.wire(self.program())
