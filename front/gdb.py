@@ -1,17 +1,24 @@
 """`bin/wb gdb`: gdb on the stub, with the settings that it needs."""
 from __future__ import annotations
 
-import os
 import shlex
 import shutil
+import signal
+import subprocess
 import sys
+import tempfile
+from contextlib import contextmanager
 from pathlib import Path
-from typing import Sequence
+from typing import Iterator, Sequence
 
-from . import loading, stub
+from . import loading, stub, symbol_file
 from .arguments import parse
 from .errors import Problem
+from .image import Image
+from .limits import RESET_PC
 from .program import ROOT, build
+from .symbol_file import KSEG0
+from .symbols import symbols_of
 
 DEBUGGER = "gdb-multiarch"
 IN_GDB = Path(__file__).resolve().parent / "in_gdb.py"
@@ -39,11 +46,10 @@ SETTINGS = (
     "set remotetimeout 1000000",  # a question far from the position takes the run up to there
     "set confirm off",
 )
-WITHOUT_ELF = ("set architecture mips:3000", "set endian little")
 
 
 def main(arguments: Sequence[str]) -> int:
-    """Replaces the process by gdb."""
+    """Runs gdb, and gives its status."""
     count = _stub_words(arguments)
     line = parse(arguments[:count], stub.OPTIONS, USAGE)
     if line.has("--help"):
@@ -57,13 +63,27 @@ def main(arguments: Sequence[str]) -> int:
         raise Problem(f"{DEBUGGER} is not installed; on Debian: apt-get install {DEBUGGER}")
     build()
     command = shlex.join([str(ROOT / "bin/wb"), "stub", *arguments[:count]])
-    settings = SETTINGS if image.elf else SETTINGS + WITHOUT_ELF
-    words = [debugger, "-q", *(word for setting in settings for word in ("-iex", setting))]
+    words = [debugger, "-q", *(word for setting in SETTINGS for word in ("-iex", setting))]
+    # A Ctrl-C is gdb's alone.
+    signal.signal(signal.SIGINT, lambda number, frame: None)
+    with _symbols(image) as symbols:
+        words += [*symbols, "-ex", f"target extended-remote | {command}", "-x", str(IN_GDB), *arguments[count:]]
+        return subprocess.call(words)
+
+
+@contextmanager
+def _symbols(image: Image) -> Iterator[list[str]]:
+    """The words that give gdb an ELF: the image, or a file with names for one that is none."""
     if image.elf:
         # Without --readnow gdb finds no lines of assembler sources.
-        words += ["--readnow", "--directory", str(Path(image.name).resolve().parent), image.name]
-    sys.stdout.flush()
-    os.execv(debugger, [*words, "-ex", f"target extended-remote | {command}", "-x", str(IN_GDB), *arguments[count:]])
+        yield ["--readnow", "--directory", str(Path(image.name).resolve().parent), image.name]
+        return
+    symbols = symbols_of(image)
+    names = {KSEG0: "ram", RESET_PC: "reset"} | {address: name for name in symbols.names() if (address := symbols.address(name)) is not None}
+    with tempfile.TemporaryDirectory() as folder:
+        file = Path(folder, Path(image.name).name)
+        file.write_bytes(symbol_file.content((name, address) for address, name in names.items()))
+        yield [str(file)]
 
 
 def _stub_words(arguments: Sequence[str]) -> int:

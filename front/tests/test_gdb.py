@@ -124,6 +124,11 @@ class Driver(GdbTest):
                            POSITION, 'printf "%x %d\\n", $pc, $delay', "wb goto 270", "reverse-continue", POSITION)
         self.holds(lines, "at 101", "80000400 bfc00054", "at 100", "bfc00058 1", "at 101")
 
+    def test_labels_of_a_source_are_known(self) -> None:
+        lines = self.batch("break *loop", "continue", POSITION, "x/i $pc", "info symbol 0xbfc00184", "backtrace")
+        self.holds(lines, "Breakpoint 1, 0xbfc00050 in loop ()", "at 32", "=> 0xbfc00050 <loop>:\taddiu\ts0,s0,1", "loop + 308 in section .rom",
+                   "#0  0xbfc00050 in loop ()")
+
     def test_the_clock_is_watched_both_ways(self) -> None:
         lines = self.batch("watch *(int *) 0xa0001000", "continue", POSITION, "continue", POSITION, "wb goto 16000", "reverse-continue", POSITION)
         self.holds(lines, "New value = 89", "at 8202", "New value = 0", "Old value = 89", "at 8201")
@@ -136,12 +141,12 @@ class Driver(GdbTest):
     def test_the_debugger_ends_a_long_run(self) -> None:
         line = [*debugger.words(self.IMAGE, self.LOG), "-ex", "continue", "-ex", POSITION, "-ex", "stepi", "-ex", "quit"]
         process = subprocess.Popen(line, cwd=debugger.ROOT, stdin=subprocess.PIPE, stdout=subprocess.PIPE, stderr=subprocess.STDOUT,
-                                   encoding="latin-1")
+                                   encoding="latin-1", start_new_session=True)
         assert process.stdout
         shown = ""
         while "[serial line 3]" not in shown:
             shown += process.stdout.read(1)
-        process.send_signal(signal.SIGINT)
+        os.killpg(process.pid, signal.SIGINT)  # as a terminal does
         shown += process.communicate(timeout=debugger.TIMEOUT)[0]
         self.assertIn("Program received signal SIGINT", shown)
         self.assertRegex(shown, r"\nat \d+\n")
@@ -157,7 +162,7 @@ class UserProgram(GdbTest):
                       "x/xw 0x80011000", "starti 34", "x/xw 0x500000")
         self.holds(lines, "0x400000:\tCannot access memory at address 0x400000", "0x400000:\t0x3c080050\t0x3409002a",
                    "0x500000:\tCannot access memory at address 0x500000",
-                   "0x500000:\t0x0000002a", "0x80011000:\t0x0000002a", "0x500000:\t0x0000002a")
+                   "0x500000:\t0x0000002a", "0x80011000 <done+4072>:\t0x0000002a", "0x500000:\t0x0000002a")
 
     def test_its_word_is_watched(self) -> None:
         lines = batch(self.IMAGE, "starti 42", "watch *(int *) 0x500000", "reverse-continue", POSITION)
