@@ -233,6 +233,15 @@ class Runs(StubTest):
         self.stops(wire, ("s", "T05", position + 1))
 
 
+    def test_the_debugger_ends_a_long_search_back(self) -> None:
+        wire = self.wire(COUNTER)
+        wire.command("goto 3000001")
+        self.dialog(wire, ("Z0,bfc00100,4", "OK"))
+        wire.put(b"$bc#c5\x03")
+        self.assertEqual(wire.reply(), b"T02")
+        self.stops(wire, ("s", "T05", 3000002))
+
+
 class StandsStill(StubTest):
     def test_a_loop_that_nothing_can_leave(self) -> None:
         # addiu r1, r0, 1; beq r0, r0, itself; sll
