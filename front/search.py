@@ -9,8 +9,12 @@ from .driver import Driver
 from .errors import Refused
 from .limits import GREATEST_POSITION, RESET_PC, SPAN, VISIT_STEPS
 
-# How many steps a search looks at before it looks at more of them.
+# How many steps a search looks at before it looks at more of them. To go on along the run costs its steps alone, some 15
+# nanoseconds each; to go back costs some milliseconds besides.
 WINDOWS: tuple[int, ...] = (64, 1024, 16_384, 16 * 16_384, VISIT_STEPS)
+
+# So many visits of a window are followed. Where there are more, what is left of it is halved.
+VISITS = 16
 
 
 def next_visit(driver: Driver, addresses: Collection[int], limit: int) -> Optional[int]:
@@ -18,7 +22,8 @@ def next_visit(driver: Driver, addresses: Collection[int], limit: int) -> Option
     begin = driver.position
     end = min(begin + limit, GREATEST_POSITION)
     with _search(driver) as tell:
-        for low, high in _forward(begin, end):
+        # One address alone ends the search where it is found; of several the nearest one is wanted.
+        for low, high in _forward(begin, end, WINDOWS if len(addresses) > 1 else WINDOWS[-1:]):
             nearest = None
             for address in addresses:
                 nearest = _visit(driver, address, low, high if nearest is None else nearest - 1) or nearest
@@ -54,7 +59,7 @@ def first_store(driver: Driver, physical_word: int, limit: int) -> Optional[int]
         return step if step is not None and step >= begin else None
 
     with _search(driver) as tell:
-        for low, high in _forward(begin, end):
+        for low, high in _forward(begin, end, WINDOWS):
             found = last_before(high)
             if found is not None:
                 return _first(last_before, low, found)
@@ -78,11 +83,11 @@ def _search(driver: Driver) -> Iterator[Callable[[int, int], None]]:
         driver.goto(position)
 
 
-def _forward(begin: int, end: int) -> Iterator[tuple[int, int]]:
+def _forward(begin: int, end: int, sizes: Sequence[int]) -> Iterator[tuple[int, int]]:
     """Windows from a position on, up to an end: small ones first, and then those that end with a span."""
     low, size = begin, 0
     while low < end:
-        high = low + WINDOWS[min(size, len(WINDOWS) - 1)]
+        high = low + sizes[min(size, len(sizes) - 1)]
         size += 1
         if high - low >= SPAN:
             high = high // SPAN * SPAN
@@ -123,23 +128,30 @@ def _position(lines: Sequence[str]) -> Optional[int]:
 
 def _last_visit(driver: Driver, address: int, low: int, high: int) -> Optional[int]:
     """The greatest position above `low` and below `high` whose PC is the address; `low` may be -1."""
-    last = _visit(driver, address, max(low, 0), high - 1)
-    if last is None:
-        return None
-    while last + 1 < high:
-        middle = (last + high - 1) // 2
+    last, low = None, max(low, 0)
+    while low + 1 < high:
+        for _ in range(VISITS):
+            later = _visit(driver, address, low, high - 1)
+            if later is None:
+                return last
+            last = low = later
+        middle = (low + high - 1) // 2
         later = _visit(driver, address, middle, high - 1)
         if later is None:
             high = middle + 1
         else:
-            last = later
+            last = low = later
     return last
 
 
 def _first(last_before: Callable[[int], Optional[int]], low: int, found: int) -> int:
-    """The first store from `low` on, where one is known: the one that is found moves towards it."""
+    """The first store from `low` on, where one is known: by the one before it, as mostly there are few, and by halves."""
     while low < found:
-        position = (low + found) // 2 + 1
+        earlier = last_before(found)
+        if earlier is None:
+            break
+        found = earlier
+        position = (low + found + 1) // 2
         if found - low > SPAN:
             position = max(position // SPAN, low // SPAN + 1) * SPAN
         earlier = last_before(position)

@@ -15,11 +15,12 @@ STEPS = 300
 
 class Searches(unittest.TestCase):
     def test_random(self) -> None:
-        """2,000 cases: four kinds of search from ten positions of fifty programs, half of them by small windows."""
+        """2,000 cases: four kinds of search from ten positions of fifty programs, most of them by small windows."""
         for seed in range(IMAGES):
-            windows, span = ((3, 7, 20, 64), 16) if seed % 2 else (search.WINDOWS, search.SPAN)
-            with self.subTest(seed=seed), mock.patch.multiple(search, WINDOWS=windows, SPAN=span):
-                self.check(random.Random(seed))
+            source = random.Random(seed)
+            small = {"WINDOWS": (3, 7, 20, 64), "SPAN": 16, "VISITS": source.randrange(1, 6)}
+            with self.subTest(seed=seed), mock.patch.multiple(search, **(small if seed % 4 else {"VISITS": 2})):
+                self.check(source)
 
     def check(self, source: random.Random) -> None:
         words = random_rom(source)
