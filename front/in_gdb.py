@@ -1,4 +1,6 @@
 """Runs inside gdb, where `bin/wb gdb` loads it: the command `wb`, and a prompt that shows the position."""
+from __future__ import annotations
+
 import re
 
 import gdb
@@ -6,7 +8,7 @@ import gdb
 MOVES_OR_EDITS = ("goto", "step", "back", "visit", "run", "starti", "add", "del", "set", "move", "patch")
 
 
-def flush():
+def flush() -> None:
     """Lets gdb forget what it read, the values that it compares watches with too: the run has moved, or is another one."""
     gdb.execute("maintenance flush register-cache", to_string=True)
     gdb.execute("maintenance flush dcache", to_string=True)
@@ -16,7 +18,7 @@ def flush():
             watch.enabled = True
 
 
-def as_number(word):
+def as_number(word: str) -> str:
     """A word of a command: a number stays, and anything else is an expression of gdb's, without blanks."""
     if re.fullmatch(r"\d\w*", word):
         return word
@@ -27,10 +29,10 @@ class Workbench(gdb.Command):
     """Asks the workbench: wb LINE. `wb help` lists the commands.
 Numbers may be expressions without blanks: wb writer &session.length, wb goto $position-100."""
 
-    def __init__(self):
+    def __init__(self) -> None:
         super().__init__("wb", gdb.COMMAND_RUNNING)
 
-    def invoke(self, line, from_terminal):
+    def invoke(self, line: str, from_terminal: bool) -> None:
         name, *words = line.split() or ["help"]
         if not name.startswith("save-"):
             words = map(as_number, words)
@@ -40,7 +42,7 @@ Numbers may be expressions without blanks: wb writer &session.length, wb goto $p
             gdb.execute("frame")
 
 
-def prompt(present):
+def prompt(present: str) -> str:
     """The prompt, with the position where there is a run."""
     try:
         return f"({int(gdb.newest_frame().read_register('position')):,}) "
@@ -48,7 +50,7 @@ def prompt(present):
         return present
 
 
-def forget_arguments(event):
+def forget_arguments(event: gdb.StopEvent) -> None:
     """Lets the position of `run N` and `starti N` be that of one start: gdb would take it for the next one too."""
     gdb.execute("set args")
 

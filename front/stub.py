@@ -33,8 +33,7 @@ Example, in gdb:
   target extended-remote | bin/wb stub --log examples/login/log examples/login/login.elf
 """
 
-FEATURES = (b"PacketSize=%x;QStartNoAckMode+;qXfer:features:read+;ReverseStep+;ReverseContinue+;vContSupported+;error-message+"
-            % PACKET_BYTES)
+FEATURES = (b"PacketSize=%x;QStartNoAckMode+;qXfer:features:read+;ReverseStep+;ReverseContinue+;vContSupported+" % PACKET_BYTES)
 OK, FAILED, NOT_KNOWN, GONE = b"OK", b"E01", b"", b"W00"
 CODE, CODE_IN_HARDWARE, WRITE, READ, ACCESS = range(5)  # the kinds of breakpoints and watches
 
@@ -75,16 +74,16 @@ class Stub:
 
     def _reply(self, packet: bytes) -> Optional[bytes]:
         """The reply to a packet, if it has one."""
-        for prefix, answer in ANSWERS.items():
-            if packet.startswith(prefix):
-                try:
-                    return answer(self, packet[len(prefix):])
-                except Problem as problem:
-                    self._tell(str(problem))
-                    return FAILED
-                except Malformed:
-                    return FAILED
-        return NOT_KNOWN
+        begin = next((begin for begin in ANSWERS if packet.startswith(begin)), None)
+        if begin is None:
+            return NOT_KNOWN
+        try:
+            return ANSWERS[begin](self, packet[len(begin):])
+        except Problem as problem:
+            self._tell(str(problem))
+            return FAILED
+        except Malformed:
+            return FAILED
 
     # What the stub is
 
@@ -154,8 +153,8 @@ class Stub:
     def _insert(self, rest: bytes) -> bytes:
         kind, address, size = _numbers(rb"(\w),(\w+),(\w+)", rest)
         if kind in (CODE, CODE_IN_HARDWARE):
-            if address % 4:
-                raise Problem(f"no instruction stands at 0x{address:08x}: it is no multiple of 4")
+            if address % 4 or address >= 1 << 32:
+                raise Problem(f"no instruction stands at 0x{address:08x}: an address is a multiple of 4, of 32 bits")
             self._breakpoints.add((kind, address))
         elif kind == WRITE:
             self._motion.stops.watches.add(self._watch(address, size))
@@ -187,10 +186,16 @@ class Stub:
     # Runs
 
     def _continue(self, rest: bytes) -> bytes:
-        return self._motion.go_on()
+        return self._from_here(rest, self._motion.go_on)
 
     def _step(self, rest: bytes) -> bytes:
-        return self._motion.step()
+        return self._from_here(rest, self._motion.step)
+
+    def _from_here(self, rest: bytes, move: Callable[[], bytes]) -> bytes:
+        """A move, which may not begin at an address that the debugger says."""
+        if rest:
+            raise Problem(NOT_WRITTEN)
+        return move()
 
     def _continue_back(self, rest: bytes) -> bytes:
         return self._motion.go_back()
@@ -263,9 +268,7 @@ ANSWERS: dict[bytes, Answer] = {
     b"bc": Stub._continue_back,
     b"bs": Stub._step_back,
     b"c": Stub._continue,
-    b"C": Stub._continue,
     b"s": Stub._step,
-    b"S": Stub._step,
     b"D": Stub._end,
     b"k": Stub._end,
 }

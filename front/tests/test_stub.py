@@ -96,6 +96,11 @@ class Registers(StubTest):
             self.assertRegex(whole, f'name="{name}"[^>]* regnum="{number}"')
 
 
+    def test_a_run_does_not_begin_elsewhere(self) -> None:
+        wire = self.wire(COUNTER)
+        self.refusals(wire, ("cbfc00008", "registers can't be written"), ("sbfc00008", "registers can't be written"))
+
+
 class Memory(StubTest):
     def test_it_is_read_in_all_sizes(self) -> None:
         wire = self.wire([0x03020100, 0x07060504, 0x0B0A0908])
@@ -201,7 +206,7 @@ class Runs(StubTest):
     def test_what_cannot_be_stopped_at_is_refused(self) -> None:
         wire = self.wire(ECHO)
         self.refusals(wire, ("Z3,a0000100,4", "reads can't be watched"), ("Z4,a0000100,4", "reads can't be watched"),
-                      ("Z0,bfc01002,4", "no multiple of 4"), ("Z2,bfe00000,4", "no memory stands at 0xbfe00000"),
+                      ("Z0,bfc01002,4", "a multiple of 4"), ("Z0,100000000,4", "of 32 bits"), ("Z2,bfe00000,4", "no memory stands at 0xbfe00000"),
                       ("Z2,400000,4", "no memory stands at 0x00400000"), ("Z2,a07ffffe,4", "no memory stands at 0xa07ffffe"),
                       ("Z2,a0000000,101", "at most 256 bytes"), ("Z2,a0000ffe,4", "all in one page"))
         self.dialog(wire, ("Z0,bfc01000", "E01"), ("Zx,1,1", "E01"), ("z0,bfc01000,4", "OK"), ("z2,400000,4", "OK"))
