@@ -34,23 +34,22 @@ Numbers may be expressions without blanks: wb writer &session.length, wb goto $p
 
     def invoke(self, line: str, from_terminal: bool) -> None:
         name, *words = line.split() or ["help"]
-        if not name.startswith("save-"):
-            words = map(as_number, words)
-        gdb.execute(" ".join(["monitor", name, *words]))
+        numbers = words if name.startswith("save-") else [as_number(word) for word in words]
+        gdb.execute(" ".join(["monitor", name, *numbers]))
         if name in MOVES_OR_EDITS:
             flush()
             gdb.execute("frame")
 
 
-def prompt(present: str) -> str:
+def prompt(current_prompt: str) -> str:
     """The prompt, with the position where there is a run."""
     try:
         return f"({int(gdb.newest_frame().read_register('position')):,}) "
     except gdb.error:
-        return present
+        return current_prompt
 
 
-def forget_arguments(event: gdb.StopEvent) -> None:
+def forget_arguments(event: object) -> None:
     """Lets the position of `run N` and `starti N` be that of one start: gdb would take it for the next one too."""
     gdb.execute("set args")
 

@@ -14,6 +14,7 @@ from .driver import Driver
 from .limits import GREATEST_POSITION, RAM, ROM
 from .replies import Registers
 
+TURN = 1024  # the longest turn that is looked at, in steps
 BATCH = 16  # states that are asked for together
 
 INTERRUPTS_ON, DEVICE_MASK, ISOLATED = 0x1, 0xC00, 0x1_0000  # bits of Status
@@ -32,7 +33,7 @@ class Standstill(Enum):
     WAITING = "waits for a byte, and the log has no more"
 
 
-def standstill(driver: Driver, turn: int) -> Optional[Standstill]:
+def standstill(driver: Driver, turn: int = TURN) -> Optional[Standstill]:
     """Whether the run stands still from the position on, which stays, in a loop whose turns have at most so many steps."""
     start = driver.position
     status = driver.control()["status"]

@@ -5,7 +5,7 @@ gdb takes what stands at a name for a function, so that it need not look for its
 from __future__ import annotations
 
 import struct
-from typing import Iterable
+from typing import Iterable, Tuple
 
 from .limits import RAM, RESET_PC, ROM
 
@@ -21,6 +21,7 @@ _SYMBOL = struct.Struct("<IIIBBH")
 
 KSEG0 = 0x8000_0000
 _IN_ROM, _IN_RAM = 1, 2  # sections
+_Section = Tuple[str, int, int, int, int, int, int, int, int]
 
 
 def content(names: Iterable[tuple[str, int]]) -> bytes:
@@ -33,7 +34,7 @@ def content(names: Iterable[tuple[str, int]]) -> bytes:
         strings += name.encode() + b"\0"
     titles = b"\0.rom\0.ram\0.symtab\0.strtab\0"
     start = _HEADER.size
-    sections = [
+    sections: list[_Section] = [
         ("", 0, 0, 0, 0, 0, 0, 0, 0),
         (".rom", _NO_BITS, _ALLOCATED | _RUN, RESET_PC, start, len(ROM), 0, 0, 4),
         (".ram", _NO_BITS, _ALLOCATED | _RUN | _WRITTEN, KSEG0, start, len(RAM), 0, 0, 4),
@@ -45,7 +46,7 @@ def content(names: Iterable[tuple[str, int]]) -> bytes:
     return head + symbols + strings + titles + _table(sections, titles, len(strings))
 
 
-def _table(sections: list[tuple], titles: bytes, place: int) -> bytes:
+def _table(sections: list[_Section], titles: bytes, place: int) -> bytes:
     """The section headers; the sections' names stand in the last one, from a place on."""
     packed = []
     for title, kind, flags, address, offset, size, link, info, alignment in sections:

@@ -10,7 +10,7 @@ from . import memory, replies, search
 from .driver import Driver
 from .errors import Interrupted
 from .limits import GREATEST_POSITION
-from .standstill import Standstill, standstill
+from .standstill import TURN, Standstill, standstill
 
 # A run goes in pieces: after each one its reader is told, and may end it.
 FIRST_PIECE = 1 << 16
@@ -18,7 +18,6 @@ LONGEST_PIECE = 1 << 22
 
 IDLE_STORES = 256  # stores that change nothing are passed over, so many in a piece
 BATCH = 64  # single steps that are asked for together
-TURN = 1024  # the longest turn of a loop of which it is seen that nothing can leave it
 STEPS_A_STATE = 4096  # to look at the states of a loop costs more than to run it: so many steps are run for each state
 
 Pause = Callable[[], bool]

@@ -47,8 +47,8 @@ class Plot(unittest.TestCase):
         self.holds(texts, "loop", "53.5 %", "none", "25.8 %", "next", "17.2 %", "0xbfc00000", "3.5 %")
 
     def test_backgrounds(self) -> None:
-        styles = [self.plot(*words, "--to", "100", "examples/login/login.rom").find(f"{SVG}style").text or ""
-                  for words in ([], ["--background", "light"], ["--background=dark"])]
+        choices: list[list[str]] = [[], ["--background", "light"], ["--background=dark"]]
+        styles = [self.plot(*words, "--to", "100", "examples/login/login.rom").findtext(f"{SVG}style", "") for words in choices]
         self.assertEqual([("#ffffff" in it, "#0d1117" in it, "prefers-color-scheme" in it) for it in styles],
                          [(True, True, True), (True, False, False), (False, True, False)])
 

@@ -87,10 +87,10 @@ class Registers(StubTest):
 
     def test_the_description_comes_in_pieces(self) -> None:
         wire = self.wire([0])
-        whole = ""
-        while not whole or piece[0] == "m":
+        whole, more = "", "m"
+        while more == "m":
             piece = wire.ask(f"qXfer:features:read:target.xml:{len(whole):x},100")
-            whole += piece[1:]
+            more, whole = piece[0], whole + piece[1:]
         for name, number in ("r0", 0), ("status", 32), ("pc", 37), ("position", 72), ("prid", 83):
             self.assertIn(f'<reg name="{name}" bitsize="32"', whole)
             self.assertRegex(whole, f'name="{name}"[^>]* regnum="{number}"')
@@ -341,6 +341,7 @@ class Hostile(StubTest):
         wire.command("goto 256")
         wire.command("del 1")
         wire.command("patch 0x200 7")
+        assert wire.driver._program
         process = wire.driver._program._process
         os.kill(process.pid, signal.SIGKILL)
         process.wait()
