@@ -16,7 +16,7 @@ from . import replies
 from .boot import Boot, boot_of
 from .errors import Ended, Interrupted, Refused
 from .image import Image
-from .limits import CONSOLE_BYTES, GREATEST_POSITION, LOG_EVENTS, READS, SPAN, WORDS
+from .limits import CONSOLE_BYTES, GREATEST_POSITION, READS, SPAN, WORDS
 from .log import Event, changes
 from .log import write as write_log
 from .progress import TerminalProgress
@@ -46,8 +46,8 @@ class Driver:
         self._original: Optional[Boot] = None
         self._boot: Optional[Boot] = None
         self._program: Optional[Program] = None
-        # How far the run is known to be made under the image and log as they stand.
-        self._made = 0
+        # How far the run was made under the image and log as they stand.
+        self.made = 0
         self._runs = 0
 
     @classmethod
@@ -63,7 +63,7 @@ class Driver:
         if self._program:
             self._program.close()
             self._program = None
-            self._made = 0
+            self.made = 0
 
     # Commands
 
@@ -260,7 +260,7 @@ class Driver:
             self._mirror_edit(name, numbers, replies.last_number(reply))
         elif name == "patch":
             self.patches.append((numbers[0], numbers[1]))
-            self._made = 0
+            self.made = 0
             self.boot().patch(numbers[0], numbers[1])
 
     def _mirror_edit(self, name: str, numbers: list[int], told: int) -> None:
@@ -274,8 +274,8 @@ class Driver:
             changed = self.log.pop(numbers[0])
             if name == "move":
                 self.log.insert(told, replace(changed, time=numbers[1]))
-                self._made = min(self._made, numbers[1])
-        self._made = min(self._made, changed.time)
+                self.made = min(self.made, numbers[1])
+        self.made = min(self.made, changed.time)
 
     # Long runs
 
@@ -296,18 +296,18 @@ class Driver:
 
     def _run_ahead(self, furthest: int) -> None:
         """Makes the run up to a position in pieces, if it is long, and shows how far it is."""
-        begin = self._made
-        while self._made + PIECE < furthest:
-            piece = self._made // SPAN * SPAN + PIECE
+        begin = self.made
+        while self.made + PIECE < furthest:
+            piece = self.made // SPAN * SPAN + PIECE
             commands = [f"goto {piece}", "reg 0"]
             if not self._room(commands):
                 self.close()
                 continue
             for _ in self._replies(self._started(), commands):
                 pass
-            self._made = piece
+            self.made = piece
             self.tell(piece - begin, furthest - begin)
-        self._made = max(self._made, furthest)
+        self.made = max(self.made, furthest)
 
     @contextmanager
     def long_run(self) -> Iterator[None]:

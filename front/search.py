@@ -6,7 +6,6 @@ from typing import Callable, Collection, Iterator, Optional, Sequence
 
 from . import replies
 from .driver import Driver
-from .errors import Refused
 from .limits import GREATEST_POSITION, RESET_PC, SPAN, VISIT_STEPS
 
 # How many steps a search looks at before it looks at more of them. To go on along the run costs its steps alone, some 15
@@ -24,10 +23,10 @@ def next_visit(driver: Driver, addresses: Collection[int], limit: int) -> Option
     with _search(driver) as tell:
         # One address alone ends the search where it is found; of several the nearest one is wanted.
         for low, high in _forward(begin, end, WINDOWS if len(addresses) > 1 else WINDOWS[-1:]):
-            nearest = None
+            nearest = high + 1
             for address in addresses:
-                nearest = _visit(driver, address, low, high if nearest is None else nearest - 1) or nearest
-            if nearest is not None:
+                nearest = _visit(driver, address, low, nearest - 1) or nearest
+            if nearest <= high:
                 return nearest
             tell(high - begin, end - begin)
     return None
@@ -38,7 +37,7 @@ def last_visit(driver: Driver, addresses: Collection[int], lowest: int = 0) -> O
     begin = driver.position
     with _search(driver) as tell:
         for low, high in _backward(lowest, begin):
-            last = low if low == 0 < high and RESET_PC in addresses else None
+            last = 0 if low == 0 and RESET_PC in addresses else None
             for address in addresses:
                 last = _last_visit(driver, address, low - 1 if last is None else last, high) or last
             if last is not None:

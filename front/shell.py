@@ -108,6 +108,8 @@ class Shell:
         except Problem as problem:
             session.tell(str(problem))
         except (Interrupted, KeyboardInterrupt):
+            # Where the run was not made yet it can't be shown at once.
+            session.driver.goto(min(session.driver.position, session.driver.made))
             session.tell(f"interrupted; at step {session.driver.position:,}")
 
     def _run(self, line: str) -> None:

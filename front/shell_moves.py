@@ -117,18 +117,20 @@ def _travel(session: Session, go: Callable[[Driver, Stops, travel.Pause], Stop],
     """Goes where the run stops. A watch stops after its step where the run went on, and before it where it went back."""
     watches = {it.watch for it in session.marks if it.watch}
     stops = Stops({it.address for it in session.marks if not it.watch}, watches)
-    here = session.driver.position
+    driver = session.driver
+    reached = driver.position
+
+    def pause() -> bool:
+        nonlocal reached
+        reached = driver.position
+        return False
+
     try:
-        with session.driver.long_run():
-            stop = go(session.driver, stops, lambda: False)
+        with driver.long_run():
+            stop = go(driver, stops, pause)
+        reached = stop.position + (after if stop.watch else 0)
     finally:
-        reached = session.driver.position
-        session.driver.goto(here)
-    if stop.watch:
-        reached = stop.position + after
-    elif stop.reason is Reason.BREAKPOINT:
-        reached = stop.position
-    session.driver.goto(reached)
+        driver.goto(reached)
     if stop.watch:
         _show_change(session, stop.watch, stop.position)
     else:

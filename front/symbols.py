@@ -29,7 +29,7 @@ class Symbols:
     def address(self, name: str) -> Optional[int]:
         """The address of a name, or None."""
         symbol = self._by_name.get(name)
-        return symbol and symbol.address
+        return symbol.address if symbol else None
 
     def at(self, address: int) -> Optional[tuple[Symbol, int]]:
         """The symbol that an address belongs to, and how far the address is beyond its start."""

@@ -7,6 +7,7 @@ from typing import Optional, Sequence
 
 from front.driver import Driver
 from front.image import Image
+from front.limits import READS
 from front.log import Event
 from front.replies import Registers, registers
 
@@ -28,8 +29,8 @@ def rom(words: Sequence[int]) -> Image:
     return Image("test.rom", "rom", b"".join(word.to_bytes(4, "little") for word in words))
 
 
-def start(image: Image, log: Sequence[Event] = (), most_reads: Optional[int] = None) -> Driver:
-    return Driver.start(image, log, **({"most_reads": most_reads} if most_reads else {}))
+def start(image: Image, log: Sequence[Event] = (), most_reads: int = READS) -> Driver:
+    return Driver.start(image, log, most_reads=most_reads)
 
 
 def random_rom(source: random.Random) -> list[int]:

@@ -4,7 +4,7 @@ from __future__ import annotations
 import random
 import struct
 import unittest
-from typing import Optional, Sequence
+from typing import Sequence
 
 from front import elf
 from front.boot import Boot, Source, boot_of

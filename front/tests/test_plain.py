@@ -52,7 +52,7 @@ class Plain(unittest.TestCase):
         source, script = self.put("x.s", b"foo\n"), self.put("script", b"pos\n")
         log = self.put("bad.log", b"R3KLOG1\n\1\0\0\0")
         usage = "bin/wb: usage: bin/wb [--log FILE] IMAGE [SCRIPT]\n"
-        for arguments, out, err, status in (
+        cases: list[tuple[list[str], bytes, str, int]] = [
                 ([rom, script], b"pos 0\n", "", 0),
                 ([], b"", usage, 2), ([rom, script, script], b"", usage, 2), (["-x"], b"", usage, 2),
                 (["--log"], b"", "bin/wb: --log wants a file\n", 2),
@@ -63,7 +63,8 @@ class Plain(unittest.TestCase):
                 ([bad], b"", "r3kwb: error 9 BadImage Short\nbin/wb: that is x.img, taken as kind image\n", 1),
                 ([source], b"", "r3kwb: error 13 BadSource 1 Name\nbin/wb: that is x.s, taken as kind source\n", 1),
                 (["--log", log, rom], b"",
-                 "r3kwb: error 10 BadLog Short\nbin/wb: that is x.rom, taken as kind rom, with the log bad.log\n", 1)):
+                 "r3kwb: error 10 BadLog Short\nbin/wb: that is x.rom, taken as kind rom, with the log bad.log\n", 1)]
+        for arguments, out, err, status in cases:
             self.check(arguments, b"", out, err, status)
 
     def test_what_to_do(self) -> None:

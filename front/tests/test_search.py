@@ -18,8 +18,8 @@ class Searches(unittest.TestCase):
         """2,000 cases: four kinds of search from ten positions of fifty programs, most of them by small windows."""
         for seed in range(IMAGES):
             source = random.Random(seed)
-            small = {"WINDOWS": (3, 7, 20, 64), "SPAN": 16, "VISITS": source.randrange(1, 6)}
-            with self.subTest(seed=seed), mock.patch.multiple(search, **(small if seed % 4 else {"VISITS": 2})):
+            windows, span = ((3, 7, 20, 64), 16) if seed % 4 else (search.WINDOWS, search.SPAN)
+            with self.subTest(seed=seed), mock.patch.multiple(search, WINDOWS=windows, SPAN=span, VISITS=source.randrange(1, 6)):
                 self.check(source)
 
     def check(self, source: random.Random) -> None:

@@ -10,7 +10,6 @@ from front import expressions, loading
 from front import log as logs
 from front.driver import Driver
 from front.errors import Problem
-from front.explain import explain
 from front.log import Event
 from front.session import Session, distance
 from front.shell import Shell
