@@ -94,6 +94,7 @@ class Shell(unittest.TestCase):
         terminal.until(b"> ")
         terminal.type(b"add 5 0 1\r")
         terminal.until(b"event 0")
+        terminal.until(b"> ")
         terminal.type(b"\x04")
         terminal.until(b"not saved: the log")
         terminal.until(b"> ")
@@ -113,6 +114,7 @@ class Shell(unittest.TestCase):
         terminal.until(b"> ")
         terminal.type(b"goto 33\r")
         terminal.until(b"step 33, ")
+        terminal.until(b"> ")
         terminal.type(b"q\r")
         self.assertEqual(terminal.end(), 0)
 
@@ -121,14 +123,20 @@ class Shell(unittest.TestCase):
         terminal.until(b"wb 0> ")
         terminal.type(b"add 5 0 'x'\r")
         terminal.until(b"event 0")
+        terminal.until(b"> ")
         children = Path(f"/proc/{terminal.process}/task/{terminal.process}/children").read_text().split()
         os.kill(int(children[0]), signal.SIGKILL)
         terminal.type(b"goto 7\r")
         terminal.until(b"ended by SIGKILL; it is started anew")
+        terminal.until(b"> ")
         terminal.type(b"log\r")
         terminal.until(b"1 event, ")
-        terminal.type(b"regs\rquit\rquit\r")
-        terminal.until(b"pc 0x")
+        for line, shown in ((b"regs\r", b"pc 0x"), (b"quit\r", b"not saved")):
+            terminal.until(b"> ")
+            terminal.type(line)
+            terminal.until(shown)
+        terminal.until(b"> ")
+        terminal.type(b"quit\r")
         self.assertEqual(terminal.end(), 0)
 
 
