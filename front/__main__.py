@@ -2,7 +2,6 @@
 import sys
 from pathlib import Path
 
-sys.dont_write_bytecode = True
 sys.path[0] = str(Path(__file__).resolve().parent.parent)
 
 from front.cli import main  # noqa: E402
