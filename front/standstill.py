@@ -1,11 +1,12 @@
-"""Whether a run stands still: it goes round in a loop and will do so for ever.
+"""Where a run stands still: it goes round in a loop that changes nothing, for ever or until a byte arrives.
 
 That is exact. It holds where a turn leaves the processor as it was; no step of it takes an exception, changes a word of memory, or has
 to do with the control registers; no interrupt can come; and its loads are from memory, or from the serial part once what that shows
-can't change. A loop that reads the clock, or that counts in memory, does not stand still.
+can't change before a byte arrives. A loop that reads the clock, or that counts in memory, does not stand still.
 """
 from __future__ import annotations
 
+from dataclasses import dataclass
 from enum import Enum
 from typing import Optional
 
@@ -27,14 +28,30 @@ READY = VALID = 0x8000  # of CSR, that a byte can be sent; of RBUF, that there i
 
 
 class Standstill(Enum):
-    """What a run does that stands still."""
+    """What a run does that stands still for ever."""
 
     STUCK = "goes round in a loop that nothing can leave"
     WAITING = "waits for a byte, and the log has no more"
 
 
+@dataclass(frozen=True)
+class Quiet:
+    """That a run stands still up to a step, where a byte arrives, or for ever; and whether it waits for one."""
+
+    end: int
+    waits: bool
+
+
 def standstill(driver: Driver, turn: int = TURN) -> Optional[Standstill]:
-    """Whether the run stands still from the position on, which stays, in a loop whose turns have at most so many steps."""
+    """Whether the run stands still for ever from the position on, which stays."""
+    found = quiet(driver, turn)
+    if found is None or found.end < GREATEST_POSITION:
+        return None
+    return Standstill.WAITING if found.waits else Standstill.STUCK
+
+
+def quiet(driver: Driver, turn: int = TURN) -> Optional[Quiet]:
+    """How long the run stands still from the position on, which stays, in a loop whose turns have at most so many steps."""
     start = driver.position
     status = driver.control()["status"]
     if status & ISOLATED or status & INTERRUPTS_ON and status & DEVICE_MASK:
@@ -57,18 +74,17 @@ class _Loop:
         self._asks_serial = False
         self._unready = False  # the serial part was seen not to be ready: it may be later
 
-    def judge(self, most: int) -> Optional[Standstill]:
+    def judge(self, most: int) -> Optional[Quiet]:
         turn = self._turn(most)
         if not turn:
             return None
         if not self._asks_serial:
-            return Standstill.STUCK
-        log = self._driver.log
-        if log and log[-1].time >= self._start:
-            return None
+            return Quiet(GREATEST_POSITION, waits=False)
         if self._unready and not self._stays(turn, self._driver.boot().byte_time + 1):
             return None
-        return Standstill.WAITING
+        end = next((event.time for event in self._driver.log if event.time >= self._start), GREATEST_POSITION)
+        # A step that was looked at and met a byte says nothing of those before it.
+        return Quiet(end, waits=True) if self._start + len(self._states) - 1 <= end else None
 
     def _turn(self, most: int) -> Optional[int]:
         """The steps of a turn, if the first state comes again. It does not where another one comes again before it."""

@@ -10,13 +10,15 @@ from . import memory, replies, search
 from .driver import Driver
 from .errors import Interrupted
 from .limits import GREATEST_POSITION
-from .standstill import TURN, Standstill, standstill
+from .standstill import TURN, Quiet, Standstill, quiet, standstill
 
 # A run goes in pieces: after each one its reader is told, and may end it.
 FIRST_PIECE = 1 << 16
 LONGEST_PIECE = 1 << 22
 
-IDLE_STORES = 256  # stores that change nothing are passed over, so many in a piece
+IDLE_STORES = 64  # stores that change nothing are passed over, so many in a piece
+QUIET_AFTER = (1, 4, 16, 64)  # so many of them it is seen whether the run stands still, and all of them can be passed over at once
+QUIET_TURN = 128
 BATCH = 64  # single steps that are asked for together
 STEPS_A_STATE = 4096  # to look at the states of a loop costs more than to run it: so many steps are run for each state
 
@@ -187,44 +189,55 @@ def _first(driver: Driver, stops: Stops, start: int, end: int) -> tuple[Optional
 
 def _first_change(driver: Driver, watch: Watch, start: int, end: int) -> tuple[Optional[int], int]:
     """The first step from `start` to below `end` that changes the bytes, and up to where that is known."""
-    for _ in range(IDLE_STORES):
+    for idle in range(1, IDLE_STORES + 1):
         driver.goto(start)
         found = [search.first_store(driver, word, end - start) for word in watch.words()] if start < end else []
-        steps = [step for step in found if step is not None]
-        if not steps:
+        stores = [step for step in found if step is not None]
+        if not stores:
             return None, end
-        if watch.changes(driver, min(steps)):
-            return min(steps), min(steps)
-        start = min(steps) + 1
+        start = min(stores)
+        if watch.changes(driver, start):
+            return start, start
+        driver.goto(start)
+        still = quiet(driver, QUIET_TURN) if idle in QUIET_AFTER else None
+        start = min(still.end, end) if still else start + 1
     return None, start
 
 
 def _last_change(driver: Driver, watch: Watch, lowest: int, end: int, pause: Pause) -> Optional[int]:
     """The last step below `end`, and not below `lowest`, that changes the bytes."""
-    while True:
+    for idle in count(1):
         driver.goto(end)
         found = [search.last_store(driver, word) for word in watch.words()]
-        steps = [step for step in found if step is not None and step >= lowest]
-        if not steps:
+        stores = [step for step in found if step is not None and step >= lowest]
+        if not stores:
             return None
-        if watch.changes(driver, max(steps)):
-            return max(steps)
-        end = max(steps)
+        end = max(stores)
+        if watch.changes(driver, end):
+            return end
+        driver.goto(end)
+        still = quiet(driver, QUIET_TURN) if idle % IDLE_STORES in QUIET_AFTER else None
+        if still:
+            end = _begin(driver, lowest, still, QUIET_TURN)
         if pause():
             raise Interrupted
+    raise AssertionError("a run has a begin")
 
 
 def _standstill(driver: Driver, low: int, turn: int) -> Optional[Stop]:
-    """The first position, not below `low`, from which the run stands still, if it does so from the present one on."""
-    still = standstill(driver, turn)
-    if still is None:
-        return None
+    """The first position, not below `low`, from which the run stands still for ever, if it does so from the present one on."""
+    kind, still = standstill(driver, turn), quiet(driver, turn)
+    return Stop(Reason(kind.value), _begin(driver, low, still, turn)) if kind and still else None
+
+
+def _begin(driver: Driver, low: int, still: Quiet, turn: int) -> int:
+    """The first position, not below `low`, from which the run stands still as it does from the present one on."""
     high = driver.position
     while low < high:
         middle = (low + high) // 2
         driver.goto(middle)
-        if standstill(driver, turn):
+        if quiet(driver, turn) == still:
             high = middle
         else:
             low = middle + 1
-    return Stop(Reason(still.value), high)
+    return high

@@ -8,7 +8,7 @@ from typing import Optional, Sequence
 from front.driver import Driver
 from front.log import Event
 from front.replies import memory, registers
-from front.standstill import Standstill, standstill
+from front.standstill import Quiet, Standstill, quiet, standstill
 from front.tests.support import DATA, random_rom, rom, start
 
 STEPS = 600
@@ -68,7 +68,12 @@ class Stands(unittest.TestCase):
 
     def test_a_byte_that_is_to_come(self) -> None:
         driver = self.driver([*SERIAL_ON, *POLL], [Event(50, 0, 1)])
-        self.assertEqual([self.stands(driver, it) for it in (40, 50, 51)], [None, None, Standstill.WAITING])
+        self.assertEqual([self.stands(driver, it) for it in (20, 50, 51)], [None, None, Standstill.WAITING])
+        # Up to the byte nothing changes. Of a position shortly before it that is not known.
+        driver.goto(20)
+        self.assertEqual(quiet(driver, LOOKED_AT), Quiet(50, waits=True))
+        driver.goto(40)
+        self.assertIsNone(quiet(driver, LOOKED_AT))
 
     def test_a_loop_that_reads_the_clock(self) -> None:
         # lui r1, 0xbfe8; lw r3, 0(r1) ..
