@@ -67,12 +67,12 @@ class Stands(unittest.TestCase):
         self.assertEqual(found, [None] * first + [Standstill.STUCK] * (60 - first))
 
     def test_a_byte_that_is_to_come(self) -> None:
-        driver = self.driver([*SERIAL_ON, *POLL], [Event(50, 0, 1)])
-        self.assertEqual([self.stands(driver, it) for it in (20, 50, 51)], [None, None, Standstill.WAITING])
+        driver = self.driver([*SERIAL_ON, *POLL], [Event(90, 0, 1)])
+        self.assertEqual([self.stands(driver, it) for it in (20, 90, 91)], [None, None, Standstill.WAITING])
         # Up to the byte nothing changes. Of a position shortly before it that is not known.
         driver.goto(20)
-        self.assertEqual(quiet(driver, LOOKED_AT), Quiet(50, waits=True))
-        driver.goto(40)
+        self.assertEqual(quiet(driver, LOOKED_AT), Quiet(90, waits=True))
+        driver.goto(80)
         self.assertIsNone(quiet(driver, LOOKED_AT))
 
     def test_a_loop_that_reads_the_clock(self) -> None:
