@@ -97,13 +97,6 @@ def boot_of(image: Image, ask: Callable[[Sequence[int]], list[int]]) -> Boot:
     return boot
 
 
-def byte_time(image: Image) -> int:
-    """For how many steps the serial part sends a byte."""
-    if image.kind == "source":
-        return Source(image.content).byte_time
-    return int.from_bytes(image.content[8:12], "little") if image.kind == "image" else Boot().byte_time
-
-
 def _read(content: bytes) -> Boot:
     def number(at: int) -> int:
         return int.from_bytes(content[at:at + 4], "little")

@@ -68,7 +68,7 @@ def find(name: str) -> Command:
     raise Problem(f"there is no command {name}; `help` lists them")
 
 
-_WORD = re.compile(r"(?:'(?:[^'\\]|\\.)*'|[^\s'])+|'.*")
+_WORD = re.compile(r"""(?:'(?:[^'\\]|\\.)*'|"(?:[^"\\]|\\.)*"|[^\s'"])+|['"].*""")
 
 
 def words_of(line: str) -> list[str]:

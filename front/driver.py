@@ -14,7 +14,7 @@ from typing import Any, Callable, Iterator, Optional, Sequence
 
 from . import replies
 from .boot import Boot, boot_of
-from .errors import Ended, Interrupted, Refused
+from .errors import Ended, Interrupted, Problem, Refused
 from .image import Image
 from .limits import CONSOLE_BYTES, GREATEST_POSITION, READS, SPAN, WORDS
 from .log import Event, changes
@@ -26,7 +26,7 @@ from .replies import Registers, Where, Writer, number_of, words_of
 # A run to a far position is made in pieces of this many steps, between which it is shown, or ended.
 PIECE = 64 * SPAN
 
-# The commands that run the machine up to the position.
+# The commands that tell the position, and those that run the machine up to it.
 _MOVES = frozenset(("pos", "goto", "step", "back", "visit"))
 _QUERIES = frozenset(("regs", "reg", "cp0", "tlb", "where", "mem", "dis", "console", "find", "writer", "visit"))
 
@@ -73,8 +73,11 @@ class Driver:
 
     def ask_all(self, commands: Sequence[str]) -> list[list[str]]:
         """The replies of several commands, which are under way together."""
-        if any(words_of(it)[:1] == ("patch",) for it in commands):
-            self.boot()
+        for words in map(words_of, commands):
+            if words == ("quit",):
+                raise Problem("`quit` alone would end the program; the front end has its own")
+            if words[:1] == ("patch",):
+                self.boot()
         answers: list[list[str]] = []
         with self.long_run():
             while len(answers) < len(commands):

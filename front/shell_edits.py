@@ -17,6 +17,8 @@ from .standstill import standstill
 # that asks for them in its loop, or is interrupted, has taken each, and sent it back, before the next one comes.
 _LEAST_GAP = 1000
 
+_TEXT = re.compile(r"""'(?:[^'\\]|\\.)+'|"(?:[^"\\]|\\.)+\"""")
+
 # `expect` looks at pieces of this many steps.
 _PIECE = 1 << 20
 
@@ -116,8 +118,8 @@ def _run_until(session: Session, line: int, first: int, text: bytes, end: int) -
 
 def _line_and_text(session: Session, words: list[str], usage: str) -> tuple[int, bytes, int]:
     """The line, the text, and the number after it, or 0."""
-    line = session.number(words.pop(0)) if not words[0].startswith("'") else 0
-    if not words or not re.fullmatch(r"'(?:[^'\\]|\\.)+'", words[0]):
+    line = session.number(words.pop(0)) if words[0][0] not in "'\"" else 0
+    if not words or not _TEXT.fullmatch(words[0]):
         raise Problem(f"usage: {usage}; the text stands between quotes: 'help\\r'")
     if not 0 <= line < LINES:
         raise Problem(f"there is no line {line}; they are 0 to {LINES - 1}")

@@ -7,7 +7,6 @@ from . import memory, travel
 from .commands import MOVES, STOPS, command
 from .driver import Driver
 from .errors import Problem
-from .limits import GREATEST_POSITION
 from .log import quoted
 from .search import next_visit
 from .session import Mark, Session, counted
@@ -42,12 +41,21 @@ def _move(session: Session, steps: int) -> None:
 
 @command("visit A [K]", "goes on to the next instruction at address A, at most K steps on", MOVES)
 def visit(session: Session, words: list[str]) -> None:
-    address = session.number(words[0])
-    limit = session.number(words[1]) if len(words) > 1 else GREATEST_POSITION
-    found = next_visit(session.driver, [address], limit)
-    if found is None:
-        raise Problem(f"the run does not come to {session.address(address)} in the next {limit:,} steps")
-    session.driver.goto(found)
+    address, driver = session.number(words[0]), session.driver
+    nowhere = f"the run does not come to {session.address(address)}"
+    if len(words) > 1:
+        limit = session.number(words[1])
+        found = next_visit(driver, [address], limit)
+        if found is None:
+            raise Problem(f"{nowhere} in the next {counted(limit, 'step')}")
+    else:
+        here = driver.position
+        stop = _travel(session, travel.forward, Stops({address}))
+        if stop.reason is not Reason.BREAKPOINT:
+            driver.goto(here)
+            raise Problem(f"{nowhere}: {_reason(session, stop)}")
+        found = stop.position
+    driver.goto(found)
     session.show_position()
 
 
@@ -65,6 +73,10 @@ def break_(session: Session, words: list[str]) -> None:
 def watch(session: Session, words: list[str]) -> None:
     address = session.number(words[0])
     size = session.number(words[1]) if len(words) > 1 else _size(session, address)
+    if not 1 <= size <= _MOST_WATCHED:
+        raise Problem(f"1 to {_MOST_WATCHED:,} bytes can be watched, and not {size:,}")
+    if session.physical(address + size - 1) != session.physical(address) + size - 1:
+        raise Problem(f"{counted(size, 'byte')} from {address:#010x} on are not in one piece of memory")
     text = f"watch of {counted(size, 'byte')} at {session.address(address)}"
     _put(session, Mark(_free(session), text, address, Watch(address, size, session.physical(address))))
 
@@ -74,6 +86,7 @@ def _size(session: Session, address: int) -> int:
     return found[0].size if found and not found[1] and 0 < found[0].size <= _WATCHED else 4
 
 
+_MOST_WATCHED = 1024
 _FEW = 4  # so many bytes are shown as a number
 _WATCHED = 64  # the most bytes that are watched without being asked for
 
@@ -105,18 +118,20 @@ def delete(session: Session, words: list[str]) -> None:
 
 @command("continue", "goes on to the next breakpoint or watch", STOPS)
 def continue_(session: Session, words: list[str]) -> None:
-    _travel(session, travel.forward, after=1)
+    _show_stop(session, _travel(session, travel.forward, _stops(session)), after=1)
 
 
 @command("reverse-continue", "goes back to the last breakpoint or watch", STOPS)
 def reverse_continue(session: Session, words: list[str]) -> None:
-    _travel(session, travel.backward, after=0)
+    _show_stop(session, _travel(session, travel.backward, _stops(session)), after=0)
 
 
-def _travel(session: Session, go: Callable[[Driver, Stops, travel.Pause], Stop], after: int) -> None:
-    """Goes where the run stops. A watch stops after its step where the run went on, and before it where it went back."""
-    watches = {it.watch for it in session.marks if it.watch}
-    stops = Stops({it.address for it in session.marks if not it.watch}, watches)
+def _stops(session: Session) -> Stops:
+    return Stops({it.address for it in session.marks if not it.watch}, {it.watch for it in session.marks if it.watch})
+
+
+def _travel(session: Session, go: Callable[[Driver, Stops, travel.Pause], Stop], stops: Stops) -> Stop:
+    """Where the run stops. The position is there, or where the run was made when it was interrupted."""
     driver = session.driver
     reached = driver.position
 
@@ -128,10 +143,16 @@ def _travel(session: Session, go: Callable[[Driver, Stops, travel.Pause], Stop],
     try:
         with driver.long_run():
             stop = go(driver, stops, pause)
-        reached = stop.position + (after if stop.watch else 0)
+        reached = stop.position
+        return stop
     finally:
         driver.goto(reached)
+
+
+def _show_stop(session: Session, stop: Stop, after: int) -> None:
+    """Shows a stop. A watch stops after its step where the run went on, and before it where it went back."""
     if stop.watch:
+        session.driver.goto(stop.position + after)
         _show_change(session, stop.watch, stop.position)
     else:
         session.tell(_reason(session, stop))

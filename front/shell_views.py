@@ -23,12 +23,12 @@ _EVENTS = 16
 @command("regs", "shows the processor", HOLDS)
 def regs(session: Session, words: list[str]) -> None:
     state = session.driver.registers()
-    pending = f"  {REGISTERS[state.load[0]]} will be {state.load[1]:#010x}" if state.load else ""
+    pending = f"  r{state.load[0]} will be {state.load[1]:#010x}" if state.load else ""
     slot = "  delay slot" if state.delay else ""
     session.tell(f"pc {session.address(state.pc)}  next {session.address(state.next_pc)}"
                  f"  hi {state.hi:#010x}  lo {state.lo:#010x}{slot}{pending}")
     for first in range(0, 32, 4):
-        session.tell("  ".join(f"{REGISTERS[it]:>4} {state.general[it]:#010x}" for it in range(first, first + 4)))
+        session.tell("  ".join(f"{f'r{it}':>3} {REGISTERS[it]:4} {state.general[it]:#010x}" for it in range(first, first + 4)))
 
 
 @command("reg K", "shows a register, by its number or name", HOLDS)

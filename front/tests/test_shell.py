@@ -51,6 +51,8 @@ class Echo(unittest.TestCase):
         self.assertEqual(talk("goto 1,000"), ["step 1,000, loop+0x4: sll r0, r0, 0"])
         self.assertEqual(talk("goto 4,294,967,296"), ["refused: a position is 0 to 4,294,967,295"])
         self.assertEqual(talk("visit 0x80000000 100"), ["the run does not come to 0x80000000 in the next 100 steps"])
+        self.assertRegex(talk("visit 0x80000000")[0], "does not come to 0x80000000: from step .* waits for a byte")
+        self.assertEqual(talk("pos"), ["step 1,000, loop+0x4: sll r0, r0, 0"])
 
     def test_stops(self) -> None:
         """Byte 0x41 arrives in step 70; the turn that begins in step 75 takes it; 0x42 arrives in step 200, its turn begins in step 207."""
@@ -99,6 +101,8 @@ class Echo(unittest.TestCase):
         self.assertEqual(talk.driver.log[2:], [Event(300, 0, 0x68), Event(1300, 0, 0x69), Event(2300, 0, 0x0D)])
         self.assertEqual(talk("expect 'hi'"), [f"step {9 + 11 * 118 + 9:,}, next: j 0xbfc01000 <loop>"])
         self.assertEqual(talk("undo"), ["taken back: type 'hi\\r'"])
+        self.assertRegex(talk('type 0 "it\'s \\"x\\"" 50')[0], "8 bytes for line 0, .* 50 steps apart")
+        talk("undo")
         self.assertRegex(talk("expect 'zz'")[0], "did not send 'zz': at step .* waits for a byte, .*It sent nothing")
         self.assertRegex(talk("goto 10", "expect 'zz' 30")[1], "up to step 40. It sent nothing")
 
@@ -111,7 +115,8 @@ class Echo(unittest.TestCase):
                 ("step nowhere", "no symbol and no register nowhere"), ("frob", "no command frob"), ("goto", "usage: goto N"),
                 ("r", "pc"), ("s 1 2", "usage: step"), ("delete x", "no symbol"), ("type hi", "between quotes"),
                 ("type 7 'x'", "there is no line 7"), ("type '\\q'", "no escape"), ("break 2", "multiple of 4"),
-                ("watch 0xbfe00000", "no memory"), ("save-log /no/such", "can't be written"), ("st", "may be step, stops"),
+                ("watch 0xbfe00000", "no memory"), ("watch loop 0", "1 to 1,024 bytes"), ("watch loop 2000", "not 2,000"),
+                ("watch 0x807ffffc 8", "0x80800003 leads to the physical address 0x00800003, where no memory"), ("save-log /no/such", "can't be written"), ("st", "may be step, stops"),
                 ("goto 5+", "no number"), ("goto 5 5", "usage"), ("print 'ab'", "not one character"), ("goto -1", "no number"),
                 ("wb foo", "error 2 Syntax"), ("undo", "no edit"), ("back", "refused: a position")):
             self.assertRegex("\n".join(self.talk(line)), said, line)
@@ -145,8 +150,8 @@ class Views(unittest.TestCase):
     def test_processor(self) -> None:
         talk = Talk("load-slot", log=False)
         said = talk("goto 2", "regs")
-        self.assertEqual(said[1], "pc 0xbfc00008  next 0xbfc0000c  hi 0x00000000  lo 0x00000000  v0 will be 0x00000005")
-        self.assertEqual(said[2], "zero 0x00000000    at 0xa0000000    v0 0x00000000    v1 0x00000000")
+        self.assertEqual(said[1], "pc 0xbfc00008  next 0xbfc0000c  hi 0x00000000  lo 0x00000000  r2 will be 0x00000005")
+        self.assertEqual(said[2], " r0 zero 0x00000000   r1 at   0xa0000000   r2 v0   0x00000000   r3 v1   0x00000000")
         self.assertEqual(talk("reg at", "reg 1", "reg r1", "print $at"), [
             *["at = 0xa0000000  2,684,354,560"] * 3, "$at = 0xa0000000  2,684,354,560"])
         self.assertEqual(talk("dis 0xbfc00000 2", "dis pc 1"), [
