@@ -5,10 +5,13 @@ examples/login; addresses and lines are those of its ELF, as gdb and objdump sho
 from __future__ import annotations
 
 import os
+import shutil
 import signal
 import subprocess
 import sys
+import tempfile
 import unittest
+from pathlib import Path
 from typing import Sequence
 
 from front.tests import debugger
@@ -71,9 +74,13 @@ class Login(GdbTest):
         self.holds(lines, "Breakpoint 1, send (c=112 'p') at login.c:18", "25\t    while (*text)", "at 150", "at 139", "#1  0xbfc003c0 in main () at login.c:69")
 
     def test_lines_both_ways(self) -> None:
-        lines = self.batch("break main", "continue", "next", "next", "next", "next", POSITION, "step", "reverse-next", "reverse-next", POSITION)
-        self.holds(lines, "64\t{", "65\t    SERIAL[LPR] = RECEIVER;  /* of line 0 */", "66\t    SERIAL[TCR] = 1;", "67\t    SERIAL[CSR] = MSE;",
-                   "69\t        print(\"password: \");", "print (text=text@entry=0xbfc0041c \"password: \") at login.c:24")
+        lines = self.batch("break main", "continue", *["next"] * 4, "step", "reverse-next", "reverse-next", "reverse-step", "tbreak read_line", "continue",
+                           "reverse-next", "reverse-next", "next")
+        call = "69\t        print(\"password: \");"
+        self.holds(lines, "64\t{", "65\t    SERIAL[LPR] = RECEIVER;  /* of line 0 */", "66\t    SERIAL[TCR] = 1;", "67\t    SERIAL[CSR] = MSE;", call,
+                   "print (text=text@entry=0xbfc0041c \"password: \") at login.c:24", "main () at login.c:69", call, "67\t    SERIAL[CSR] = MSE;",
+                   "66\t    SERIAL[TCR] = 1;", "Temporary breakpoint 2, read_line () at login.c:39", "main () at login.c:70", "70\t        read_line();",
+                   call, "password: 70\t        read_line();")
 
     def test_registers(self) -> None:
         lines = self.batch("starti 40024", "info registers")
@@ -172,6 +179,23 @@ class UserProgram(GdbTest):
         lines = batch(self.IMAGE, "starti 8", *["stepi", POSITION] * 6, *["reverse-stepi", POSITION] * 2, options=["--through"])
         self.assertEqual([line for line in lines if line.startswith("at ")],
                          ["at 19", "at 20", "at 31", "at 32", "at 33", "at 42", "at 33", "at 32"])
+
+
+class Missing(GdbTest):
+    def test_what_is_wrong_is_told_before_gdb_is_started(self) -> None:
+        for words, reason in (([], "usage:"), (["none.elf"], "there is no file none.elf"), (["--through", "--log"], "--log wants a file"),
+                              (["--fast", "examples/login/login.elf"], "there is no option --fast"), (["examples/login/log"], "is a log, no image")):
+            self.assertIn(reason, debugger.run([debugger.WB, "gdb", *words]))
+
+    def test_a_gdb_that_is_missing_is_named(self) -> None:
+        with tempfile.TemporaryDirectory() as folder:
+            for name in "bash", "dirname", "readlink":
+                Path(folder, name).symlink_to(str(shutil.which(name)))
+            Path(folder, "python3").symlink_to(sys.executable)
+            line = [debugger.WB, "gdb", "examples/login/login.elf"]
+            done = subprocess.run(line, cwd=debugger.ROOT, env=dict(os.environ, PATH=folder), stderr=subprocess.PIPE, encoding="utf-8")
+        self.assertIn("apt-get install gdb-multiarch", done.stderr)
+        self.assertEqual(done.returncode, 2)
 
 
 class Reads(GdbTest):
