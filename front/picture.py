@@ -37,7 +37,8 @@ class Mark:
 class Lane:
     """Bytes on a serial line in one direction, each at its step."""
 
-    name: str
+    line: int
+    received: bool
     content: list[tuple[int, int]]
 
 
@@ -108,7 +109,7 @@ class _Drawing:
 
     def _title(self) -> Iterator[str]:
         picture = self._picture
-        received = sum(len(lane.content) for lane in picture.lanes if lane.name.endswith("receives"))
+        received = sum(len(lane.content) for lane in picture.lanes if lane.received)
         sent = sum(len(lane.content) for lane in picture.lanes) - received
         yield _text(24, 34, f"{picture.name}: {picture.end:,} steps", "ink title")
         shares = "" if picture.exact else ", shares of samples"
@@ -128,8 +129,8 @@ class _Drawing:
         yield _text(RIGHT + 12, base - 6, note, "faint")
 
     def _lane(self, top: int, lane: Lane) -> Iterator[str]:
-        kind = "in" if lane.name.endswith("receives") else "out"
-        yield from self._row(top, lane.name, _count(len(lane.content), "byte"))
+        kind, verb = ("in", "receives") if lane.received else ("out", "sends")
+        yield from self._row(top, f"line {lane.line} {verb}", _count(len(lane.content), "byte"))
         base = top + ROW - 6
         runs = _runs([(self._x(step), byte) for step, byte in lane.content])
         for number, run in enumerate(runs):

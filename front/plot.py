@@ -111,7 +111,7 @@ class _Plot:
 
     def _received(self, number: int) -> Optional[Lane]:
         events = [event for event in self._driver.log if event.line == number and event.time < self._end]
-        return Lane(f"line {number} receives", [(event.time, event.byte) for event in events]) if events else None
+        return Lane(number, True, [(event.time, event.byte) for event in events]) if events else None
 
     def _sent(self, number: int) -> Optional[Lane]:
         """The bytes that a line sent. Of very many, some have their steps, and the others stand with the one before."""
@@ -121,7 +121,7 @@ class _Plot:
         commands = [f"find {number} {place}" for place in range(0, len(content), apart)]
         steps = [replies.last_number(reply) for reply in self._driver.values(commands)]
         sent = [(steps[place // apart], byte) for place, byte in enumerate(content)]
-        return Lane(f"line {number} sends", sent) if sent else None
+        return Lane(number, False, sent) if sent else None
 
     # Words
 
