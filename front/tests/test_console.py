@@ -4,6 +4,7 @@ from __future__ import annotations
 import os
 import signal
 import tempfile
+import time
 import unittest
 from pathlib import Path
 
@@ -105,7 +106,10 @@ class Shell(unittest.TestCase):
         """Ctrl-C at the prompt drops a line; in a long run it ends the run, and the shell goes on."""
         terminal = self.start("examples/driver/boot.s")
         terminal.until(b"wb 0> ")
-        terminal.type(b"goto 12\x03")
+        terminal.type(b"goto 12")
+        terminal.until(b"goto 12")
+        time.sleep(0.3)  # Python looks for Ctrl-C when it waits for the next key
+        terminal.type(b"\x03")
         terminal.until(b"wb 0> ")
         terminal.type(b"goto 4294967295\r")
         terminal.until(b"million a second")
