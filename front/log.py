@@ -4,7 +4,6 @@ from __future__ import annotations
 import re
 import struct
 from dataclasses import dataclass
-from pathlib import Path
 from typing import Iterable, Iterator, Sequence
 
 from .errors import Problem
@@ -76,10 +75,6 @@ def changes(now: Sequence[Event], wanted: Sequence[Event]) -> list[str]:
         end -= 1
     added = [f"add {it.time} {it.line} {it.byte}" for it in wanted[begin:len(wanted) - end]]
     return [f"del {begin}"] * (len(now) - end - begin) + added
-
-
-def read_file(path: Path) -> list[Event]:
-    return read(path.read_bytes(), str(path))
 
 
 # The text: a line for bytes that arrive at one serial line at equal gaps, `TIME LINE 'BYTES' [GAP]`.

@@ -47,6 +47,8 @@ class Session:
     tell: Callable[[str], None] = print
     marks: list[Mark] = field(default_factory=list)
     edits: list[Edit] = field(default_factory=list)
+    # Of each line, the steps over which a text was typed last; what is typed within them goes on after it.
+    typed: dict[int, range] = field(default_factory=dict)
     saved_log: list[Event] = field(default_factory=list)
     saved_patches: int = 0
 

@@ -48,7 +48,10 @@ def move(session: Session, words: list[str]) -> None:
 @command("patch A W", "starts the machine with word W at virtual address A", PAST, edits=True)
 def patch(session: Session, words: list[str]) -> None:
     address, physical = session.word_at(words[0])
-    session.driver.patch(physical, session.number(words[1]) & 0xFFFF_FFFF)
+    word = session.number(words[1])
+    if not -1 << 31 <= word < 1 << 32:
+        raise Problem(f"{words[1]} is no word: it is below 0x100000000")
+    session.driver.patch(physical, word & 0xFFFF_FFFF)
     session.tell(f"the image sets {session.address(address)}; what steps before this position stored stands over it")
 
 
@@ -59,6 +62,7 @@ def undo(session: Session, words: list[str]) -> None:
     edit = session.edits[-1]
     session.driver.revert(edit.log, edit.patches)
     session.edits.pop()
+    session.typed.clear()
     session.tell(f"taken back: {edit.line}")
 
 
@@ -66,12 +70,14 @@ def undo(session: Session, words: list[str]) -> None:
 def type_(session: Session, words: list[str]) -> None:
     line, content, rest = _line_and_text(session, words, "type [L] 'TEXT' [GAP]")
     gap = rest or gap_of(session.driver.boot().byte_time)
-    here = session.driver.position
-    if here + gap * (len(content) - 1) > GREATEST_TIME:
+    here, before = session.driver.position, session.typed.get(line, range(0))
+    first = before.stop if here in before else here
+    last = first + gap * (len(content) - 1)
+    if last > GREATEST_TIME:
         raise Problem(f"there are no steps for it left: the last one is {GREATEST_TIME:,}")
-    session.driver.values([f"add {here + gap * place} {line} {byte}" for place, byte in enumerate(content)])
-    session.tell(f"{counted(len(content), 'byte')} for line {line}, from this step on, {gap:,} steps apart: the last one arrives in step "
-                 f"{here + gap * (len(content) - 1):,}")
+    session.driver.values([f"add {first + gap * place} {line} {byte}" for place, byte in enumerate(content)])
+    session.typed[line] = range(min(here, first), last + gap)
+    session.tell(f"{counted(len(content), 'byte')} for line {line}, from step {first:,} to step {last:,}, {gap:,} steps apart")
 
 
 def gap_of(byte_time: int) -> int:

@@ -97,12 +97,13 @@ class Echo(unittest.TestCase):
         """What is typed is sent back, all of it: a byte a thousand steps, the first one in the step that comes next."""
         talk = self.talk
         self.assertEqual(talk("goto 300", "type 'hi\\r'")[1],
-                         "3 bytes for line 0, from this step on, 1,000 steps apart: the last one arrives in step 2,300")
+                         "3 bytes for line 0, from step 300 to step 2,300, 1,000 steps apart")
         self.assertEqual(talk.driver.log[2:], [Event(300, 0, 0x68), Event(1300, 0, 0x69), Event(2300, 0, 0x0D)])
         self.assertEqual(talk("expect 'hi'"), [f"step {9 + 11 * 118 + 9:,}, next: j 0xbfc01000 <loop>"])
         self.assertEqual(talk("undo"), ["taken back: type 'hi\\r'"])
         self.assertRegex(talk('type 0 "it\'s \\"x\\"" 50')[0], "8 bytes for line 0, .* 50 steps apart")
-        talk("undo")
+        self.assertRegex(talk("type 'on' 50")[0], "from step 1,716 to step 1,766")
+        talk("undo", "undo")
         self.assertRegex(talk("expect 'zz'")[0], "did not send 'zz': at step .* waits for a byte, .*It sent nothing")
         self.assertRegex(talk("goto 10", "expect 'zz' 30")[1], "up to step 40. It sent nothing")
 
@@ -110,7 +111,7 @@ class Echo(unittest.TestCase):
         for line, said in (
                 ("mem 0x100", "0x00000100 leads nowhere at this position: .* missing or not valid. .* at 0x80000100"),
                 ("mem 0xbfe00000", "physical address 0x1fe00000, where no memory is"), ("mem 0xa0000101", "multiple of 4; .* 0xa0000100"),
-                ("del 7", "refused: there is no event 7: they are 0 to 1"), ("find 0 0", "line 0 has not sent 1 bytes"),
+                ("patch loop 0x100000000", "no word"), ("del 7", "refused: there is no event 7: they are 0 to 1"), ("find 0 0", "line 0 has not sent 1 bytes"),
                 ("add 5 9 9", "refused: a step is 0 to 4,294,967,294, a line is 0 to 3"), ("reg 32", "there is no register 32"),
                 ("step nowhere", "no symbol and no register nowhere"), ("frob", "no command frob"), ("goto", "usage: goto N"),
                 ("r", "pc"), ("s 1 2", "usage: step"), ("delete x", "no symbol"), ("type hi", "between quotes"),
