@@ -102,8 +102,8 @@ def _feed(pipe: IO[bytes], head: bytes, script: int) -> None:
             pipe.write(content)
             pipe.flush()
         pipe.close()
-    except (BrokenPipeError, OSError):
-        pass
+    except OSError:
+        pass  # the program has ended, and has said why
 
 
 # Reply by reply

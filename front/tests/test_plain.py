@@ -104,6 +104,7 @@ class Plain(unittest.TestCase):
         rom, script = self.put("x.rom", bytes(8)), b"# begin\ngoto 3\n\ngoto 4294967296\nreg 0\nquit\npos\n"
         self.check(["--strict", rom], script, b"pos 3\nerror 7 TooFar\n", "bin/wb: line 4: goto 4294967296: error 7 TooFar\n", 5)
         self.check([rom, "--echo"], script, b"> # begin\n> goto 3\npos 3\n> goto 4294967296\nerror 7 TooFar\n> reg 0\nr0 0x00000000\n", "", 0)
+        self.check(["--echo", rom], b"\xff\n", b"> \xff\nerror 2 Syntax\n", "", 0)
         objects = [json.loads(it) for it in run(["--json", rom], script, self.folder).stdout.splitlines()]
         self.assertEqual(objects, [
             {"command": "goto 3", "value": 3, "reply": ["pos 3"]},
@@ -190,6 +191,20 @@ class Typed(unittest.TestCase):
             done = subprocess.run([WB, "--echo", "examples/echo/boot.s"], input=b"pos\n", capture_output=True, cwd=ROOT,
                                   env={**os.environ, "WB_PROGRAM": program})
             self.assertRegex(done.stderr.decode(), "ended by SIGKILL")
+
+    def test_closed(self) -> None:
+        """Nothing is read from where nothing can be read, and a program that isn't there is named."""
+        done = subprocess.run(f"{WB} examples/echo/boot.s <&-", shell=True, capture_output=True, cwd=ROOT)
+        self.assertEqual((done.stdout, done.returncode), (b"", 3))
+        self.assertRegex(done.stderr.decode(), "^bin/wb: .*: Bad file descriptor$")
+        done = subprocess.run([WB, "examples/echo/boot.s"], capture_output=True, cwd=ROOT, env={**os.environ, "WB_PROGRAM": "/nowhere"})
+        self.assertEqual(done.stderr.decode(), "bin/wb: /nowhere: No such file or directory\n")
+
+    def test_garbage(self) -> None:
+        """The shell answers whatever comes."""
+        for content in (bytes(range(256)), b"\n'\n\"\n\\\n" + b"x" * 100_000 + b"\n\xff\xfe \x00\n", b"goto 3"):
+            done = subprocess.run([WB, "shell", "examples/echo/boot.s"], input=content, capture_output=True, cwd=ROOT)
+            self.assertEqual((done.stderr, done.returncode), (b"", 0))
 
     def test_a_reader_that_ends(self) -> None:
         done = subprocess.run(f"yes pos | head -100000 | {WB} examples/echo/boot.s | head -1", shell=True, capture_output=True, cwd=ROOT)
