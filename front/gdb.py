@@ -27,8 +27,8 @@ USAGE = "usage: bin/wb gdb [--log FILE] [--kind KIND] [--through] IMAGE [GDB-ARG
 HELP = f"""\
 {USAGE}
 
-gdb on the run of an image, forward and back. What stands after the image is gdb's own. In gdb `wb LINE` asks the workbench, and
-`wb help` says what; docs/DEBUGGING.md describes the rest.
+gdb on the run of an image, forward and back. What stands after the image is gdb's own. In gdb `wb LINE` asks the
+workbench, and `wb help` says what; docs/DEBUGGING.md describes the rest.
 
   --log FILE    the bytes that arrive at the serial lines
   --kind KIND   what the image is, where it can't be seen: elf, image, rom or source
@@ -79,7 +79,8 @@ def _symbols(image: Image) -> Iterator[list[str]]:
         yield ["--readnow", "--directory", str(Path(image.name).resolve().parent), image.name]
         return
     symbols = symbols_of(image)
-    names = {KSEG0: "ram", RESET_PC: "reset"} | {address: name for name in symbols.names() if (address := symbols.address(name)) is not None}
+    names = {KSEG0: "ram", RESET_PC: "reset"}
+    names |= {address: name for name in symbols.names() if (address := symbols.address(name)) is not None}
     with tempfile.TemporaryDirectory() as folder:
         file = Path(folder, Path(image.name).name)
         file.write_bytes(symbol_file.content((name, address) for address, name in names.items()))

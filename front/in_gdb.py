@@ -9,7 +9,8 @@ MOVES_OR_EDITS = ("goto", "step", "back", "visit", "run", "starti", "add", "del"
 
 
 def flush() -> None:
-    """Lets gdb forget what it read, the values that it compares watches with too: the run has moved, or is another one."""
+    """Lets gdb forget what it read, the values that it compares watches with too: the run has moved, or is another
+    one."""
     gdb.execute("maintenance flush register-cache", to_string=True)
     gdb.execute("maintenance flush dcache", to_string=True)
     for watch in gdb.breakpoints():

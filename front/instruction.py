@@ -1,4 +1,5 @@
-"""What an instruction word says, as far as the front ends look at it: whether it loads, stores or returns, and where."""
+"""What an instruction word says, as far as the front ends look at it: whether it loads, stores or returns, and
+where."""
 from __future__ import annotations
 
 from .driver import Driver

@@ -1,4 +1,5 @@
-"""Memory by virtual addresses, as a debugger sees it at the position: read in any pieces, and changed by patches of the image."""
+"""Memory by virtual addresses, as a debugger sees it at the position: read in any pieces, and changed by patches of
+the image."""
 from __future__ import annotations
 
 from typing import Iterator
@@ -11,7 +12,8 @@ PAGE = 4096
 
 
 def read(driver: Driver, address: int, count: int) -> bytes:
-    """The bytes from a virtual address on, as many as stand in memory without a gap: devices are not read, as that would change them."""
+    """The bytes from a virtual address on, as many as stand in memory without a gap: devices are not read, as that
+    would change them."""
     content = bytearray()
     for virtual, size in _pieces(address, count):
         place = driver.physical(virtual)
@@ -29,7 +31,8 @@ def at(driver: Driver, place: int, size: int) -> bytes:
 
 
 def write(driver: Driver, address: int, content: bytes) -> None:
-    """Changes memory by patches of the image: ROM at any position, and RAM at position 0, where it holds what the image sets."""
+    """Changes memory by patches of the image: ROM at any position, and RAM at position 0, where it holds what the
+    image sets."""
     words: dict[int, int] = {}
     done = 0
     for virtual, size in _pieces(address, len(content)):
@@ -45,8 +48,9 @@ def _writable(driver: Driver, virtual: int) -> int:
     if place is None or not (place in RAM or place in ROM):
         raise Problem(f"no RAM or ROM stands at 0x{virtual:08x} here")
     if place in RAM and driver.position:
-        raise Problem(f"RAM can't be written at position {driver.position:,}: it follows from the image and the bytes that arrive, which can "
-                      f"be edited. At position 0 a write changes the image, as `patch 0x{place & ~3:08x} WORD` does anywhere")
+        raise Problem(f"RAM can't be written at position {driver.position:,}: it follows from the image and the bytes that "
+                      "arrive, which can be edited. At position 0 a write changes the image, as "
+                      f"`patch 0x{place & ~3:08x} WORD` does anywhere")
     return place
 
 
@@ -56,7 +60,8 @@ def _patched(driver: Driver, place: int, content: bytes) -> dict[int, int]:
     before = at(driver, first, end - first)
     after = before[:place - first] + content + before[place - first + len(content):]
     pieces = range(0, end - first, 4)
-    return {first + it: int.from_bytes(after[it:it + 4], "little") for it in pieces if after[it:it + 4] != before[it:it + 4]}
+    return {first + it: int.from_bytes(after[it:it + 4],
+                                       "little") for it in pieces if after[it:it + 4] != before[it:it + 4]}
 
 
 def _pieces(address: int, count: int) -> Iterator[tuple[int, int]]:

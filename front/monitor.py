@@ -19,7 +19,8 @@ console L F C  find L P  writer A
 log F C  add T L B  del I  set I B  move I T  patch A W
 run N, starti N                    go to position N, as goto N does
 save-log FILE, save-image FILE     save the log and the image as they now stand
-docs/USING.md describes the commands. Addresses of mem, dis, writer and patch are physical, or virtual from 0x80000000 on.
+docs/USING.md describes the commands. Addresses of mem, dis, writer and patch are physical, or virtual from 0x80000000
+on.
 """
 
 

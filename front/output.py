@@ -17,7 +17,8 @@ def counts(driver: Driver, position: int) -> list[int]:
 
 
 def between(driver: Driver, first: int, last: int) -> list[tuple[int, int]]:
-    """The bytes sent in the steps from `first` to below `last`, each with its line. The driver stands at `last` afterwards."""
+    """The bytes sent in the steps from `first` to below `last`, each with its line. The driver stands at `last`
+    afterwards."""
     if last == first + 1 and not _may_send(driver, first):
         driver.goto(last)
         return []
@@ -26,7 +27,8 @@ def between(driver: Driver, first: int, last: int) -> list[tuple[int, int]]:
     pieces = {line: driver.console(line, before[line]) for line in range(LINES) if after[line] > before[line]}
     if len(pieces) < 2:
         return [(line, byte) for line, piece in pieces.items() for byte in piece]
-    timed = [(driver.find(line, before[line] + at), line, byte) for line, piece in pieces.items() for at, byte in enumerate(piece)]
+    timed = [(driver.find(line, before[line] + at), line, byte) for line, piece in pieces.items() for at,
+             byte in enumerate(piece)]
     return [(line, byte) for _, line, byte in sorted(timed)]
 
 
@@ -35,7 +37,8 @@ def _may_send(driver: Driver, step: int) -> bool:
     driver.goto(step)
     registers = driver.registers()
     word = instruction.next_word(driver, registers)
-    return instruction.code(word) in instruction.STORES and driver.physical(instruction.address(word, registers)) in SENDS
+    return instruction.code(word) in instruction.STORES and driver.physical(instruction.address(word,
+                                                                                                registers)) in SENDS
 
 
 class Transcript:

@@ -11,16 +11,21 @@ WIDTH = 1200
 LEFT, RIGHT = 190, 1040  # of the run
 COLUMNS = RIGHT - LEFT
 ROW, HEAD, FOOT = 34, 74, 46
-BAR = 22  # of a row
+BAR = 22  # the greatest height of one in a row
+TICK = 1.5  # the width of a mark at a step
 CHARACTER = 7.3  # the width of one, of a fixed width
 LETTERS = 6.6  # on average, else
 BINS = 170  # of the rows of functions
 MOST_TICKS = 9
 
 BACKGROUNDS = {
-    "light": {"paper": "#ffffff", "ink": "#1b1f24", "faint": "#59636e", "rule": "#d8dee4", "in": "#0969da", "out": "#1a7f37", "store": "#8250df",
+    "light": {"paper": "#ffffff", "ink": "#1b1f24", "faint": "#59636e", "rule": "#d8dee4", "in": "#0969da",
+              "out": "#1a7f37",
+              "store": "#8250df",
               "code": "#9a6700", "edit": "#cf222e"},
-    "dark": {"paper": "#0d1117", "ink": "#e6edf3", "faint": "#9198a1", "rule": "#30363d", "in": "#58a6ff", "out": "#3fb950", "store": "#bc8cff",
+    "dark": {"paper": "#0d1117", "ink": "#e6edf3", "faint": "#9198a1", "rule": "#30363d", "in": "#58a6ff",
+             "out": "#3fb950",
+             "store": "#bc8cff",
              "code": "#d29922", "edit": "#ff7b72"},
 }
 
@@ -86,9 +91,10 @@ class _Drawing:
 
     def lines(self, background: Optional[str]) -> Iterator[str]:
         height = self._bottom + FOOT
-        yield f'<svg xmlns="http://www.w3.org/2000/svg" width="{WIDTH}" height="{height}" viewBox="0 0 {WIDTH} {height}">'
+        size = f'width="{WIDTH}" height="{height}"'
+        yield f'<svg xmlns="http://www.w3.org/2000/svg" {size} viewBox="0 0 {WIDTH} {height}">'
         yield f"<style>{_style(background)}</style>"
-        yield f'<rect class="paper" width="{WIDTH}" height="{height}"/>'
+        yield f'<rect class="paper" {size}/>'
         yield from self._title()
         yield from self._axis()
         row = self._top
@@ -113,7 +119,8 @@ class _Drawing:
         sent = sum(len(lane.content) for lane in picture.lanes) - received
         yield _text(24, 34, f"{picture.name}: {picture.end:,} steps", "ink title")
         shares = "" if picture.exact else ", shares of samples"
-        yield _text(24, 56, f"{received:,} bytes received, {sent:,} sent, {_count(len(picture.edits), 'edit')}{shares}", "faint")
+        yield _text(24, 56, f"{received:,} bytes received, {sent:,} sent, {_count(len(picture.edits), 'edit')}{shares}",
+                    "faint")
 
     def _axis(self) -> Iterator[str]:
         for step in _ticks(self._picture.end):
@@ -135,7 +142,7 @@ class _Drawing:
         runs = _runs([(self._x(step), byte) for step, byte in lane.content])
         for number, run in enumerate(runs):
             for x in sorted({int(x) for x, _ in run}):
-                yield f'<rect class="{kind}" x="{x}" y="{base - 6}" width="1.5" height="6"/>'
+                yield _bar(kind, x, base, TICK, 6)
             limit = runs[number + 1][0][0] if number + 1 < len(runs) else RIGHT + 12
             text = _shortened(quoted(byte for _, byte in run), (limit - run[0][0] - 4) / CHARACTER)
             yield _text(run[0][0], base - 10, text, f"{kind} fixed")
@@ -146,14 +153,15 @@ class _Drawing:
         free = float(LEFT)
         for step, value in word.steps:
             x = self._x(step)
-            yield f'<rect class="store" x="{x:.1f}" y="{base - 8}" width="1.5" height="8"/>'
+            yield _bar("store", x, base, TICK, 8)
             text = f"{value:x}"
             if free <= x <= RIGHT - CHARACTER * len(text):
                 yield _text(x, base - 11, text, "store fixed")
                 free = x + CHARACTER * (len(text) + 1)
 
     def _function(self, top: int, function: Function) -> Iterator[str]:
-        yield from self._row(top, function.name, f"{100 * function.share:.1f} %" if function.share >= 0.001 else "<0.1 %")
+        yield from self._row(top, function.name,
+                             f"{100 * function.share:.1f} %" if function.share >= 0.001 else "<0.1 %")
         base = top + ROW - 6
         bins = min(BINS, self._picture.end)
         of_all, of_this = [0] * bins, [0] * bins
@@ -166,7 +174,7 @@ class _Drawing:
         for number, (whole, part) in enumerate(zip(of_all, of_this)):
             if part:
                 height = BAR * part / whole
-                yield f'<rect class="code" x="{LEFT + number * width:.1f}" y="{base - height:.1f}" width="{width:.1f}" height="{height:.1f}"/>'
+                yield _bar("code", LEFT + number * width, base, width, height)
 
     def _edits(self) -> Iterator[str]:
         free = 0.0
@@ -180,8 +188,8 @@ class _Drawing:
 
 def _style(background: Optional[str]) -> str:
     """The colours: those of a background, or of the light one with the dark one where it is wanted."""
-    text = ("text{font:13px system-ui,'DejaVu Sans',sans-serif}.fixed{font:12px 'DejaVu Sans Mono',monospace}.title{font-size:18px;font-weight:600}"
-            ".edit{stroke-width:1}text.edit{stroke:none}")
+    text = ("text{font:13px system-ui,'DejaVu Sans',sans-serif}.fixed{font:12px 'DejaVu Sans Mono',monospace}"
+            ".title{font-size:18px;font-weight:600}.edit{stroke-width:1}text.edit{stroke:none}")
     if background:
         return text + _colours(background)
     return text + _colours("light") + "@media(prefers-color-scheme:dark){" + _colours("dark") + "}"
@@ -193,8 +201,14 @@ def _colours(background: str) -> str:
     return filled + f"line.rule{{stroke:{colours['rule']}}}line.edit{{stroke:{colours['edit']};stroke-dasharray:4 3}}"
 
 
+def _bar(kind: str, x: float, base: float, width: float, height: float) -> str:
+    """A rectangle that stands on a base line."""
+    return f'<rect class="{kind}" x="{x:.1f}" y="{base - height:.1f}" width="{width:.1f}" height="{height:.1f}"/>'
+
+
 def _text(x: float, y: float, text: str, kind: str, anchor: str = "start") -> str:
-    return f'<text class="{kind}" x="{x:.1f}" y="{y:.1f}" text-anchor="{anchor}" xml:space="preserve">{escape(text)}</text>'
+    place = f'x="{x:.1f}" y="{y:.1f}" text-anchor="{anchor}"'
+    return f'<text class="{kind}" {place} xml:space="preserve">{escape(text)}</text>'
 
 
 def _count(number: int, name: str) -> str:

@@ -13,17 +13,20 @@ from .errors import Problem
 from .limits import GREATEST_POSITION, LINES, RAM, ROM
 from .log import Event
 from .picture import BACKGROUNDS, COLUMNS, Function, Lane, Mark, Picture, Stores, draw
+from .progress import on_terminal
+from .states import registers_at
 from .symbols import Symbols, symbols_of
 
-USAGE = ("usage: bin/wb plot --to N [--log FILE] [--words NAME,..] [--edits 'COMMAND; ..'] [--background light|dark] [--kind KIND] "
-         "IMAGE [OUT]")
-OPTIONS = {"--to": "a position", "--log": "a file", "--words": "names or addresses", "--edits": "commands", "--background": "light or dark",
+USAGE = ("usage: bin/wb plot --to N [--log FILE] [--words NAME,..] [--edits 'COMMAND; ..'] "
+         "[--background light|dark] [--kind KIND] IMAGE [OUT]")
+OPTIONS = {"--to": "a position", "--log": "a file", "--words": "names or addresses", "--edits": "commands",
+           "--background": "light or dark",
            "--kind": "a kind", "--help": ""}
 HELP = f"""\
 {USAGE}
 
-One picture of a run, as SVG, in OUT or on standard output: the bytes at each serial line, the stores into the words that are named,
-which functions ran, and where edits met the run.
+One picture of a run, as SVG, in OUT or on standard output: the bytes at each serial line, the stores into the words
+that are named, which functions ran, and where edits met the run.
 
   --to N              the run's end
   --log FILE          the bytes that arrive at the serial lines
@@ -58,7 +61,7 @@ def main(arguments: Sequence[str]) -> int:
     if background not in (None, *BACKGROUNDS):
         raise Problem(f"there is no background {background}; there are {' and '.join(BACKGROUNDS)}")
     image = loading.image(line.words[0], line.get("--kind"))
-    driver = loading.start(image, line.get("--log"))
+    driver = loading.start(image, line.get("--log"), on_terminal())
     try:
         plot = _Plot(driver, symbols_of(image), end)
         edits = plot.edits((line.get("--edits") or "").split(";"))
@@ -158,9 +161,7 @@ class _Plot:
         """Which function the PC was in, at all positions or at samples of them; the rest stands together."""
         exact = self._end <= SAMPLES
         positions = range(self._end) if exact else [self._end * sample // SAMPLES for sample in range(SAMPLES)]
-        commands = [command for position in positions for command in (f"goto {position}", "regs")]
-        counters = [replies.registers(reply).pc for reply in self._driver.values(commands)[1::2]]
-        names = [self._function(counter) for counter in counters]
+        names = [self._function(state.pc) for state in registers_at(self._driver, positions)]
         shares = Counter(names)
         shown = [name for name, _ in shares.most_common(FUNCTIONS)]
         rows = {name: [position for position, other in zip(positions, names) if other == name] for name in shown}

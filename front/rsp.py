@@ -1,7 +1,8 @@
 """Packets of gdb's remote serial protocol, over two file descriptors.
 
-A packet is `$payload#checksum`, where `}` stands before a byte that is sent with bit 5 flipped. Each side acknowledges with `+`, or
-asks for the packet again with `-`, until both agree to do without. The byte 0x03 outside a packet asks a running program to stop.
+A packet is `$payload#checksum`, where `}` stands before a byte that is sent with bit 5 flipped. Each side acknowledges
+with `+`, or asks for the packet again with `-`, until both agree to do without. The byte 0x03 outside a packet asks a
+running program to stop.
 """
 
 from __future__ import annotations
@@ -47,8 +48,8 @@ def frame(payload: bytes) -> bytes:
 
 
 class Link:
-    """One end of the protocol. Garbage between packets is passed over. A packet with a wrong checksum is asked for again, or without
-    acknowledgements comes as an empty one, which no command is; so does one that is too long."""
+    """One end of the protocol. Garbage between packets is passed over. A packet with a wrong checksum is asked for
+    again, or without acknowledgements comes as an empty one, which no command is; so does one that is too long."""
 
     def __init__(self, source: int, sink: int) -> None:
         self.acknowledging = True
@@ -76,7 +77,8 @@ class Link:
         self._write(self._last)
 
     def interrupted(self) -> bool:
-        """Whether the other side wants the run to end: it has sent 0x03, or closed. Packets that wait are left alone."""
+        """Whether the other side wants the run to end: it has sent 0x03, or closed. Packets that wait are left
+        alone."""
         if len(self._waiting) < READ_BYTES and select.select([self._source], [], [], 0)[0]:
             self._fill()
         while self._waiting and self._waiting[0] != ord("$"):

@@ -1,8 +1,9 @@
 """Where a run stands still: it goes round in a loop that changes nothing, for ever or until a byte arrives.
 
-That is exact. It holds where a turn leaves the processor as it was; no step of it takes an exception, changes a word of memory, or has
-to do with the control registers; no interrupt can come; and its loads are from memory, or from the serial part once what that shows
-can't change before a byte arrives. A loop that reads the clock, or that counts in memory, does not stand still.
+That is exact. It holds where a turn leaves the processor as it was; no step of it takes an exception, changes a word
+of memory, or has to do with the control registers; no interrupt can come; and its loads are from memory, or from the
+serial part once what that shows can't change before a byte arrives. A loop that reads the clock, or that counts in
+memory, does not stand still.
 """
 from __future__ import annotations
 
@@ -10,17 +11,19 @@ from dataclasses import dataclass
 from enum import Enum
 from typing import Optional
 
-from . import instruction, replies
+from . import instruction
 from .driver import Driver
 from .limits import GREATEST_POSITION, RAM, ROM
 from .replies import Registers
+from .states import registers_at, replies_at
 
 TURN = 1024  # the longest turn that is looked at, in steps
 BATCH = 16  # states that are asked for together
 
 INTERRUPTS_ON, DEVICE_MASK, ISOLATED = 0x1, 0xC00, 0x1_0000  # bits of Status
 
-SHOWN = {0x20: 0xFF, 0x21: 0xFFFF, 0x23: 0xFFFF_FFFF, 0x24: 0xFF, 0x25: 0xFFFF}  # of a word, by each load; lwl and lwr count as none
+# Of a word, by each load; lwl and lwr count as none.
+SHOWN = {0x20: 0xFF, 0x21: 0xFFFF, 0x23: 0xFFFF_FFFF, 0x24: 0xFF, 0x25: 0xFFFF}
 
 SERIAL = range(0x1FE0_0000, 0x1FE0_0020)
 CSR, RBUF = 0x1FE0_0000, 0x1FE0_0008
@@ -51,7 +54,8 @@ def standstill(driver: Driver, turn: int = TURN) -> Optional[Standstill]:
 
 
 def quiet(driver: Driver, turn: int = TURN) -> Optional[Quiet]:
-    """How long the run stands still from the position on, which stays, in a loop whose turns have at most so many steps."""
+    """How long the run stands still from the position on, which stays, in a loop whose turns have at most so many
+    steps."""
     start = driver.position
     status = driver.control()["status"]
     if status & ISOLATED or status & INTERRUPTS_ON and status & DEVICE_MASK:
@@ -100,7 +104,8 @@ class _Loop:
         return None
 
     def _stays(self, turn: int, steps: int) -> bool:
-        """Whether the turns are the same for so many steps: after them each line has sent its byte, and is ready or will never be."""
+        """Whether the turns are the same for so many steps: after them each line has sent its byte, and is ready or
+        will never be."""
         while len(self._states) <= steps:
             if not self._follow():
                 return False
@@ -112,8 +117,7 @@ class _Loop:
         first = self._start + known
         if first + BATCH > GREATEST_POSITION:
             return False
-        commands = [command for it in range(first, first + BATCH) for command in (f"goto {it}", "regs")]
-        self._states += [replies.registers(reply) for reply in self._driver.values(commands)[1::2]]
+        self._states += registers_at(self._driver, range(first, first + BATCH))
         return all(self._keeps(step) for step in range(known - 1, len(self._states) - 1))
 
     def _keeps(self, step: int) -> bool:
@@ -141,8 +145,8 @@ class _Loop:
         """Whether a store leaves its word as it was."""
         if place not in RAM:
             return place in ROM
-        commands = [command for it in (step, step + 1) for command in (f"goto {self._start + it}", f"mem {place & ~3} 1")]
-        _, before, _, after = self._driver.values(commands)
+        here = self._start + step
+        before, after = replies_at(self._driver, (here, here + 1), f"mem {place & ~3} 1")
         return before == after
 
     def _loads(self, word: int, place: int, after: Registers) -> bool:

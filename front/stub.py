@@ -20,8 +20,8 @@ OPTIONS = {"--log": "a file", "--kind": "a kind", "--through": "", "--help": ""}
 HELP = f"""\
 {USAGE}
 
-Serves a debugger by gdb's remote serial protocol, on standard input and output. `bin/wb gdb` starts gdb on it; docs/DEBUGGING.md says
-what another debugger needs.
+Serves a debugger by gdb's remote serial protocol, on standard input and output. `bin/wb gdb` starts gdb on it;
+docs/DEBUGGING.md says what another debugger needs.
 
   --log FILE    the bytes that arrive at the serial lines
   --kind KIND   what the image is, where it can't be seen: elf, image, rom or source
@@ -33,14 +33,15 @@ Example, in gdb:
   target extended-remote | bin/wb stub --log examples/login/log examples/login/login.elf
 """
 
-FEATURES = (b"PacketSize=%x;QStartNoAckMode+;qXfer:features:read+;ReverseStep+;ReverseContinue+;vContSupported+" % PACKET_BYTES)
+FEATURES = (b"PacketSize=%x;QStartNoAckMode+;qXfer:features:read+;ReverseStep+;ReverseContinue+;vContSupported+"
+            % PACKET_BYTES)
 OK, FAILED, NOT_KNOWN, GONE = b"OK", b"E01", b"", b"W00"
 CODE, CODE_IN_HARDWARE, WRITE, READ, ACCESS = range(5)  # the kinds of breakpoints and watches
 
 WATCHED = 256  # bytes of a watch at most
 
-NOT_WRITTEN = ("registers can't be written: they follow from the image and the bytes that arrive, which can be edited. To run other "
-               "code, patch it; to call a function, let the program call it")
+NOT_WRITTEN = ("registers can't be written: they follow from the image and the bytes that arrive, which can be edited. "
+               "To run other code, patch it; to call a function, let the program call it")
 
 
 class Malformed(Exception):
@@ -50,7 +51,8 @@ class Malformed(Exception):
 class Stub:
     """Answers packets, one by one."""
 
-    def __init__(self, driver: Driver, link: Link, *, exceptions_whole: bool = False, tell: Callable[[str], None] = loading.say) -> None:
+    def __init__(self, driver: Driver, link: Link, *, exceptions_whole: bool = False,
+                 tell: Callable[[str], None] = loading.say) -> None:
         self._driver = driver
         self._link = link
         self._tell = tell  # for the sentences that gdb doesn't show: it shows what a stub writes to standard error
@@ -168,7 +170,8 @@ class Stub:
         stops = self._motion.stops
         self._breakpoints.discard((kind, address))
         stops.breakpoints = {address for _, address in self._breakpoints}
-        stops.watches = {watch for watch in stops.watches if kind != WRITE or (watch.address, watch.size) != (address, size)}
+        stops.watches = {watch for watch in stops.watches if kind != WRITE or (watch.address, watch.size) != (address,
+                                                                                                              size)}
         return OK
 
     def _watch(self, address: int, size: int) -> Watch:

@@ -42,7 +42,9 @@ def content(names: Iterable[tuple[str, int]]) -> bytes:
         (".strtab", _STRINGS, 0, 0, start + len(symbols), len(strings) + len(titles), 0, 0, 1),
     ]
     table = start + len(symbols) + len(strings) + len(titles)
-    head = _HEADER.pack(b"\x7fELF\1\1\1", _EXECUTABLE, _MIPS, 1, RESET_PC, 0, table, _MIPS_I_O32, start, 0, 0, _SECTION.size, len(sections), 4)
+    head = _HEADER.pack(b"\x7fELF\1\1\1", _EXECUTABLE, _MIPS, 1, RESET_PC, 0, table, _MIPS_I_O32, start, 0, 0,
+                        _SECTION.size,
+                        len(sections), 4)
     return head + symbols + strings + titles + _table(sections, titles, len(strings))
 
 
@@ -51,5 +53,6 @@ def _table(sections: list[_Section], titles: bytes, place: int) -> bytes:
     packed = []
     for title, kind, flags, address, offset, size, link, info, alignment in sections:
         name = place + titles.index(title.encode() + b"\0") if title else 0
-        packed.append(_SECTION.pack(name, kind, flags, address, offset, size, link, info, alignment, _SYMBOL.size if kind == _SYMBOLS else 0))
+        packed.append(_SECTION.pack(name, kind, flags, address, offset, size, link, info, alignment,
+                                    _SYMBOL.size if kind == _SYMBOLS else 0))
     return b"".join(packed)

@@ -1,7 +1,7 @@
 """The registers as gdb knows them: their order, the target description, and their bytes.
 
-gdb wants the features of a MIPS processor, the floating-point unit among them, which this machine lacks: its registers have no value.
-The project's own feature has what a MIPS description has no name for.
+gdb wants the features of a MIPS processor, the floating-point unit among them, which this machine lacks: its registers
+have no value. The project's own feature has what a MIPS description has no name for.
 """
 
 from __future__ import annotations
@@ -45,7 +45,8 @@ def values(driver: Driver) -> dict[str, int]:
     """All registers that have a value at the position, each by the name that the description gives it."""
     registers = driver.registers()
     load_register, load_value = registers.load or (0, 0)
-    own = {"position": driver.position, "nextpc": registers.next_pc, "delay": int(registers.delay), "loadreg": load_register,
+    own = {"position": driver.position, "nextpc": registers.next_pc, "delay": int(registers.delay),
+           "loadreg": load_register,
            "loadval": load_value}
     others = {"pc": registers.pc, "hi": registers.hi, "lo": registers.lo}
     return {**dict(zip(GENERAL, registers.general)), **driver.control(), **others, **own}

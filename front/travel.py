@@ -6,18 +6,20 @@ from enum import Enum
 from itertools import count
 from typing import Callable, Optional
 
-from . import memory, replies, search
+from . import memory, search
 from .driver import Driver
 from .errors import Interrupted
 from .limits import GREATEST_POSITION
 from .standstill import TURN, Quiet, Standstill, quiet, standstill
+from .states import registers_at
 
 # A run goes in pieces: after each one its reader is told, and may end it.
 FIRST_PIECE = 1 << 16
 LONGEST_PIECE = 1 << 22
 
 IDLE_STORES = 64  # stores that change nothing are passed over, so many in a piece
-QUIET_AFTER = (1, 4, 16, 64)  # so many of them it is seen whether the run stands still, and all of them can be passed over at once
+# After so many of them it is seen whether the run stands still: then all of them can be passed over at once.
+QUIET_AFTER = (1, 4, 16, 64)
 QUIET_TURN = 128
 BATCH = 64  # single steps that are asked for together
 STEPS_A_STATE = 4096  # to look at the states of a loop costs more than to run it: so many steps are run for each state
@@ -67,7 +69,8 @@ class Stops:
 
 @dataclass(frozen=True)
 class Stop:
-    """Where a run stops, and why. For a watch `position` is the step that changes its bytes: the change shows one further on."""
+    """Where a run stops, and why. For a watch `position` is the step that changes its bytes: the change shows one
+    further on."""
 
     reason: Reason
     position: int
@@ -75,8 +78,8 @@ class Stop:
 
 
 def forward(driver: Driver, stops: Stops, pause: Pause) -> Stop:
-    """The first stop above the position, or a watch that is changed from it on; the driver stands there afterwards. `pause` is called at
-    the end of each piece, and says whether the run is to end there."""
+    """The first stop above the position, or a watch that is changed from it on; the driver stands there afterwards.
+    `pause` is called at the end of each piece, and says whether the run is to end there."""
     return _at(driver, _forward(driver, stops, pause))
 
 
@@ -86,8 +89,8 @@ def leave(driver: Driver, addresses: range, stops: Stops, pause: Pause) -> Stop:
 
 
 def backward(driver: Driver, stops: Stops, pause: Pause, otherwise: Stop = Stop(Reason.BEGIN, 0)) -> Stop:
-    """The last breakpoint below the position, or the last step below it that changes a watch; or another stop, where both would be below
-    that one. The driver stands there afterwards."""
+    """The last breakpoint below the position, or the last step below it that changes a watch; or another stop, where
+    both would be below that one. The driver stands there afterwards."""
     return _at(driver, _backward(driver, stops, pause, otherwise))
 
 
@@ -136,8 +139,7 @@ def _leave(driver: Driver, addresses: range, stops: Stops, pause: Pause) -> Stop
     for batch in count(1):
         start = driver.position
         end = min(start + BATCH, GREATEST_POSITION)
-        commands = [command for it in range(start + 1, end + 1) for command in (f"goto {it}", "regs")]
-        counters = [replies.registers(reply).pc for reply in driver.values(commands)[1::2]]
+        counters = [state.pc for state in registers_at(driver, range(start + 1, end + 1))]
         outside = next((start + at for at, pc in enumerate(counters, 1) if pc not in addresses), None)
         stop, reached = _first(driver, stops, start, outside or end)
         if stop and stop.position != outside:
@@ -225,7 +227,8 @@ def _last_change(driver: Driver, watch: Watch, lowest: int, end: int, pause: Pau
 
 
 def _standstill(driver: Driver, low: int, turn: int) -> Optional[Stop]:
-    """The first position, not below `low`, from which the run stands still for ever, if it does so from the present one on."""
+    """The first position, not below `low`, from which the run stands still for ever, if it does so from the present
+    one on."""
     kind, still = standstill(driver, turn), quiet(driver, turn)
     return Stop(Reason(kind.value), _begin(driver, low, still, turn)) if kind and still else None
 

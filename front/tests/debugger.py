@@ -28,7 +28,7 @@ def install() -> None:
         if done.returncode:
             break
     if not shutil.which(DEBUGGER):
-        raise RuntimeError(f"these tests want {DEBUGGER}, which is missing and can't be installed here: apt-get install {DEBUGGER}")
+        raise RuntimeError(f"these tests want {DEBUGGER}, which can't be installed here: apt-get install {DEBUGGER}")
 
 
 def words(image: str, log: Optional[str] = None, options: Sequence[str] = ()) -> list[str]:
@@ -46,6 +46,7 @@ def batch(image: str, *commands: str, log: Optional[str] = None, options: Sequen
 
 def run(line: Sequence[str], typed: str = "") -> str:
     """What a command shows."""
-    done = subprocess.run(line, cwd=ROOT, env=dict(os.environ, TERM="dumb"), input=typed, encoding="latin-1", timeout=TIMEOUT,
+    done = subprocess.run(line, cwd=ROOT, env=dict(os.environ, TERM="dumb"), input=typed, encoding="latin-1",
+                          timeout=TIMEOUT,
                           stdout=subprocess.PIPE, stderr=subprocess.STDOUT)
     return done.stdout

@@ -40,7 +40,8 @@ def seen(text: str) -> list[str]:
 
 
 def with_commands(shown: str, commands: list[str]) -> list[str]:
-    """A session of gdb as it is seen where it is typed: each command stands after its prompt, and what comes before the first is left out."""
+    """A session of gdb as it is seen where it is typed: each command stands after its prompt, and what comes before
+    the first is left out."""
     begin = re.search(f"(?m)^{PROMPT}", shown)
     assert begin, shown
     rest = iter(commands)

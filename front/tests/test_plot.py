@@ -1,4 +1,5 @@
-"""The picture of a run: what stands in it, and where. Counts and steps are the plain workbench's, or counted by hand."""
+"""The picture of a run: what stands in it, and where. Counts and steps are the plain workbench's, or counted by
+hand."""
 from __future__ import annotations
 
 import tempfile
@@ -30,25 +31,29 @@ class Plot(unittest.TestCase):
     def test_what_login_does(self) -> None:
         picture = self.plot("--words", "session+32,0x80001008", *LOGIN)
         self.assertEqual(picture.get("width"), "1200")
-        self.holds(self.texts(picture), "examples/login/login.elf: 130,000 steps", "line 0 receives", "10 bytes", "'x'", "'\\b'", "'\\r'",
-                   "line 0 sends", "59 bytes", "session+32", "0x00000000", "ffffffff", "0x80001008", "0x61736573", "receive")
+        self.holds(self.texts(picture), "examples/login/login.elf: 130,000 steps", "line 0 receives", "10 bytes", "'x'",
+                   "'\\b'", "'\\r'",
+                   "line 0 sends", "59 bytes", "session+32", "0x00000000", "ffffffff", "0x80001008", "0x61736573",
+                   "receive")
 
     def test_an_edit_stands_where_it_meets_the_run(self) -> None:
         picture = self.plot("--edits", "del 2; patch 0x200 7", *LOGIN)
-        self.holds(self.texts(picture), "9 bytes received, 52 sent, 2 edits, shares of samples", "patch 0x200 7", "del 2")
+        self.holds(self.texts(picture), "9 bytes received, 52 sent, 2 edits, shares of samples", "patch 0x200 7",
+                   "del 2")
         places = [float(line.get("x1", "0")) for line in picture.iter(f"{SVG}line") if line.get("class") == "edit"]
         # The run goes from 190 to 1,040: step 40,000 of 130,000 stands at 190 + 850 * 4 / 13.
         self.assertEqual(places, [190.0, 451.5])
 
     def test_shares_of_a_short_run_are_exact(self) -> None:
-        # The set-up takes steps 0 to 8; each turn takes 6 steps from `loop` on, 3 from `none` and 2 from `next`, and 22 turns and 5 steps are
-        # made up to 256: 137, 66 and 44 of 256.
+        # The set-up takes steps 0 to 8; each turn takes 6 steps from `loop` on, 3 from `none` and 2 from `next`, and
+        # 22 turns and 5 steps are made up to 256: 137, 66 and 44 of 256.
         texts = self.texts(self.plot("--to", "256", "examples/echo/boot.s"))
         self.holds(texts, "loop", "53.5 %", "none", "25.8 %", "next", "17.2 %", "0xbfc00000", "3.5 %")
 
     def test_backgrounds(self) -> None:
         choices: list[list[str]] = [[], ["--background", "light"], ["--background=dark"]]
-        styles = [self.plot(*words, "--to", "100", "examples/login/login.rom").findtext(f"{SVG}style", "") for words in choices]
+        styles = [self.plot(*words, "--to", "100", "examples/login/login.rom").findtext(f"{SVG}style",
+                                                                                        "") for words in choices]
         self.assertEqual([("#ffffff" in it, "#0d1117" in it, "prefers-color-scheme" in it) for it in styles],
                          [(True, True, True), (True, False, False), (False, True, False)])
 
@@ -61,9 +66,12 @@ class Plot(unittest.TestCase):
 
     def test_what_is_wrong_is_told(self) -> None:
         for words, reason in (
-                (["examples/login/login.elf"], "usage:"), (["--to", "x", *LOGIN[2:]], "x is none"), (["--to", "0", *LOGIN[2:]], "from 1 to"),
-                (["--background", "red", *LOGIN], "there is no background red"), (["--words", "nothing", *LOGIN], "there is no word nothing"),
-                (["--words", "0x1fe00000", *LOGIN], "no memory stands at 0x1fe00000"), (["--edits", "goto 5", *LOGIN], "goto 5 is no edit"),
+                (["examples/login/login.elf"], "usage:"), (["--to", "x", *LOGIN[2:]], "x is none"),
+                (["--to", "0", *LOGIN[2:]], "from 1 to"),
+                (["--background", "red", *LOGIN], "there is no background red"),
+                (["--words", "nothing", *LOGIN], "there is no word nothing"),
+                (["--words", "0x1fe00000", *LOGIN], "no memory stands at 0x1fe00000"),
+                (["--edits", "goto 5", *LOGIN], "goto 5 is no edit"),
                 (["--edits", "del 99", *LOGIN], "error 4 NoEvent")):
             self.assertIn(reason, debugger.run([debugger.WB, "plot", *words]))
 

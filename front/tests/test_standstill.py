@@ -41,7 +41,8 @@ class Stands(unittest.TestCase):
         still = 0
         for _ in range(25):
             driver = self.driver(random_rom(source))
-            answers = driver.values([it for position in range(STEPS) for it in (f"goto {position}", "regs", f"mem {DATA} 4")])
+            answers = driver.values([it for position in range(STEPS) for it in (f"goto {position}", "regs",
+                                                                                f"mem {DATA} 4")])
             states = [(registers(processor), memory(words)) for processor, words in zip(answers[1::3], answers[2::3])]
             for position in source.sample(range(STEPS - 4 * LOOKED_AT), 5):
                 rest = states[position:]
@@ -54,7 +55,8 @@ class Stands(unittest.TestCase):
     def test_a_line_that_will_never_be_ready(self) -> None:
         # No line may send. The loop's register has its value from position 5 on.
         driver = self.driver([*SERIAL_ON, *POLL])
-        self.assertEqual([self.stands(driver, it) for it in (3, 4, 5, 6)], [None, None, Standstill.WAITING, Standstill.WAITING])
+        self.assertEqual([self.stands(driver, it) for it in (3, 4, 5, 6)],
+                         [None, None, Standstill.WAITING, Standstill.WAITING])
 
     def test_a_line_that_will_be_ready(self) -> None:
         # After the byte of the store of TDR line 0 is busy for 16 steps: then the loop is left for the last one.

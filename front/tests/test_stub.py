@@ -1,58 +1,19 @@
 """The stub, packet by packet, without gdb.
 
-The words of the programs were assembled by hand or are those of the worked examples in docs/USING.md, and so are the values."""
+The words of the programs were assembled by hand or are those of the worked examples in docs/USING.md, and so are the
+values."""
 from __future__ import annotations
 
 import os
 import random
 import signal
-import tempfile
 import unittest
-from pathlib import Path
-from typing import Sequence
 
-from front.driver import Driver
 from front.log import Event
 from front.tests.support import rom, start
-from front.tests.wire import Wire
+from front.tests.wire import COUNTER, ECHO, TYPED, StubTest
 
-LUI, ADDIU, BEQ, LW, SW = 0x0F, 0x09, 0x04, 0x23, 0x2B
-
-# lui r1, 0xa000; addiu r2, r2, 1; sw r2, 0x100(r1); beq r0, r0, back to the addiu; sll r0, r0, 0
-COUNTER = [0x3C01A000, 0x24420001, 0xAC220100, 0x1000FFFD, 0x00000000]
-
-# The echo of examples/echo, from its first word on; it continues at its 1025th.
-ECHO_START = [0x3C01BFE0, 0x3C08A000, 0x24041000, 0xAC240008, 0x24050001, 0xAC250010, 0x24050020, 0x0BF00400, 0xAC250000]
-ECHO_LOOP = [0x8C260008, 0, 0xAD060100, 0x00063C00, 0x04E10004, 0, 0xAD000104, 0x0BF0040C, 0xAC260018, 0, 0, 0, 0x0BF00400, 0]
-ECHO = [*ECHO_START, *[0] * (0x400 - len(ECHO_START)), *ECHO_LOOP]
-TYPED = [Event(70, 0, 0x41), Event(200, 0, 0x42)]
-
-PC, STATUS, POSITION = 37, 32, 72  # the numbers of registers: gdb's for a MIPS processor, and the first one after its last
-
-
-class StubTest(unittest.TestCase):
-    def wire(self, words: Sequence[int], log: Sequence[Event] = (), **options: bool) -> Wire:
-        return self.wire_on(start(rom(words), log), **options)
-
-    def wire_on(self, driver: Driver, **options: bool) -> Wire:
-        wire = Wire(driver, **options)
-        self.addCleanup(wire.close)
-        return wire
-
-    def dialog(self, wire: Wire, *exchanges: tuple[str, str]) -> None:
-        for packet, expected in exchanges:
-            self.assertEqual(wire.ask(packet), expected, packet)
-
-    def refusals(self, wire: Wire, *refusals: tuple[str, str]) -> None:
-        """Packets that are refused, each with words of the reason."""
-        for packet, reason in refusals:
-            self.dialog(wire, (packet, "E01"))
-            self.assertIn(reason, wire.notes.pop(), packet)
-
-    def stops(self, wire: Wire, *stops: tuple[str, str, int]) -> None:
-        """Packets that move, each with its reply and the position after it."""
-        for packet, expected, position in stops:
-            self.assertEqual((wire.ask(packet), wire.position()), (expected, position), packet)
+PC, STATUS = 37, 32  # the numbers that gdb gives registers of a MIPS processor
 
 
 class Registers(StubTest):
@@ -62,7 +23,9 @@ class Registers(StubTest):
         self.assertEqual(everything[:8 * 32], "0" * 8 * 32)
         self.assertEqual(everything[8 * PC:8 * PC + 8], "0000c0bf")
         self.assertEqual(everything[8 * STATUS:8 * STATUS + 8], "00004000")
-        self.dialog(wire, ("p25", "0000c0bf"), ("p20", "00004000"), ("p26", "xxxxxxxx"), ("p49", "0400c0bf"), ("pffff", "E01"), ("p", "E01"))
+        self.dialog(wire, ("p25", "0000c0bf"), ("p20", "00004000"), ("p26", "xxxxxxxx"), ("p49", "0400c0bf"),
+                    ("pffff", "E01"),
+                    ("p", "E01"))
 
     def test_a_load_waits_in_its_slot(self) -> None:
         # lui r1, 0xa000; lw r2, 256(r1); addu r3, r2, r0; addu r4, r2, r0, with 5 at 0x100
@@ -82,7 +45,8 @@ class Registers(StubTest):
         wire = self.wire(COUNTER)
         everything = wire.ask("g")
         self.dialog(wire, ("G" + everything, "OK"), ("P25=0000c0bf", "OK"))
-        self.refusals(wire, ("P25=0400c0bf", "registers can't be written"), ("G" + "1" * len(everything), "registers can't be written"))
+        self.refusals(wire, ("P25=0400c0bf", "registers can't be written"),
+                      ("G" + "1" * len(everything), "registers can't be written"))
         self.assertEqual(wire.ask("g"), everything)
 
     def test_the_description_comes_in_pieces(self) -> None:
@@ -94,7 +58,6 @@ class Registers(StubTest):
         for name, number in ("r0", 0), ("status", 32), ("pc", 37), ("position", 72), ("prid", 83):
             self.assertIn(f'<reg name="{name}" bitsize="32"', whole)
             self.assertRegex(whole, f'name="{name}"[^>]* regnum="{number}"')
-
 
     def test_a_run_does_not_begin_elsewhere(self) -> None:
         wire = self.wire(COUNTER)
@@ -136,7 +99,8 @@ class Memory(StubTest):
 class Runs(StubTest):
     def test_steps_go_both_ways(self) -> None:
         wire = self.wire(COUNTER)
-        self.stops(wire, ("s", "T05", 1), ("vCont;s:1;c", "T05", 2), ("bs", "T05", 1), ("bs", "T05", 0), ("bs", "T05replaylog:begin;", 0))
+        self.stops(wire, ("s", "T05", 1), ("vCont;s:1;c", "T05", 2), ("bs", "T05", 1), ("bs", "T05", 0),
+                   ("bs", "T05replaylog:begin;", 0))
         wire.command("goto 4294967295")
         self.assertEqual(wire.ask("s"), "T05replaylog:end;")
 
@@ -162,8 +126,8 @@ class Runs(StubTest):
         self.stops(wire, ("c", "T05", 4), ("c", "T05", 8), ("bc", "T05", 4))
 
     def test_watches_stop_where_a_store_changes_their_bytes(self) -> None:
-        # The loop stores what RBUF gave into 0x100 in steps 11, 22 ..: 0x8041 in step 77, 0x8042 in 209, and 0 else. gdb takes a watch of
-        # a MIPS processor to stop before the store, goes over it without the watch, and compares.
+        # The loop stores what RBUF gave into 0x100 in steps 11, 22 ..: 0x8041 in step 77, 0x8042 in 209, and 0 else.
+        # gdb takes a watch of a MIPS processor to stop before the store, goes over it without the watch, and compares.
         wire = self.wire(ECHO, TYPED)
         watch, without = ("Z2,a0000100,4", "OK"), ("z2,a0000100,4", "OK")
         stop = "T05watch:a0000100;"
@@ -194,7 +158,8 @@ class Runs(StubTest):
     def test_several_at_once_stop_at_the_nearest(self) -> None:
         # 0x104 is written in steps 81 and 213, both times with 0 over 0; a patch makes the first one a change.
         wire = self.wire(ECHO, TYPED)
-        self.dialog(wire, ("Ma0000104,4:01000000", "OK"), ("Z2,a0000104,4", "OK"), ("Z2,a0000100,4", "OK"), ("Z0,bfc01018,4", "OK"))
+        self.dialog(wire, ("Ma0000104,4:01000000", "OK"), ("Z2,a0000104,4", "OK"), ("Z2,a0000100,4", "OK"),
+                    ("Z0,bfc01018,4", "OK"))
         self.stops(wire, ("c", "T05watch:a0000100;", 77))
         wire.command("goto 78")
         self.stops(wire, ("c", "T05", 81), ("c", "T05watch:a0000104;", 81))
@@ -206,8 +171,10 @@ class Runs(StubTest):
     def test_what_cannot_be_stopped_at_is_refused(self) -> None:
         wire = self.wire(ECHO)
         self.refusals(wire, ("Z3,a0000100,4", "reads can't be watched"), ("Z4,a0000100,4", "reads can't be watched"),
-                      ("Z0,bfc01002,4", "a multiple of 4"), ("Z0,100000000,4", "of 32 bits"), ("Z2,bfe00000,4", "no memory stands at 0xbfe00000"),
-                      ("Z2,400000,4", "no memory stands at 0x00400000"), ("Z2,a07ffffe,4", "no memory stands at 0xa07ffffe"),
+                      ("Z0,bfc01002,4", "a multiple of 4"), ("Z0,100000000,4", "of 32 bits"),
+                      ("Z2,bfe00000,4", "no memory stands at 0xbfe00000"),
+                      ("Z2,400000,4", "no memory stands at 0x00400000"),
+                      ("Z2,a07ffffe,4", "no memory stands at 0xa07ffffe"),
                       ("Z2,a0000000,101", "at most 256 bytes"), ("Z2,a0000ffe,4", "all in one page"))
         self.dialog(wire, ("Z0,bfc01000", "E01"), ("Zx,1,1", "E01"), ("z0,bfc01000,4", "OK"), ("z2,400000,4", "OK"))
 
@@ -255,7 +222,8 @@ class StandsStill(StubTest):
         self.assertIn(b"nothing can leave", wire.console)
 
     def test_a_loop_that_waits_for_a_byte(self) -> None:
-        # Each turn of the echo stores 0 over 0. Of the byte of step 200 the last trace is r7, which is 0 again after step 221.
+        # Each turn of the echo stores 0 over 0. Of the byte of step 200 the last trace is r7, which is 0 again after
+        # step 221.
         wire = self.wire(ECHO, TYPED)
         self.stops(wire, ("c", "T05replaylog:end;", 222))
         self.assertTrue(wire.console.startswith(b"AB"))
@@ -270,56 +238,13 @@ class StandsStill(StubTest):
         self.assertIn(b"C", wire.console)
 
 
-class Commands(StubTest):
-    def test_those_of_the_workbench(self) -> None:
-        wire = self.wire(ECHO, TYPED)
-        for line, expected in (
-                ("goto 256", "pos 256\n"), ("writer 0x100", "writer 253\n"), ("writer 0xa0000104", "writer 213\n"),
-                ("console 0 0 8", "console 0 2 4142\n"), ("del 1", "log 1\n"), ("writer 0x104", "writer 81\n"), ("log 0 8", "log 1\n0 70 0 0x41\n"),
-                ("run 9", "pos 9\n"), ("starti 0x14", "pos 20\n"), ("foo", "error 2 Syntax\n"), ("find 0 9", "error 8 NotFound\n"),
-                ("", ""), ("mem 0xc0000000 1", "E01"), ("quit", "E01")):
-            self.assertEqual(wire.command(line), expected, line)
-
-    def test_refusals_say_what_would_be_right(self) -> None:
-        wire = self.wire(ECHO, TYPED)
-        for line, reason in (("mem 1 1", "error 5 Unaligned: 1 is no multiple of 4"), ("del 2", "error 4 NoEvent: there is no event 2"),
-                             ("mem 0x1fe00000 1", "error 6 NotMemory: "), ("add 5 4 0", "error 3 Range: "), ("goto 4294967296", "error 7 TooFar: ")):
-            self.assertIn(reason, wire.command(line))
-
-    def test_the_log_and_the_image_are_saved(self) -> None:
-        wire = self.wire([0x24010001], TYPED)
-        wire.command("del 0")
-        wire.command("patch 0x1fc00004 7")
-        with tempfile.TemporaryDirectory() as folder:
-            self.assertEqual(wire.command(f"save-log {folder}/log"), f"saved in {folder}/log\n")
-            # One event: step 200, line 0, 0x42.
-            self.assertEqual(Path(folder, "log").read_bytes(), b"R3KLOG1\n" + bytes([1, 0, 0, 0, 200, 0, 0, 0, 0, 0x42]))
-            wire.command(f"save-image {folder}/rom")
-            self.assertEqual(Path(folder, "rom").read_bytes(), bytes([1, 0, 1, 0x24, 7, 0, 0, 0]))
-            self.assertEqual(wire.command(f"save-log {folder}/none/log"), "E01")
-            self.assertIn("can't be written", wire.notes.pop())
-            self.assertEqual((wire.command("save-log"), wire.command("save-image a b")), ("E01", "E01"))
-
-    def test_a_run_starts_again_at_a_position(self) -> None:
-        wire = self.wire(COUNTER)
-        self.dialog(wire, ("!", "OK"), ("vKill;1", "OK"), ("?", "W00"))
-        self.stops(wire, ("vRun;;" + b"40".hex(), "T05", 40), ("vRun;", "T05", 0))
-        self.refusals(wire, ("vRun;;" + b"x".hex(), "x is no position"))
-
-    def test_the_debugger_leaves(self) -> None:
-        for packet, reply in (b"$D;1#b0", b"+$OK#9a"), (b"$k#6b", b"+"):
-            wire = self.wire([0])
-            wire.put(packet)
-            self.assertEqual(wire.take(len(reply)), reply)
-            wire.close()
-            self.assertFalse(wire.serves())
-
-
 class Hostile(StubTest):
     def test_packets_that_say_nothing(self) -> None:
         wire = self.wire(COUNTER)
-        for packet in ("m", "m1", "m,", "mxyz,4", "m-1,4", "mbfc00000,-1", "mbfc00000,4,4", "M", "Mbfc00000,4:0", "Mbfc00000,4:zz",
-                       "Mbfc00000,4:00", "X", "Xbfc00000,1:", "Z", "z", "Z9,0,0", "P", "P25", "P25=", "p-1", "vCont;", "vCont;rzz",
+        for packet in ("m", "m1", "m,", "mxyz,4", "m-1,4", "mbfc00000,-1", "mbfc00000,4,4", "M", "Mbfc00000,4:0",
+                       "Mbfc00000,4:zz",
+                       "Mbfc00000,4:00", "X", "Xbfc00000,1:", "Z", "z", "Z9,0,0", "P", "P25", "P25=", "p-1", "vCont;",
+                       "vCont;rzz",
                        "vCont;t", "qRcmd,0", "qRcmd,zz", "qXfer:features:read:target.xml:", "vRun;zz;zz", "m0x10,4",
                        "m99999999999999999,4"):
             self.assertEqual(wire.ask(packet), "E01", packet)
@@ -329,7 +254,9 @@ class Hostile(StubTest):
         # The program stands still, so that each run ends at once.
         wire = self.wire([0x1000FFFF, 0])
         source = random.Random(1)
-        begins = ["q", "qRcmd,", "qXfer:features:read:", "v", "vCont", "vRun;", "vKill", "g", "G", "p", "P", "m", "M", "X", "Z", "z", "b", "c", "s", "H", "?"]
+        begins = ["q", "qRcmd,", "qXfer:features:read:", "v", "vCont", "vRun;", "vKill", "g", "G", "p", "P", "m", "M",
+                  "X", "Z",
+                  "z", "b", "c", "s", "H", "?"]
         for _ in range(300):
             characters = source.choices("0123456789abcdef,;:=.cs+ \x00\x7f", k=source.randrange(12))
             wire.ask(source.choice(begins) + "".join(characters))
@@ -356,35 +283,6 @@ class Hostile(StubTest):
             self.stops(wire, ("s", "T05", position))
         # After 58 steps the addiu of steps 1, 5 .. 57 was made 15 times.
         self.dialog(wire, ("bs", "T05"), ("p2", "2d000000"))
-
-
-class ExceptionsWhole(StubTest):
-    # At reset: lui r8, 0x2000 .. are in examples/user-mode; here a system call, with a handler that goes on after it.
-    WORDS = [0x24010001, 0x0000000C, 0x24020002, 0x1000FFFF, 0]
-    HANDLER = [0x401A7000, 0, 0x275A0004, 0x03400008, 0x42000010]  # mfc0 r26, c14; nop; addiu r26, r26, 4; jr r26; rfe
-
-    def program(self) -> list[int]:
-        return [*self.WORDS, *[0] * (0x60 - len(self.WORDS)), *self.HANDLER]
-
-    def test_a_step_goes_through_a_handler(self) -> None:
-        # Steps 0; 1, which is taken; 2 to 6 the handler; 7.
-        wire = self.wire(self.program(), exceptions_whole=True)
-        self.stops(wire, ("s", "T05", 1), ("s", "T05", 7), ("s", "T05", 8), ("bs", "T05", 7), ("bs", "T05", 1), ("bs", "T05", 0))
-
-    def test_stops_on_the_way_are_met(self) -> None:
-        # The handler's first instruction is run in step 2, and its last but one in step 5.
-        wire = self.wire(self.program(), exceptions_whole=True)
-        self.dialog(wire, ("Z0,bfc0018c,4", "OK"))
-        self.stops(wire, ("s", "T05", 1), ("s", "T05", 5), ("s", "T05", 6), ("s", "T05", 7), ("bs", "T05", 5))
-
-    def test_else_it_goes_into_it(self) -> None:
-        wire = self.wire(self.program())
-        self.stops(wire, ("s", "T05", 1), ("s", "T05", 2))
-        self.dialog(wire, ("p25", "8001c0bf"))
-
-    def test_a_handler_that_does_not_return_is_stepped_into(self) -> None:
-        wire = self.wire([0x24010001, 0x0000000C, *[0] * 0x5E, 0x1000FFFF, 0], exceptions_whole=True)
-        self.stops(wire, ("s", "T05", 1), ("s", "T05", 2))
 
 
 if __name__ == "__main__":

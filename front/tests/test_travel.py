@@ -20,7 +20,8 @@ class Run:
 
     def __init__(self, source: random.Random) -> None:
         self.driver = start(rom(random_rom(source)))
-        answers = self.driver.values([it for position in range(STEPS) for it in (f"goto {position}", "regs", f"mem {DATA} 4")])
+        answers = self.driver.values([it for position in range(STEPS) for it in (f"goto {position}", "regs",
+                                                                                 f"mem {DATA} 4")])
         self.counters = [registers(reply).pc for reply in answers[1::3]]
         self.contents = [b"".join(word.to_bytes(4, "little") for word in memory(reply)) for reply in answers[2::3]]
 
@@ -42,7 +43,8 @@ class Run:
         return self.counters[position] in stops.breakpoints
 
     def first(self, stops: Stops, here: int) -> Optional[tuple[Reason, int]]:
-        """The first stop, of the states that are known: at one position a breakpoint comes before the store that is made there."""
+        """The first stop, of the states that are known: at one position a breakpoint comes before the store that is
+        made there."""
         for position in range(here, STEPS - 1):
             if position > here and self.at(stops, position):
                 return Reason.BREAKPOINT, position
@@ -92,12 +94,14 @@ class Travel(unittest.TestCase):
                 left = next((it for it in range(here + 1, STEPS) if run.counters[it] not in addresses), None)
                 if left is not None:
                     run.driver.goto(here)
-                    self.agrees(travel.leave(run.driver, addresses, Stops(), lambda: False), (Reason.STEPPED, left), run, Stops())
+                    self.agrees(travel.leave(run.driver, addresses, Stops(), lambda: False), (Reason.STEPPED, left),
+                                run,
+                                Stops())
             run.driver.close()
 
     def test_stores_that_change_nothing_are_passed_over(self) -> None:
-        # The echo loads RBUF in steps 9, 20 .. and stores it two steps later, mostly 0 over 0: the bytes come with the stores of steps 1012
-        # and 1,000,010, and the word is 0 again 11 steps later.
+        # The echo loads RBUF in steps 9, 20 .. and stores it two steps later, mostly 0 over 0: the bytes come with the
+        # stores of steps 1012 and 1,000,010, and the word is 0 again 11 steps later.
         driver = start(loading.image("examples/echo/boot.s"), [Event(1000, 0, 0x41), Event(1_000_000, 0, 0x42)])
         self.addCleanup(driver.close)
         stops = Stops(set(), {Watch(0xA000_0100, 4, 0x100)})

@@ -3,13 +3,27 @@ from __future__ import annotations
 
 import socket
 import threading
-from typing import Optional
+import unittest
+from typing import Optional, Sequence
 
 from front.driver import Driver
+from front.log import Event
 from front.rsp import Link
 from front.stub import Stub
+from front.tests.support import rom, start
 
 TIMEOUT = 30
+
+# lui r1, 0xa000; addiu r2, r2, 1; sw r2, 0x100(r1); beq r0, r0, back to the addiu; sll r0, r0, 0
+COUNTER = [0x3C01A000, 0x24420001, 0xAC220100, 0x1000FFFD, 0x00000000]
+
+# The echo of examples/echo, from its first word on; it continues at its 1025th.
+ECHO_START = [0x3C01BFE0, 0x3C08A000, 0x24041000, 0xAC240008, 0x24050001, 0xAC250010, 0x24050020, 0x0BF00400,
+              0xAC250000]
+ECHO_LOOP = [0x8C260008, 0, 0xAD060100, 0x00063C00, 0x04E10004, 0, 0xAD000104, 0x0BF0040C, 0xAC260018, 0, 0, 0,
+             0x0BF00400, 0]
+ECHO = [*ECHO_START, *[0] * (0x400 - len(ECHO_START)), *ECHO_LOOP]
+TYPED = [Event(70, 0, 0x41), Event(200, 0, 0x42)]
 
 
 def packed(payload: bytes) -> bytes:
@@ -96,3 +110,28 @@ class Wire:
 
     def position(self) -> int:
         return int(self.command("pos").split()[1])
+
+
+class StubTest(unittest.TestCase):
+    def wire(self, words: Sequence[int], log: Sequence[Event] = (), **options: bool) -> Wire:
+        return self.wire_on(start(rom(words), log), **options)
+
+    def wire_on(self, driver: Driver, **options: bool) -> Wire:
+        wire = Wire(driver, **options)
+        self.addCleanup(wire.close)
+        return wire
+
+    def dialog(self, wire: Wire, *exchanges: tuple[str, str]) -> None:
+        for packet, expected in exchanges:
+            self.assertEqual(wire.ask(packet), expected, packet)
+
+    def refusals(self, wire: Wire, *refusals: tuple[str, str]) -> None:
+        """Packets that are refused, each with words of the reason."""
+        for packet, reason in refusals:
+            self.dialog(wire, (packet, "E01"))
+            self.assertIn(reason, wire.notes.pop(), packet)
+
+    def stops(self, wire: Wire, *stops: tuple[str, str, int]) -> None:
+        """Packets that move, each with its reply and the position after it."""
+        for packet, expected, position in stops:
+            self.assertEqual((wire.ask(packet), wire.position()), (expected, position), packet)
