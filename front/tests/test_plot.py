@@ -2,6 +2,7 @@
 hand."""
 from __future__ import annotations
 
+import re
 import tempfile
 import unittest
 from pathlib import Path
@@ -49,6 +50,13 @@ class Plot(unittest.TestCase):
         # 22 turns and 5 steps are made up to 256: 137, 66 and 44 of 256.
         texts = self.texts(self.plot("--to", "256", "examples/echo/boot.s"))
         self.holds(texts, "loop", "53.5 %", "none", "25.8 %", "next", "17.2 %", "0xbfc00000", "3.5 %")
+
+    def test_the_picture_of_the_page(self) -> None:
+        page = (debugger.ROOT / "docs/DEBUGGING.md").read_text()
+        found = re.search(r"(?m)^    bin/wb plot (.*) (docs/\S+)$", page)
+        assert found
+        shown = debugger.run([debugger.WB, "plot", *found[1].split()])
+        self.assertEqual(shown, (debugger.ROOT / found[2]).read_text("latin-1"))
 
     def test_backgrounds(self) -> None:
         choices: list[list[str]] = [[], ["--background", "light"], ["--background=dark"]]
