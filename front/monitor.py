@@ -44,7 +44,9 @@ def _asked(driver: Driver, command: str) -> str:
     """The reply of the workbench; a refusal says what would be right."""
     lines = driver.ask(command)
     refusal = replies.refusal_of(command, lines)
-    if refusal and refusal.name not in ("Syntax", "NotFound"):
+    if refusal and refusal.name == "Syntax":
+        return f"{lines[0]}: `help` lists the commands\n"
+    if refusal and refusal.name != "NotFound":
         return f"{lines[0]}: {explain(refusal, driver)}\n"
     return "".join(f"{line}\n" for line in lines)
 

@@ -15,7 +15,7 @@ class Commands(StubTest):
                 ("goto 256", "pos 256\n"), ("writer 0x100", "writer 253\n"), ("writer 0xa0000104", "writer 213\n"),
                 ("console 0 0 8", "console 0 2 4142\n"), ("del 1", "log 1\n"), ("writer 0x104", "writer 81\n"),
                 ("log 0 8", "log 1\n0 70 0 0x41\n"),
-                ("run 9", "pos 9\n"), ("starti 0x14", "pos 20\n"), ("foo", "error 2 Syntax\n"),
+                ("run 9", "pos 9\n"), ("starti 0x14", "pos 20\n"), ("foo", "error 2 Syntax: `help` lists the commands\n"),
                 ("find 0 9", "error 8 NotFound\n"),
                 ("", ""), ("mem 0xc0000000 1", "E01"), ("quit", "E01")):
             self.assertEqual(wire.command(line), expected, line)
