@@ -305,6 +305,7 @@ class Driver:
             commands = [f"goto {piece}", "reg 0"]
             if not self._room(commands):
                 self.close()
+                begin = 0
                 continue
             for _ in self._replies(self._started(), commands):
                 pass

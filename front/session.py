@@ -50,7 +50,7 @@ class Session:
     # Of each line, the steps over which a text was typed last; what is typed within them goes on after it.
     typed: dict[int, range] = field(default_factory=dict)
     saved_log: list[Event] = field(default_factory=list)
-    saved_patches: int = 0
+    saved_patches: list[tuple[int, int]] = field(default_factory=list)
 
     def number(self, text: str) -> int:
         return expressions.number(text, self.driver, self.symbols)
@@ -140,7 +140,8 @@ class Session:
     def unsaved(self) -> list[str]:
         """What was edited and is not saved."""
         log = ["the log (save-log FILE)"] if self.driver.log != self.saved_log else []
-        return log + (["the image (save-image FILE)"] if len(self.driver.patches) != self.saved_patches else [])
+        image = ["the image (save-image FILE)"] if self.driver.patches != self.saved_patches else []
+        return log + image
 
 
 UNMAPPED = {

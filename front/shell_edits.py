@@ -145,7 +145,7 @@ def save_log(session: Session, words: list[str]) -> None:
 def save_image(session: Session, words: list[str]) -> None:
     content = content_for(words[0], session.driver.boot())
     save(words[0], content)
-    session.saved_patches = len(session.driver.patches)
+    session.saved_patches = list(session.driver.patches)
     session.tell(f"{counted(len(content), 'byte')} saved in {words[0]}")
 
 

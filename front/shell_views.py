@@ -1,7 +1,7 @@
 """Commands of the shell that show what the machine holds, and what happened before."""
 from __future__ import annotations
 
-from . import expressions
+from . import expressions, memory
 from .commands import BEFORE, HOLDS, SERIAL, command
 from .errors import Problem
 from .expressions import REGISTERS, register_number
@@ -15,8 +15,8 @@ _CODES = {0: "interrupt", 1: "store to a page that is not dirty", 2: "no entry f
 
 # So many are shown where the line has no number.
 _INSTRUCTIONS = 8
-_MEMORY_WORDS = 16
-_WORDS_A_LINE = 4
+_MEMORY_BYTES = 64
+_LINE_BYTES = 16
 _EVENTS = 16
 
 
@@ -89,26 +89,31 @@ def where(session: Session, words: list[str]) -> None:
 @command("mem A [C]", "shows C words of memory from virtual address A on", HOLDS)
 def mem(session: Session, words: list[str]) -> None:
     address, _ = session.word_at(words[0])
-    count = session.number(words[1]) if len(words) > 1 else _MEMORY_WORDS
-    for first in range(0, count, _WORDS_A_LINE):
-        at = address + 4 * first
-        shown = session.driver.words(session.physical(at), min(_WORDS_A_LINE, count - first))
-        text = "".join(chr(it) if 32 <= it < 127 else "." for word in shown for it in word.to_bytes(4, "little"))
-        session.tell(f"{session.address(at)}: {' '.join(f'{word:#010x}' for word in shown)}  |{text}|")
+    size = 4 * session.number(words[1]) if len(words) > 1 else _MEMORY_BYTES
+    content = memory.read(session.driver, address, size)
+    for at in range(0, len(content), _LINE_BYTES):
+        part = content[at:at + _LINE_BYTES]
+        shown = " ".join(f"{int.from_bytes(part[it:it + 4], 'little'):#010x}" for it in range(0, len(part), 4))
+        text = "".join(chr(it) if 32 <= it < 127 else "." for it in part)
+        session.tell(f"{session.address(address + at)}: {shown}  |{text}|")
+    if len(content) < size:
+        session.physical(address + len(content))
 
 
 @command("dis [A] [C]", "shows C instructions from virtual address A on, or from the next one", HOLDS)
 def dis(session: Session, words: list[str]) -> None:
     pc = session.driver.registers().pc
-    address = session.word_at(words[0])[0] if words else pc
-    count = session.number(words[1]) if len(words) > 1 else _INSTRUCTIONS
-    for at in range(address, address + 4 * count, 4 * WORDS):
+    at = session.word_at(words[0])[0] if words else pc
+    end = at + 4 * (session.number(words[1]) if len(words) > 1 else _INSTRUCTIONS)
+    while at < end:
         physical = session.physical(at)
-        size = min(WORDS, (address + 4 * count - at) // 4)
-        for number, line in enumerate(session.driver.value(f"dis {physical} {size}")):
-            place, word, text = at + 4 * number, *line.split(None, 2)[1:]
-            text = session.retargeted(place, physical + 4 * number, text)
-            session.tell(f"{'=>' if place == pc else '  '} {session.address(place)}: {word}  {text}")
+        # The next page may be elsewhere.
+        size = min(WORDS, (end - at) // 4, (memory.PAGE - at % memory.PAGE) // 4)
+        for line in session.driver.value(f"dis {physical} {size}"):
+            _, word, text = line.split(None, 2)
+            mark = "=>" if at == pc else "  "
+            session.tell(f"{mark} {session.address(at)}: {word}  {session.retargeted(at, physical, text)}")
+            at, physical = at + 4, physical + 4
 
 
 @command("symbols [TEXT]", "lists the symbols that have TEXT in their names", HOLDS)
