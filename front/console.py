@@ -49,6 +49,7 @@ Example:
 """
 
 _ESCAPE = 0x1D
+_END = b"\x1dq"  # what the end of the input is taken for
 _TICK = 0.02
 
 # So much of what a line sent is shown again after going back.
@@ -95,12 +96,16 @@ class Console:
         with _raw():
             before = time.monotonic()
             while not self._left:
-                if select.select([0], [], [], _TICK)[0]:
-                    for key in os.read(0, 1024) or b"\x1dq":
-                        self._key(key)
+                keys = os.read(0, 1024) or _END if select.select([0], [], [], _TICK)[0] else b""
                 now = time.monotonic()
-                if not self._stopped:
-                    self._go_on(min(now - before, 5 * _TICK))
+                try:
+                    for key in keys:
+                        self._key(key)
+                    if not self._stopped:
+                        self._go_on(min(now - before, 5 * _TICK))
+                except Problem as problem:
+                    self._stopped = True
+                    self._tell(f"{problem}; time stands, and Ctrl-] p lets it go on")
                 before = now
 
     def _go_on(self, seconds: float) -> None:

@@ -80,6 +80,30 @@ class Console(unittest.TestCase):
         self.assertEqual(terminal.end(), 0)
 
 
+    def test_killed_program(self) -> None:
+        """What was typed is there after the program died."""
+        terminal = Terminal("console", "--speed", "200000", LOGIN)
+        terminal.until(b"password: ")
+        terminal.type(b"ses")
+        terminal.until(b"***")
+        kill_program(terminal)
+        terminal.until(b"ended by SIGKILL; time stands")
+        terminal.type(b"\x1dp")
+        terminal.until(b"time goes on")
+        terminal.type(b"ame\r")
+        terminal.until(b"Welcome, operator.")
+        terminal.type(QUIT)
+        terminal.until(b"7 events; save the log")
+        terminal.type(b"\r")
+        self.assertEqual(terminal.end(), 0)
+
+
+def kill_program(terminal: Terminal) -> None:
+    """Kills the program below a front end."""
+    children = Path(f"/proc/{terminal.process}/task/{terminal.process}/children").read_text().split()
+    os.kill(int(children[0]), signal.SIGKILL)
+
+
 class Shell(unittest.TestCase):
     def start(self, *arguments: str) -> Terminal:
         folder = tempfile.TemporaryDirectory()
@@ -128,8 +152,7 @@ class Shell(unittest.TestCase):
         terminal.type(b"add 5 0 'x'\r")
         terminal.until(b"event 0")
         terminal.until(b"> ")
-        children = Path(f"/proc/{terminal.process}/task/{terminal.process}/children").read_text().split()
-        os.kill(int(children[0]), signal.SIGKILL)
+        kill_program(terminal)
         terminal.type(b"goto 7\r")
         terminal.until(b"ended by SIGKILL; it is started anew")
         terminal.until(b"> ")

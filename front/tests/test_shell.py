@@ -162,6 +162,18 @@ class Views(unittest.TestCase):
         self.assertEqual(talk("where 0xc0000000"), ["0xc0000000: its translation entry is missing or not valid"])
         talk.driver.close()
 
+    def test_pages(self) -> None:
+        """Memory of a user program, whose pages are mapped as it touches them."""
+        talk = Talk("user-mode", log=False)
+        self.assertEqual(talk("visit 0x00400000"), ["step 8, 0x00400000: no instruction can be fetched here"])
+        self.assertRegex(talk("dis")[0], "0x00400000 leads nowhere at this position: no translation entry has its page")
+        said = talk("goto 1000", "dis 0x00400ffc 1", "mem 0x00400ff8 4", "writer 0x00500000")
+        self.assertEqual(said[1:3], ["   0x00400ffc: 0x00000000  sll r0, r0, 0", "0x00400ff8: 0x00000000 0x00000000  |........|"])
+        self.assertRegex(said[3], "0x00401000 leads nowhere")
+        self.assertRegex(said[4], r"0x00400008, 970 steps ago: sw r9, 0\(r8\)")
+        self.assertRegex(talk("dis 0xbfc3fff8 3")[-1], "0xbfc40000 leads to the physical address 0x1fc40000, where no memory is")
+        talk.driver.close()
+
     def test_numbers(self) -> None:
         talk = Talk("echo")
         for text, wanted in (("4,096", 4096), ("0x10+2-1", 17), ("'a'", 97), ("'\\r'", 13), ("loop+0x4", 0xBFC0_1004),
