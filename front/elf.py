@@ -12,6 +12,7 @@ from .limits import RAM, RESET_PC, ROM
 
 _MIPS = 8
 _EXECUTABLE = 2
+_MAPPED_END = 0x8000_0000  # virtual addresses below it are mapped by translation entries
 _LOAD = 1
 _SYMBOL_TABLE = 2
 _ALLOCATED = 2
@@ -160,6 +161,10 @@ def image_of(content: bytes, name: str) -> tuple[Image, list[str]]:
     boot, notes = Boot(), []
     for address, run in _runs(elf, name):
         boot.put(address, run)
+    for segment in elf.segments:
+        if segment.virtual == segment.physical < _MAPPED_END:
+            notes.append(f"{name} has a segment at {segment.virtual:#010x}: it is put at that physical address; "
+                         "at the virtual one nothing is mapped at reset")
     if elf.architecture:
         notes.append(f"{name} was compiled for a later MIPS, whose instructions the R3000 may lack: compile it with -march=r3000")
     if boot.word(ROM.start) is None:

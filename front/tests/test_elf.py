@@ -78,6 +78,11 @@ class Images(unittest.TestCase):
         _, notes = elf.image_of(made([(0xBFC0_0000, 0xBFC0_0000, bytes(4), 4)], flags=0x7000_1001), "x.elf")
         self.assertRegex(notes[0], "later MIPS")
 
+    def test_a_physical_segment(self) -> None:
+        image, notes = elf.image_of(made([(0xBFC0_0000, 0xBFC0_0000, bytes(4), 4), (0x40_0000, 0x40_0000, b"data", 4)]), "x.elf")
+        self.assertRegex(notes[0], "a segment at 0x00400000: it is put at that physical address")
+        self.assertEqual(boot_of(image, lambda places: []).word(0x40_0000), int.from_bytes(b"data", "little"))
+
     def test_refused(self) -> None:
         rom = (0xBFC0_0000, 0xBFC0_0000, bytes(4), 4)
         for content, said in (
