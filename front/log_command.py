@@ -14,7 +14,9 @@ USAGE = "usage: bin/wb log show LOG | bin/wb log make TEXT LOG"
 
 HELP = f"""\
 usage: bin/wb log show LOG          writes the text of a log to standard output
-       bin/wb log make TEXT LOG     makes a log of a text; TEXT - is standard input
+       bin/wb log make TEXT LOG     makes a log of a text
+
+Both take a log or a text, and - for standard input.
 
 {logs.TEXT_HELP}
 
@@ -31,13 +33,19 @@ def main(arguments: Sequence[str]) -> int:
         sys.stdout.write(HELP)
         return 0
     if len(line.words) == 2 and line.words[0] == "show":
-        for text in logs.show(logs.read(content_of(line.words[1]), line.words[1])):
+        for text in logs.show(_events(line.words[1])):
             print(text)
     elif len(line.words) == 3 and line.words[0] == "make":
-        _, text, out = line.words
-        content = sys.stdin.buffer.read() if text == "-" else content_of(text)
-        lines = content.decode("utf-8", "surrogateescape").splitlines()
-        save(out, logs.write(logs.make(lines, "standard input" if text == "-" else text)))
+        save(line.words[2], logs.write(_events(line.words[1])))
     else:
         raise Problem(USAGE)
     return 0
+
+
+def _events(name: str) -> list[logs.Event]:
+    """The events of a file, be it a log or the text of one."""
+    content = sys.stdin.buffer.read() if name == "-" else content_of(name)
+    name = "standard input" if name == "-" else name
+    if not content or content.startswith(logs.MAGIC):
+        return logs.read(content, name)
+    return logs.make(content.decode("utf-8", "surrogateescape").splitlines(), name)

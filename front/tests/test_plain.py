@@ -136,6 +136,9 @@ class Plain(unittest.TestCase):
         text = run(["log", "show", str(ROOT / "examples/driver/log")]).stdout
         self.check(["log", "make", "-", "made"], text, b"", "", 0)
         self.assertEqual((self.folder / "made").read_bytes(), (ROOT / "examples/driver/log").read_bytes())
+        self.put("text", text)
+        self.check(["log", "show", "text"], b"", text, "", 0)
+        self.check(["log", "show", "-"], (self.folder / "made").read_bytes(), text, "", 0)
         self.check(["log", "make", "-", "made"], b"oh\n", b"",
                    "bin/wb: standard input:1: 'oh' is not of the form TIME LINE 'BYTES' [GAP]\n", 2)
         self.assertEqual((self.folder / "made").read_bytes(), (ROOT / "examples/driver/log").read_bytes())
