@@ -37,7 +37,7 @@ def explain(refused: Refused, driver: Driver) -> str:
     if refused.name == "NotMemory":
         return "there is no memory: RAM is 8 MiB from 0x80000000, ROM 256 KiB from 0xbfc00000"
     if refused.name == "NotFound" and words[0] == "find":
-        return f"line {words[1]} has not sent {int(words[2]) + 1:,} bytes before this position"
+        return f"line {words[1]} sent no byte of place {words[2]} before this position"
     if refused.name == "Memory":
         return "the program has no memory left for that"
     return str(refused)

@@ -176,7 +176,8 @@ def _show_change(session: Session, watched: Watch, step: int) -> None:
     before, after = (_bytes_at(session, watched, at) for at in (step, step + 1))
     differ = [place for place in range(watched.size) if before[place] != after[place]]
     part = slice(differ[0], differ[-1] + 1) if watched.size > _FEW else slice(0, watched.size)
-    session.tell(f"{mark.number}: {session.address(watched.address + part.start)}: {_shown(before[part])} became {_shown(after[part])}")
+    where = session.address(watched.address + part.start)
+    session.tell(f"{mark.number}: {where}: {_shown(before[part])} became {_shown(after[part])}")
     session.tell(f"   in {session.step(step)}")
 
 

@@ -44,7 +44,8 @@ class Plain(unittest.TestCase):
             log = ["--log", str(folder / "log")] if (folder / "log").exists() else []
             for order in (lambda rest: [*log, *rest], lambda rest: [*rest, *log]):
                 done = run(order([str(folder / "boot.s"), str(folder / "script")]))
-                self.assertEqual((done.stdout, done.stderr, done.returncode), ((folder / "expected").read_bytes(), b"", 0), folder.name)
+                expected = (folder / "expected").read_bytes()
+                self.assertEqual((done.stdout, done.stderr, done.returncode), (expected, b"", 0), folder.name)
 
     def test_statuses(self) -> None:
         """What goes wrong, as it always was told."""
@@ -103,7 +104,8 @@ class Plain(unittest.TestCase):
     def test_reply_by_reply(self) -> None:
         rom, script = self.put("x.rom", bytes(8)), b"# begin\ngoto 3\n\ngoto 4294967296\nreg 0\nquit\npos\n"
         self.check(["--strict", rom], script, b"pos 3\nerror 7 TooFar\n", "bin/wb: line 4: goto 4294967296: error 7 TooFar\n", 5)
-        self.check([rom, "--echo"], script, b"> # begin\n> goto 3\npos 3\n> goto 4294967296\nerror 7 TooFar\n> reg 0\nr0 0x00000000\n", "", 0)
+        self.check([rom, "--echo"], script,
+                   b"> # begin\n> goto 3\npos 3\n> goto 4294967296\nerror 7 TooFar\n> reg 0\nr0 0x00000000\n", "", 0)
         self.check(["--echo", rom], b"\xff\n", b"> \xff\nerror 2 Syntax\n", "", 0)
         objects = [json.loads(it) for it in run(["--json", rom], script, self.folder).stdout.splitlines()]
         self.assertEqual(objects, [
@@ -112,9 +114,9 @@ class Plain(unittest.TestCase):
             {"command": "reg 0", "value": 0, "reply": ["r0 0x00000000"]}])
 
     def test_json_values(self) -> None:
-        script = ("regs\ncp0\ntlb 63\nwhere 0x80000010\nwhere 0\nmem 0 2\ndis 0x1fc00000 1\nconsole 0 0 4\nwriter 0x100\nwriter 0x1fc00000\n"
-                  "find 0 1\nlog 0 9\nadd 5 0 1\ndel 0\npatch 0 0\n")
-        done = run(["--json", "--log", "examples/echo/log", "examples/echo/boot.s"], ("goto 256\n" + script).encode())
+        script = ["goto 256", "regs", "cp0", "tlb 63", "where 0x80000010", "where 0", "mem 0 2", "dis 0x1fc00000 1", "console 0 0 4",
+                  "writer 0x100", "writer 0x1fc00000", "find 0 1", "log 0 9", "add 5 0 1", "del 0", "patch 0 0"]
+        done = run(["--json", "--log", "examples/echo/log", "examples/echo/boot.s"], "\n".join(script).encode())
         values = [json.loads(it).get("value") for it in done.stdout.splitlines()][1:]
         self.assertEqual(values[0]["pc"] & ~0x3F, 0xBFC0_1000)
         self.assertEqual((len(values[0]["general"]), values[1]["prid"]), (32, 0x220))
@@ -123,7 +125,8 @@ class Plain(unittest.TestCase):
             [{"address": 0, "word": 0}, {"address": 4, "word": 0}],
             [{"address": 0x1FC0_0000, "word": 0x3C01_BFE0, "text": "lui r1, 0xbfe0"}],
             {"count": 2, "bytes": [0x41, 0x42]}, {"kind": "step", "step": 253}, {"kind": "image", "step": None}, 215,
-            {"count": 2, "events": [{"event": 0, "time": 70, "line": 0, "byte": 0x41}, {"event": 1, "time": 200, "line": 0, "byte": 0x42}]},
+            {"count": 2, "events": [{"event": 0, "time": 70, "line": 0, "byte": 0x41},
+                                    {"event": 1, "time": 200, "line": 0, "byte": 0x42}]},
             0, 2, "ok"])
 
     def test_help(self) -> None:
@@ -200,7 +203,8 @@ class Typed(unittest.TestCase):
         done = subprocess.run(f"{WB} examples/echo/boot.s <&-", shell=True, capture_output=True, cwd=ROOT)
         self.assertEqual((done.stdout, done.returncode), (b"", 3))
         self.assertRegex(done.stderr.decode(), "^bin/wb: .*: Bad file descriptor$")
-        done = subprocess.run([WB, "examples/echo/boot.s"], capture_output=True, cwd=ROOT, env={**os.environ, "WB_PROGRAM": "/nowhere"})
+        done = subprocess.run([WB, "examples/echo/boot.s"], capture_output=True, cwd=ROOT,
+                              env={**os.environ, "WB_PROGRAM": "/nowhere"})
         self.assertEqual(done.stderr.decode(), "bin/wb: /nowhere: No such file or directory\n")
 
     def test_garbage(self) -> None:
@@ -210,7 +214,8 @@ class Typed(unittest.TestCase):
             self.assertEqual((done.stderr, done.returncode), (b"", 0))
 
     def test_a_reader_that_ends(self) -> None:
-        done = subprocess.run(f"yes pos | head -100000 | {WB} examples/echo/boot.s | head -1", shell=True, capture_output=True, cwd=ROOT)
+        done = subprocess.run(f"yes pos | head -100000 | {WB} examples/echo/boot.s | head -1", shell=True,
+                              capture_output=True, cwd=ROOT)
         self.assertEqual((done.stdout, done.stderr), (b"pos 0\n", b"r3kwb: error 12 WriteFault\n"))
 
 

@@ -55,7 +55,7 @@ class Echo(unittest.TestCase):
         self.assertEqual(talk("pos"), ["step 1,000, loop+0x4: sll r0, r0, 0"])
 
     def test_stops(self) -> None:
-        """Byte 0x41 arrives in step 70; the turn that begins in step 75 takes it; 0x42 arrives in step 200, its turn begins in step 207."""
+        """Byte 0x41 arrives in step 70, and the turn of step 75 takes it; 0x42 arrives in step 200, and the turn of step 207."""
         talk = self.talk
         self.assertEqual(talk("break loop+0x18", "watch 0xa0000100"),
                          ["1: breakpoint at 0xbfc01018 <loop+0x18>", "2: watch of 4 bytes at 0xa0000100"])
@@ -79,7 +79,8 @@ class Echo(unittest.TestCase):
         self.assertRegex(talk("writer 0xa0000104")[0], "step 213")
         self.assertEqual(talk("console"), ["line 0 sent 2 bytes:", "AB"])
         self.assertEqual(talk("find 0 1"), ["step 215, loop+0x20, 41 steps ago: sw r6, 24(r1)"])
-        self.assertEqual(talk("writer loop"), ["0xbfc01000 <loop> holds what the image sets; no step before this position stored there"])
+        self.assertEqual(talk("writer loop"),
+                         ["0xbfc01000 <loop> holds what the image sets; no step before this position stored there"])
         self.assertEqual(talk("writer 0x80000200"),
                          ["no step before this position stored at 0x80000200, and the image does not set it"])
 
@@ -110,14 +111,17 @@ class Echo(unittest.TestCase):
     def test_refusals(self) -> None:
         for line, said in (
                 ("mem 0x100", "0x00000100 leads nowhere at this position: .* missing or not valid. .* at 0x80000100"),
-                ("mem 0xbfe00000", "physical address 0x1fe00000, where no memory is"), ("mem 0xa0000101", "multiple of 4; .* 0xa0000100"),
-                ("patch loop 0x100000000", "no word"), ("del 7", "refused: there is no event 7: they are 0 to 1"), ("find 0 0", "line 0 has not sent 1 bytes"),
+                ("mem 0xbfe00000", "physical address 0x1fe00000, where no memory is"),
+                ("mem 0xa0000101", "multiple of 4; .* 0xa0000100"),
+                ("patch loop 0x100000000", "no word"), ("del 7", "refused: there is no event 7: they are 0 to 1"),
+                ("find 0 0", "line 0 sent no byte of place 0"),
                 ("add 5 9 9", "refused: a step is 0 to 4,294,967,294, a line is 0 to 3"), ("reg 32", "there is no register 32"),
                 ("step nowhere", "no symbol and no register nowhere"), ("frob", "no command frob"), ("goto", "usage: goto N"),
                 ("r", "pc"), ("s 1 2", "usage: step"), ("delete x", "no symbol"), ("type hi", "between quotes"),
                 ("type 7 'x'", "there is no line 7"), ("type '\\q'", "no escape"), ("break 2", "multiple of 4"),
                 ("watch 0xbfe00000", "no memory"), ("watch loop 0", "1 to 1,024 bytes"), ("watch loop 2000", "not 2,000"),
-                ("watch 0x807ffffc 8", "0x80800003 leads to the physical address 0x00800003, where no memory"), ("save-log /no/such", "can't be written"), ("st", "may be step, stops"),
+                ("watch 0x807ffffc 8", "0x80800003 leads to the physical address 0x00800003, where no memory"),
+                ("save-log /no/such", "can't be written"), ("st", "may be step, stops"),
                 ("goto 5+", "no number"), ("goto 5 5", "usage"), ("print 'ab'", "not one character"), ("goto -1", "no number"),
                 ("wb foo", "error 2 Syntax"), ("undo", "no edit"), ("back", "refused: a position")):
             self.assertRegex("\n".join(self.talk(line)), said, line)
@@ -177,7 +181,8 @@ class Views(unittest.TestCase):
     def test_numbers(self) -> None:
         talk = Talk("echo")
         for text, wanted in (("4,096", 4096), ("0x10+2-1", 17), ("'a'", 97), ("'\\r'", 13), ("loop+0x4", 0xBFC0_1004),
-                             ("&loop", 0xBFC0_1000), ("pc", 0xBFC0_0000), ("$pc+pos", 0xBFC0_0000), ("prid", 0x220), ("$status", 0x40_0000)):
+                             ("&loop", 0xBFC0_1000), ("pc", 0xBFC0_0000), ("$pc+pos", 0xBFC0_0000), ("prid", 0x220),
+                             ("$status", 0x40_0000)):
             self.assertEqual(expressions.number(text, talk.driver, talk.session.symbols), wanted, text)
         for text in ("", "+", "loop+", "$loop", "&pc", "0x", "1 2", "12ab", "'"):
             with self.assertRaises(Problem):
