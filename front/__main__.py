@@ -1,0 +1,11 @@
+"""Starts `bin/wb`: this folder's parent is put where packages are looked for, whatever folder the user is in."""
+import sys
+from pathlib import Path
+
+if sys.version_info < (3, 9):
+    sys.exit("bin/wb: Python 3.9 or later is wanted, and this is " + sys.version.split()[0])
+sys.path[0] = str(Path(__file__).resolve().parent.parent)
+
+from front.cli import main  # noqa: E402
+
+sys.exit(main(sys.argv[1:]))

@@ -1,0 +1,60 @@
+"""Argument lines: options in any place, with their values in the next word or after `=`."""
+from __future__ import annotations
+
+from dataclasses import dataclass, field
+from typing import Mapping, Optional, Sequence
+
+from .errors import Problem
+
+
+@dataclass
+class Line:
+    """The words of an argument line that are no options, and the options with their values; those without one have ''."""
+
+    words: list[str] = field(default_factory=list)
+    options: dict[str, str] = field(default_factory=dict)
+
+    def get(self, name: str) -> Optional[str]:
+        return self.options.get(name)
+
+    def has(self, name: str) -> bool:
+        return name in self.options
+
+    def number(self, name: str, default: int) -> int:
+        """The value of an option that is a number."""
+        word = self.options.get(name)
+        if word is None:
+            return default
+        try:
+            return int(word.replace(",", ""), 0)
+        except ValueError:
+            raise Problem(f"{name} wants a number, and {word} is none") from None
+
+
+def parse(arguments: Sequence[str], options: Mapping[str, str], usage: str) -> Line:
+    """Divides an argument line. `options` says what value each option wants (`a file`), or '' where it has none."""
+    line = Line()
+    rest = list(arguments)
+    while rest:
+        word = rest.pop(0)
+        name, equals, value = word.partition("=")
+        if word == "--":
+            line.words += rest
+            break
+        if not word.startswith("--"):
+            if word.startswith("-") and word != "-":
+                raise Problem(usage)
+            line.words.append(word)
+        elif name not in options:
+            raise Problem(f"there is no option {name}; {usage}")
+        elif not options[name]:
+            if equals:
+                raise Problem(f"{name} has no value")
+            line.options[name] = ""
+        else:
+            if not equals:
+                if not rest:
+                    raise Problem(f"{name} wants {options[name]}")
+                value = rest.pop(0)
+            line.options[name] = value
+    return line

@@ -1,0 +1,215 @@
+"""`bin/wb console`: a terminal on a serial line, with time at a chosen speed. What is typed becomes events of the log."""
+from __future__ import annotations
+
+import os
+import select
+import sys
+import termios
+import time
+import tty
+from contextlib import contextmanager
+from typing import Iterator, Sequence
+
+from . import loading
+from . import log as logs
+from .arguments import parse
+from .driver import Driver
+from .errors import Problem
+from .limits import GREATEST_POSITION, LINES
+from .saving import save
+from .shell_edits import gap_of
+
+USAGE = "usage: bin/wb console [--log FILE] [--kind KIND] [--line L] [--speed N] IMAGE"
+
+OPTIONS = {"--log": "a file", "--kind": "a kind", "--line": "a line", "--speed": "a number of steps", "--help": ""}
+
+KEYS = """\
+Ctrl-] and then:
+  b  goes back by a second of time at its speed, and drops what arrives later at the line
+  p  stops time, and lets it go on
+  + -  doubles and halves the speed
+  s  saves the log    q  leaves    ?  shows these keys    Ctrl-]  types Ctrl-]
+"""
+
+HELP = f"""\
+{USAGE}
+
+A terminal on a serial line: what the line sends is shown, and what is typed arrives there and becomes part of the log.
+
+  --log FILE    bytes that arrive besides
+  --kind KIND   what the image is, where it can't be seen: elf, image, rom or source
+  --line L      the serial line, 0 to 3; without it 0
+  --speed N     steps a second; without it 1,000,000
+  --help        this text
+
+{KEYS}
+Example:
+
+  bin/wb console examples/login/login.elf
+"""
+
+_ESCAPE = 0x1D
+_END = b"\x1dq"  # what the end of the input is taken for
+_TICK = 0.02
+
+# So much of what a line sent is shown again after going back.
+_SHOWN_AGAIN = 1 << 16
+
+
+def main(arguments: Sequence[str]) -> int:
+    line = parse(arguments, OPTIONS, USAGE)
+    if line.has("--help"):
+        sys.stdout.write(HELP)
+        return 0
+    if len(line.words) != 1:
+        raise Problem(USAGE)
+    serial, speed = line.number("--line", 0), line.number("--speed", 1_000_000)
+    if not 0 <= serial < LINES or speed < 1:
+        raise Problem(f"a line is 0 to {LINES - 1}, and a speed at least 1 step a second")
+    if not (sys.stdin.isatty() and sys.stdout.isatty()):
+        raise Problem("console wants a terminal; scripts have `type` and `expect` of bin/wb shell")
+    driver = loading.start(loading.image(line.words[0], line.get("--kind")), line.get("--log"))
+    try:
+        print(f"line {serial}, {speed:,} steps a second; Ctrl-] ? shows the keys")
+        Console(driver, serial, speed).run()
+    finally:
+        driver.close()
+    return 0
+
+
+class Console:
+    """A line of the machine on this terminal."""
+
+    def __init__(self, driver: Driver, line: int, speed: int) -> None:
+        self._driver = driver
+        self._line = line
+        self._speed = speed
+        self._gap = gap_of(driver.boot().byte_time)
+        self._next = 0  # the step in which a typed byte may arrive
+        self._shown = 0  # how many bytes of the line are shown
+        self._saved = list(driver.log)
+        self._escaped = False
+        self._stopped = False
+        self._left = False
+
+    def run(self) -> None:
+        with _raw():
+            before = time.monotonic()
+            while not self._left:
+                keys = os.read(0, 1024) or _END if select.select([0], [], [], _TICK)[0] else b""
+                now = time.monotonic()
+                try:
+                    for key in keys:
+                        self._key(key)
+                    if not self._stopped:
+                        self._go_on(min(now - before, 5 * _TICK))
+                except Problem as problem:
+                    self._stopped = True
+                    self._tell(f"{problem}; time stands, and Ctrl-] p lets it go on")
+                before = now
+
+    def _go_on(self, seconds: float) -> None:
+        """Lets time go on, and shows what the line sent."""
+        driver = self._driver
+        driver.goto(min(driver.position + max(1, int(seconds * self._speed)), GREATEST_POSITION))
+        sent = driver.console(self._line, self._shown)
+        self._shown += len(sent)
+        _write(sent)
+        if driver.position == GREATEST_POSITION:
+            self._tell("that is the last step")
+            self._stopped = True
+
+    def _key(self, key: int) -> None:
+        if self._escaped:
+            self._escaped = False
+            self._command(chr(key))
+        elif key == _ESCAPE:
+            self._escaped = True
+        else:
+            self._type(key)
+
+    def _type(self, byte: int) -> None:
+        at = max(self._driver.position, self._next)
+        self._driver.add(at, self._line, byte)
+        self._next = at + self._gap
+
+    def _command(self, key: str) -> None:
+        if key == chr(_ESCAPE):
+            self._type(_ESCAPE)
+        elif key == "b":
+            self._go_back()
+        elif key == "p":
+            self._stopped = not self._stopped
+            self._tell(f"step {self._driver.position:,}: time {'stands' if self._stopped else 'goes on'}")
+        elif key in "+-":
+            self._speed = max(1, self._speed * 2 if key == "+" else self._speed // 2)
+            self._tell(f"{self._speed:,} steps a second")
+        elif key == "s":
+            self._save()
+        elif key == "q":
+            self._leave()
+        else:
+            self._tell(KEYS.rstrip().replace("\n", "\r\n"))
+
+    def _go_back(self) -> None:
+        """A second back, without what arrives at the line later."""
+        driver = self._driver
+        driver.goto(max(0, driver.position - self._speed))
+        driver.revert([it for it in driver.log if it.line != self._line or it.time < driver.position], driver.patches)
+        self._next = driver.position
+        sent = driver.console(self._line)
+        self._shown = len(sent)
+        _write(b"\x1b[2J\x1b[H")
+        self._tell(f"back at step {driver.position:,}; what arrived later is gone")
+        _write(sent[-_SHOWN_AGAIN:])
+
+    def _leave(self) -> None:
+        if self._driver.log != self._saved:
+            self._save()
+        self._left = True
+
+    def _save(self) -> None:
+        """Asks for a name, and saves the log."""
+        with _cooked():
+            try:
+                name = input(f"\r\n[{len(self._driver.log):,} events; save the log as (nothing: not at all): ").strip()
+                if name:
+                    save(name, logs.write(self._driver.log))
+                    self._saved = list(self._driver.log)
+            except (Problem, EOFError, KeyboardInterrupt) as problem:
+                print(f"not saved: {problem}")
+
+    def _tell(self, message: str) -> None:
+        _write(f"\r\n[{message}]\r\n".encode())
+
+
+def _write(content: bytes) -> None:
+    sys.stdout.buffer.write(content)
+    sys.stdout.buffer.flush()
+
+
+@contextmanager
+def _raw() -> Iterator[None]:
+    """The terminal hands on each key, Ctrl-C too."""
+    before = termios.tcgetattr(0)
+    tty.setraw(0)
+    try:
+        yield
+    finally:
+        termios.tcsetattr(0, termios.TCSADRAIN, before)
+        print()
+
+
+@contextmanager
+def _cooked() -> Iterator[None]:
+    """The terminal reads whole lines for a while."""
+    raw = termios.tcgetattr(0)
+    cooked = termios.tcgetattr(0)
+    cooked[0] |= termios.ICRNL
+    cooked[1] |= termios.OPOST
+    cooked[3] |= termios.ECHO | termios.ICANON | termios.ISIG
+    termios.tcsetattr(0, termios.TCSADRAIN, cooked)
+    try:
+        yield
+    finally:
+        termios.tcsetattr(0, termios.TCSADRAIN, raw)

@@ -1,0 +1,28 @@
+"""What can go wrong, each with a message for the user."""
+from __future__ import annotations
+
+
+class Problem(Exception):
+    """Something that the user is told in one sentence, and the status with which a command ends for it."""
+
+    def __init__(self, message: str, status: int = 2) -> None:
+        super().__init__(message)
+        self.status = status
+
+
+class Refused(Problem):
+    """A command that the program answered with `error N Name`."""
+
+    def __init__(self, number: int, name: str, command: str) -> None:
+        super().__init__(f"{command}: error {number} {name}", 5)
+        self.number = number
+        self.name = name
+        self.command = command
+
+
+class Ended(Problem):
+    """The program ended by itself. The next question starts it anew with all edits."""
+
+
+class Interrupted(Exception):
+    """A turn was ended by Ctrl-C, between two commands. The driver is in step."""

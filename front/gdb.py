@@ -1,0 +1,95 @@
+"""`bin/wb gdb`: gdb on the stub, with the settings that it needs."""
+from __future__ import annotations
+
+import shlex
+import shutil
+import signal
+import subprocess
+import sys
+import tempfile
+from contextlib import contextmanager
+from pathlib import Path
+from typing import Iterator, Sequence
+
+from . import loading, stub, symbol_file
+from .arguments import parse
+from .errors import Problem
+from .image import Image
+from .limits import RESET_PC
+from .program import ROOT, build
+from .symbol_file import KSEG0
+from .symbols import symbols_of
+
+DEBUGGER = "gdb-multiarch"
+IN_GDB = Path(__file__).resolve().parent / "in_gdb.py"
+
+USAGE = "usage: bin/wb gdb [--log FILE] [--kind KIND] [--through] IMAGE [GDB-ARGUMENTS]"
+HELP = f"""\
+{USAGE}
+
+gdb on the run of an image, forward and back. What stands after the image is gdb's own. In gdb `wb LINE` asks the
+workbench, and `wb help` says what; docs/DEBUGGING.md describes the rest.
+
+  --log FILE    the bytes that arrive at the serial lines
+  --kind KIND   what the image is, where it can't be seen: elf, image, rom or source
+  --through     single steps run exceptions whole, with their handlers
+  --help        this text
+
+Example:
+
+  bin/wb gdb --log examples/login/log examples/login/login.elf
+"""
+
+SETTINGS = (
+    "set osabi none",  # or gdb would step by breakpoints of its own, past delay slots and exceptions
+    "set mipsfpu none",
+    "set remotetimeout 1000000",  # a question far from the position takes the run up to there
+    "set confirm off",
+)
+
+
+def main(arguments: Sequence[str]) -> int:
+    """Runs gdb, and gives its status."""
+    count = _stub_words(arguments)
+    line = parse(arguments[:count], stub.OPTIONS, USAGE)
+    if line.has("--help"):
+        sys.stdout.write(HELP)
+        return 0
+    if not line.words:
+        raise Problem(USAGE)
+    image = loading.image(line.words[0], line.get("--kind"))
+    debugger = shutil.which(DEBUGGER)
+    if debugger is None:
+        raise Problem(f"{DEBUGGER} is not installed; on Debian: apt-get install {DEBUGGER}")
+    build()
+    command = shlex.join([str(ROOT / "bin/wb"), "stub", *arguments[:count]])
+    words = [debugger, "-q", *(word for setting in SETTINGS for word in ("-iex", setting))]
+    # A Ctrl-C is gdb's alone.
+    signal.signal(signal.SIGINT, lambda number, frame: None)
+    with _symbols(image) as symbols:
+        words += [*symbols, "-ex", f"target extended-remote | {command}", "-x", str(IN_GDB), *arguments[count:]]
+        return subprocess.call(words)
+
+
+@contextmanager
+def _symbols(image: Image) -> Iterator[list[str]]:
+    """The words that give gdb an ELF: the image, or a file with names for one that is none."""
+    if image.elf:
+        # Without --readnow gdb finds no lines of assembler sources.
+        yield ["--readnow", "--directory", str(Path(image.name).resolve().parent), image.name]
+        return
+    symbols = symbols_of(image)
+    names = {KSEG0: "ram", RESET_PC: "reset"}
+    names |= {address: name for name in symbols.names() if (address := symbols.address(name)) is not None}
+    with tempfile.TemporaryDirectory() as folder:
+        file = Path(folder, Path(image.name).name)
+        file.write_bytes(symbol_file.content((name, address) for address, name in names.items()))
+        yield [str(file)]
+
+
+def _stub_words(arguments: Sequence[str]) -> int:
+    """How many words there are up to the image, which is the first one that is no option and no option's value."""
+    count = 0
+    while count < len(arguments) and arguments[count].startswith("--"):
+        count += 2 if stub.OPTIONS.get(arguments[count]) else 1
+    return min(count + 1, len(arguments))

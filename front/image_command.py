@@ -1,0 +1,51 @@
+"""`bin/wb image ELF OUT`: an ELF, or another image, as an image of this project or as a raw ROM."""
+from __future__ import annotations
+
+import sys
+from pathlib import Path
+from typing import Sequence
+
+from . import loading
+from .arguments import parse
+from .boot import Boot
+from .errors import Problem
+from .saving import save
+
+USAGE = "usage: bin/wb image [--kind KIND] ELF OUT"
+
+HELP = """\
+usage: bin/wb image [--kind KIND] ELF OUT
+
+Writes what an ELF starts the machine with to the file OUT: as an image of this project where its name ends in .img,
+and else as a raw ROM, which holds words of ROM alone. In place of the ELF may stand any other image.
+
+  --kind KIND   what the ELF is, where it can't be seen: elf, image, rom or source
+
+Examples:
+
+  bin/wb image kernel.elf kernel.img
+  bin/wb image boot.elf boot.rom
+"""
+
+
+def main(arguments: Sequence[str]) -> int:
+    line = parse(arguments, {"--kind": "a kind", "--help": ""}, USAGE)
+    if line.has("--help"):
+        sys.stdout.write(HELP)
+        return 0
+    if len(line.words) != 2:
+        raise Problem(USAGE)
+    driver = loading.start(loading.image(line.words[0], line.get("--kind")), None)
+    save(line.words[1], content_for(line.words[1], driver.boot()))
+    driver.close()
+    return 0
+
+
+def content_for(name: str, boot: Boot) -> bytes:
+    """The file of a name: a raw ROM, or an image where the name ends in .img."""
+    if Path(name).suffix == ".img":
+        return boot.write()
+    content = boot.raw_rom()
+    if content is None:
+        raise Problem(f"{name} can't be a raw ROM: the image sets words of RAM, or byte time, unit or clock; name it .img")
+    return content

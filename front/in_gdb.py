@@ -1,0 +1,61 @@
+"""Runs inside gdb, where `bin/wb gdb` loads it: the command `wb`, and a prompt that shows the position."""
+from __future__ import annotations
+
+import re
+
+import gdb
+
+MOVES_OR_EDITS = ("goto", "step", "back", "visit", "run", "starti", "add", "del", "set", "move", "patch")
+
+
+def flush() -> None:
+    """Lets gdb forget what it read, the values that it compares watches with too: the run has moved, or is another
+    one."""
+    gdb.execute("maintenance flush register-cache", to_string=True)
+    gdb.execute("maintenance flush dcache", to_string=True)
+    for watch in gdb.breakpoints():
+        if watch.type == gdb.BP_HARDWARE_WATCHPOINT and watch.enabled:
+            watch.enabled = False
+            watch.enabled = True
+
+
+def as_number(word: str) -> str:
+    """A word of a command: a number stays, and anything else is an expression of gdb's, without blanks."""
+    if re.fullmatch(r"\d\w*", word):
+        return word
+    return str(int(gdb.parse_and_eval(word)) & 0xFFFF_FFFF)
+
+
+class Workbench(gdb.Command):
+    """Asks the workbench: wb LINE. `wb help` lists the commands.
+Numbers may be expressions without blanks: wb writer &session.length, wb goto $position-100."""
+
+    def __init__(self) -> None:
+        super().__init__("wb", gdb.COMMAND_RUNNING)
+
+    def invoke(self, line: str, from_terminal: bool) -> None:
+        name, *words = line.split() or ["help"]
+        numbers = words if name.startswith("save-") else [as_number(word) for word in words]
+        gdb.execute(" ".join(["monitor", name, *numbers]))
+        if name in MOVES_OR_EDITS:
+            flush()
+            gdb.execute("frame")
+
+
+def prompt(current_prompt: str) -> str:
+    """The prompt, with the position where there is a run."""
+    try:
+        return f"({int(gdb.newest_frame().read_register('position')):,}) "
+    except gdb.error:
+        return current_prompt
+
+
+def forget_arguments(event: object) -> None:
+    """Lets the position of `run N` and `starti N` be that of one start: gdb would take it for the next one too."""
+    gdb.execute("set args")
+
+
+Workbench()
+gdb.prompt_hook = prompt
+gdb.events.memory_changed.connect(lambda event: flush())
+gdb.events.stop.connect(forget_arguments)

@@ -1,0 +1,28 @@
+"""The numbers that the machine and its program have."""
+
+GREATEST_POSITION = 4_294_967_295
+GREATEST_TIME = GREATEST_POSITION - 1
+MOST_EVENTS = 1_048_576
+LINES = 4
+
+RAM = range(0, 0x0080_0000)
+ROM = range(0x1FC0_0000, 0x1FC4_0000)
+# An image may set words of the RAM of a larger machine; the program refuses those that this one lacks.
+IMAGE_RAM = range(0, 0x0200_0000)
+
+RESET_PC = 0xBFC0_0000
+
+# The steps of a span: at their multiples the program looks up what happened and runs nothing.
+SPAN = 65_536
+
+# The most that one command asks for.
+VISIT_STEPS = 1_048_576
+WORDS = 32
+CONSOLE_BYTES = 256
+LOG_EVENTS = 32
+
+COMMAND_BYTES = 256
+
+# The program ends after this many reads of its input, each of at most so many bytes.
+READS = 1 << 20
+READ_BYTES = 4096

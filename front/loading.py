@@ -1,0 +1,80 @@
+"""Files that the user names: images and logs."""
+from __future__ import annotations
+
+import os
+import sys
+from pathlib import Path
+from typing import Iterator, Optional
+
+from . import elf
+from . import log as logs
+from .driver import Driver
+from .errors import Ended, Problem
+from .image import HOW_TO_LINK, KINDS, Image, is_gnu_source, kind_of
+from .image import MAGIC as IMAGE_MAGIC
+from .program import build
+from .progress import TerminalProgress
+
+# The most bytes that the program takes for an image or a log.
+MOST_BYTES = 67_108_864
+
+
+def say(message: str) -> None:
+    """Tells the user something, on standard error."""
+    for line in message.splitlines():
+        print(f"bin/wb: {line}", file=sys.stderr, flush=True)
+
+
+def check(name: str) -> Path:
+    """The path of a file, or a Problem where it can't be read."""
+    path = Path(name)
+    if not path.exists():
+        raise Problem(f"there is no file {name}")
+    if not path.is_file() or not os.access(path, os.R_OK):
+        raise Problem(f"{name} is no file that can be read")
+    return path
+
+
+def content_of(name: str) -> bytes:
+    path = check(name)
+    if path.stat().st_size > MOST_BYTES:
+        raise Problem(f"{name} has more than {MOST_BYTES:,} bytes")
+    return path.read_bytes()
+
+
+def image(name: str, kind: Optional[str] = None) -> Image:
+    """The image in a file, of a kind that is told, or else seen from its bytes and its name."""
+    content = content_of(name)
+    if kind not in (None, *KINDS):
+        raise Problem(f"{kind} is no kind of image; there are {', '.join(KINDS)}")
+    kind = kind or kind_of(name, content)
+    if kind != "elf":
+        return Image(name, kind, content)
+    made, notes = elf.image_of(content, name)
+    for note in notes:
+        say(note)
+    return made
+
+
+def start(made: Image, log: Optional[str], report: Optional[TerminalProgress] = None) -> Driver:
+    """A driver on an image, with the log in a file."""
+    content = content_of(log) if log is not None else b""
+    events = logs.read(content, str(log))
+    build()
+    try:
+        return Driver.start(made, events, report=report)
+    except Ended as ended:
+        raise Problem("\n".join([str(ended), *what_is_wrong(made, log, content)]), ended.status) from None
+
+
+def what_is_wrong(image: Image, log: Optional[str], log_content: bytes) -> Iterator[str]:
+    """What is said of an image or a log that the program refused."""
+    yield f"that is {image.name}, taken as kind {image.kind}" + (f", with the log {log}" if log is not None else "")
+    if image.kind == "source" and is_gnu_source(image.content):
+        yield f"it looks like source for GNU as. {HOW_TO_LINK}"
+    if log_content.startswith(IMAGE_MAGIC):
+        yield f"{log} is an image, no log"
+    elif log_content and not log_content.startswith(logs.MAGIC):
+        yield f"{log} is no log; one is made of text by: bin/wb log make TEXT OUT"
+
+

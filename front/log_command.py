@@ -1,0 +1,51 @@
+"""`bin/wb log show` and `log make`: a log as text, and back."""
+from __future__ import annotations
+
+import sys
+from typing import Sequence
+
+from . import log as logs
+from .arguments import parse
+from .errors import Problem
+from .loading import content_of
+from .saving import save
+
+USAGE = "usage: bin/wb log show LOG | bin/wb log make TEXT LOG"
+
+HELP = f"""\
+usage: bin/wb log show LOG          writes the text of a log to standard output
+       bin/wb log make TEXT LOG     makes a log of a text
+
+Both take a log or a text, and - for standard input.
+
+{logs.TEXT_HELP}
+
+Example:
+
+  bin/wb log show examples/driver/log
+  echo "150000 0 'help\\r' 500" | bin/wb log make - typed.log
+"""
+
+
+def main(arguments: Sequence[str]) -> int:
+    line = parse(arguments, {"--help": ""}, USAGE)
+    if line.has("--help"):
+        sys.stdout.write(HELP)
+        return 0
+    if len(line.words) == 2 and line.words[0] == "show":
+        for text in logs.show(_events(line.words[1])):
+            print(text)
+    elif len(line.words) == 3 and line.words[0] == "make":
+        save(line.words[2], logs.write(_events(line.words[1])))
+    else:
+        raise Problem(USAGE)
+    return 0
+
+
+def _events(name: str) -> list[logs.Event]:
+    """The events of a file, be it a log or the text of one."""
+    content = sys.stdin.buffer.read() if name == "-" else content_of(name)
+    name = "standard input" if name == "-" else name
+    if not content or content.startswith(logs.MAGIC):
+        return logs.read(content, name)
+    return logs.make(content.decode("utf-8", "surrogateescape").splitlines(), name)

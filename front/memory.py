@@ -1,0 +1,72 @@
+"""Memory by virtual addresses, as a debugger sees it at the position: read in any pieces, and changed by patches of
+the image."""
+from __future__ import annotations
+
+from typing import Iterator
+
+from .driver import Driver
+from .errors import Problem
+from .limits import RAM, ROM
+
+PAGE = 4096
+
+
+def read(driver: Driver, address: int, count: int) -> bytes:
+    """The bytes from a virtual address on, as many as stand in memory without a gap: devices are not read, as that
+    would change them."""
+    content = bytearray()
+    for virtual, size in _pieces(address, count):
+        place = driver.physical(virtual)
+        if place is None or not (place in RAM or place in ROM):
+            break
+        content += at(driver, place, size)
+    return bytes(content)
+
+
+def at(driver: Driver, place: int, size: int) -> bytes:
+    """The bytes at a physical address, all in memory."""
+    first = place & ~3
+    words = driver.words(first, (place + size - first + 3) // 4)
+    return b"".join(word.to_bytes(4, "little") for word in words)[place - first:place - first + size]
+
+
+def write(driver: Driver, address: int, content: bytes) -> None:
+    """Changes memory by patches of the image: ROM at any position, and RAM at position 0, where it holds what the
+    image sets."""
+    words: dict[int, int] = {}
+    done = 0
+    for virtual, size in _pieces(address, len(content)):
+        place = _writable(driver, virtual)
+        words |= _patched(driver, place, content[done:done + size])
+        done += size
+    driver.values([f"patch {word} {value}" for word, value in words.items()])
+
+
+def _writable(driver: Driver, virtual: int) -> int:
+    """The physical address of a place that can be changed, or a refusal."""
+    place = driver.physical(virtual)
+    if place is None or not (place in RAM or place in ROM):
+        raise Problem(f"no RAM or ROM stands at 0x{virtual:08x} here")
+    if place in RAM and driver.position:
+        raise Problem(f"RAM can't be written at position {driver.position:,}: it follows from the image and the bytes that "
+                      "arrive, which can be edited. At position 0 a write changes the image, as "
+                      f"`patch 0x{place & ~3:08x} WORD` does anywhere")
+    return place
+
+
+def _patched(driver: Driver, place: int, content: bytes) -> dict[int, int]:
+    """The words that differ once the bytes stand at a physical address."""
+    first, end = place & ~3, (place + len(content) + 3) & ~3
+    before = at(driver, first, end - first)
+    after = before[:place - first] + content + before[place - first + len(content):]
+    pieces = range(0, end - first, 4)
+    return {first + it: int.from_bytes(after[it:it + 4],
+                                       "little") for it in pieces if after[it:it + 4] != before[it:it + 4]}
+
+
+def _pieces(address: int, count: int) -> Iterator[tuple[int, int]]:
+    """A range of virtual addresses, divided where pages end: each piece's first address and its size."""
+    while count > 0 and address < 1 << 32:
+        size = min(count, PAGE - address % PAGE)
+        yield address, size
+        address, count = address + size, count - size

@@ -1,0 +1,123 @@
+"""Runs and steps both ways as gdb asks for them, and the replies that say where they stopped."""
+from __future__ import annotations
+
+from typing import Callable
+
+from . import output, through, travel
+from .driver import Driver
+from .errors import Interrupted
+from .limits import GREATEST_POSITION
+from .rsp import PACKET_BYTES, Link
+from .travel import Reason, Stop, Stops
+
+TRAP, INTERRUPTED = b"T05", b"T02"
+REPLIES = {
+    Reason.BEGIN: b"T05replaylog:begin;",
+    Reason.END: b"T05replaylog:end;",
+    Reason.STUCK: b"T05replaylog:end;",
+    Reason.WAITING: b"T05replaylog:end;",
+    Reason.INTERRUPTED: INTERRUPTED,
+}
+
+
+class Motion:
+    """The run of one driver, under one debugger."""
+
+    def __init__(self, driver: Driver, link: Link, *, exceptions_whole: bool) -> None:
+        self.stops = Stops()
+        self._driver = driver
+        self._link = link
+        self._exceptions_whole = exceptions_whole
+        self._transcript = output.Transcript()
+        self._told = 0  # what was sent before this position is told
+        self._moving = False
+        self._interrupted = False  # the debugger wants the present move to end
+
+    def wants_stop(self) -> bool:
+        """Whether the debugger wants the present move to end."""
+        self._interrupted = self._moving and (self._interrupted or self._link.interrupted())
+        return self._interrupted
+
+    def go_on(self) -> bytes:
+        return self._forward(lambda: travel.forward(self._driver, self.stops, self._pause))
+
+    def leave(self, addresses: range) -> bytes:
+        return self._forward(lambda: travel.leave(self._driver, addresses, self.stops, self._pause))
+
+    def step(self) -> bytes:
+        return self._forward(self._one_step)
+
+    def go_back(self) -> bytes:
+        return self._backward(lambda: travel.backward(self._driver, self.stops, self.wants_stop))
+
+    def step_back(self) -> bytes:
+        return self._backward(self._one_step_back)
+
+    def say(self, text: bytes) -> None:
+        """Shows a text in the debugger's console."""
+        half = PACKET_BYTES // 2 - 1
+        for first in range(0, len(text), half):
+            self._link.send(b"O" + text[first:first + half].hex().encode())
+
+    def _one_step(self) -> Stop:
+        here = self._driver.position
+        if here == GREATEST_POSITION:
+            return Stop(Reason.END, here)
+        end = Stop(Reason.STEPPED, here + 1)
+        if not self._exceptions_whole:
+            return travel.step_to(self._driver, self.stops, here, end)
+        end = Stop(Reason.STEPPED, through.after(self._driver))
+        self._driver.goto(here)
+        return travel.within(self._driver, self.stops, end.position) or end
+
+    def _one_step_back(self) -> Stop:
+        here = self._driver.position
+        if not here:
+            return Stop(Reason.BEGIN, here)
+        if not self._exceptions_whole:
+            return travel.step_to(self._driver, self.stops, here - 1, Stop(Reason.STEPPED, here - 1))
+        begin = Stop(Reason.STEPPED, through.before(self._driver))
+        self._driver.goto(here)
+        return travel.backward(self._driver, self.stops, self.wants_stop, begin)
+
+    def _forward(self, run: Callable[[], Stop]) -> bytes:
+        """A move on. gdb takes MIPS watches to stop before the store, and steps over it by itself."""
+        self._told = self._driver.position
+        stop = self._moved(run)
+        self._tell(stop.position)
+        return self._reply(stop)
+
+    def _backward(self, run: Callable[[], Stop]) -> bytes:
+        """A move back. It stops after the store, so that the step that gdb makes over it goes before it."""
+        self._told = self._driver.position
+        stop = self._moved(run)
+        self._driver.goto(stop.position + (stop.reason is Reason.WATCH))
+        return self._reply(stop)
+
+    def _moved(self, run: Callable[[], Stop]) -> Stop:
+        """Where a move stops. One that is interrupted stops where the last piece of it ended."""
+        self._moving = True
+        try:
+            return run()
+        except Interrupted:
+            return Stop(Reason.INTERRUPTED, self._told)
+        finally:
+            self._moving = self._interrupted = False
+
+    def _pause(self) -> bool:
+        self._tell(self._driver.position)
+        return self.wants_stop()
+
+    def _tell(self, position: int) -> None:
+        """Shows what was sent up to a position, and goes there."""
+        if position > self._told:
+            self.say(self._transcript.text(output.between(self._driver, self._told, position)))
+            self._told = position
+        self._driver.goto(position)
+
+    def _reply(self, stop: Stop) -> bytes:
+        if stop.watch:
+            return b"T05watch:%x;" % stop.watch.address
+        if stop.reason in (Reason.STUCK, Reason.WAITING):
+            self.say(f"\n[From position {stop.position:,} on the program {stop.reason.value}.]\n".encode())
+        return REPLIES.get(stop.reason, TRAP)

@@ -1,0 +1,180 @@
+"""`bin/wb plot`: one picture of a run, as SVG."""
+from __future__ import annotations
+
+import sys
+from collections import Counter
+from dataclasses import dataclass
+from typing import Optional, Sequence
+
+from . import loading, replies, saving, search
+from .arguments import parse
+from .driver import Driver
+from .errors import Problem
+from .limits import GREATEST_POSITION, LINES, RAM, ROM
+from .log import Event
+from .picture import BACKGROUNDS, COLUMNS, Function, Lane, Mark, Picture, Stores, draw
+from .progress import on_terminal
+from .states import registers_at
+from .symbols import Symbols, symbols_of
+
+USAGE = ("usage: bin/wb plot --to N [--log FILE] [--words NAME,..] [--edits 'COMMAND; ..'] "
+         "[--background light|dark] [--kind KIND] IMAGE [OUT]")
+OPTIONS = {"--to": "a position", "--log": "a file", "--words": "names or addresses", "--edits": "commands",
+           "--background": "light or dark",
+           "--kind": "a kind", "--help": ""}
+HELP = f"""\
+{USAGE}
+
+One picture of a run, as SVG, in OUT or on standard output: the bytes at each serial line, the stores into the words
+that are named, which functions ran, and where edits met the run.
+
+  --to N              the run's end
+  --log FILE          the bytes that arrive at the serial lines
+  --words NAME,..     words of memory: symbols, also with a number of bytes after them, or addresses
+  --edits 'LINE; ..'  edits that are made first: add, del, set, move, patch
+  --background NAME   light or dark; without it the picture follows the page that it is on
+  --kind KIND         what the image is, where it can't be seen: elf, image, rom or source
+  --help              this text
+
+Example:
+
+  bin/wb plot --to 130000 --log examples/login/log --words session+32 examples/login/login.elf login.svg
+"""
+EDITS = ("add", "del", "set", "move", "patch")
+MOST_STEPS = 4096  # of the bytes that a line sent
+SAMPLES = 2 * COLUMNS  # of the PC, in a run that has more steps
+FUNCTIONS = 12  # those with the greatest shares have a row
+UNNAMED = 256  # bytes of code that stand for a function, where no symbol is known
+
+
+def main(arguments: Sequence[str]) -> int:
+    line = parse(arguments, OPTIONS, USAGE)
+    if line.has("--help"):
+        sys.stdout.write(HELP)
+        return 0
+    if len(line.words) not in (1, 2) or not line.has("--to"):
+        raise Problem(USAGE)
+    end = line.number("--to", 0)
+    if not 0 < end <= GREATEST_POSITION:
+        raise Problem(f"--to wants a position from 1 to {GREATEST_POSITION:,}")
+    background = line.get("--background")
+    if background not in (None, *BACKGROUNDS):
+        raise Problem(f"there is no background {background}; there are {' and '.join(BACKGROUNDS)}")
+    image = loading.image(line.words[0], line.get("--kind"))
+    driver = loading.start(image, line.get("--log"), on_terminal())
+    try:
+        plot = _Plot(driver, symbols_of(image), end)
+        edits = plot.edits((line.get("--edits") or "").split(";"))
+        words = [plot.word(name) for name in (line.get("--words") or "").split(",") if name]
+        picture = plot.picture(image.name, edits, words)
+    finally:
+        driver.close()
+    text = draw(picture, background)
+    if len(line.words) == 1:
+        sys.stdout.write(text)
+    else:
+        saving.save(line.words[1], text.encode())
+    return 0
+
+
+@dataclass(frozen=True)
+class _Word:
+    name: str
+    place: int
+
+
+class _Plot:
+    """What a run did up to a position."""
+
+    def __init__(self, driver: Driver, symbols: Symbols, end: int) -> None:
+        self._driver = driver
+        self._symbols = symbols
+        self._end = end
+
+    def picture(self, name: str, edits: list[Mark], words: list[_Word]) -> Picture:
+        lanes = [lane for number in range(LINES) for lane in (self._received(number), self._sent(number)) if lane]
+        return Picture(name, self._end, edits, lanes, [self._stores(word) for word in words], *self._functions())
+
+    # Edits
+
+    def edits(self, commands: Sequence[str]) -> list[Mark]:
+        """Makes edits, and says where each of them meets the run."""
+        return [self._edit(command.strip()) for command in commands if command.strip()]
+
+    def _edit(self, command: str) -> Mark:
+        words = replies.words_of(command)
+        if words[0] not in EDITS:
+            raise Problem(f"{command} is no edit; there are {', '.join(EDITS)}")
+        before = list(self._driver.log)
+        self._driver.value(command)
+        times = _changed(before, self._driver.log)
+        return Mark(command, times[0] if times else 0)
+
+    # Lines
+
+    def _received(self, number: int) -> Optional[Lane]:
+        events = [event for event in self._driver.log if event.line == number and event.time < self._end]
+        return Lane(number, True, [(event.time, event.byte) for event in events]) if events else None
+
+    def _sent(self, number: int) -> Optional[Lane]:
+        """The bytes that a line sent. Of very many, some have their steps, and the others stand with the one before."""
+        self._driver.goto(self._end)
+        content = self._driver.console(number)
+        apart = -(-len(content) // MOST_STEPS) or 1
+        commands = [f"find {number} {place}" for place in range(0, len(content), apart)]
+        steps = [replies.last_number(reply) for reply in self._driver.values(commands)]
+        sent = [(steps[place // apart], byte) for place, byte in enumerate(content)]
+        return Lane(number, False, sent) if sent else None
+
+    # Words
+
+    def word(self, name: str) -> _Word:
+        """A word of memory, by a symbol with a number of bytes after it, or by an address."""
+        symbol, _, offset = name.partition("+")
+        address = self._symbols.address(symbol)
+        number = replies.number_of(symbol) if address is None else address
+        distance = replies.number_of(offset or "0")
+        if number is None or distance is None:
+            raise Problem(f"there is no word {name}")
+        place = self._driver.physical(number + distance) if number + distance >= 0x8000_0000 else number + distance
+        if place is None or not (place in RAM or place in ROM):
+            raise Problem(f"no memory stands at {name}")
+        return _Word(name, place & ~3)
+
+    def _stores(self, word: _Word) -> Stores:
+        """The last store of each column into a word, and what the word holds after it."""
+        stores = []
+        end = self._end
+        while end:
+            self._driver.goto(end)
+            step = search.last_store(self._driver, word.place)
+            if step is None:
+                break
+            self._driver.goto(step + 1)
+            stores.append((step, self._driver.words(word.place, 1)[0]))
+            end = self._end * (step * COLUMNS // self._end) // COLUMNS  # the begin of its column
+        return Stores(word.name, stores[::-1])
+
+    # Functions
+
+    def _functions(self) -> tuple[list[Function], bool]:
+        """Which function the PC was in, at all positions or at samples of them; the rest stands together."""
+        exact = self._end <= SAMPLES
+        positions = range(self._end) if exact else [self._end * sample // SAMPLES for sample in range(SAMPLES)]
+        names = [self._function(state.pc) for state in registers_at(self._driver, positions)]
+        shares = Counter(names)
+        shown = [name for name, _ in shares.most_common(FUNCTIONS)]
+        rows = {name: [position for position, other in zip(positions, names) if other == name] for name in shown}
+        rest = [position for position, name in zip(positions, names) if name not in rows]
+        if rest:
+            rows[f"{len(shares) - len(shown)} others"] = rest
+        return [Function(name, at, len(at) / len(names)) for name, at in rows.items()], exact
+
+    def _function(self, counter: int) -> str:
+        found = self._symbols.at(counter)
+        return found[0].name if found else f"0x{counter // UNNAMED * UNNAMED:08x}"
+
+
+def _changed(before: Sequence[Event], after: Sequence[Event]) -> list[int]:
+    """The times of the events that only one of two logs has."""
+    return sorted(event.time for event in (Counter(before) - Counter(after)) + (Counter(after) - Counter(before)))

@@ -1,0 +1,180 @@
+"""The replies of the program: how many lines each has, and what they say."""
+from __future__ import annotations
+
+import re
+from dataclasses import dataclass
+from functools import lru_cache
+from typing import Any, Optional, Sequence, Union
+
+from .errors import Refused
+from .limits import COMMAND_BYTES
+
+CONTROL_NAMES = ("index", "random", "entrylo", "context", "badvaddr", "entryhi", "status", "cause", "epc", "prid")
+
+
+@dataclass(frozen=True)
+class Registers:
+    """The processor at a position. `load` is the register and the value that has not landed yet."""
+
+    pc: int
+    next_pc: int
+    hi: int
+    lo: int
+    delay: bool
+    load: Optional[tuple[int, int]]
+    general: list[int]
+
+
+@dataclass(frozen=True)
+class Where:
+    """Where a virtual address leads: `kind` is cached, uncached, adel, refill or tlbl; the first two have a physical address."""
+
+    kind: str
+    physical: Optional[int]
+
+
+@dataclass(frozen=True)
+class Writer:
+    """What wrote a word last: `kind` is step, image or never, and a step has its number."""
+
+    kind: str
+    step: Optional[int]
+
+
+@lru_cache(1 << 12)
+def words_of(command: str) -> tuple[str, ...]:
+    """The words of a command, as the program divides it."""
+    return tuple(word for word in command.replace("\t", " ").split(" ") if word)
+
+
+def number_of(word: str) -> Optional[int]:
+    """The number that a word of a command is, decimal or hexadecimal after 0x, as the program reads it."""
+    if re.fullmatch("0x[0-9a-fA-F]+", word):
+        return int(word, 16)
+    return int(word) if re.fullmatch("[0-9]+", word) else None
+
+
+@lru_cache(1 << 12)
+def has_reply(command: str) -> bool:
+    """Whether a command has a reply: blank lines, comments and `quit` have none, lines that are too long are refused."""
+    if len(command.encode("utf-8", "surrogateescape")) > COMMAND_BYTES:
+        return True
+    words = words_of(command)
+    return bool(words) and not words[0].startswith("#") and words != ("quit",)
+
+
+def lines_after(command: str, first: str) -> int:
+    """How many lines of a command's reply stand after its first one."""
+    if is_refusal(first):
+        return 0
+    words = words_of(command)
+    if words[0] == "regs":
+        return 8
+    if words[0] in ("mem", "dis"):
+        return _number(words[2]) - 1
+    if words[0] == "log":
+        return min(_number(words[2]), max(0, int(first.split()[1]) - _number(words[1])))
+    return 0
+
+
+def _number(word: str) -> int:
+    number = number_of(word)
+    assert number is not None, f"the program took {word} for a number"
+    return number
+
+
+def is_refusal(line: str) -> bool:
+    return line.startswith("error ")
+
+
+def refusal_of(command: str, lines: Sequence[str]) -> Optional[Refused]:
+    """The refusal that a reply is, or None."""
+    if not lines or not is_refusal(lines[0]):
+        return None
+    _, number, name = lines[0].split()
+    return Refused(int(number), name, command)
+
+
+def registers(lines: Sequence[str]) -> Registers:
+    """The value of a reply to `regs`."""
+    _, pc, _, following, _, hi, _, lo, _, delay, _, *load = lines[0].split()
+    general = [int(word, 16) for line in lines[1:] for word in line.split()[1:]]
+    pending = None if load == ["none"] else (int(load[0][1:]), int(load[1], 16))
+    return Registers(int(pc, 16), int(following, 16), int(hi, 16), int(lo, 16), delay == "1", pending, general)
+
+
+def control(lines: Sequence[str]) -> dict[str, int]:
+    """The value of a reply to `cp0`: the registers by their names."""
+    words = lines[0].split()
+    return {name: int(word, 16) for name, word in zip(words[::2], words[1::2])}
+
+
+def where(lines: Sequence[str]) -> Where:
+    """The value of a reply to `where`."""
+    words = lines[0].split()
+    if words[1].startswith("0x"):
+        return Where(words[2], int(words[1], 16))
+    return Where(words[-1], None)
+
+
+def writer(lines: Sequence[str]) -> Writer:
+    """The value of a reply to `writer`."""
+    word = lines[0].split()[1]
+    return Writer("step", int(word)) if word.isdigit() else Writer(word, None)
+
+
+def memory(lines: Sequence[str]) -> list[int]:
+    """The words of a reply to `mem`."""
+    return [int(line.split()[1], 16) for line in lines]
+
+
+def console(lines: Sequence[str]) -> tuple[int, bytes]:
+    """How many bytes a line had sent, and those that a reply to `console` shows."""
+    _, count, shown = lines[0].split()[1:]
+    return int(count), b"" if shown == "none" else bytes.fromhex(shown)
+
+
+def last_number(lines: Sequence[str]) -> int:
+    """The number at the end of a reply of one line: of `pos`, `event`, `find` and `log`."""
+    return int(lines[0].split()[-1], 0)
+
+
+Value = Union[None, int, str, list, dict]
+
+
+def value(command: str, lines: Sequence[str]) -> Value:
+    """What a reply says, as a value of JSON: words are numbers, and what has several parts is an object."""
+    name = words_of(command)[0]
+    words = lines[0].split()
+    if name in ("pos", "goto", "step", "back", "visit", "find", "add", "set", "move", "del"):
+        return last_number(lines)
+    if name == "regs":
+        return dict(vars(registers(lines)))
+    if name == "cp0":
+        return dict(control(lines))
+    if name == "reg":
+        return int(words[1], 16)
+    if name == "tlb":
+        return {"hi": int(words[2], 16), "lo": int(words[3], 16)}
+    if name in ("where", "writer"):
+        return dict(vars(where(lines) if name == "where" else writer(lines)))
+    if name == "mem":
+        return [_listed(line) for line in lines]
+    if name == "dis":
+        return [{**_listed(line), "text": line.split(None, 2)[2]} for line in lines]
+    if name == "console":
+        count, shown = console(lines)
+        return {"count": count, "bytes": list(shown)}
+    if name == "log":
+        return {"count": int(words[1]), "events": [_event(line) for line in lines[1:]]}
+    return words[0]
+
+
+def _listed(line: str) -> dict[str, Any]:
+    address, word = line.split()[:2]
+    return {"address": int(address, 16), "word": int(word, 16)}
+
+
+def _event(line: str) -> dict[str, int]:
+    number, time, serial, byte = line.split()
+    return {"event": int(number), "time": int(time), "line": int(serial), "byte": int(byte, 16)}

@@ -1,0 +1,163 @@
+"""What the shell knows while it runs: the driver, symbols, stops and edits; and how steps and addresses are told to people."""
+from __future__ import annotations
+
+import re
+from contextlib import contextmanager
+from dataclasses import dataclass, field
+from typing import Callable, Iterator, Optional
+
+from . import expressions
+from .driver import Driver
+from .errors import Problem
+from .limits import RAM, ROM
+from .log import Event
+from .symbols import Symbols
+from .travel import Watch
+
+_BRANCHES = frozenset("beq bne bltz bgez bltzal bgezal blez bgtz".split())
+_JUMPS = frozenset(("j", "jal"))
+_TARGET = re.compile(r"0x[0-9a-f]{8}$")
+
+
+@dataclass(frozen=True)
+class Mark:
+    """A breakpoint or a watch, with the number by which people know it."""
+
+    number: int
+    text: str
+    address: int
+    watch: Optional[Watch] = None
+
+
+@dataclass(frozen=True)
+class Edit:
+    """What stood before an edit, and the line that made it."""
+
+    line: str
+    log: list[Event]
+    patches: list[tuple[int, int]]
+
+
+@dataclass
+class Session:
+    """A debugger on one run. `tell` takes what is shown, line by line."""
+
+    driver: Driver
+    symbols: Symbols
+    tell: Callable[[str], None] = print
+    marks: list[Mark] = field(default_factory=list)
+    edits: list[Edit] = field(default_factory=list)
+    # Of each line, the steps over which a text was typed last; what is typed within them goes on after it.
+    typed: dict[int, range] = field(default_factory=dict)
+    saved_log: list[Event] = field(default_factory=list)
+    saved_patches: list[tuple[int, int]] = field(default_factory=list)
+
+    def number(self, text: str) -> int:
+        return expressions.number(text, self.driver, self.symbols)
+
+    def physical(self, address: int) -> int:
+        """The physical address that a virtual one leads to at the position, in RAM or ROM."""
+        if not 0 <= address < 1 << 32:
+            raise Problem(f"{address:#x} is no address: they are below 0x100000000")
+        place = self.driver.physical(address)
+        if place is not None and (place in RAM or place in ROM):
+            return place
+        if place is not None:
+            raise Problem(f"{address:#010x} leads to the physical address {place:#010x}, where no memory is: "
+                          "RAM is 8 MiB from 0x80000000, ROM 256 KiB from 0xbfc00000")
+        hint = ""
+        if address in RAM or address in ROM:
+            base = 0xA000_0000 if address in ROM else 0x8000_0000
+            hint = f". The word with that physical address is at {base + address:#010x}"
+        raise Problem(f"{address:#010x} leads nowhere at this position: {UNMAPPED[self.driver.where(address).kind]}{hint}")
+
+    def word_at(self, text: str) -> tuple[int, int]:
+        """The virtual and the physical address of the word that a text names."""
+        address = self.number(text)
+        if address % 4:
+            raise Problem(f"{address:#x} is no multiple of 4; the word that it is in is at {address & ~3:#010x}")
+        return address, self.physical(address)
+
+    # How things are told
+
+    def address(self, address: int) -> str:
+        """`0xbfc00078 <main+0x78>`."""
+        name = self.symbols.name(address)
+        return f"{address:#010x} <{name}>" if name else f"{address:#010x}"
+
+    def place(self, address: int) -> str:
+        """`main+0x78`, or the address where it has no name."""
+        return self.symbols.name(address) or f"{address:#010x}"
+
+    def instruction(self, address: int) -> str:
+        """The text of the instruction at a virtual address, with the name of its target."""
+        physical = self.driver.physical(address)
+        if physical is None or address % 4:
+            return "no instruction can be fetched here"
+        line = self.driver.ask(f"dis {physical & ~3} 1")[0]
+        if line.startswith("error"):
+            return "no instruction can be fetched here"
+        return self.retargeted(address, physical, line.split(None, 2)[2])
+
+    def retargeted(self, address: int, physical: int, text: str) -> str:
+        """The text of an instruction, whose target the program counted from the physical address, at its virtual address."""
+        name = text.partition(" ")[0]
+        found = _TARGET.search(text)
+        if not found or name not in _BRANCHES | _JUMPS:
+            return text
+        target = int(found[0], 16)
+        if name in _JUMPS:
+            target = (address + 4) & 0xF000_0000 | target & 0x0FFF_FFFF
+        else:
+            target = (target - physical + address) & 0xFFFF_FFFF
+        return text[:found.start()] + self.address(target)
+
+    def step(self, step: int) -> str:
+        """`step 40,017, main+0x78, 1,001 steps ago: sw r2, 0(r3)`, as seen from the position."""
+        with self.at(step):
+            pc = self.driver.registers().pc
+            text = self.instruction(pc)
+        return f"step {step:,}, {self.place(pc)}, {distance(step, self.driver.position)}: {text}"
+
+    @contextmanager
+    def at(self, position: int) -> Iterator[None]:
+        """Looks at another position, and comes back."""
+        here = self.driver.position
+        try:
+            self.driver.goto(position)
+            yield
+        finally:
+            self.driver.goto(here)
+
+    def show_position(self) -> None:
+        """Where the run is, and the instruction that comes next."""
+        state = self.driver.registers()
+        slot = "   (delay slot)" if state.delay else ""
+        self.tell(f"step {self.driver.position:,}, {self.place(state.pc)}: {self.instruction(state.pc)}{slot}")
+
+    # Edits
+
+    def unsaved(self) -> list[str]:
+        """What was edited and is not saved."""
+        log = ["the log (save-log FILE)"] if self.driver.log != self.saved_log else []
+        image = ["the image (save-image FILE)"] if self.driver.patches != self.saved_patches else []
+        return log + image
+
+
+UNMAPPED = {
+    "adel": "it is an address error, as the machine is in user mode",
+    "refill": "no translation entry has its page",
+    "tlbl": "its translation entry is missing or not valid",
+}
+
+
+def counted(count: int, name: str) -> str:
+    """`1,001 steps`, `1 step`."""
+    return f"{count:,} {name}" + ("" if count == 1 else "s")
+
+
+def distance(step: int, here: int) -> str:
+    """`1,001 steps ago`, as seen from a position."""
+    if step == here:
+        return "now"
+    return f"{counted(abs(step - here), 'step')} {'ago' if step < here else 'ahead'}"

@@ -1,0 +1,222 @@
+"""`bin/wb shell`: a debugger for people, on one run of the workbench."""
+from __future__ import annotations
+
+import atexit
+import os
+import sys
+from pathlib import Path
+from typing import Iterator, Optional, Sequence, TextIO
+
+from . import expressions, loading, shell_edits, shell_moves, shell_views  # noqa: F401 - they fill the table of commands
+from .arguments import parse
+from .commands import COMMANDS, GROUPS, SHELL, SHORT, command, find, words_of
+from .errors import Ended, Interrupted, Problem, Refused
+from .explain import explain
+from .progress import on_terminal
+from .session import Edit, Session
+from .symbols import symbols_of
+
+USAGE = "usage: bin/wb shell [--log FILE] [--kind KIND] [--echo] IMAGE [SCRIPT]"
+
+OPTIONS = {"--log": "a file", "--kind": "a kind", "--echo": "", "--help": ""}
+
+HELP = f"""\
+{USAGE}
+
+A debugger on the run of an image: with line editing, history and completion on a terminal, or with the lines of a
+script. Addresses are virtual. An ELF gives names of addresses, and so do the labels of a source.
+
+  --log FILE    the bytes that arrive at the serial lines
+  --kind KIND   what the image is, where it can't be seen: elf, image, rom or source
+  --echo        show each line of a script before what it shows
+  --help        this text
+
+Example:
+
+  bin/wb shell --log examples/login/log examples/login/login.elf
+
+"""
+
+
+def main(arguments: Sequence[str]) -> int:
+    line = parse(arguments, OPTIONS, USAGE)
+    if line.has("--help"):
+        sys.stdout.write(HELP + help_text())
+        return 0
+    if len(line.words) not in (1, 2):
+        raise Problem(USAGE)
+    script = open(loading.check(line.words[1]), encoding="utf-8", errors="surrogateescape") if len(line.words) == 2 else None
+    image = loading.image(line.words[0], line.get("--kind"))
+    driver = loading.start(image, line.get("--log"), on_terminal())
+    session = Session(driver, symbols_of(image), saved_log=list(driver.log))
+    try:
+        return Shell(session).run(script, line.has("--echo"))
+    finally:
+        driver.close()
+
+
+class Shell:
+    """Reads lines and runs them."""
+
+    def __init__(self, session: Session) -> None:
+        self._session = session
+        self._left = False
+        self._warned = False
+
+    def run(self, script: Optional[TextIO], echo: bool = False) -> int:
+        """Runs the lines of a script, or those that are typed."""
+        is_typed = script is None and sys.stdin.isatty()
+        lines = self._typed() if is_typed else iter(script or sys.stdin)
+        if is_typed:
+            _begin_readline(self._session)
+            self.do("pos")
+        for line in lines:
+            line = line.strip()
+            if echo and line:
+                print(f"> {line}", flush=True)
+            self.do(line)
+            sys.stdout.flush()
+            if self._left:
+                break
+        return 0
+
+    def _typed(self) -> Iterator[str]:
+        """Lines from a terminal, until it is left with nothing unsaved."""
+        while True:
+            try:
+                yield input(f"wb {self._session.driver.position:,}> ")
+            except KeyboardInterrupt:
+                print()
+                continue
+            except EOFError:
+                print()
+                yield "quit"
+                if self._left:
+                    return
+
+    def do(self, line: str) -> None:
+        """Runs a line, and tells what goes wrong."""
+        if not line or line.startswith("#"):
+            return
+        session = self._session
+        try:
+            self._run(line)
+        except Refused as refused:
+            session.tell(f"refused: {explain(refused, session.driver)}")
+        except Ended as ended:
+            session.tell(f"{ended}; it is started anew, with all edits, by what is asked next")
+        except Problem as problem:
+            session.tell(str(problem))
+        except (Interrupted, KeyboardInterrupt):
+            # Where the run was not made yet it can't be shown at once.
+            session.driver.goto(min(session.driver.position, session.driver.made))
+            session.tell(f"interrupted; at step {session.driver.position:,}")
+
+    def _run(self, line: str) -> None:
+        name, *words = words_of(line)
+        if name in ("quit", "q"):
+            self._quit()
+            return
+        found = find(name)
+        found.check(words)
+        if not found.edits:
+            found.run(self._session, words)
+            return
+        log, patches = list(self._session.driver.log), list(self._session.driver.patches)
+        try:
+            found.run(self._session, words)
+        finally:
+            driver = self._session.driver
+            if driver.log != log or driver.patches != patches:
+                self._session.edits.append(Edit(line, log, patches))
+
+    def _quit(self) -> None:
+        """Leaves; on a terminal only when what is not saved is given up by a second `quit`."""
+        unsaved = self._session.unsaved()
+        if unsaved and sys.stdin.isatty() and not self._warned:
+            self._session.tell(f"not saved: {', '.join(unsaved)}; `quit` again leaves without them")
+            self._warned = True
+        else:
+            self._left = True
+
+
+# Help
+
+@command("help [NAME]", "shows all commands, or more of one, or `help numbers`", SHELL)
+def help_(session: Session, words: list[str]) -> None:
+    if not words:
+        session.tell(help_text().rstrip())
+    elif words[0] == "numbers":
+        session.tell(expressions.HELP)
+    else:
+        found = find(words[0])
+        short = [it for it, name in SHORT.items() if name == found.name]
+        session.tell(f"{found.usage}: {found.text}" + (f" (short: {', '.join(short)})" if short else ""))
+
+
+@command("quit", "leaves; what is not saved is told first", SHELL)
+def quit_(session: Session, words: list[str]) -> None:
+    raise AssertionError("the shell leaves by itself")
+
+
+def help_text() -> str:
+    """All commands, by their groups."""
+    width = max(len(it.usage) for it in COMMANDS.values())
+    parts = []
+    for group in GROUPS:
+        lines = [f"  {it.usage:{width}}  {it.text}" for it in COMMANDS.values() if it.group == group]
+        parts.append("\n".join([f"{group}:", *lines]))
+    text = "\n\n".join(parts)
+    return f"{text}\n\n{expressions.HELP}\nThe beginning of a name is enough where it is that of one command alone.\n"
+
+
+# Line editing
+
+HISTORY = Path(os.environ.get("XDG_STATE_HOME") or Path.home() / ".local/state") / "bezhakkom_history"
+
+
+def _begin_readline(session: Session) -> None:
+    try:
+        import readline
+    except ImportError:
+        return
+    readline.set_completer_delims(" \t+-&$")
+    readline.set_completer(_Completer(session, readline).complete)
+    readline.parse_and_bind("tab: complete")
+    try:
+        readline.read_history_file(HISTORY)
+    except OSError:
+        pass
+    atexit.register(_keep_history, readline)
+
+
+def _keep_history(readline: object) -> None:
+    try:
+        HISTORY.parent.mkdir(parents=True, exist_ok=True)
+        readline.set_history_length(2000)  # type: ignore[attr-defined]
+        readline.write_history_file(HISTORY)  # type: ignore[attr-defined]
+    except OSError:
+        pass
+
+
+class _Completer:
+    """Completes commands, symbols, registers and names of files."""
+
+    def __init__(self, session: Session, readline: object) -> None:
+        self._session = session
+        self._readline = readline
+        self._found: list[str] = []
+
+    def complete(self, text: str, state: int) -> Optional[str]:
+        if state == 0:
+            self._found = self._matches(text)
+        return self._found[state] if state < len(self._found) else None
+
+    def _matches(self, text: str) -> list[str]:
+        before = self._readline.get_line_buffer()[:self._readline.get_begidx()]  # type: ignore[attr-defined]
+        words = before.split()
+        if not words or words == ["help"]:
+            return [it for it in COMMANDS if it.startswith(text)]
+        if words[0].startswith("save-"):
+            return sorted(str(it) + ("/" if it.is_dir() else "") for it in Path(text).parent.glob(Path(text).name + "*"))
+        return sorted(it for it in {*self._session.symbols.names(), *expressions.names()} if text and it.startswith(text))

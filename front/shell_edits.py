@@ -1,0 +1,156 @@
+"""Commands of the shell that edit the past, and save what was edited."""
+from __future__ import annotations
+
+import re
+
+from . import log as logs
+from .commands import FILES, PAST, SERIAL, SHELL, command
+from .errors import Problem
+from .image_command import content_for
+from .limits import GREATEST_POSITION, GREATEST_TIME, LINES
+from .log import quoted, unquoted
+from .saving import save
+from .session import Session, counted
+from .standstill import standstill
+
+# Bytes that are typed are at least so many steps apart, and twice the time that the serial part takes to send one: a program
+# that asks for them in its loop, or is interrupted, has taken each, and sent it back, before the next one comes.
+_LEAST_GAP = 1000
+
+_TEXT = re.compile(r"""'(?:[^'\\]|\\.)+'|"(?:[^"\\]|\\.)+\"""")
+
+# `expect` looks at pieces of this many steps.
+_PIECE = 1 << 20
+
+
+@command("add T L B", "lets byte B arrive at line L in step T", PAST, edits=True)
+def add(session: Session, words: list[str]) -> None:
+    time, line, byte = map(session.number, words)
+    session.tell(f"event {session.driver.add(time, line, byte)}")
+
+
+@command("del I", "takes event I out of the log", PAST, edits=True)
+def del_(session: Session, words: list[str]) -> None:
+    session.driver.delete(session.number(words[0]))
+    session.tell(f"{counted(len(session.driver.log), 'event')} left")
+
+
+@command("set I B", "changes the byte of event I to B", PAST, edits=True)
+def set_(session: Session, words: list[str]) -> None:
+    session.tell(f"event {session.driver.set_byte(*map(session.number, words))}")
+
+
+@command("move I T", "moves event I to step T", PAST, edits=True)
+def move(session: Session, words: list[str]) -> None:
+    session.tell(f"event {session.driver.move(*map(session.number, words))}")
+
+
+@command("patch A W", "starts the machine with word W at virtual address A", PAST, edits=True)
+def patch(session: Session, words: list[str]) -> None:
+    address, physical = session.word_at(words[0])
+    word = session.number(words[1])
+    if not -1 << 31 <= word < 1 << 32:
+        raise Problem(f"{words[1]} is no word: it is below 0x100000000")
+    session.driver.patch(physical, word & 0xFFFF_FFFF)
+    session.tell(f"the image sets {session.address(address)}; what steps before this position stored stands over it")
+
+
+@command("undo", "takes the last edit back", PAST)
+def undo(session: Session, words: list[str]) -> None:
+    if not session.edits:
+        raise Problem("there is no edit to take back")
+    edit = session.edits[-1]
+    session.driver.revert(edit.log, edit.patches)
+    session.edits.pop()
+    session.typed.clear()
+    session.tell(f"taken back: {edit.line}")
+
+
+@command("type [L] 'TEXT' [GAP]", "lets TEXT arrive at line L, or 0, from this position on, GAP steps apart", SERIAL, edits=True)
+def type_(session: Session, words: list[str]) -> None:
+    line, content, rest = _line_and_text(session, words, "type [L] 'TEXT' [GAP]")
+    gap = rest or gap_of(session.driver.boot().byte_time)
+    here, before = session.driver.position, session.typed.get(line, range(0))
+    first = before.stop if here in before else here
+    last = first + gap * (len(content) - 1)
+    if last > GREATEST_TIME:
+        raise Problem(f"there are no steps for it left: the last one is {GREATEST_TIME:,}")
+    session.driver.values([f"add {first + gap * place} {line} {byte}" for place, byte in enumerate(content)])
+    session.typed[line] = range(min(here, first), last + gap)
+    session.tell(f"{counted(len(content), 'byte')} for line {line}, from step {first:,} to step {last:,}, {gap:,} steps apart")
+
+
+def gap_of(byte_time: int) -> int:
+    """How far apart bytes that are typed arrive, so that a program loses none."""
+    return max(_LEAST_GAP, 2 * byte_time)
+
+
+@command("expect [L] 'TEXT' [K]", "goes on until line L, or 0, sent TEXT from here on, at most K steps", SERIAL)
+def expect(session: Session, words: list[str]) -> None:
+    line, text, limit = _line_and_text(session, words, "expect [L] 'TEXT' [K]")
+    driver, here = session.driver, session.driver.position
+    end = min(here + limit, GREATEST_POSITION) if limit else GREATEST_POSITION
+    first = driver.sent(line)
+    try:
+        with driver.long_run():
+            why = _run_until(session, line, first, text, end)
+    except BaseException:
+        driver.goto(here)
+        raise
+    if why:
+        sent = driver.console(line, first)
+        driver.goto(here)
+        raise Problem(f"line {line} did not send {quoted(text)}: {why}. It sent {quoted(sent[-200:]) if sent else 'nothing'}")
+    session.show_position()
+
+
+def _run_until(session: Session, line: int, first: int, text: bytes, end: int) -> str:
+    """Goes on until a line sent a text from place `first` on, or says why it did not."""
+    driver = session.driver
+    start, sent = driver.position, b""
+    while driver.position < end:
+        driver.goto(min(driver.position + _PIECE, end))
+        sent += driver.console(line, first + len(sent))
+        place = sent.find(text)
+        if place >= 0:
+            driver.goto(driver.find(line, first + place + len(text) - 1) + 1)
+            return ""
+        still = standstill(driver)
+        if still:
+            return f"at step {driver.position:,} the program {still.value}"
+        driver.tell(driver.position - start, end - start)
+    return f"that was looked for up to step {end:,}"
+
+
+def _line_and_text(session: Session, words: list[str], usage: str) -> tuple[int, bytes, int]:
+    """The line, the text, and the number after it, or 0."""
+    line = session.number(words.pop(0)) if words[0][0] not in "'\"" else 0
+    if not words or not _TEXT.fullmatch(words[0]):
+        raise Problem(f"usage: {usage}; the text stands between quotes: 'help\\r'")
+    if not 0 <= line < LINES:
+        raise Problem(f"there is no line {line}; they are 0 to {LINES - 1}")
+    return line, unquoted(words[0][1:-1]), session.number(words[1]) if len(words) > 1 else 0
+
+
+# Files
+
+@command("save-log FILE", "saves the log, with all edits", FILES)
+def save_log(session: Session, words: list[str]) -> None:
+    save(words[0], logs.write(session.driver.log))
+    session.saved_log = list(session.driver.log)
+    session.tell(f"{counted(len(session.driver.log), 'event')} saved in {words[0]}")
+
+
+@command("save-image FILE", "saves the image, with all patches: a name that ends in .img, or a raw ROM", FILES)
+def save_image(session: Session, words: list[str]) -> None:
+    content = content_for(words[0], session.driver.boot())
+    save(words[0], content)
+    session.saved_patches = list(session.driver.patches)
+    session.tell(f"{counted(len(content), 'byte')} saved in {words[0]}")
+
+
+@command("wb LINE ..", "gives a line to the workbench as it is, with physical addresses, and shows its reply", SHELL, edits=True)
+def wb(session: Session, words: list[str]) -> None:
+    for line in session.driver.ask(" ".join(words)):
+        session.tell(line)
+

@@ -1,0 +1,307 @@
+"""The remote serial protocol of gdb, over one run of the workbench."""
+from __future__ import annotations
+
+import re
+import sys
+from typing import Callable, Optional, Sequence
+
+from . import loading, memory, monitor, target
+from .arguments import parse
+from .driver import Driver
+from .errors import Problem
+from .limits import RAM, ROM
+from .motion import TRAP, Motion
+from .replies import number_of
+from .rsp import PACKET_BYTES, Link
+from .travel import Watch
+
+USAGE = "usage: bin/wb stub [--log FILE] [--kind KIND] [--through] IMAGE"
+OPTIONS = {"--log": "a file", "--kind": "a kind", "--through": "", "--help": ""}
+HELP = f"""\
+{USAGE}
+
+Serves a debugger by gdb's remote serial protocol, on standard input and output. `bin/wb gdb` starts gdb on it;
+docs/DEBUGGING.md says what another debugger needs.
+
+  --log FILE    the bytes that arrive at the serial lines
+  --kind KIND   what the image is, where it can't be seen: elf, image, rom or source
+  --through     single steps run exceptions whole, with their handlers
+  --help        this text
+
+Example, in gdb:
+
+  target extended-remote | bin/wb stub --log examples/login/log examples/login/login.elf
+"""
+
+FEATURES = (b"PacketSize=%x;QStartNoAckMode+;qXfer:features:read+;ReverseStep+;ReverseContinue+;vContSupported+"
+            % PACKET_BYTES)
+OK, FAILED, NOT_KNOWN, GONE = b"OK", b"E01", b"", b"W00"
+CODE, CODE_IN_HARDWARE, WRITE, READ, ACCESS = range(5)  # the kinds of breakpoints and watches
+
+WATCHED = 256  # bytes of a watch at most
+
+NOT_WRITTEN = ("registers can't be written: they follow from the image and the bytes that arrive, which can be edited. "
+               "To run other code, patch it; to call a function, let the program call it")
+
+
+class Malformed(Exception):
+    """A packet that says nothing."""
+
+
+class Stub:
+    """Answers packets, one by one."""
+
+    def __init__(self, driver: Driver, link: Link, *, exceptions_whole: bool = False,
+                 tell: Callable[[str], None] = loading.say) -> None:
+        self._driver = driver
+        self._link = link
+        self._tell = tell  # for the sentences that gdb doesn't show: it shows what a stub writes to standard error
+        self._motion = Motion(driver, link, exceptions_whole=exceptions_whole)
+        self._steps_ranges = not exceptions_whole
+        self._breakpoints: set[tuple[int, int]] = set()  # kinds and addresses
+        self._killed = False  # the debugger may start the run again
+        self._ended = False
+        self._places: dict[int, int] = {}  # where watched addresses led last
+        driver.wants_stop = self._motion.wants_stop
+
+    def serve(self) -> None:
+        """Answers until the debugger goes."""
+        while not self._ended:
+            packet = self._link.receive()
+            if packet is None:
+                return
+            reply = self._reply(packet)
+            if reply is not None:
+                self._link.send(reply)
+
+    def _reply(self, packet: bytes) -> Optional[bytes]:
+        """The reply to a packet, if it has one."""
+        begin = next((begin for begin in ANSWERS if packet.startswith(begin)), None)
+        if begin is None:
+            return NOT_KNOWN
+        try:
+            return ANSWERS[begin](self, packet[len(begin):])
+        except Problem as problem:
+            self._tell(str(problem))
+            return FAILED
+        except Malformed:
+            return FAILED
+
+    # What the stub is
+
+    def _features(self, rest: bytes) -> bytes:
+        return FEATURES
+
+    def _no_acknowledgements(self, rest: bytes) -> bytes:
+        self._link.acknowledging = False
+        return OK
+
+    def _description(self, rest: bytes) -> bytes:
+        first, count = _numbers(rb"(\w+),(\w+)", rest)
+        whole = target.description()
+        return (b"m" if first + count < len(whole) else b"l") + whole[first:first + count]
+
+    def _why_stopped(self, rest: bytes) -> bytes:
+        return GONE if self._killed else TRAP
+
+    def _attached(self, rest: bytes) -> bytes:
+        return b"1"
+
+    def _ok(self, rest: bytes) -> bytes:
+        return OK
+
+    # Registers and memory
+
+    def _registers(self, rest: bytes) -> bytes:
+        return target.all_text(target.values(self._driver))
+
+    def _register(self, rest: bytes) -> bytes:
+        number, = _numbers(rb"(\w+)", rest)
+        if number >= len(target.NAMES):
+            raise Malformed
+        return target.text(target.values(self._driver), number)
+
+    def _set_registers(self, rest: bytes) -> bytes:
+        if rest.lower() != self._registers(b""):
+            raise Problem(NOT_WRITTEN)
+        return OK
+
+    def _set_register(self, rest: bytes) -> bytes:
+        _numbers(rb"(\w+)=(\w+)", rest)
+        number, _, value = rest.partition(b"=")
+        if value.lower() != self._register(number):
+            raise Problem(NOT_WRITTEN)
+        return OK
+
+    def _read(self, rest: bytes) -> bytes:
+        address, count = _numbers(rb"(\w+),(\w+)", rest)
+        content = memory.read(self._driver, address, min(count, PACKET_BYTES // 2))
+        return content.hex().encode() if content or not count else FAILED
+
+    def _write_digits(self, rest: bytes) -> bytes:
+        place, _, digits = rest.partition(b":")
+        return self._write(place + b":" + _from_digits(digits))
+
+    def _write(self, rest: bytes) -> bytes:
+        place, _, content = rest.partition(b":")
+        address, count = _numbers(rb"(\w+),(\w+)", place)
+        if count != len(content):
+            raise Malformed
+        memory.write(self._driver, address, content)
+        return OK
+
+    # Where a run is to stop
+
+    def _insert(self, rest: bytes) -> bytes:
+        kind, address, size = _numbers(rb"(\w),(\w+),(\w+)", rest)
+        if kind in (CODE, CODE_IN_HARDWARE):
+            if address % 4 or address >= 1 << 32:
+                raise Problem(f"no instruction stands at 0x{address:08x}: an address is a multiple of 4, of 32 bits")
+            self._breakpoints.add((kind, address))
+        elif kind == WRITE:
+            self._motion.stops.watches.add(self._watch(address, size))
+        else:
+            raise Problem("reads can't be watched, as the workbench notes stores alone: use `watch`")
+        self._motion.stops.breakpoints = {address for _, address in self._breakpoints}
+        return OK
+
+    def _remove(self, rest: bytes) -> bytes:
+        kind, address, size = _numbers(rb"(\w),(\w+),(\w+)", rest)
+        stops = self._motion.stops
+        self._breakpoints.discard((kind, address))
+        stops.breakpoints = {address for _, address in self._breakpoints}
+        stops.watches = {watch for watch in stops.watches if kind != WRITE or (watch.address, watch.size) != (address,
+                                                                                                              size)}
+        return OK
+
+    def _watch(self, address: int, size: int) -> Watch:
+        """A watch at a virtual address. Where that leads nowhere now it is watched where it led before."""
+        place = self._driver.physical(address)
+        if place is None:
+            place = self._places.get(address)
+        if place is None or not all(it in RAM or it in ROM for it in (place, place + size - 1)):
+            raise Problem(f"no memory stands at 0x{address:08x} at position {self._driver.position:,}")
+        if size > WATCHED or address % memory.PAGE + size > memory.PAGE:
+            raise Problem(f"a watch has at most {WATCHED:,} bytes, all in one page: watch a part of it")
+        self._places[address] = place
+        return Watch(address, size, place)
+
+    # Runs
+
+    def _continue(self, rest: bytes) -> bytes:
+        return self._from_here(rest, self._motion.go_on)
+
+    def _step(self, rest: bytes) -> bytes:
+        return self._from_here(rest, self._motion.step)
+
+    def _from_here(self, rest: bytes, move: Callable[[], bytes]) -> bytes:
+        """A move, which may not begin at an address that the debugger says."""
+        if rest:
+            raise Problem(NOT_WRITTEN)
+        return move()
+
+    def _continue_back(self, rest: bytes) -> bytes:
+        return self._motion.go_back()
+
+    def _step_back(self, rest: bytes) -> bytes:
+        return self._motion.step_back()
+
+    def _actions(self, rest: bytes) -> bytes:
+        return b"vCont;c;C;s;S" + (b";r" if self._steps_ranges else b"")
+
+    def _resume(self, rest: bytes) -> bytes:
+        """The first action of a list: there is one thread, so there is one action."""
+        action = rest.split(b";")[0].split(b":")[0]
+        if action[:1] in (b"c", b"C"):
+            return self._motion.go_on()
+        if action[:1] in (b"s", b"S"):
+            return self._motion.step()
+        first, end = _numbers(rb"r(\w+),(\w+)", action)
+        return self._motion.leave(range(first, end, 4))
+
+    def _run(self, rest: bytes) -> bytes:
+        """Starts again, at the position that is the first word after the file's name."""
+        words = [_from_digits(word).decode("latin-1") for word in rest.split(b";")[1:]]
+        position = number_of(words[0]) if words else 0
+        if position is None:
+            raise Problem(f"{words[0]} is no position")
+        self._driver.goto(position)
+        self._killed = False
+        return TRAP
+
+    def _kill(self, rest: bytes) -> bytes:
+        self._killed = True
+        return OK
+
+    def _end(self, rest: bytes) -> bytes:
+        self._ended = True
+        return OK
+
+    def _command(self, rest: bytes) -> bytes:
+        line = _from_digits(rest).decode("utf-8", "replace")
+        self._motion.say(monitor.answer(self._driver, line).encode())
+        return OK
+
+
+Answer = Callable[[Stub, bytes], bytes]
+
+# The answers, by the begin of a packet: a longer one stands before a shorter one that it begins with.
+ANSWERS: dict[bytes, Answer] = {
+    b"qSupported": Stub._features,
+    b"QStartNoAckMode": Stub._no_acknowledgements,
+    b"qXfer:features:read:target.xml:": Stub._description,
+    b"qAttached": Stub._attached,
+    b"qRcmd,": Stub._command,
+    b"vCont?": Stub._actions,
+    b"vCont;": Stub._resume,
+    b"vRun;": Stub._run,
+    b"vKill": Stub._kill,
+    b"!": Stub._ok,
+    b"?": Stub._why_stopped,
+    b"H": Stub._ok,
+    b"g": Stub._registers,
+    b"G": Stub._set_registers,
+    b"p": Stub._register,
+    b"P": Stub._set_register,
+    b"m": Stub._read,
+    b"M": Stub._write_digits,
+    b"X": Stub._write,
+    b"Z": Stub._insert,
+    b"z": Stub._remove,
+    b"bc": Stub._continue_back,
+    b"bs": Stub._step_back,
+    b"c": Stub._continue,
+    b"s": Stub._step,
+    b"D": Stub._end,
+    b"k": Stub._end,
+}
+
+
+def _numbers(form: bytes, text: bytes) -> list[int]:
+    """The hexadecimal numbers of a text of a form."""
+    match = re.fullmatch(form, text)
+    if not match or not all(re.fullmatch(rb"[0-9a-fA-F]{1,16}", word) for word in match.groups()):
+        raise Malformed
+    return [int(word, 16) for word in match.groups()]
+
+
+def _from_digits(digits: bytes) -> bytes:
+    if len(digits) % 2 or not re.fullmatch(rb"[0-9a-fA-F]*", digits):
+        raise Malformed
+    return bytes.fromhex(digits.decode())
+
+
+def main(arguments: Sequence[str]) -> int:
+    """Serves one debugger on standard input and output."""
+    line = parse(arguments, OPTIONS, USAGE)
+    if line.has("--help"):
+        sys.stdout.write(HELP)
+        return 0
+    if len(line.words) != 1:
+        raise Problem(USAGE)
+    driver = loading.start(loading.image(line.words[0], line.get("--kind")), line.get("--log"))
+    try:
+        Stub(driver, Link(sys.stdin.fileno(), sys.stdout.fileno()), exceptions_whole=line.has("--through")).serve()
+    finally:
+        driver.close()
+    return 0

@@ -1,0 +1,62 @@
+"""The registers as gdb knows them: their order, the target description, and their bytes.
+
+gdb wants the features of a MIPS processor, the floating-point unit among them, which this machine lacks: its registers
+have no value. The project's own feature has what a MIPS description has no name for.
+"""
+
+from __future__ import annotations
+
+from .driver import Driver
+
+GENERAL = [f"r{number}" for number in range(32)]
+FLOATING = [f"f{number}" for number in range(32)] + ["fcsr", "fir"]
+CONTROL = ["index", "random", "entrylo", "context", "entryhi", "epc", "prid"]
+OWN = ["position", "nextpc", "delay", "loadreg", "loadval", *CONTROL]
+NAMES = [*GENERAL, "status", "lo", "hi", "badvaddr", "cause", "pc", *FLOATING, *OWN]
+NUMBERS = {name: number for number, name in enumerate(NAMES)}
+FEATURES = {
+    "org.gnu.gdb.mips.cpu": [*GENERAL, "lo", "hi", "pc"],
+    "org.gnu.gdb.mips.cp0": ["status", "badvaddr", "cause"],
+    "org.gnu.gdb.mips.fpu": FLOATING,
+    "bezhakkom.workbench": OWN,
+}
+POINTERS = {"pc": "code_ptr", "nextpc": "code_ptr", "epc": "code_ptr"}
+UNSIGNED = {"position", "delay", "loadreg"}
+
+
+def description() -> bytes:
+    """The target description. The numbers are those that gdb gives a MIPS processor without one."""
+    lines = ['<?xml version="1.0"?>', '<!DOCTYPE target SYSTEM "gdb-target.dtd">', "<target>"]
+    lines += ["<architecture>mips:3000</architecture>", "<osabi>none</osabi>"]
+    for feature, names in FEATURES.items():
+        lines.append(f'<feature name="{feature}">')
+        lines += [_register(name) for name in names]
+        lines.append("</feature>")
+    return "\n".join([*lines, "</target>", ""]).encode()
+
+
+def _register(name: str) -> str:
+    kind = POINTERS.get(name, "uint32" if name in UNSIGNED else "int")
+    group = ' group="float"' if name in FLOATING else ""
+    return f'<reg name="{name}" bitsize="32" type="{kind}" regnum="{NUMBERS[name]}"{group}/>'
+
+
+def values(driver: Driver) -> dict[str, int]:
+    """All registers that have a value at the position, each by the name that the description gives it."""
+    registers = driver.registers()
+    load_register, load_value = registers.load or (0, 0)
+    own = {"position": driver.position, "nextpc": registers.next_pc, "delay": int(registers.delay),
+           "loadreg": load_register,
+           "loadval": load_value}
+    others = {"pc": registers.pc, "hi": registers.hi, "lo": registers.lo}
+    return {**dict(zip(GENERAL, registers.general)), **driver.control(), **others, **own}
+
+
+def text(registers: dict[str, int], number: int) -> bytes:
+    """The hexadecimal digits of a register, low byte first, or `x` where it has no value."""
+    value = registers.get(NAMES[number])
+    return b"xxxxxxxx" if value is None else value.to_bytes(4, "little").hex().encode()
+
+
+def all_text(registers: dict[str, int]) -> bytes:
+    return b"".join(text(registers, number) for number in range(len(NAMES)))

@@ -1,0 +1,52 @@
+"""A terminal on a command of `bin/wb`, for tests: keys go in, and what is shown comes out."""
+from __future__ import annotations
+
+import os
+import pty
+import select
+import time
+
+from front.tests.support import ROOT
+
+PATIENCE = 30
+
+
+class Terminal:
+    """A command on a terminal of its own, in the repository's folder."""
+
+    def __init__(self, *arguments: str, **environment: str) -> None:
+        self.process, self._terminal = pty.fork()
+        if not self.process:
+            os.chdir(ROOT)
+            os.execve(ROOT / "bin/wb", ["bin/wb", *arguments], {**os.environ, "TERM": "dumb", **environment})
+        self._shown = b""
+
+    def type(self, keys: bytes) -> None:
+        os.write(self._terminal, keys)
+
+    def until(self, wanted: bytes) -> bytes:
+        """What is shown up to a text, and with it."""
+        end = time.monotonic() + PATIENCE
+        while wanted not in self._shown:
+            if time.monotonic() > end or not self._read():
+                raise AssertionError(f"{wanted!r} was not shown, but {self._shown!r}")
+        before, _, self._shown = self._shown.partition(wanted)
+        return before + wanted
+
+    def _read(self) -> bool:
+        if not select.select([self._terminal], [], [], 0.1)[0]:
+            return True
+        try:
+            content = os.read(self._terminal, 1 << 16)
+        except OSError:
+            return False
+        self._shown += content
+        return bool(content)
+
+    def end(self) -> int:
+        """Waits until the command ends, and gives its status as the system has it."""
+        while self._read():
+            pass
+        _, status = os.waitpid(self.process, 0)
+        os.close(self._terminal)
+        return status

@@ -1,0 +1,233 @@
+"""The driver against the program itself: what it mirrors, and that nothing is lost where the program is started anew."""
+from __future__ import annotations
+
+import os
+import random
+import signal
+import threading
+import time
+import unittest
+from unittest import mock
+
+from front import driver as drivers
+from front import loading
+from front.driver import Driver
+from front.errors import Ended, Interrupted, Refused
+from front.image import Image
+from front.log import Event
+from front.replies import Where, Writer
+from front.tests.support import ROOT, random_rom, rom, start
+
+ECHO = ROOT / "examples/echo"
+
+# The words of the echo program that turn the receiver on and go to its loop.
+LOOP = 0xBFC0_1000
+
+
+def echo() -> Driver:
+    return loading.start(loading.image(str(ECHO / "boot.s")), str(ECHO / "log"))
+
+
+def random_command(source: random.Random, events: int) -> str:
+    """A command that moves, edits or asks, mostly one that is not refused."""
+    step = source.randrange(600)
+    return source.choice((
+        f"goto {step}", f"step {step // 50}", f"back {step // 50}", "pos", "regs", f"reg {source.randrange(34)}", "cp0",
+        f"mem {source.choice((0x100, 0x104, 0x1FC0_0000, 0x102))} {source.randrange(1, 6)}", "dis 0x1fc00000 3",
+        f"writer {0x100 + 4 * source.randrange(4)}", f"visit 0xbfc00014 {1 + step}", "console 0 0 9", "", "# a comment", "?",
+        f"log {source.randrange(6)} {source.randrange(1, 9)}", f"add {step} {source.randrange(5)} {source.randrange(256)}",
+        f"del {source.randrange(events + 1)}", f"set {source.randrange(events + 1)} {source.randrange(300)}",
+        f"move {source.randrange(events + 1)} {step}",
+        f"patch {source.choice((0x100, 0x200, 0x1FC0_0024, 0x1FE0_0000))} {source.randrange(1 << 32)}"))
+
+
+class Values(unittest.TestCase):
+    """What is asked by values, with those of the worked examples."""
+
+    def setUp(self) -> None:
+        self.driver = echo()
+        self.addCleanup(self.driver.close)
+
+    def test_values(self) -> None:
+        driver = self.driver
+        self.assertEqual(driver.log, [Event(70, 0, 0x41), Event(200, 0, 0x42)])
+        driver.goto(256)
+        self.assertEqual(driver.writer(0x104), Writer("step", 213))
+        self.assertEqual(driver.writer(0x1FC0_0000), Writer("image", None))
+        self.assertEqual(driver.writer(0x200), Writer("never", None))
+        self.assertEqual((driver.console(0), driver.console(0, 1), driver.sent(0), driver.find(0, 1)), (b"AB", b"B", 2, 215))
+        self.assertEqual(driver.where(0x8000_0010), Where("cached", 0x10))
+        self.assertEqual(driver.where(0xC000_0000), Where("tlbl", None))
+        self.assertEqual(driver.where(0x1000), Where("refill", None))
+        driver.goto(20)
+        self.assertEqual(driver.registers().pc, LOOP)
+        self.assertEqual(driver.control()["prid"], 0x220)
+        self.assertEqual(driver.words(0x1FC0_0000, 9)[-1], 0xAC25_0000)
+        self.assertEqual(len(driver.words(0, 100)), 100)
+
+    def test_refusals(self) -> None:
+        with self.assertRaises(Refused) as caught:
+            self.driver.words(0x1FE0_0000, 1)
+        self.assertEqual((caught.exception.number, caught.exception.name), (6, "NotMemory"))
+        with self.assertRaises(Refused):
+            self.driver.goto(1 << 32)
+        self.assertEqual(self.driver.ask("back 1"), ["error 7 TooFar"])
+        self.assertEqual((self.driver.ask("#"), self.driver.ask("?")), ([], ["error 2 Syntax"]))
+
+    def test_edits(self) -> None:
+        driver = self.driver
+        driver.goto(256)
+        driver.delete(1)
+        self.assertEqual((driver.writer(0x104).step, driver.console(0)), (81, b"A"))
+        driver.patch(0x1FC0_1014, 0x24C6_0001)
+        self.assertEqual(driver.console(0), b"B")
+        self.assertEqual(driver.boot().word(0x1FC0_1014), 0x24C6_0001)
+        log = [Event(70, 0, 0x41), Event(200, 0, 0x42)]
+        driver.revert(log, [])
+        self.assertEqual((driver.log, driver.patches, driver.console(0)), (log, [], b"AB"))
+
+    def test_a_patch_of_an_unset_word_is_taken_back(self) -> None:
+        self.driver.goto(5)
+        self.driver.patch(0x300, 7)
+        self.driver.patch(0x1FC0_1014, 0x24C6_0001)
+        self.assertEqual(self.driver.writer(0x300).kind, "image")
+        self.driver.revert(self.driver.log, [])
+        self.assertEqual(self.driver.writer(0x300).kind, "never")
+        self.assertEqual((self.driver.words(0x1FC0_1014, 1), self.driver.boot().word(0x1FC0_1014)), ([0], 0))
+
+
+class Mirrors(unittest.TestCase):
+    def test_random_commands(self) -> None:
+        """Each reply is the program's own, with as few reads as a program may have that is started anew again and again."""
+        for seed in range(12):
+            source = random.Random(seed)
+            image = rom(random_rom(source))
+            log = sorted((Event(source.randrange(400), 0, source.randrange(256)) for _ in range(3)), key=lambda it: it.time)
+            commands = [random_command(source, 6) for _ in range(150)]
+            plain, anew = start(image, log), start(image, log, most_reads=12)
+            with self.subTest(seed=seed):
+                self.assertEqual(anew.ask_all(commands), plain.ask_all(commands))
+                self.assertEqual((anew.log, anew.patches, anew.position), (plain.log, plain.patches, plain.position))
+                self.assertEqual([_event(it) for it in plain.ask("log 0 32")[1:]], plain.log)
+                self.assertEqual(f"pos {plain.position}", plain.ask("pos")[0])
+            plain.close()
+            anew.close()
+
+    def test_reverting(self) -> None:
+        """Any log becomes any other one, also among events of one time."""
+        source = random.Random(7)
+        driver = start(rom([]))
+        self.addCleanup(driver.close)
+        for _ in range(60):
+            wanted = sorted((Event(source.randrange(4), 0, source.randrange(3)) for _ in range(source.randrange(9))),
+                            key=lambda it: it.time)
+            driver.revert(wanted, [])
+            self.assertEqual([_event(it) for it in driver.ask("log 0 32")[1:]], wanted)
+
+
+def _event(line: str) -> Event:
+    _, when, serial, byte = line.split()
+    return Event(int(when), int(serial), int(byte, 16))
+
+
+class Ends(unittest.TestCase):
+    """A program that dies, and turns that are ended."""
+
+    def setUp(self) -> None:
+        self.driver = echo()
+        self.addCleanup(self.driver.close)
+
+    def check(self) -> None:
+        """The edits are there, and replies are in step."""
+        self.assertEqual(self.driver.ask_all(["goto 256", "writer 0x104", "log 2 1"]),
+                         [["pos 256"], ["writer 213"], ["log 3", "2 300 0 0x43"]])
+
+    def test_killed(self) -> None:
+        self.driver.add(300, 0, 0x43)
+        self.driver.patch(0x1FC0_2000, 5)
+        self.driver.goto(40)
+        assert self.driver._program
+        os.kill(self.driver._program._process.pid, signal.SIGKILL)
+        with self.assertRaisesRegex(Ended, "SIGKILL"):
+            self.driver.registers()
+        self.assertEqual(self.driver.position, 40)
+        self.assertEqual(self.driver.words(0x1FC0_2000, 1), [5])
+        self.check()
+
+    def test_ctrl_c(self) -> None:
+        """Ctrl-C ends a turn that would take minutes, between two commands."""
+        self.driver.add(300, 0, 0x43)
+        before = signal.signal(signal.SIGINT, signal.default_int_handler)
+        self.addCleanup(signal.signal, signal.SIGINT, before)
+        ended = threading.Timer(0.2, os.kill, (os.getpid(), signal.SIGINT))
+        ended.start()
+        begin = time.monotonic()
+        with self.assertRaises(Interrupted):
+            self.driver.ask_all(["goto 4000000000", "regs"])
+        self.assertLess(time.monotonic() - begin, 5)
+        self.assertIs(signal.getsignal(signal.SIGINT), signal.default_int_handler)
+        self.check()
+
+    def test_a_wish_to_stop(self) -> None:
+        self.driver.add(300, 0, 0x43)
+        asked = 0
+
+        def wants_stop() -> bool:
+            nonlocal asked
+            asked += 1
+            return asked > 40
+        self.driver.wants_stop = wants_stop
+        with self.assertRaises(Interrupted):
+            for _ in range(100):
+                self.driver.ask_all(["visit 0 100000"] * 10)
+        self.driver.wants_stop = lambda: False
+        self.check()
+
+    def test_refused_at_the_start(self) -> None:
+        cases: list[tuple[Image, list[Event], str]] = [
+            (Image("x", "image", b"R3KIMG1\n"), [], "BadImage Short"), (Image("x", "source", b"foo\n"), [], "BadSource 1 Name"),
+            (rom([]), [Event(3, 9, 0)], "BadLog Line")]
+        for image, log, said in cases:
+            with self.assertRaisesRegex(Ended, said) as caught:
+                Driver.start(image, log)
+            self.assertEqual(caught.exception.status, 1)
+
+    def test_no_program(self) -> None:
+        with mock.patch.dict(os.environ, WB_PROGRAM="/nowhere"), self.assertRaisesRegex(Exception, "can't be started"):
+            start(rom([]))
+
+
+class LongRuns(unittest.TestCase):
+    def test_pieces(self) -> None:
+        """A long run is shown, and its end is that of a run at once; an edit lets only what is after it be run again."""
+        class Progress:
+            shown: list[tuple[int, int]] = []
+            closed = 0
+
+            def __call__(self, done: int, total: int) -> None:
+                self.shown.append((done, total))
+
+            def close(self) -> None:
+                self.closed += 1
+
+        progress = Progress()
+        words = random_rom(random.Random(3))
+        end = 5 * drivers.SPAN + 3
+        with mock.patch.object(drivers, "PIECE", drivers.SPAN):
+            driver = Driver.start(rom(words), report=progress)  # type: ignore[arg-type]
+            driver.goto(end)
+            state = driver.registers()
+            self.assertEqual([done for done, _ in progress.shown], [it * drivers.SPAN for it in (1, 2, 3, 4, 5)])
+            progress.shown.clear()
+            driver.add(3 * drivers.SPAN + 9, 0, 1)
+            self.assertEqual(driver.registers(), state)
+            self.assertEqual([done for done, _ in progress.shown], [drivers.SPAN - 9, 2 * drivers.SPAN - 9])
+        plain = start(rom(words))
+        plain.goto(end)
+        self.assertEqual(plain.registers(), state)
+        plain.close()
+        driver.close()
+
+
+if __name__ == "__main__":
+    unittest.main()

@@ -1,0 +1,257 @@
+"""gdb itself on the stub, over the examples.
+
+The positions and values were counted by hand (examples/*/README.md), or asked of the plain workbench in bench/plain
+for the ROM and log of examples/login; addresses and lines are those of its ELF, as gdb and objdump show them without a
+run."""
+from __future__ import annotations
+
+import os
+import shutil
+import signal
+import subprocess
+import sys
+import tempfile
+import unittest
+from pathlib import Path
+from typing import Sequence
+
+from front.tests import debugger
+from front.tests.debugger import batch
+
+POSITION = 'printf "at %d\\n", $position'
+
+
+def setUpModule() -> None:
+    debugger.install()
+
+
+class GdbTest(unittest.TestCase):
+    maxDiff = None
+
+    def holds(self, lines: Sequence[str], *expected: str) -> None:
+        """The expected lines are among the lines, in their order."""
+        rest = iter(lines)
+        for line in expected:
+            self.assertTrue(any(line == other for other in rest),
+                            f"{line!r} is not, or not in its place, in:\n" + "\n".join(lines))
+
+
+class Login(GdbTest):
+    IMAGE, LOG = "login/login.elf", "login/log"
+
+    def batch(self, *commands: str, options: Sequence[str] = ()) -> list[str]:
+        return batch(self.IMAGE, *commands, log=self.LOG, options=options)
+
+    def test_breakpoints_both_ways(self) -> None:
+        lines = self.batch("break print", *["continue", POSITION] * 3, *["reverse-continue", POSITION] * 3)
+        positions = [line for line in lines if line.startswith("at ")]
+        self.assertEqual(positions, ["at 127", "at 30029", "at 40029", "at 30029", "at 127", "at 0"])
+        self.holds(lines, 'Breakpoint 1, print (text=text@entry=0xbfc0041c "password: ") at login.c:24',
+                   "No more reverse-execution history.")
+
+    def test_watches_both_ways(self) -> None:
+        lines = self.batch("break main", "continue", "watch session.length", *["continue", POSITION] * 2, "delete 2",
+                           "starti 110960",
+                           "watch session.user[8]", "reverse-continue", POSITION, "print session.length",
+                           "watch session.length",
+                           "reverse-continue", POSITION)
+        self.holds(lines, "Old value = 0", "New value = 1", "49\t            send('*');", "at 20032", "Old value = 1",
+                   "New value = 0", "at 30025",
+                   "Old value = 115 's'", "New value = 0 '\\000'", "47\t            session.line[session.length] = c;",
+                   "at 50029", "$1 = -1",
+                   "Old value = -1", "New value = 0", "44\t            session.length--;", "at 40024")
+
+    def test_conditions_and_several_at_once(self) -> None:
+        lines = self.batch("start", "break 48 if session.length == 3", "watch session.user", "break 53",
+                           *["continue", POSITION] * 3,
+                           *["reverse-continue", POSITION] * 2)
+        self.assertEqual([line for line in lines if line.startswith("at ")],
+                         ["at 50030", "at 90030", "at 110022", "at 90030", "at 50029"])
+
+    def test_delay_slots(self) -> None:
+        lines = self.batch("starti 144", *['printf "%x %d\\n", $pc, $delay', "stepi"] * 2,
+                           'printf "%x %d\\n", $pc, $delay',
+                           "reverse-stepi",
+                           'printf "%x %d\\n", $pc, $delay')
+        self.holds(lines, "bfc001a0 0", "bfc001a4 1", "bfc001a8 0", "bfc001a4 1")
+
+    def test_load_slots(self) -> None:
+        # lui v0, 0xbfe0; lw v0, 0(v0), which gives MSE and TRDY; nop
+        lines = self.batch("starti 142", 'printf "%x %d %x\\n", $v0, $loadreg, $loadval', "stepi",
+                           'printf "%x %d %x\\n", $v0, $loadreg, $loadval')
+        self.holds(lines, "bfe00000 2 8020", "8020 0 0")
+
+    def test_finish_and_back(self) -> None:
+        lines = self.batch("break send", "continue", "delete", "finish", POSITION, "reverse-stepi", "reverse-finish",
+                           POSITION,
+                           "up")
+        self.holds(lines, "Breakpoint 1, send (c=112 'p') at login.c:18", "25\t    while (*text)", "at 150", "at 139",
+                   "#1  0xbfc003c0 in main () at login.c:69")
+
+    def test_lines_both_ways(self) -> None:
+        lines = self.batch("break main", "continue", *["next"] * 4, "step", "reverse-next", "reverse-next",
+                           "reverse-step",
+                           "tbreak read_line", "continue",
+                           "reverse-next", "reverse-next", "next")
+        call = "69\t        print(\"password: \");"
+        self.holds(lines, "64\t{", "65\t    SERIAL[LPR] = RECEIVER;  /* of line 0 */", "66\t    SERIAL[TCR] = 1;",
+                   "67\t    SERIAL[CSR] = MSE;", call,
+                   "print (text=text@entry=0xbfc0041c \"password: \") at login.c:24", "main () at login.c:69", call,
+                   "67\t    SERIAL[CSR] = MSE;",
+                   "66\t    SERIAL[TCR] = 1;", "Temporary breakpoint 2, read_line () at login.c:39",
+                   "main () at login.c:70",
+                   "70\t        read_line();",
+                   call, "password: 70\t        read_line();")
+
+    def test_registers(self) -> None:
+        lines = self.batch("starti 40024", "info registers")
+        self.holds(
+            lines,
+            " R0   00000000 00000000 80001000 ffffffff 00000000 80001000 00000000 00000000 ",
+            " R8   bfc00470 80001030 80001030 80001030 00000000 00000000 00000000 00000000 ",
+            " R24  00000000 00000000 00000000 00000000 00000000 80010fd0 00000000 bfc00274 ",
+            "      00400000 00000000 00000000 00000000 00000000 bfc00258 ",
+            "       <unavl>  <unavl> 00009c58 bfc0025c 00000000 00000000 00000000 00000000 ")
+
+    def test_an_edit(self) -> None:
+        lines = self.batch("continue", "wb del 2", POSITION, "wb goto 0", "continue", POSITION, "wb log 0 3")
+        self.holds(lines, "Sorry, operatorsesame.", "log 9", "at 110960", "pos 0", "Welcome, operator.",
+                   "1 30000 0 0x08",
+                   "2 50000 0 0x73")
+
+    def test_expressions_in_a_command(self) -> None:
+        lines = self.batch("starti 60000", "wb writer &session.length", "wb goto $position-9971",
+                           "wb mem session.user+4 1",
+                           "frame")
+        self.holds(lines, "writer 50031", "pos 50029", "47\t            session.line[session.length] = c;",
+                   "0x00001004 0x726f7461")
+
+    def test_what_cannot_be_done_says_why(self) -> None:
+        lines = self.batch("break send", "continue", "print $v0 = 5", "print session.length = 3",
+                           "print equal(\"a\", \"b\")",
+                           "rwatch session.length",
+                           "continue", "print *(int *) 0xbfe00000")
+        text = "\n".join(lines)
+        for sentence in "registers can't be written", "RAM can't be written at position 140", "reads can't be watched":
+            self.assertIn(sentence, text)
+        self.holds(lines, "Cannot access memory at address 0xbfe00000")
+
+    def test_code_is_patched(self) -> None:
+        # The branch of line 43 to the backspace's lines: without it a backspace is a character as any other.
+        lines = self.batch("starti 50000", "set var *(int *) 0xbfc00284 = 0", "print session.length", POSITION, "load",
+                           "wb goto 0", "load",
+                           "starti 50000", "print session.length")
+        self.holds(lines, "$1 = 3", "at 50000", "$2 = -1")
+
+    def test_start_and_kill(self) -> None:
+        lines = self.batch("run 40000", "start", POSITION, "kill", "run", POSITION)
+        self.holds(lines, "Sorry, operatorsesame.", "at 112", "[Inferior 1 (Remote target) killed]", "at 110960")
+
+
+class Driver(GdbTest):
+    IMAGE, LOG = "driver/boot.s", "driver/log"
+
+    def batch(self, *commands: str, options: Sequence[str] = ()) -> list[str]:
+        return batch(self.IMAGE, *commands, log=self.LOG, options=options)
+
+    def test_the_interrupt_is_met_both_ways(self) -> None:
+        # Step 100 is the interrupt, in place of the store in the jump's delay slot. Byte 0 of line 0 goes out in step
+        # 269.
+        lines = self.batch("break *0xbfc00180", "continue", POSITION, 'printf "%x %x\\n", $cause, $epc', "stepi",
+                           "reverse-stepi", "reverse-stepi",
+                           POSITION, 'printf "%x %d\\n", $pc, $delay', "wb goto 270", "reverse-continue", POSITION)
+        self.holds(lines, "at 101", "80000400 bfc00054", "at 100", "bfc00058 1", "at 101")
+
+    def test_labels_of_a_source_are_known(self) -> None:
+        lines = self.batch("break *loop", "continue", POSITION, "x/i $pc", "info symbol 0xbfc00184", "backtrace")
+        self.holds(lines, "Breakpoint 1, 0xbfc00050 in loop ()", "at 32", "=> 0xbfc00050 <loop>:\taddiu\ts0,s0,1",
+                   "loop + 308 in section .rom",
+                   "#0  0xbfc00050 in loop ()")
+
+    def test_the_clock_is_watched_both_ways(self) -> None:
+        lines = self.batch("watch *(int *) 0xa0001000", "continue", POSITION, "continue", POSITION, "wb goto 16000",
+                           "reverse-continue", POSITION)
+        self.holds(lines, "New value = 89", "at 8202", "New value = 0", "Old value = 89", "at 8201")
+
+    def test_what_the_lines_send_is_shown_in_its_order(self) -> None:
+        lines = self.batch("break *0xbfc00064", "wb goto 0", "tbreak *0xbfc00064", "wb goto 0", "delete",
+                           "watch *(int *) 0xa0001000", "continue")
+        text = "\n".join(lines)
+        pieces = "H", "1]\na", "2]\nb", "3]\nc", "0]\ni!", "2]\nABCDEF"
+        self.assertIn("\n[serial line ".join(pieces), text)
+
+    def test_the_debugger_ends_a_long_run(self) -> None:
+        line = [*debugger.words(self.IMAGE, self.LOG), "-ex", "continue", "-ex", POSITION, "-ex", "stepi", "-ex",
+                "quit"]
+        process = subprocess.Popen(line, cwd=debugger.ROOT, stdin=subprocess.PIPE, stdout=subprocess.PIPE,
+                                   stderr=subprocess.STDOUT,
+                                   encoding="latin-1", start_new_session=True)
+        assert process.stdout
+        shown = ""
+        while "[serial line 3]" not in shown:
+            shown += process.stdout.read(1)
+        os.killpg(process.pid, signal.SIGINT)  # as a terminal does
+        shown += process.communicate(timeout=debugger.TIMEOUT)[0]
+        self.assertIn("Program received signal SIGINT", shown)
+        self.assertRegex(shown, r"\nat \d+\n")
+
+
+class UserProgram(GdbTest):
+    IMAGE = "user-mode/boot.s"
+
+    def test_its_memory_is_read_where_it_leads(self) -> None:
+        # The fetch of step 8 misses, and has its entry from step 15 on; the store of step 20, from 27 on, and is made
+        # in step 30. The system call is taken in step 33.
+        lines = batch(self.IMAGE, "starti 8", "x/xw 0x400000", "starti 19", "x/2xw 0x400000", "x/xw 0x500000",
+                      "starti 31",
+                      "x/xw 0x500000",
+                      "x/xw 0x80011000", "starti 34", "x/xw 0x500000")
+        self.holds(lines, "0x400000:\tCannot access memory at address 0x400000", "0x400000:\t0x3c080050\t0x3409002a",
+                   "0x500000:\tCannot access memory at address 0x500000",
+                   "0x500000:\t0x0000002a", "0x80011000 <done+4072>:\t0x0000002a", "0x500000:\t0x0000002a")
+
+    def test_its_word_is_watched(self) -> None:
+        lines = batch(self.IMAGE, "starti 42", "watch *(int *) 0x500000", "reverse-continue", POSITION)
+        self.holds(lines, "Old value = 42", "New value = 0", "at 30")
+
+    def test_steps_run_exceptions_whole(self) -> None:
+        lines = batch(self.IMAGE, "starti 8", *["stepi", POSITION] * 6, *["reverse-stepi", POSITION] * 2,
+                      options=["--through"])
+        self.assertEqual([line for line in lines if line.startswith("at ")],
+                         ["at 19", "at 20", "at 31", "at 32", "at 33", "at 42", "at 33", "at 32"])
+
+
+class Missing(GdbTest):
+    def test_what_is_wrong_is_told_before_gdb_is_started(self) -> None:
+        for words, reason in (("", "usage:"), ("none.elf", "there is no file none.elf"), ("--through --log", "--log wants a file"),
+                              ("--fast examples/login/login.elf", "there is no option --fast"),
+                              ("examples/login/log", "is a log, no image")):
+            self.assertIn(reason, debugger.run([debugger.WB, "gdb", *words.split()]))
+
+    def test_a_gdb_that_is_missing_is_named(self) -> None:
+        with tempfile.TemporaryDirectory() as folder:
+            for name in "bash", "dirname", "readlink":
+                Path(folder, name).symlink_to(str(shutil.which(name)))
+            Path(folder, "python3").symlink_to(sys.executable)
+            line = [debugger.WB, "gdb", "examples/login/login.elf"]
+            done = subprocess.run(line, cwd=debugger.ROOT, env=dict(os.environ, PATH=folder), stderr=subprocess.PIPE,
+                                  encoding="utf-8")
+        self.assertIn("apt-get install gdb-multiarch", done.stderr)
+        self.assertEqual(done.returncode, 2)
+
+
+class Reads(GdbTest):
+    STUB = ("import sys; sys.path.insert(0, '.'); from front import loading, rsp, stub; from front.driver import Driver; "
+            "driver = Driver.start(loading.image('examples/login/login.elf'), most_reads=100); "
+            "stub.Stub(driver, rsp.Link(0, 1)).serve(); driver.close()")
+
+    def test_the_program_is_started_again(self) -> None:
+        commands = [f"target remote | {sys.executable} -B -c \"{self.STUB}\"", "monitor patch 0x200 7", "stepi 112", POSITION,
+                    "reverse-stepi 12", POSITION, "x/xw 0x80000200"]
+        line = [debugger.DEBUGGER, "-q", *debugger.PLAIN, "-iex", "set osabi none", "-batch", "examples/login/login.elf",
+                *(word for command in commands for word in ("-ex", command))]
+        self.holds(debugger.run(line).splitlines(), "at 112", "at 100", "0x80000200:\t0x00000007")
+
+
+if __name__ == "__main__":
+    unittest.main()

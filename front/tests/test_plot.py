@@ -1,0 +1,88 @@
+"""The picture of a run: what stands in it, and where. Counts and steps are the plain workbench's, or counted by
+hand."""
+from __future__ import annotations
+
+import re
+import tempfile
+import unittest
+from pathlib import Path
+from xml.etree import ElementTree
+
+from front.tests import debugger
+
+SVG = "{http://www.w3.org/2000/svg}"
+LOGIN = ["--to", "130000", "--log", "examples/login/log", "examples/login/login.elf"]
+
+
+class Plot(unittest.TestCase):
+    def plot(self, *words: str) -> ElementTree.Element:
+        shown = debugger.run([debugger.WB, "plot", *words])
+        self.assertTrue(shown.startswith("<svg"), shown)
+        return ElementTree.fromstring(shown)
+
+    def texts(self, picture: ElementTree.Element) -> list[str]:
+        return [text.text or "" for text in picture.iter(f"{SVG}text")]
+
+    def holds(self, texts: list[str], *expected: str) -> None:
+        """The texts are there, in their order."""
+        rest = iter(texts)
+        for text in expected:
+            self.assertIn(text, rest, f"of {texts}")
+
+    def test_what_login_does(self) -> None:
+        picture = self.plot("--words", "session+32,0x80001008", *LOGIN)
+        self.assertEqual(picture.get("width"), "1200")
+        self.holds(self.texts(picture), "examples/login/login.elf: 130,000 steps", "line 0 receives", "10 bytes", "'x'",
+                   "'\\b'", "'\\r'",
+                   "line 0 sends", "59 bytes", "session+32", "0x00000000", "ffffffff", "0x80001008", "0x61736573",
+                   "receive")
+
+    def test_an_edit_stands_where_it_meets_the_run(self) -> None:
+        picture = self.plot("--edits", "del 2; patch 0x200 7", *LOGIN)
+        self.holds(self.texts(picture), "9 bytes received, 52 sent, 2 edits, shares of samples", "patch 0x200 7",
+                   "del 2")
+        places = [float(line.get("x1", "0")) for line in picture.iter(f"{SVG}line") if line.get("class") == "edit"]
+        # The run goes from 190 to 1,040: step 40,000 of 130,000 stands at 190 + 850 * 4 / 13.
+        self.assertEqual(places, [190.0, 451.5])
+
+    def test_shares_of_a_short_run_are_exact(self) -> None:
+        # The set-up takes steps 0 to 8; each turn takes 6 steps from `loop` on, 3 from `none` and 2 from `next`, and
+        # 22 turns and 5 steps are made up to 256: 137, 66 and 44 of 256.
+        texts = self.texts(self.plot("--to", "256", "examples/echo/boot.s"))
+        self.holds(texts, "loop", "53.5 %", "none", "25.8 %", "next", "17.2 %", "0xbfc00000", "3.5 %")
+
+    def test_the_picture_of_the_page(self) -> None:
+        page = (debugger.ROOT / "docs/DEBUGGING.md").read_text()
+        found = re.search(r"(?m)^    bin/wb plot (.*) (docs/\S+)$", page)
+        assert found
+        shown = debugger.run([debugger.WB, "plot", *found[1].split()])
+        self.assertEqual(shown, (debugger.ROOT / found[2]).read_text("latin-1"))
+
+    def test_backgrounds(self) -> None:
+        choices: list[list[str]] = [[], ["--background", "light"], ["--background=dark"]]
+        styles = [self.plot(*words, "--to", "100", "examples/login/login.rom").findtext(f"{SVG}style",
+                                                                                        "") for words in choices]
+        self.assertEqual([("#ffffff" in it, "#0d1117" in it, "prefers-color-scheme" in it) for it in styles],
+                         [(True, True, True), (True, False, False), (False, True, False)])
+
+    def test_a_file_is_written_whole_or_not_at_all(self) -> None:
+        with tempfile.TemporaryDirectory() as folder:
+            out = Path(folder) / "run.svg"
+            self.assertEqual(debugger.run([debugger.WB, "plot", *LOGIN, str(out)]), "")
+            ElementTree.parse(out)
+            self.assertIn("can't be written", debugger.run([debugger.WB, "plot", *LOGIN, f"{folder}/none/run.svg"]))
+
+    def test_what_is_wrong_is_told(self) -> None:
+        for words, reason in (
+                (["examples/login/login.elf"], "usage:"), (["--to", "x", *LOGIN[2:]], "x is none"),
+                (["--to", "0", *LOGIN[2:]], "from 1 to"),
+                (["--background", "red", *LOGIN], "there is no background red"),
+                (["--words", "nothing", *LOGIN], "there is no word nothing"),
+                (["--words", "0x1fe00000", *LOGIN], "no memory stands at 0x1fe00000"),
+                (["--edits", "goto 5", *LOGIN], "goto 5 is no edit"),
+                (["--edits", "del 99", *LOGIN], "error 4 NoEvent")):
+            self.assertIn(reason, debugger.run([debugger.WB, "plot", *words]))
+
+
+if __name__ == "__main__":
+    unittest.main()

@@ -1,0 +1,210 @@
+"""The shell, line by line. Steps are those of the worked examples, or counted by hand in the sources."""
+from __future__ import annotations
+
+import os
+import tempfile
+import unittest
+from pathlib import Path
+
+from front import expressions, loading
+from front import log as logs
+from front.driver import Driver
+from front.errors import Problem
+from front.log import Event
+from front.session import Session, distance
+from front.shell import Shell
+from front.symbols import symbols_of
+from front.tests.support import ROOT
+
+
+class Talk:
+    """A shell on an example, and what it says to lines."""
+
+    def __init__(self, example: str, image: str = "boot.s", log: bool = True) -> None:
+        folder = ROOT / "examples" / example
+        made = loading.image(str(folder / image))
+        self.driver: Driver = loading.start(made, str(folder / "log") if log else None)
+        self.said: list[str] = []
+        self.session = Session(self.driver, symbols_of(made), tell=self.said.append, saved_log=list(self.driver.log))
+        self.shell = Shell(self.session)
+
+    def __call__(self, *lines: str) -> list[str]:
+        self.said.clear()
+        for line in lines:
+            self.shell.do(line)
+        return list(self.said)
+
+
+class Echo(unittest.TestCase):
+    """The echo program: a turn of its loop takes 11 steps, the first begins at step 9; it stores at 0x100 and 0x104."""
+
+    def setUp(self) -> None:
+        self.talk = Talk("echo")
+        self.addCleanup(self.talk.driver.close)
+
+    def test_moves(self) -> None:
+        talk = self.talk
+        self.assertEqual(talk("step"), ["step 1, 0xbfc00004: lui r8, 0xa000"])
+        self.assertEqual(talk("visit loop"), ["step 9, loop: lw r6, 8(r1)"])
+        self.assertEqual(talk("back 2"), ["step 7, 0xbfc0001c: j 0xbfc01000 <loop>"])
+        self.assertEqual(talk("step"), ["step 8, 0xbfc00020: sw r5, 0(r1)   (delay slot)"])
+        self.assertEqual(talk("goto 1,000"), ["step 1,000, loop+0x4: sll r0, r0, 0"])
+        self.assertEqual(talk("goto 4,294,967,296"), ["refused: a position is 0 to 4,294,967,295"])
+        self.assertEqual(talk("visit 0x80000000 100"), ["the run does not come to 0x80000000 in the next 100 steps"])
+        self.assertRegex(talk("visit 0x80000000")[0], "does not come to 0x80000000: from step .* waits for a byte")
+        self.assertEqual(talk("pos"), ["step 1,000, loop+0x4: sll r0, r0, 0"])
+
+    def test_stops(self) -> None:
+        """Byte 0x41 arrives in step 70, and the turn of step 75 takes it; 0x42 arrives in step 200, and the turn of step 207."""
+        talk = self.talk
+        self.assertEqual(talk("break loop+0x18", "watch 0xa0000100"),
+                         ["1: breakpoint at 0xbfc01018 <loop+0x18>", "2: watch of 4 bytes at 0xa0000100"])
+        self.assertEqual(talk("continue"), [
+            "2: 0xa0000100: 0x00000000 became 0x00008041", "   in step 77, loop+0x8, 1 step ago: sw r6, 256(r8)",
+            "step 78, loop+0xc: sll r7, r6, 16"])
+        self.assertEqual(talk("c"), ["1: breakpoint at 0xbfc01018 <loop+0x18>", "step 81, loop+0x18: sw r0, 260(r8)"])
+        self.assertEqual(talk("reverse-continue")[-1], "step 77, loop+0x8: sw r6, 256(r8)")
+        self.assertEqual(talk("rc"), ["that is the begin of the run", "step 0, 0xbfc00000: lui r1, 0xbfe0"])
+        self.assertEqual(talk("delete 2", "stops"), ["1: breakpoint at 0xbfc01018 <loop+0x18>"])
+        self.assertEqual(talk("delete 2"), ["there is no breakpoint or watch 2; `stops` lists them"])
+        self.assertEqual(talk("c", "c")[1::2], ["step 81, loop+0x18: sw r0, 260(r8)", "step 213, loop+0x18: sw r0, 260(r8)"])
+        self.assertRegex(talk("c")[0], "waits for a byte, and the log has no more")
+
+    def test_the_past(self) -> None:
+        talk = self.talk
+        self.assertEqual(talk("goto 256", "writer 0xa0000104")[1], "step 213, loop+0x18, 43 steps ago: sw r0, 260(r8)")
+        self.assertEqual(talk("del 1", "writer 0xa0000104"),
+                         ["1 event left", "step 81, loop+0x18, 175 steps ago: sw r0, 260(r8)"])
+        self.assertEqual(talk("undo", "writer 0xa0000104")[0], "taken back: del 1")
+        self.assertRegex(talk("writer 0xa0000104")[0], "step 213")
+        self.assertEqual(talk("console"), ["line 0 sent 2 bytes:", "AB"])
+        self.assertEqual(talk("find 0 1"), ["step 215, loop+0x20, 41 steps ago: sw r6, 24(r1)"])
+        self.assertEqual(talk("writer loop"),
+                         ["0xbfc01000 <loop> holds what the image sets; no step before this position stored there"])
+        self.assertEqual(talk("writer 0x80000200"),
+                         ["no step before this position stored at 0x80000200, and the image does not set it"])
+
+    def test_undo(self) -> None:
+        talk = self.talk
+        before = list(talk.driver.log)
+        talk("goto 256", "add 80 0 'x'", "patch loop+0x14 0x24c60001", "set 0 'Q'", "move 0 90", "wb del 0")
+        self.assertEqual((len(talk.session.edits), len(talk.driver.patches)), (5, 1))
+        talk("undo", "undo", "undo", "undo", "undo")
+        self.assertEqual((talk.driver.log, talk.driver.patches), (before, []))
+        self.assertEqual(talk("undo"), ["there is no edit to take back"])
+        self.assertEqual(talk("console 0"), ["AB"])
+
+    def test_typing(self) -> None:
+        """What is typed is sent back, all of it: a byte a thousand steps, the first one in the step that comes next."""
+        talk = self.talk
+        self.assertEqual(talk("goto 300", "type 'hi\\r'")[1],
+                         "3 bytes for line 0, from step 300 to step 2,300, 1,000 steps apart")
+        self.assertEqual(talk.driver.log[2:], [Event(300, 0, 0x68), Event(1300, 0, 0x69), Event(2300, 0, 0x0D)])
+        self.assertEqual(talk("expect 'hi'"), [f"step {9 + 11 * 118 + 9:,}, next: j 0xbfc01000 <loop>"])
+        self.assertEqual(talk("undo"), ["taken back: type 'hi\\r'"])
+        self.assertRegex(talk('type 0 "it\'s \\"x\\"" 50')[0], "8 bytes for line 0, .* 50 steps apart")
+        self.assertRegex(talk("type 'on' 50")[0], "from step 1,716 to step 1,766")
+        talk("undo", "undo")
+        self.assertRegex(talk("expect 'zz'")[0], "did not send 'zz': at step .* waits for a byte, .*It sent nothing")
+        self.assertRegex(talk("goto 10", "expect 'zz' 30")[1], "up to step 40. It sent nothing")
+
+    def test_refusals(self) -> None:
+        for line, said in (
+                ("mem 0x100", "0x00000100 leads nowhere at this position: .* missing or not valid. .* at 0x80000100"),
+                ("mem 0xbfe00000", "physical address 0x1fe00000, where no memory is"),
+                ("mem 0xa0000101", "multiple of 4; .* 0xa0000100"),
+                ("patch loop 0x100000000", "no word"), ("del 7", "refused: there is no event 7: they are 0 to 1"),
+                ("find 0 0", "line 0 sent no byte of place 0"),
+                ("add 5 9 9", "refused: a step is 0 to 4,294,967,294, a line is 0 to 3"), ("reg 32", "there is no register 32"),
+                ("step nowhere", "no symbol and no register nowhere"), ("frob", "no command frob"), ("goto", "usage: goto N"),
+                ("r", "pc"), ("s 1 2", "usage: step"), ("delete x", "no symbol"), ("type hi", "between quotes"),
+                ("type 7 'x'", "there is no line 7"), ("type '\\q'", "no escape"), ("break 2", "multiple of 4"),
+                ("watch 0xbfe00000", "no memory"), ("watch loop 0", "1 to 1,024 bytes"), ("watch loop 2000", "not 2,000"),
+                ("watch 0x807ffffc 8", "0x80800003 leads to the physical address 0x00800003, where no memory"),
+                ("save-log /no/such", "can't be written"), ("st", "may be step, stops"),
+                ("goto 5+", "no number"), ("goto 5 5", "usage"), ("print 'ab'", "not one character"), ("goto -1", "no number"),
+                ("wb foo", "error 2 Syntax"), ("undo", "no edit"), ("back", "refused: a position")):
+            self.assertRegex("\n".join(self.talk(line)), said, line)
+
+    def test_saving(self) -> None:
+        with tempfile.TemporaryDirectory() as folder:
+            log, image, raw = (os.path.join(folder, it) for it in ("new.log", "new.img", "new.rom"))
+            self.talk("add 300 0 'C'", "patch loop+0x14 0x24c60001", f"save-log {log}", f"save-image {image}", f"save-image {raw}")
+            self.assertEqual(self.talk.session.unsaved(), [])
+            self.assertEqual(logs.read(Path(log).read_bytes(), log)[2:], [Event(300, 0, 0x43)])
+            self.assertEqual(len(Path(raw).read_bytes()), 0x1038)
+            for name in (image, raw):
+                driver = loading.start(loading.image(name), log)
+                driver.goto(400)
+                self.assertEqual(driver.console(0), b"BCD")
+                driver.close()
+            self.talk("set 0 1")
+            self.assertRegex(self.talk.session.unsaved()[0], "the log")
+            self.assertRegex(self.talk("save-log /dev/full")[0], "No space left on device")
+
+
+class Views(unittest.TestCase):
+    def test_memory(self) -> None:
+        talk = Talk("exceptions", log=False)
+        self.assertEqual(talk("goto 89", "mem 0x80001000 5")[1:], [
+            "0x80001000: 0x00000020 0xbfc0003c 0x00000000 0x00000030  | ...<.......0...|", "0x80001010: 0xbfc00048  |H...|"])
+        self.assertEqual(talk("goto 34", "cp0")[-2:], [
+            "kernel mode, interrupts off", "the last exception: system call, at 0xbfc0003c <copy+0x28>"])
+        talk.driver.close()
+
+    def test_processor(self) -> None:
+        talk = Talk("load-slot", log=False)
+        said = talk("goto 2", "regs")
+        self.assertEqual(said[1], "pc 0xbfc00008  next 0xbfc0000c  hi 0x00000000  lo 0x00000000  r2 will be 0x00000005")
+        self.assertEqual(said[2], " r0 zero 0x00000000   r1 at   0xa0000000   r2 v0   0x00000000   r3 v1   0x00000000")
+        self.assertEqual(talk("reg at", "reg 1", "reg r1", "print $at"), [
+            *["at = 0xa0000000  2,684,354,560"] * 3, "$at = 0xa0000000  2,684,354,560"])
+        self.assertEqual(talk("dis 0xbfc00000 2", "dis pc 1"), [
+            "   0xbfc00000: 0x3c01a000  lui r1, 0xa000", "   0xbfc00004: 0x8c220100  lw r2, 256(r1)",
+            "=> 0xbfc00008: 0x00401821  addu r3, r2, r0"])
+        self.assertEqual(talk("where 0x80000010"), ["0x80000010: physical 0x00000010, cached"])
+        self.assertEqual(talk("where 0xc0000000"), ["0xc0000000: its translation entry is missing or not valid"])
+        talk.driver.close()
+
+    def test_pages(self) -> None:
+        """Memory of a user program, whose pages are mapped as it touches them."""
+        talk = Talk("user-mode", log=False)
+        self.assertEqual(talk("visit 0x00400000"), ["step 8, 0x00400000: no instruction can be fetched here"])
+        self.assertRegex(talk("dis")[0], "0x00400000 leads nowhere at this position: no translation entry has its page")
+        said = talk("goto 1000", "dis 0x00400ffc 1", "mem 0x00400ff8 4", "writer 0x00500000")
+        self.assertEqual(said[1:3], ["   0x00400ffc: 0x00000000  sll r0, r0, 0", "0x00400ff8: 0x00000000 0x00000000  |........|"])
+        self.assertRegex(said[3], "0x00401000 leads nowhere")
+        self.assertRegex(said[4], r"0x00400008, 970 steps ago: sw r9, 0\(r8\)")
+        self.assertRegex(talk("dis 0xbfc3fff8 3")[-1], "0xbfc40000 leads to the physical address 0x1fc40000, where no memory is")
+        talk.driver.close()
+
+    def test_numbers(self) -> None:
+        talk = Talk("echo")
+        for text, wanted in (("4,096", 4096), ("0x10+2-1", 17), ("'a'", 97), ("'\\r'", 13), ("loop+0x4", 0xBFC0_1004),
+                             ("&loop", 0xBFC0_1000), ("pc", 0xBFC0_0000), ("$pc+pos", 0xBFC0_0000), ("prid", 0x220),
+                             ("$status", 0x40_0000)):
+            self.assertEqual(expressions.number(text, talk.driver, talk.session.symbols), wanted, text)
+        for text in ("", "+", "loop+", "$loop", "&pc", "0x", "1 2", "12ab", "'"):
+            with self.assertRaises(Problem):
+                expressions.number(text, talk.driver, talk.session.symbols)
+        self.assertEqual([distance(it, 5) for it in (3, 4, 5, 6, 1005)],
+                         ["2 steps ago", "1 step ago", "now", "1 step ahead", "1,000 steps ahead"])
+        talk.driver.close()
+
+
+class Help(unittest.TestCase):
+    def test_help(self) -> None:
+        """Each command of the workbench is there, and each command has its line."""
+        talk = Talk("echo")
+        said = "\n".join(talk("help"))
+        for name in ("pos goto step back visit regs reg cp0 tlb where mem dis console find writer log add del set move patch quit "
+                     "break watch continue reverse-continue type expect save-log save-image undo").split():
+            self.assertRegex(said, rf"(?m)^  {name}( |$)")
+        self.assertEqual(talk("help continue"), ["continue: goes on to the next breakpoint or watch (short: c)"])
+        self.assertRegex(talk("help numbers")[0], "Wherever a number may stand")
+        self.assertEqual(talk("", "# a comment"), [])
+        talk.driver.close()
+
+
+if __name__ == "__main__":
+    unittest.main()
