@@ -25,22 +25,22 @@ use Kind::*;
 #[derive(Clone, Copy, Debug, PartialEq)]
 pub struct SourceFault(pub usize, pub Kind);
 
-/// A number as it is written; none where it is too large for any operand.
-type Number = Option<i64>;
+/// A number of a line; none where it is too large for any operand.
+type Written = Option<i64>;
 
 enum Target<'a> {
     Label(&'a str),
-    Address(Number),
+    Address(Written),
 }
 
 enum Line<'a> {
     Empty,
     Label(&'a str),
-    Org(Number),
-    Word(Number),
-    ByteTime(Number),
-    Unit(Number),
-    Clock(Vec<Number>),
+    Org(Written),
+    Word(Written),
+    ByteTime(Written),
+    Unit(Written),
+    Clock(Vec<Written>),
     Instruction(&'static Row, Vec<Operand<'a>>),
 }
 
@@ -48,7 +48,7 @@ enum Line<'a> {
 enum Operand<'a> {
     Register(u32, u32),
     /// A number with its least and greatest value, its place, and the bits that it takes.
-    Number(Number, i64, i64, u32, u32),
+    Number(Written, i64, i64, u32, u32),
     Branch(Target<'a>),
     Jump(Target<'a>),
 }
@@ -92,7 +92,7 @@ impl<'a> Rest<'a> {
         Ok(Operand::Register(number, shift))
     }
 
-    fn number(&mut self, signed: bool) -> Result<Number, Kind> {
+    fn number(&mut self, signed: bool) -> Result<Written, Kind> {
         let minus = signed && self.0.starts_with('-');
         if minus {
             self.takes('-')?;
@@ -227,7 +227,7 @@ fn operands<'a>(shape: Shape, rest: &mut Rest<'a>) -> Result<Vec<Operand<'a>>, K
     Ok(read)
 }
 
-fn within(number: Number, least: i64, most: i64) -> Result<i64, Kind> {
+fn within(number: Written, least: i64, most: i64) -> Result<i64, Kind> {
     number.filter(|it| (least..=most).contains(it)).ok_or(Number)
 }
 
