@@ -2,6 +2,11 @@
 
 use std::collections::BTreeMap;
 
+/// Whether a word may stand at a place that is a multiple of 4.
+pub fn is_placed(place: u64) -> bool {
+    place < RAM_END || (ROM.into()..ROM_END).contains(&place)
+}
+
 pub const ROM: u32 = 0x1FC0_0000;
 const ROM_END: u64 = 0x1FC4_0000;
 /// The end of the RAM of the largest machine.

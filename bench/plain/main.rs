@@ -1,6 +1,6 @@
 //! A plain workbench in ordinary Rust, apart from the definitions in `crates/*/specs`, to compare the proved program with.
 //!
-//! `plain [--kind rom|image] [--size N] [--log N] [--pages N] [--without PART,..]` reads what the proved program reads,
+//! `plain [--kind rom|image|source] [--size N] [--log N] [--pages N] [--without PART,..]` reads what the proved program reads,
 //! and writes what it writes. The parts are `translation`, `caches` and `devices`. Each query runs from reset, by the
 //! simplest means.
 //! `plain --random image|reader|log|script --seed N [--without PART,..] [--asks COMMAND,..]` writes a random one instead:
@@ -20,6 +20,7 @@ mod random;
 mod script;
 mod serial;
 mod session;
+mod source;
 mod table;
 #[cfg(test)]
 mod tests;
@@ -35,8 +36,15 @@ use machine::Parts;
 use script::Command;
 use session::Session;
 
+#[derive(Clone, Copy)]
+enum Kind {
+    Rom,
+    Image,
+    Source,
+}
+
 struct Options {
-    is_image: bool,
+    kind: Kind,
     size: usize,
     log_size: usize,
     parts: Parts,
@@ -48,7 +56,7 @@ struct Options {
 /// The program's line, or what is wrong with it.
 fn options(mut words: impl Iterator<Item = String>) -> Result<Options, String> {
     let mut options = Options {
-        is_image: false,
+        kind: Kind::Rom,
         size: 0,
         log_size: 0,
         parts: Parts::ALL,
@@ -60,7 +68,9 @@ fn options(mut words: impl Iterator<Item = String>) -> Result<Options, String> {
         let value = words.next().ok_or(format!("{word} wants a value"))?;
         let number = || value.parse::<usize>().map_err(|_| format!("{value} is no number"));
         match word.as_str() {
-            "--kind" if value == "rom" || value == "image" => options.is_image = value == "image",
+            "--kind" if value == "rom" => options.kind = Kind::Rom,
+            "--kind" if value == "image" => options.kind = Kind::Image,
+            "--kind" if value == "source" => options.kind = Kind::Source,
             "--size" => options.size = number()?,
             "--log" => options.log_size = number()?,
             "--pages" => options.parts.pages = number()? as u32,
@@ -96,7 +106,11 @@ fn begin<'a>(options: &Options, input: &'a [u8]) -> Result<(Session, &'a [u8]), 
     let short = || Fault(11, "ReadFault".into());
     let (image, input) = input.split_at_checked(options.size).ok_or_else(short)?;
     let (log, script) = input.split_at_checked(options.log_size).ok_or_else(short)?;
-    let image = if options.is_image { Image::read(image) } else { Image::raw_rom(image) }.map_err(bad_image)?;
+    let image = match options.kind {
+        Kind::Rom => Image::raw_rom(image).map_err(bad_image)?,
+        Kind::Image => Image::read(image).map_err(bad_image)?,
+        Kind::Source => source::assemble(image).map_err(|it| Fault(13, format!("BadSource {} {:?}", it.0, it.1)))?,
+    };
     let log = if log.is_empty() { Ok(Log::default()) } else { Log::read(log) }.map_err(bad_log)?;
     if !image.fits(options.parts.pages) {
         return Err(bad_image(ImageFault::Pages));

@@ -205,7 +205,6 @@ fn limits_of_memory(rt: HostRuntime) -> Result<(), Fail> {
         ("mem 0x1fbffffc 2", "error 6 NotMemory"),
         ("dis 0x1fc3fffc 1", "0x1fc3fffc 0x00000000 sll r0, r0, 0"),
         ("dis 0x1fc3fffc 2", "error 6 NotMemory"),
-        ("mem 0xfffffffc 32", "error 6 NotMemory"),
         ("mem 0xffffffff 1", "error 5 Unaligned"),
         ("mem 1 0", "error 3 Range"),
         ("mem 1 33", "error 3 Range"),

