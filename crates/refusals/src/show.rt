@@ -1,6 +1,7 @@
 //! The program's output, which is written without memory.
 ghost use Rattle.std.specs.Prelude.{◌<◌};
 
+use arrayvec::ArrayVec;
 use wb_text::decimal_digits;
 use workbench::Sink;
 
@@ -43,9 +44,16 @@ impl<W: Sink> Show<W> {
     pub fn bytes(&mut self, name: &[u8], bytes: &[u8]) {
         self.text(name);
         self.text(b" ");
+        let mut digits = ArrayVec::<u8, 128>::new();
         for byte in bytes {
-            self.text(&[digit(*byte / 16), digit(*byte % 16)]);
+            if digits.len() > 120 {
+                self.text(digits.as_slice());
+                digits.clear();
+            }
+            let _ = digits.try_push(digit(*byte / 16));
+            let _ = digits.try_push(digit(*byte % 16));
         }
+        self.text(digits.as_slice());
         self.text(b"\n");
     }
 }
