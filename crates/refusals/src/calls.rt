@@ -1,0 +1,272 @@
+//! The calls that take memory, on small inputs. What each gave is a line; one that lacked memory is made once more.
+ghost use Rattle.timeline.specs.Sizes.{AreSizes};
+
+use crate::record::show_record;
+use crate::script::begun;
+use crate::show::Show;
+use input_log::{Log, LogFault, read_log, write_log};
+use r3k_asm::assemble;
+use r3k_image::{Image, ImageFault, raw_rom, read_image, write_image};
+use samples::{ECHO, LOAD_SLOT};
+use std::alloc::Global;
+use timeline::Timeline;
+use workbench::{Kind, Options, Plan, RunFault, Sink, options, serve, status};
+
+#[derive(Clone, Copy)]
+enum Call {
+    ReadImage,
+    RawRom,
+    WriteImage,
+    ReadLog,
+    WriteLog,
+    Assemble,
+    Timeline,
+    Session,
+    Serve,
+    Options,
+    Usage,
+    Help,
+    Record,
+}
+
+const CALLS: [(Call, &[u8]); 13] = [
+    (Call::ReadImage, b"read_image"),
+    (Call::RawRom, b"raw_rom"),
+    (Call::WriteImage, b"write_image"),
+    (Call::ReadLog, b"read_log"),
+    (Call::WriteLog, b"write_log"),
+    (Call::Assemble, b"assemble"),
+    (Call::Timeline, b"Timeline::new"),
+    (Call::Session, b"Session::new"),
+    (Call::Serve, b"serve"),
+    (Call::Options, b"options"),
+    (Call::Usage, b"options_usage"),
+    (Call::Help, b"options_help"),
+    (Call::Record, b"Fact::make"),
+];
+
+// One event: byte 0x41 at line 0 in step 70.
+const LOG: &[u8] = b"R3KLOG1\n\x01\0\0\0\x46\0\0\0\0\x41";
+
+/// Makes each call, and once more where it lacked memory.
+pub fn play<const PAGES: u32, const SPAN: u32, W: Sink>(alloc: Global, show: &mut Show<W>)
+    requires sizes { AreSizes PAGES SPAN }
+{
+    for (call, name) in CALLS {
+        if lacked::<PAGES, SPAN, W>(alloc, call, name, show) {
+            let _ = lacked::<PAGES, SPAN, W>(alloc, call, name, show);
+        }
+    }
+}
+
+// Makes a call and shows what it gave. Gives whether it lacked memory.
+fn lacked<const PAGES: u32, const SPAN: u32, W: Sink>(
+    alloc: Global,
+    call: Call,
+    name: &[u8],
+    show: &mut Show<W>,
+) -> bool
+    requires sizes { AreSizes PAGES SPAN }
+{
+    match made::<PAGES, SPAN, W>(alloc, call, name, show) {
+        Ok(()) => false,
+        Err(RunFault::Memory) => {
+            show.line(&[name, b"memory"]);
+            true
+        }
+        Err(RunFault::Usage(text)) => {
+            show.bytes(name, text.as_bytes());
+            false
+        }
+        Err(RunFault::Help(text)) => {
+            show.bytes(name, text.as_bytes());
+            false
+        }
+        Err(_) => {
+            show.line(&[name, b"fault"]);
+            false
+        }
+    }
+}
+
+// Makes a call and shows what it gave.
+fn made<const PAGES: u32, const SPAN: u32, W: Sink>(
+    alloc: Global,
+    call: Call,
+    name: &[u8],
+    show: &mut Show<W>,
+) -> Result<(), RunFault>
+    requires sizes { AreSizes PAGES SPAN }
+{
+    match call {
+        Call::ReadImage => show_words(name, read_image(alloc, &LOAD_SLOT), show),
+        Call::RawRom => show_words(name, raw_rom(alloc, &LOAD_SLOT), show),
+        Call::WriteImage => show_written_image(alloc, name, show),
+        Call::ReadLog => show_log(name, read_log(alloc, LOG), show),
+        Call::WriteLog => show_written_log(alloc, name, show),
+        Call::Assemble => show_assembled(alloc, name, show),
+        Call::Timeline => show_timeline::<PAGES, SPAN, W>(alloc, name, show),
+        Call::Session => show_session::<PAGES, SPAN, W>(alloc, name, show),
+        Call::Serve => show_served::<PAGES, SPAN, W>(alloc, name, show),
+        Call::Options => show_options(alloc, name, &["r3kwb", "--log", "18"], show),
+        Call::Usage => show_options(alloc, name, &["r3kwb", "--log", "x"], show),
+        Call::Help => show_options(alloc, name, &["r3kwb", "--help"], show),
+        Call::Record => show_first_record::<PAGES, SPAN, W>(alloc, name, show),
+    }
+}
+
+// Shows the words of an image that was read.
+fn show_words<W: Sink>(
+    name: &[u8],
+    image: Result<Image, ImageFault>,
+    show: &mut Show<W>,
+) -> Result<(), RunFault> {
+    show_image(name, &image?, show);
+    Ok(())
+}
+
+fn show_written_image<W: Sink>(
+    alloc: Global,
+    name: &[u8],
+    show: &mut Show<W>,
+) -> Result<(), RunFault> {
+    let image = read_image(alloc, &LOAD_SLOT)?;
+    let bytes = write_image(alloc, &image)?;
+    show.bytes(name, bytes.as_slice());
+    Ok(())
+}
+
+fn show_log<W: Sink>(
+    name: &[u8],
+    log: Result<Log, LogFault>,
+    show: &mut Show<W>,
+) -> Result<(), RunFault> {
+    show_events(name, &log?, show);
+    Ok(())
+}
+
+fn show_written_log<W: Sink>(
+    alloc: Global,
+    name: &[u8],
+    show: &mut Show<W>,
+) -> Result<(), RunFault> {
+    let log = read_log(alloc, LOG)?;
+    let bytes = write_log(alloc, &log)?;
+    show.bytes(name, bytes.as_slice());
+    Ok(())
+}
+
+fn show_assembled<W: Sink>(alloc: Global, name: &[u8], show: &mut Show<W>) -> Result<(), RunFault> {
+    let image = assemble(alloc, ECHO.as_bytes())?;
+    show_image(name, &image, show);
+    Ok(())
+}
+
+fn show_timeline<const PAGES: u32, const SPAN: u32, W: Sink>(
+    alloc: Global,
+    name: &[u8],
+    show: &mut Show<W>,
+) -> Result<(), RunFault>
+    requires sizes { AreSizes PAGES SPAN }
+{
+    let image = read_image(alloc, &LOAD_SLOT)?;
+    let log = read_log(alloc, LOG)?;
+    let made = Timeline::<PAGES, SPAN>::new(alloc, image, log)?;
+    show_image(name, made.image(), show);
+    show_events(name, made.log(), show);
+    Ok(())
+}
+
+fn show_session<const PAGES: u32, const SPAN: u32, W: Sink>(
+    alloc: Global,
+    name: &[u8],
+    show: &mut Show<W>,
+) -> Result<(), RunFault>
+    requires sizes { AreSizes PAGES SPAN }
+{
+    let made = begun::<PAGES, SPAN>(alloc, &LOAD_SLOT, LOG)?;
+    show_image(name, made.timeline().image(), show);
+    show_events(name, made.timeline().log(), show);
+    Ok(())
+}
+
+fn show_first_record<const PAGES: u32, const SPAN: u32, W: Sink>(
+    alloc: Global,
+    name: &[u8],
+    show: &mut Show<W>,
+) -> Result<(), RunFault>
+    requires sizes { AreSizes PAGES SPAN }
+{
+    let image = assemble(alloc, ECHO.as_bytes())?;
+    show_record::<PAGES, SPAN, W>(alloc, name, &image, show)?;
+    Ok(())
+}
+
+// Shows the words that an image sets in the first page of RAM and in that of ROM.
+fn show_image<W: Sink>(name: &[u8], image: &Image, show: &mut Show<W>) {
+    for start in [0u32, 0x1FC0_0000, 0x1FC0_1000] {
+        for place in 0..128u32 {
+            if let Some(word) = image.word(start + 4 * place) {
+                show.text(name);
+                show.bytes(b"", &word.to_be_bytes());
+            }
+        }
+    }
+}
+
+// Shows the events of a log.
+fn show_events<W: Sink>(name: &[u8], log: &Log, show: &mut Show<W>) {
+    for event in log.events() {
+        show.text(name);
+        show.number(b"", event.time);
+    }
+}
+
+// Serves an image, a log and a script, with plans whose room is made first.
+fn show_served<const PAGES: u32, const SPAN: u32, W: Sink>(
+    alloc: Global,
+    name: &[u8],
+    show: &mut Show<W>,
+) -> Result<(), RunFault>
+    requires sizes { AreSizes PAGES SPAN }
+{
+    let mut input = Vec::from_slice(alloc, &LOAD_SLOT)?;
+    input.extend_from_slice(LOG)?;
+    input.extend_from_slice(b"goto 3\nreg 2\nwriter 0x100\n")?;
+    let mut reader = Plan::new(alloc, &input, 4096, 0)?;
+    let mut writer = Plan::new(alloc, &[], 4096, 256)?;
+    serve_between::<PAGES, SPAN, W>(alloc, name, &mut reader, &mut writer, show)
+}
+
+// Serves what a reader gives, and shows the status and what was written.
+fn serve_between<const PAGES: u32, const SPAN: u32, W: Sink>(
+    alloc: Global,
+    name: &[u8],
+    reader: &mut Plan,
+    writer: &mut Plan,
+    show: &mut Show<W>,
+) -> Result<(), RunFault>
+    requires sizes { AreSizes PAGES SPAN }
+{
+    let options = Options {
+        kind: Kind::Image,
+        size: 68,
+        log_size: 18,
+    };
+    let outcome = serve::<PAGES, SPAN, Plan, Plan>(alloc, options, reader, writer);
+    show.number(name, status(&outcome) as u64);
+    show.bytes(name, writer.written());
+    outcome
+}
+
+// Reads the words of a line.
+fn show_options<W: Sink>(
+    alloc: Global,
+    name: &[u8],
+    words: &[&str],
+    show: &mut Show<W>,
+) -> Result<(), RunFault> {
+    let options = options(alloc, words)?;
+    show.number(name, options.log_size as u64);
+    Ok(())
+}
