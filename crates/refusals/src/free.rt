@@ -1,6 +1,4 @@
 //! What takes no memory, once its room is made.
-ghost use Rattle.std.specs.Prelude.{◌≡◌, ◌≤◌};
-ghost use Rattle.r3k_word.specs.declared.layout.TheConstants.{MAX_RAM_PAGES};
 ghost use Rattle.timeline.specs.Sizes.{AreSizes};
 
 use crate::record::{Machine, machine_of, record_of, show_applies};
