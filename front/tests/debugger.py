@@ -1,6 +1,7 @@
 """Real gdb for tests: it is installed where it is missing, and runs on the stub."""
 from __future__ import annotations
 
+import fcntl
 import os
 import shutil
 import subprocess
@@ -17,7 +18,15 @@ PLAIN = ["-nx", "-iex", "set width 0", "-iex", "set style enabled off"]
 
 
 def install() -> None:
-    """Sees to it that gdb is there, by Debian's package."""
+    """Sees to it that gdb is there, by Debian's package; modules that run side by side wait for the first one."""
+    with open(__file__) as held:
+        fcntl.flock(held, fcntl.LOCK_EX)
+        _install()
+    if not shutil.which(DEBUGGER):
+        raise RuntimeError(f"these tests want {DEBUGGER}, which can't be installed here: apt-get install {DEBUGGER}")
+
+
+def _install() -> None:
     if shutil.which(DEBUGGER):
         return
     for command in ["apt-get", "-q", "update"], ["apt-get", "-q", "install", "-y", DEBUGGER]:
@@ -27,8 +36,6 @@ def install() -> None:
             break
         if done.returncode:
             break
-    if not shutil.which(DEBUGGER):
-        raise RuntimeError(f"these tests want {DEBUGGER}, which can't be installed here: apt-get install {DEBUGGER}")
 
 
 def words(image: str, log: Optional[str] = None, options: Sequence[str] = ()) -> list[str]:
