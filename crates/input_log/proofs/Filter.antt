@@ -3,7 +3,7 @@
 use Rattle.std.proofs.Common.{◌≡◌, ℕ, zero, suc, ◌+◌, ◌≤◌, Bool, true, false, not, List, [], ◌∷◌, length, get_or, take, drop, ap, sym, arith, refl, ◌&&◌, ◌∙◌, inl, inr}
 use Rattle.std.specs.List.{filter, AllWithin, prefix_len}
 use Rattle.std.proofs.lemmas.Bool.{cases_Bool, not_from_true, not_from_false}
-use Rattle.input_log.specs.Event.{TimedByte}
+use Rattle.input_log.specs.Event.{LogEvent}
 use Rattle.input_log.specs.Log.{AreInOrder}
 
 -- nothing passes
@@ -61,33 +61,33 @@ filter-filter p q r both (x ∷ xs) =
     ]
 
 -- once an event doesn't pass, no later one does
-abbrev pub Ends : (TimedByte → Bool) → Type 0
-Ends p = (x y : TimedByte) → x.time ≤ y.time → p x ≡ false → p y ≡ false
+abbrev pub Ends : (LogEvent → Bool) → Type 0
+Ends p = (x y : LogEvent) → x.time ≤ y.time → p x ≡ false → p y ≡ false
 
-behind : (x : TimedByte) (xs : List TimedByte) → AreInOrder (x ∷ xs) → AreInOrder xs
-behind x xs order = λ i j d le lt. order (suc i) (suc j) d (omega arith) (omega arith)
+rest_in_order : (x : LogEvent) (xs : List LogEvent) → AreInOrder (x ∷ xs) → AreInOrder xs
+rest_in_order x xs order = λ i j d le lt. order (suc i) (suc j) d (omega arith) (omega arith)
 
 -- the events at the front that pass are all that do
-pub front : (p : TimedByte → Bool) → Ends p → (xs : List TimedByte) → AreInOrder xs → take (prefix_len p xs) xs ≡ filter p xs
+pub front : (p : LogEvent → Bool) → Ends p → (xs : List LogEvent) → AreInOrder xs → take (prefix_len p xs) xs ≡ filter p xs
 front p ends [] order = refl
 front p ends (x ∷ xs) order =
     elim (cases_Bool (p x)) [
       | inl passing ↦
           let e : 1 + prefix_len p xs ≡ suc (prefix_len p xs) = omega arith in
-          rw (passing, e) (ap (λ ys. x ∷ ys) (front p ends xs (behind x xs order)))
+          rw (passing, e) (ap (λ ys. x ∷ ys) (front p ends xs (rest_in_order x xs order)))
       | inr failing ↦
           rw failing (sym (filter-none p xs (λ k d low high. ends x (get_or xs k d) (order 0 (suc k) d (omega arith) (omega arith)) failing)))
     ]
 
--- and those behind them are all that don't
-pub back : (p q : TimedByte → Bool) → Ends p → ((x : TimedByte) → q x ≡ not (p x)) → (xs : List TimedByte) → AreInOrder xs → drop (prefix_len p xs) xs ≡ filter q xs
+-- and those after them are all that don't
+pub back : (p q : LogEvent → Bool) → Ends p → ((x : LogEvent) → q x ≡ not (p x)) → (xs : List LogEvent) → AreInOrder xs → drop (prefix_len p xs) xs ≡ filter q xs
 back p q ends other [] order = refl
 back p q ends other (x ∷ xs) order =
     elim (cases_Bool (p x)) [
       | inl passing ↦
           let e : 1 + prefix_len p xs ≡ suc (prefix_len p xs) = omega arith in
           let skipped : q x ≡ false = other x ∙ not_from_true (p x) passing in
-          rw (passing, e, skipped) (back p q ends other xs (behind x xs order))
+          rw (passing, e, skipped) (back p q ends other xs (rest_in_order x xs order))
       | inr failing ↦
           let first : q x ≡ true = other x ∙ not_from_false (p x) failing in
           let rest : filter q xs ≡ xs = filter-all q xs (λ k d low high. other (get_or xs k d) ∙ not_from_false (p (get_or xs k d)) (ends x (get_or xs k d) (order 0 (suc k) d (omega arith) (omega arith)) failing)) in

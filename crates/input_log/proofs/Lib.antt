@@ -5,3 +5,4 @@ pub mod Fields
 pub mod Logs
 pub mod Editing
 pub mod Edited
+pub mod Erased

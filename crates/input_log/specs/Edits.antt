@@ -1,56 +1,69 @@
--- The edits of a log (own): an event is added, deleted, given another byte, or moved to another time.
-use Rattle.std.specs.Prelude.{ℕ, ◌+◌, ◌++◌, ◌∷◌, ◌<◌, ◌≤◌, ◌⊎◌, List, length, take, drop, filter, slice_get, slice_set, Option, Some, None, Result, Ok, Err, ◌&&◌, if◌then◌else◌, nat_le, nat_lt}
-use Rattle.input_log.specs.Limits.{max_events, max_time}
-use Rattle.input_log.specs.Event.{TimedByte}
+-- The edits of a log (own): an event is added, deleted, given another byte, or moved to another time, and those of a range
+-- of times are erased.
+use Rattle.std.specs.Prelude.{ℕ, ◌+◌, ◌++◌, ◌∷◌, ◌<◌, ◌≤◌, ◌⊎◌, List, length, take, drop, filter, slice_get, slice_set, Option, Some, None, Result, Ok, Err, not, ◌&&◌, if◌then◌else◌, nat_le, nat_lt}
+use Rattle.input_log.specs.Limits.{max_events, max_position, max_time}
+use Rattle.input_log.specs.Event.{LogEvent, max_line, max_byte}
 use Rattle.input_log.specs.Log.{later_than}
 use Rattle.refusal.specs.declared.fault.Fault.{Fault}
 use Rattle.refusal.specs.declared.fault.Fault.TheVariants.{Range, NoEvent}
 
 -- the events of this time and of earlier ones
-abbrev pub up_to : ℕ → List TimedByte → List TimedByte
+abbrev pub up_to : ℕ → List LogEvent → List LogEvent
 up_to time events = filter (λ event. nat_le event.time time) events
 
 -- a log with an event more: it stands after all events of its time or an earlier one
-abbrev pub with_event : TimedByte → List TimedByte → List TimedByte
+abbrev pub with_event : LogEvent → List LogEvent → List LogEvent
 with_event event events = up_to event.time events ++ event ∷ later_than event.time events
 
 -- a log without the event of a place
-abbrev pub without : (place : ℕ) → List TimedByte → List TimedByte
+abbrev pub without : (place : ℕ) → List LogEvent → List LogEvent
 without place events = take place events ++ drop (place + 1) events
 
 -- an event with another byte, and one at another time
-abbrev pub with_byte : ℕ → TimedByte → TimedByte
-with_byte byte event = record { time = event.time; line = event.line; byte = byte }
+abbrev pub with_byte : ℕ → LogEvent → LogEvent
+with_byte byte event = record event { byte = byte }
 
-abbrev pub at_time : ℕ → TimedByte → TimedByte
-at_time time event = record { time = time; line = event.line; byte = event.byte }
+abbrev pub at_time : ℕ → LogEvent → LogEvent
+at_time time event = record event { time = time }
 
 -- what is made of an event of the log, if there is that event
-abbrev pub made_of : (TimedByte → List TimedByte) → Option TimedByte → Result (List TimedByte) Fault
-made_of make (Some event) = Ok (make event)
+abbrev pub made_of : (LogEvent → Result (List LogEvent) Fault) → Option LogEvent → Result (List LogEvent) Fault
+made_of make (Some event) = make event
 made_of make None = Err NoEvent
 
--- an event is added, unless it is none of a log, or the log is full
-abbrev pub adding : TimedByte → List TimedByte → Result (List TimedByte) Fault
+-- an event is added, unless its kind or its time forbids it, or the log is full
+abbrev pub adding : LogEvent → List LogEvent → Result (List LogEvent) Fault
 adding event events =
-    if nat_le event.line 3 && (nat_le event.time max_time && nat_lt (length events) max_events)
+    if nat_le event.line (max_line event.kind) && (nat_le event.byte (max_byte event.kind)
+    && (nat_le event.time max_time && nat_lt (length events) max_events))
     then Ok (with_event event events)
     else Err Range
 
 -- the event of a place is deleted
-abbrev pub deleting : (place : ℕ) → List TimedByte → Result (List TimedByte) Fault
-deleting place events = made_of (λ _. without place events) (slice_get events place)
+abbrev pub deleting : (place : ℕ) → List LogEvent → Result (List LogEvent) Fault
+deleting place events = made_of (λ _. Ok (without place events)) (slice_get events place)
 
--- the event of a place gets another byte
-abbrev pub setting : (place byte : ℕ) → List TimedByte → Result (List TimedByte) Fault
-setting place byte events = made_of (λ event. slice_set events place (with_byte byte event)) (slice_get events place)
+-- the event of a place gets another byte, unless its kind forbids it
+abbrev pub setting : (place byte : ℕ) → List LogEvent → Result (List LogEvent) Fault
+setting place byte events =
+    made_of (λ event. if nat_le byte (max_byte event.kind) then Ok (slice_set events place (with_byte byte event)) else Err Range)
+    (slice_get events place)
 
 -- the event of a place is deleted, and added again at another time
-abbrev pub moving : (place time : ℕ) → List TimedByte → Result (List TimedByte) Fault
+abbrev pub moving : (place time : ℕ) → List LogEvent → Result (List LogEvent) Fault
 moving place time events =
     if nat_le time max_time
-    then made_of (λ event. with_event (at_time time event) (without place events)) (slice_get events place)
+    then made_of (λ event. Ok (with_event (at_time time event) (without place events))) (slice_get events place)
     else Err Range
+
+-- a log without the events of the times from one up to another, which is left out
+abbrev pub without_times : (from to : ℕ) → List LogEvent → List LogEvent
+without_times from to events = filter (λ event. not (nat_le from event.time && nat_lt event.time to)) events
+
+-- The events of the times from one up to another, which is left out, are erased, unless the first of the two is above the
+-- second, or the second above the greatest position.
+abbrev pub erasing : (from to : ℕ) → List LogEvent → Result (List LogEvent) Fault
+erasing from to events = if nat_le from to && nat_le to max_position then Ok (without_times from to events) else Err Range
 
 -- a time is none of those from one up to another, which is left out
 abbrev pub IsOutside : (time from to : ℕ) → Type 0

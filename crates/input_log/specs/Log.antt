@@ -1,16 +1,15 @@
--- The log (own): a list of timed bytes in order of time. Those of equal time arrive in the order
--- of the list.
+-- The log (own): a list of events in order of time. Those of equal time take effect in the order of the list.
 use Rattle.std.specs.Prelude.{ℕ, List, length, filter, All, ◌<◌, ◌≤◌, ◌&&◌, nat_le, nat_lt}
 use Rattle.std.specs.List.Sorted.{IsNonDecreasingBy}
 use Rattle.input_log.specs.Limits.{max_events}
-use Rattle.input_log.specs.Event.{TimedByte, LineExists, HoldsByte, IsInTime}
+use Rattle.input_log.specs.Event.{LogEvent, LineExists, HoldsByte, IsInTime}
 
 -- in order of time
-abbrev pub AreInOrder : List TimedByte → Type 0
+abbrev pub AreInOrder : List LogEvent → Type 0
 AreInOrder events = IsNonDecreasingBy (λ event. event.time) events
 
--- in order of time, not too many, each a byte in time on a line of the serial part
-pub record IsLog (events : List TimedByte) : Type 0 where
+-- in order of time, not too many, each in time, on a line of its kind, with a byte of its kind
+pub record IsLog (events : List LogEvent) : Type 0 where
   pub in_order : AreInOrder events
   pub few : length events ≤ max_events
   pub lines_exist : All LineExists events
@@ -18,13 +17,17 @@ pub record IsLog (events : List TimedByte) : Type 0 where
   pub in_time : All IsInTime events
 
 -- the events of the times from one up to another, which is left out
-abbrev pub window_of : ℕ → ℕ → List TimedByte → List TimedByte
+abbrev pub window_of : ℕ → ℕ → List LogEvent → List LogEvent
 window_of from to events = filter (λ event. nat_le from event.time && nat_lt event.time to) events
 
 -- each of a time from one up to another, which is left out
-abbrev pub AreWithin : ℕ → ℕ → List TimedByte → Type 0
+abbrev pub AreWithin : ℕ → ℕ → List LogEvent → Type 0
 AreWithin from to events = All (λ event. (from ≤ event.time) × (event.time < to)) events
 
+-- the events of earlier times than this one
+abbrev pub earlier_than : ℕ → List LogEvent → List LogEvent
+earlier_than time events = filter (λ event. nat_lt event.time time) events
+
 -- the events of later times than this one
-abbrev pub later_than : ℕ → List TimedByte → List TimedByte
+abbrev pub later_than : ℕ → List LogEvent → List LogEvent
 later_than time events = filter (λ event. nat_lt time event.time) events

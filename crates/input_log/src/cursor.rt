@@ -17,10 +17,10 @@ pub struct Cursor<'a> {
 
 impl<'a> Model for Cursor<'a> {
     ghost use Rattle.std.specs.Prelude.{List, All, ◌≤◌};
-    ghost use Rattle.input_log.specs.Event.{TimedByte};
+    ghost use Rattle.input_log.specs.Event.{LogEvent};
     ghost use Rattle.input_log.specs.Log.{AreInOrder};
 
-    ghost Value = { List TimedByte };
+    ghost Value = { List LogEvent };
 
     ghost view = { λ cursor. cursor.rest.now };
 
@@ -30,7 +30,7 @@ impl<'a> Model for Cursor<'a> {
 
 impl<'a> Cursor<'a> {
     ghost use Rattle.std.specs.Prelude.{◌≡◌, ◌+◌, ◌<◌, ◌≤◌, ℕ, List};
-    ghost use Rattle.input_log.specs.Event.{TimedByte};
+    ghost use Rattle.input_log.specs.Event.{LogEvent};
     ghost use Rattle.input_log.specs.Log.{AreInOrder, window_of, later_than};
 
     /// The way along events that are in order of time.
@@ -44,15 +44,15 @@ impl<'a> Cursor<'a> {
         }
     }
 
-    /// The events of a time. It goes behind them, and so behind all of earlier times.
+    /// The events of a time. It goes past them, and so past all of earlier times.
     #[inline]
     pub fn next(&mut self, time: u64) -> &'a [Event]
         ensures events { result.now ≡ window_of time (time + 1) self.old }
         ensures left { self.new ≡ later_than time self.old }
         // A run that has left of a window what is from this time on gets of the log what is of this time.
-        ensures of_log { (to : ℕ) (log : List TimedByte) → time < to → self.old ≡ window_of time to log →
+        ensures of_log { (to : ℕ) (log : List LogEvent) → time < to → self.old ≡ window_of time to log →
             result.now ≡ window_of time (time + 1) log }
-        ensures left_of_log { (to : ℕ) (log : List TimedByte) → self.old ≡ window_of time to log →
+        ensures left_of_log { (to : ℕ) (log : List LogEvent) → self.old ≡ window_of time to log →
             self.new ≡ window_of (time + 1) to log }
     {
         if time < self.next_time {

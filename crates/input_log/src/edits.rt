@@ -1,12 +1,12 @@
 //! Edits of a log. A refused edit leaves the log as it was.
 
 ghost use Rattle.std.specs.Prelude.{◌≡◌, ◌<◌, ◌≤◌, length};
-ghost use Rattle.std.specs.List.{insert, remove};
+ghost use Rattle.std.specs.List.{insert, remove, remove_range};
 ghost use Rattle.input_log.specs.Edits.{up_to, without};
-ghost use Rattle.input_log.specs.Log.{AreInOrder};
+ghost use Rattle.input_log.specs.Log.{AreInOrder, earlier_than};
 
-use crate::event::Event;
-use crate::limits::{MAX_EVENTS, MAX_TIME};
+use crate::event::{Event, Kind};
+use crate::limits::{MAX_EVENTS, MAX_POSITION, MAX_TIME};
 use crate::log::Log;
 use refusal::Fault;
 
@@ -14,20 +14,59 @@ impl Log {
     ghost use Rattle.std.specs.Prelude.{◌≡◌, ◌<◌, ◌≤◌, length, IfOk, IfErr};
     ghost use Rattle.refusal.specs.declared.fault.Fault.TheVariants.{NoEvent};
     ghost use Rattle.refusal.specs.Given.{Changes, ChangesOrLacks};
-    ghost use Rattle.input_log.specs.Edits.{up_to, without, adding, deleting, setting, moving};
+    ghost use Rattle.input_log.specs.declared.event.Kind.TheVariants.{Byte, Framing, Wire};
+    ghost use Rattle.input_log.specs.Edits.{up_to, without, adding, deleting, setting, moving, erasing};
 
-    /// Adds an event behind all events of its time or an earlier one, and tells its number. Events are numbered from 0.
-    /// `Range` if the line is above 3, the time above 4,294,967,294, or the log full; else `Memory` if memory ran out.
+    /// Adds the arrival of a byte after all events of its time or an earlier one, and reports its number. Events are
+    /// numbered from 0. `Range` if the line is above 3, the time above 1,099,511,627,774, or the log full; else `Memory` if
+    /// memory ran out.
     pub fn add(&mut self, time: u64, line: u8, byte: u8) -> Result<usize, Fault>
-        ensures log { ChangesOrLacks (adding (record { time = time; line = line; byte = byte }) self.old)
+        ensures log { ChangesOrLacks (adding (record { time = time; kind = Byte; line = line; byte = byte }) self.old)
             self.old self.new result }
         ensures place { IfOk result (λ place. place ≡ length (up_to time self.old)) }
     {
-        if line > 3 || time > MAX_TIME || self.events.len() >= MAX_EVENTS {
+        self.put(time, Kind::Byte, line, byte)
+    }
+
+    /// Adds the arrival of a byte with a framing error, as `add` does that of a byte.
+    pub fn ferr(&mut self, time: u64, line: u8, byte: u8) -> Result<usize, Fault>
+        ensures log { ChangesOrLacks (adding (record { time = time; kind = Framing; line = line; byte = byte }) self.old)
+            self.old self.new result }
+        ensures place { IfOk result (λ place. place ≡ length (up_to time self.old)) }
+    {
+        self.put(time, Kind::Framing, line, byte)
+    }
+
+    /// Adds a level, 0 or 1, of an external line, 0 to 2, as `add` does a byte. `Range` also if there is no such line or
+    /// level.
+    pub fn wire(&mut self, time: u64, line: u8, level: u8) -> Result<usize, Fault>
+        ensures log { ChangesOrLacks (adding (record { time = time; kind = Wire; line = line; byte = level }) self.old)
+            self.old self.new result }
+        ensures place { IfOk result (λ place. place ≡ length (up_to time self.old)) }
+    {
+        self.put(time, Kind::Wire, line, level)
+    }
+
+    // Adds an event after all events of its time or an earlier one, and reports its number.
+    fn put(&mut self, time: u64, kind: Kind, line: u8, byte: u8) -> Result<usize, Fault>
+        ensures log { ChangesOrLacks (adding (record { time = time; kind = kind; line = line; byte = byte }) self.old)
+            self.old self.new result }
+        ensures place { IfOk result (λ place. place ≡ length (up_to time self.old)) }
+    {
+        if line > kind.max_line()
+            || byte > kind.max_byte()
+            || time > MAX_TIME
+            || self.events.len() >= MAX_EVENTS
+        {
             return Err(Fault::Range);
         }
-        let place = place_behind(&self.events, time);
-        let event = Event { time, line, byte };
+        let place = place_after(&self.events, time);
+        let event = Event {
+            time,
+            kind,
+            line,
+            byte,
+        };
         if self.events.insert(place, event).is_err() {
             return Err(Fault::Memory);
         }
@@ -35,6 +74,7 @@ impl Log {
     }
 
     /// Deletes the event of a number. `NoEvent` if there is none. It takes no memory.
+    #[tactic(auto, using(crate::proofs::Editing::log_removed, crate::proofs::Editing::deleted))]
     pub fn del(&mut self, place: u64) -> Result<(), Fault>
         ensures { Changes (deleting place self.old) self.old self.new result }
     {
@@ -43,18 +83,23 @@ impl Log {
         Ok(())
     }
 
-    /// Gives the event of a number another byte. `NoEvent` if there is none. It takes no memory.
+    /// Gives the event of a number another byte. `NoEvent` if there is none, `Range` if it is the level of an external line
+    /// and the byte is above 1. It takes no memory.
     pub fn set(&mut self, place: u64, byte: u8) -> Result<(), Fault>
         ensures { Changes (setting place byte self.old) self.old self.new result }
     {
         let index = self.index_of(place)?;
         let event = self.events[index];
+        if byte > event.kind.max_byte() {
+            return Err(Fault::Range);
+        }
         self.events[index] = Event { byte, ..event };
         Ok(())
     }
 
-    /// Moves the event of a number to another time, behind all other events of that time or an earlier one, and tells its
-    /// new number. `Range` if the time is above 4,294,967,294; else `NoEvent` if there is no such event. It takes no memory.
+    /// Moves the event of a number to another time, after all other events of that time or an earlier one, and reports its
+    /// new number. `Range` if the time is above 1,099,511,627,774; else `NoEvent` if there is no such event. It takes no
+    /// memory.
     pub fn move_to(&mut self, place: u64, time: u64) -> Result<usize, Fault>
         ensures log { Changes (moving place time self.old) self.old self.new result }
         ensures place { IfOk result (λ to. to ≡ length (up_to time (without place self.old))) }
@@ -67,6 +112,20 @@ impl Log {
         let event = self.events[from];
         relocate(&mut self.events, from, to, Event { time, ..event });
         Ok(to)
+    }
+
+    /// Erases the events of the times `from` to `to - 1`. `Range` if `from` is above `to`, or `to` above 1,099,511,627,775. It
+    /// takes no memory.
+    pub fn erase(&mut self, from: u64, to: u64) -> Result<(), Fault>
+        ensures { Changes (erasing from to self.old) self.old self.new result }
+    {
+        if from > to || to > MAX_POSITION {
+            return Err(Fault::Range);
+        }
+        let start = place_at(&self.events, from);
+        let end = place_at(&self.events, to);
+        close_gap(&mut self.events, start, end);
+        Ok(())
     }
 
     // Where the event of a number stands, if there is one.
@@ -82,8 +141,17 @@ impl Log {
     }
 }
 
+// How many events are of earlier times, found by halving.
+fn place_at(events: &[Event], time: u64) -> usize
+    requires { AreInOrder events.now }
+    ensures place { result ≡ length (earlier_than time events.now) }
+    ensures bound { result ≤ length events.now }
+{
+    events.partition_point(|event| event.time < time)
+}
+
 // How many events are of this time or an earlier one, found by halving.
-fn place_behind(events: &[Event], time: u64) -> usize
+fn place_after(events: &[Event], time: u64) -> usize
     requires { AreInOrder events.now }
     ensures place { result ≡ length (up_to time events.now) }
     ensures bound { result ≤ length events.now }
@@ -98,13 +166,9 @@ fn place_of_moved(events: &[Event], from: usize, time: u64) -> usize
     ensures place { result ≡ length (up_to time (without from events.now)) }
     ensures bound { result < length events.now }
 {
-    let behind = place_behind(events, time);
+    let after = place_after(events, time);
     let event = events[from];
-    if event.time <= time {
-        behind - 1
-    } else {
-        behind
-    }
+    if event.time <= time { after - 1 } else { after }
 }
 
 // Takes out the event of one place and puts another in at a place of what is left. What lies between moves by one.
@@ -119,4 +183,15 @@ fn relocate(events: &mut Vec<Event>, from: usize, to: usize, event: Event)
         events.copy_within(to..from, to + 1);
     }
     events[to] = event;
+}
+
+// Takes out the events from one place up to another. What stands after them moves down at once.
+fn close_gap(events: &mut Vec<Event>, start: usize, end: usize)
+    requires in_order { start ≤ end }
+    requires end_in { end ≤ length events.old.items }
+    ensures { events.new.items ≡ remove_range events.old.items start end }
+{
+    let len = events.len();
+    events.copy_within(end..len, start);
+    events.truncate(len - (end - start));
 }

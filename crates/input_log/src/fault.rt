@@ -9,18 +9,24 @@ use thiserror::Error;
 /// What is wrong with a log: the first fault from left to right.
 #[derive(Clone, Copy, Debug, PartialEq, Eq, Error)]
 pub enum LogKind {
-    /// The first eight bytes aren't those of the format.
+    /// The first eight bytes aren't those of a version of the format.
     #[error("Magic")]
     Magic,
     /// There are more than 1,048,576 events.
     #[error("Count")]
     Count,
-    /// A time is 4,294,967,295, or less than the one before.
+    /// A time is above the greatest of the version, or less than the one before.
     #[error("Time")]
     Time,
-    /// A line is above 3.
+    /// A kind is above 2.
+    #[error("Kind")]
+    Kind,
+    /// A line is above 3, or an external line above 2.
     #[error("Line")]
     Line,
+    /// The level of an external line is above 1.
+    #[error("Value")]
+    Value,
     /// Too few bytes are left for a field.
     #[error("Short")]
     Short,

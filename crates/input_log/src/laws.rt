@@ -1,49 +1,55 @@
 //! Laws of logs: nothing runs here.
 
-ghost use Rattle.std.specs.Prelude.{◌≡◌, ◌+◌, ◌^◌, ◌<◌, ◌≤◌, ◌++◌, ℕ, List, Some, Ok, slice_index, slice_get};
-ghost use Rattle.input_log.specs.Event.{TimedByte, HoldsByte};
-ghost use Rattle.input_log.specs.Edits.{IsOutside, adding, deleting, setting, moving};
+ghost use Rattle.std.specs.Prelude.{◌≡◌, ◌+◌, ◌^◌, ◌<◌, ◌≤◌, ◌⊎◌, ◌++◌, ℕ, List, Some, Ok, slice_index, slice_get};
+ghost use Rattle.input_log.specs.Event.{LogEvent};
+ghost use Rattle.input_log.specs.declared.format.Version.{Version};
+ghost use Rattle.input_log.specs.Edits.{IsOutside, adding, deleting, setting, moving, erasing};
 ghost use Rattle.input_log.specs.Log.{AreInOrder, AreWithin, IsLog, window_of, later_than};
-ghost use Rattle.input_log.specs.Spelling.{spelling};
+ghost use Rattle.input_log.specs.Spelling.{Fits, IsSpelled, spelled_in, spelling};
 ghost use Rattle.input_log.specs.Reading.{log_at};
 
-/// What is written is read again, what is read is a log, and a log has one spelling. A window within a window is the
-/// window of the log, two that meet make one, and a window of a log is a log. So is an edited log, and its windows without
-/// the times of the edit are as before.
+/// What is written is read again, what is read is a log, and within a version a log has one spelling. A window within a
+/// window is the window of the log, two that meet make one, and a window of a log is a log. So is an edited log, and its
+/// windows without the times of the edit are as before.
 pub fn log_laws()
-    ensures read { (log : List TimedByte) → IsLog log → log_at (spelling log) ≡ Ok log }
-    ensures spelled { (bytes : List ℕ) (log : List TimedByte) → ((i : ℕ) → slice_index bytes i < 2 ^ 8) →
-        log_at bytes ≡ Ok log → bytes ≡ spelling log }
-    ensures kept { (bytes : List ℕ) (log : List TimedByte) → ((i : ℕ) → slice_index bytes i < 2 ^ 8) →
+    ensures read { (log : List LogEvent) → IsLog log → log_at (spelling log) ≡ Ok log }
+    ensures read_in { (version : Version) (log : List LogEvent) → IsLog log → Fits version log →
+        log_at (spelled_in version log) ≡ Ok log }
+    ensures spelled { (bytes : List ℕ) (log : List LogEvent) → ((i : ℕ) → slice_index bytes i < 2 ^ 8) →
+        log_at bytes ≡ Ok log → IsSpelled bytes log }
+    ensures kept { (bytes : List ℕ) (log : List LogEvent) → ((i : ℕ) → slice_index bytes i < 2 ^ 8) →
         log_at bytes ≡ Ok log → IsLog log }
-    ensures window { (from to : ℕ) (log : List TimedByte) → IsLog log → IsLog (window_of from to log) }
-    ensures within { (from to : ℕ) (log : List TimedByte) → AreWithin from to (window_of from to log) }
-    ensures whole { (from to : ℕ) (log : List TimedByte) → AreWithin from to log → window_of from to log ≡ log }
-    ensures narrowed { (from to first last : ℕ) (log : List TimedByte) → from ≤ first → last ≤ to →
+    ensures window { (from to : ℕ) (log : List LogEvent) → IsLog log → IsLog (window_of from to log) }
+    ensures within { (from to : ℕ) (log : List LogEvent) → AreWithin from to (window_of from to log) }
+    ensures whole { (from to : ℕ) (log : List LogEvent) → AreWithin from to log → window_of from to log ≡ log }
+    ensures narrowed { (from to first last : ℕ) (log : List LogEvent) → from ≤ first → last ≤ to →
         window_of first last (window_of from to log) ≡ window_of first last log }
-    ensures split { (from middle to : ℕ) (log : List TimedByte) → AreInOrder log → from ≤ middle → middle ≤ to →
+    ensures split { (from middle to : ℕ) (log : List LogEvent) → AreInOrder log → from ≤ middle → middle ≤ to →
         window_of from middle log ++ window_of middle to log ≡ window_of from to log }
-    ensures later { (time from to : ℕ) (log : List TimedByte) → from ≤ time + 1 →
+    ensures later { (time from to : ℕ) (log : List LogEvent) → from ≤ time + 1 →
         later_than time (window_of from to log) ≡ window_of (time + 1) to log }
-    ensures log_added { (event : TimedByte) (log new : List TimedByte) → IsLog log → HoldsByte event →
+    ensures log_added { (event : LogEvent) (log new : List LogEvent) → IsLog log →
         adding event log ≡ Ok new → IsLog new }
-    ensures log_deleted { (place : ℕ) (log new : List TimedByte) → IsLog log →
+    ensures log_deleted { (place : ℕ) (log new : List LogEvent) → IsLog log →
         deleting place log ≡ Ok new → IsLog new }
-    ensures log_set { (place byte : ℕ) (log new : List TimedByte) → IsLog log → byte < 2 ^ 8 →
+    ensures log_set { (place byte : ℕ) (log new : List LogEvent) → IsLog log →
         setting place byte log ≡ Ok new → IsLog new }
-    ensures log_moved { (place time : ℕ) (log new : List TimedByte) → IsLog log →
+    ensures log_moved { (place time : ℕ) (log new : List LogEvent) → IsLog log →
         moving place time log ≡ Ok new → IsLog new }
-    ensures window_added { (event : TimedByte) (from to : ℕ) (log new : List TimedByte) → AreInOrder log →
+    ensures log_erased { (from to : ℕ) (log new : List LogEvent) → IsLog log → erasing from to log ≡ Ok new → IsLog new }
+    ensures window_added { (event : LogEvent) (from to : ℕ) (log new : List LogEvent) → AreInOrder log →
         adding event log ≡ Ok new → IsOutside event.time from to →
         window_of from to new ≡ window_of from to log }
-    ensures window_deleted { (place from to : ℕ) (event : TimedByte) (log new : List TimedByte) →
+    ensures window_deleted { (place from to : ℕ) (event : LogEvent) (log new : List LogEvent) →
         slice_get log place ≡ Some event → deleting place log ≡ Ok new → IsOutside event.time from to →
         window_of from to new ≡ window_of from to log }
-    ensures window_set { (place byte from to : ℕ) (event : TimedByte) (log new : List TimedByte) →
+    ensures window_set { (place byte from to : ℕ) (event : LogEvent) (log new : List LogEvent) →
         slice_get log place ≡ Some event → setting place byte log ≡ Ok new → IsOutside event.time from to →
         window_of from to new ≡ window_of from to log }
-    ensures window_moved { (place time from to : ℕ) (event : TimedByte) (log new : List TimedByte) → IsLog log →
+    ensures window_moved { (place time from to : ℕ) (event : LogEvent) (log new : List LogEvent) → IsLog log →
         slice_get log place ≡ Some event → moving place time log ≡ Ok new →
         IsOutside event.time from to → IsOutside time from to →
         window_of from to new ≡ window_of from to log }
+    ensures window_erased { (from to first last : ℕ) (log new : List LogEvent) → erasing from to log ≡ Ok new →
+        (last ≤ from) ⊎ (to ≤ first) → window_of first last new ≡ window_of first last log }
 {}

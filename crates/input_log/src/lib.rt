@@ -1,4 +1,4 @@
-//! The log of timed serial bytes that, beside its image, determines a run. It is read from the log format and written in it.
+//! The log of what comes from outside: with its image it determines a run. It is read from the log format and written in it.
 #![tactic(auto)]
 
 mod cursor;
@@ -13,10 +13,10 @@ mod reading;
 mod writing;
 
 pub use cursor::Cursor;
-pub use event::{Event, same_events};
+pub use event::{Event, Kind, same_events};
 pub use fault::{LogFault, LogKind};
 pub use laws::log_laws;
-pub use limits::{MAX_EVENTS, MAX_TIME};
+pub use limits::{MAX_EVENTS, MAX_POSITION, MAX_TIME};
 pub use log::Log;
 pub use reading::read_log;
 pub use writing::write_log;

@@ -1,7 +1,7 @@
 //! The log: a list of events in order of time, searched by halving.
 
 ghost use Rattle.std.specs.Prelude.{◌≡◌, [], List};
-ghost use Rattle.input_log.specs.Event.{TimedByte};
+ghost use Rattle.input_log.specs.Event.{LogEvent};
 ghost use Rattle.input_log.specs.Log.{IsLog, AreInOrder, AreWithin, window_of};
 
 use crate::event::Event;
@@ -15,7 +15,7 @@ pub struct Log {
 }
 
 impl Model for Log {
-    ghost Value = { List TimedByte };
+    ghost Value = { List LogEvent };
 
     ghost view = { λ log. log.events.items };
 

@@ -1,10 +1,14 @@
-use Rattle.input_log.proofs.Logs.{log_takes, log_at_again}
+use Rattle.input_log.proofs.Logs.{log_takes, log_at_again, log_at_in}
 use Rattle.input_log.proofs.Window.{narrowed, later, whole, are_within, is_log, split}
 use Rattle.input_log.proofs.Edited.{log_added, log_deleted, log_set, log_moved, window_added, window_deleted, window_set, window_moved}
+use Rattle.input_log.proofs.Erased.{log_erased, window_erased}
 use Rattle.input_log.proofs.laws.log_laws.Goals as goal
 
 pub returns-clause-read : goal.returns-clause-read
 returns-clause-read c = log_at_again
+
+pub returns-clause-read_in : goal.returns-clause-read_in
+returns-clause-read_in c = log_at_in
 
 pub returns-clause-spelled : goal.returns-clause-spelled
 returns-clause-spelled c = λ bytes log are e. (log_takes bytes log are e).0
@@ -53,3 +57,9 @@ returns-clause-window_set c = window_set
 
 pub returns-clause-window_moved : goal.returns-clause-window_moved
 returns-clause-window_moved c = window_moved
+
+pub returns-clause-log_erased : goal.returns-clause-log_erased
+returns-clause-log_erased c = log_erased
+
+pub returns-clause-window_erased : goal.returns-clause-window_erased
+returns-clause-window_erased c = window_erased

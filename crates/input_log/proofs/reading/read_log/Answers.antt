@@ -1,8 +1,7 @@
-use Rattle.std.proofs.Common.{◌∙◌, ap, subst, arith}
-use Rattle.std.proofs.Common.{List}
-use Rattle.input_log.specs.Event.{TimedByte}
-use Rattle.input_log.specs.Reading.{ReadsOrLacks, log_at}
-use Rattle.input_log.proofs.Logs.{is_found, log_at_again}
+use Rattle.std.proofs.Common.{List, subst, arith}
+use Rattle.input_log.specs.Event.{LogEvent}
+use Rattle.input_log.specs.Reading.{ReadsOrLacks}
+use Rattle.input_log.proofs.Logs.{is_found, only}
 use Rattle.input_log.proofs.reading.read_log.Goals as goal
 
 pub returns-clause-found : goal.returns-clause-found
@@ -10,4 +9,4 @@ returns-clause-found c = is_found c.args.bytes.now c.read_all.result (λ i. omeg
 
 pub returns-clause-only : goal.returns-clause-only
 returns-clause-only c = λ log good spelled.
-    subst (ReadsOrLacks (λ (x : List TimedByte). x) c.read_all.result) (ap log_at spelled ∙ log_at_again log good) c.read_all.ensures.exact
+    subst (ReadsOrLacks (λ (x : List LogEvent). x) c.read_all.result) (only c.args.bytes.now log good spelled) c.read_all.ensures.exact

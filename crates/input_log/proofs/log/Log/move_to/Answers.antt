@@ -1,6 +1,6 @@
 use Rattle.std.proofs.Common.{◌≡◌, ◌<◌, subst, sym, ap, ◌∙◌, arith, length, Ok}
 use Rattle.std.specs.List.{insert, remove}
-use Rattle.input_log.specs.Event.{TimedByte}
+use Rattle.input_log.specs.Event.{LogEvent}
 use Rattle.input_log.specs.Log.{IsLog}
 use Rattle.input_log.specs.Edits.{up_to, with_event, without, at_time, moving}
 use Rattle.input_log.proofs.Editing.{put_there, log_relocated, relocated}
@@ -16,7 +16,7 @@ made c =
     let events = c.self.inside.events.items in
     let event = at_time c.args.time c.index-event.result.now in
     c.relocate.ensures
-    ∙ ap (λ (e : TimedByte). insert (remove events c.in_ok-from.from) c.place_of_moved-to.result (at_time c.args.time e)) c.event.view_is
+    ∙ ap (λ (e : LogEvent). insert (remove events c.in_ok-from.from) c.place_of_moved-to.result (at_time c.args.time e)) c.event.view_is
     ∙ put_there c.in_ok-from.from events c.place_of_moved-to.result event c.self.invariant (within c)
     (c.place_of_moved-to.ensures.place ∙ ap (λ ys. length (up_to c.args.time (without c.in_ok-from.from ys))) c.deref.ensures.value)
 

@@ -1,7 +1,7 @@
 use Rattle.std.proofs.Common.{rules, leb}
 use Rattle.std.proofs.lemmas.List.Sorted.{IsPartitionPoint-from_clause, IsPartitionedBy-leb}
 use Rattle.input_log.proofs.Editing.{searched_place}
-use Rattle.input_log.proofs.edits.place_behind.Goals as goal
+use Rattle.input_log.proofs.edits.place_after.Goals as goal
 
 pub returns-clause-place : goal.returns-clause-place
 returns-clause-place c =
