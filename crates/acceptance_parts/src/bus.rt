@@ -187,7 +187,126 @@ fn csr(rt: HostRuntime) {
     assert!(rt; bus.lines().board);
 }
 
-// Buses at the same tick are equal and print the same, whether the clock was read before or not.
+// Of each external line: its bit of CSR, its enable, and all enables but that one.
+const EXTERNAL: [[u32; 3]; 3] = [
+    [1, 0x0001_0000, 0x00FE_0000],
+    [2, 0x0002_0000, 0x00FD_0000],
+    [4, 0x0004_0000, 0x00FB_0000],
+];
+
+// An external line rises, is set again and falls. It counts from when its enable comes, and no other
+// enable makes it count.
+#[test]
+fn external_lines(rt: HostRuntime) {
+    for k in 0..3u8 {
+        let [bit, enable, others] = EXTERNAL[k as usize];
+        let mut bus = Bus::new(16, START, 1);
+        let mut before = Bus::new(16, START, 1);
+        same(&rt, &bus.load(Device::Csr), &0);
+        bus.wire(k, false);
+        assert!(rt; bus == before);
+        bus.wire(k, true);
+        same(&rt, &bus.load(Device::Csr), &bit);
+        assert!(rt; bus != before);
+        before.assign(&bus);
+        bus.wire(k, true);
+        assert!(rt; bus == before);
+        bus.store(Device::Csr, others, 15);
+        same(&rt, &bus.load(Device::Csr), &(others | bit));
+        assert!(rt; !bus.lines().board);
+        bus.store(Device::Csr, enable, 15);
+        same(&rt, &bus.load(Device::Csr), &(enable | bit));
+        assert!(rt; bus.lines().board);
+        bus.wire(k, true);
+        assert!(rt; bus.lines().board);
+        bus.wire(k, false);
+        same(&rt, &bus.load(Device::Csr), &enable);
+        assert!(rt; !bus.lines().board);
+        bus.wire(k, true);
+        assert!(rt; bus.lines().board);
+    }
+}
+
+// An external line and that of the serial part at once, with enables stored as a byte, a half and a
+// word. Each interrupts as long as it is up and enabled.
+#[test]
+fn external_and_serial_lines(rt: HostRuntime) {
+    for lanes in [4, 12, 15] {
+        let mut bus = Bus::new(16, START, 1);
+        // TIE and MSE, and line 1
+        bus.store(TCR, 2, 1);
+        bus.store(SERIAL_CSR, 0x4020, 3);
+        bus.tick();
+        bus.wire(1, true);
+        for (enables, csr, up) in [
+            (0, 0x0000_0082, false),
+            (0x007D_0000, 0x007D_0082, false),
+            (0x0002_0000, 0x0002_0082, true),
+            (0x0080_0000, 0x0080_0082, true),
+            (0x0082_0000, 0x0082_0082, true),
+        ] {
+            bus.store(Device::Csr, enables, lanes);
+            same_at(&rt, &enables, &bus.load(Device::Csr), &csr);
+            same_at(&rt, &enables, &bus.lines().board, &up);
+        }
+        bus.wire(1, false);
+        same(&rt, &bus.load(Device::Csr), &0x0082_0080);
+        assert!(rt; bus.lines().board);
+        bus.wire(1, true);
+        bus.store(TDR, 0x41, 1);
+        same(&rt, &bus.load(Device::Csr), &0x0082_0002);
+        assert!(rt; bus.lines().board);
+        bus.wire(1, false);
+        same(&rt, &bus.load(Device::Csr), &0x0082_0000);
+        assert!(rt; !bus.lines().board);
+    }
+}
+
+// Levels stay when the serial part is cleared, when bits 2 to 0 of CSR are stored, and over ticks.
+#[test]
+fn levels_stay(rt: HostRuntime) {
+    let mut bus = Bus::new(16, START, 1);
+    bus.store(RBUF_LPR, 0x1000, 15);
+    bus.store(SERIAL_CSR, 0x60, 15);
+    bus.receive(0, 0x41);
+    bus.wire(0, true);
+    bus.wire(2, true);
+    bus.store(Device::Csr, 0x0004_0000, 15);
+    same(&rt, &bus.load(Device::Csr), &0x0004_0085);
+    // CLR
+    bus.store(SERIAL_CSR, 0x10, 15);
+    same(&rt, &bus.load(SERIAL_CSR), &0);
+    same(&rt, &bus.load(Device::Csr), &0x0004_0005);
+    assert!(rt; bus.lines().board);
+    bus.store(Device::Csr, 0xFFFF_FFFF, 15);
+    same(&rt, &bus.load(Device::Csr), &0x00FF_0005);
+    bus.store(Device::Csr, 0, 1);
+    same(&rt, &bus.load(Device::Csr), &0x00FF_0005);
+    tick(&mut bus, 100);
+    bus.load(register(12));
+    same(&rt, &bus.load(Device::Csr), &0x00FF_0005);
+    assert!(rt; bus.lines().board);
+}
+
+// A byte with a framing error raises the serial part's line as any byte does.
+#[test]
+fn framing_error(rt: HostRuntime) {
+    let mut bus = Bus::new(16, START, 1);
+    bus.store(Device::Csr, 0x0080_0000, 15);
+    bus.store(SERIAL_CSR, 0x60, 15);
+    bus.receive_framing(2, 0x41);
+    same(&rt, &bus.load(Device::Csr), &0x0080_0000);
+    bus.store(RBUF_LPR, 0x1002, 15);
+    bus.receive_framing(2, 0x42);
+    same(&rt, &bus.load(Device::Csr), &0x0080_0080);
+    assert!(rt; bus.lines().board);
+    same(&rt, &bus.load(RBUF_LPR), &0xA242);
+    same(&rt, &bus.load(RBUF_LPR), &0);
+    assert!(rt; !bus.lines().board);
+}
+
+// Buses at the same tick are equal and print the same, whether the clock was read before or not, and
+// whether a level was set before a tick or after it.
 #[test]
 fn looks(rt: HostRuntime) -> Result<(), Fail> {
     let mut bus = Bus::new(16, START, 1);
@@ -198,6 +317,12 @@ fn looks(rt: HostRuntime) -> Result<(), Fail> {
     tick(&mut other, 17);
     assert!(rt; bus != other);
     other.tick();
+    assert!(rt; bus == other);
+    bus.wire(1, true);
+    tick(&mut bus, 9);
+    tick(&mut other, 9);
+    assert!(rt; bus != other);
+    other.wire(1, true);
     assert!(rt; bus == other);
     let printed = format!(in rt.alloc(); "{bus:?}")?;
     same(&rt, &printed, &format!(in rt.alloc(); "{other:?}")?);

@@ -1,5 +1,5 @@
 //! The serial part by example. Bits of CSR in hexadecimal: TRDY 8000, TIE 4000, TLINE 0300,
-//! RDONE 80, RIE 40, MSE 20, CLR 10, MAINT 8. Of RBUF: DVAL 8000, OERR 4000, line 0300.
+//! RDONE 80, RIE 40, MSE 20, CLR 10, MAINT 8. Of RBUF: DVAL 8000, OERR 4000, FERR 2000, line 0300.
 ghost use Rattle.std.specs.Prelude.{◌≤◌};
 
 use crate::same::same;
@@ -39,24 +39,31 @@ fn on(line: u8, byte: u8) -> Option<Sent> {
     Some(Sent { line, byte })
 }
 
+// The byte after the lost one has OERR, and FERR if it has a framing error.
 #[test]
 fn full_silo(rt: HostRuntime) {
-    let mut dz = Dz::new(16);
-    dz.write(LPR, 0x1000, 15);
-    dz.write(CSR, 0x20, 15);
-    for byte in 0..65 {
-        dz.receive(0, byte);
+    for (framing, word) in [(false, 0xC041), (true, 0xE041)] {
+        let mut dz = Dz::new(16);
+        dz.write(LPR, 0x1000, 15);
+        dz.write(CSR, 0x20, 15);
+        for byte in 0..65 {
+            dz.receive(0, byte);
+        }
+        same(&rt, &dz.read(CSR), &0x00A0);
+        same(&rt, &dz.read(RBUF), &0x8000);
+        if framing {
+            dz.receive_framing(0, 0x41);
+        } else {
+            dz.receive(0, 0x41);
+        }
+        let mut last = 0;
+        for _ in 0..63 {
+            last = dz.read(RBUF);
+        }
+        same(&rt, &last, &0x803F);
+        same(&rt, &dz.read(RBUF), &word);
+        same(&rt, &dz.read(RBUF), &0);
     }
-    same(&rt, &dz.read(CSR), &0x00A0);
-    same(&rt, &dz.read(RBUF), &0x8000);
-    dz.receive(0, 0x41);
-    let mut last = 0;
-    for _ in 0..63 {
-        last = dz.read(RBUF);
-    }
-    same(&rt, &last, &0x803F);
-    same(&rt, &dz.read(RBUF), &0xC041);
-    same(&rt, &dz.read(RBUF), &0);
 }
 
 // After so many lost bytes of line 2 the next one stored from it has OERR, and the one after that
@@ -102,6 +109,50 @@ fn receivers(rt: HostRuntime) {
     dz.receive(1, 0x46);
     same(&rt, &dz.read(RBUF), &0x8145);
     same(&rt, &dz.read(RBUF), &0);
+}
+
+// A byte with a framing error is ignored with MSE 0 or its receiver off. A full silo loses it, and
+// the next byte that is stored from its line has OERR and no FERR.
+#[test]
+fn framing_errors(rt: HostRuntime) {
+    let mut dz = Dz::new(16);
+    dz.write(LPR, 0x1001, 15);
+    dz.receive_framing(1, 0x41);
+    dz.write(CSR, 0x20, 15);
+    dz.receive_framing(0, 0x42);
+    same(&rt, &dz.read(CSR), &0x0020);
+    same(&rt, &dz.read(RBUF), &0);
+    dz.receive_framing(1, 0x43);
+    dz.receive(1, 0x44);
+    same(&rt, &dz.read(CSR), &0x00A0);
+    same(&rt, &dz.read(RBUF), &0xA143);
+    same(&rt, &dz.read(RBUF), &0x8144);
+    same(&rt, &dz.read(RBUF), &0);
+
+    for byte in 0..64 {
+        dz.receive(1, byte);
+    }
+    dz.receive_framing(1, 0xEE);
+    same(&rt, &dz.read(RBUF), &0x8100);
+    dz.receive(1, 0x45);
+    for byte in 1..64 {
+        same(&rt, &dz.read(RBUF), &(0x8100 + byte));
+    }
+    same(&rt, &dz.read(RBUF), &0xC145);
+    same(&rt, &dz.read(RBUF), &0);
+}
+
+// Parts whose silos differ in a framing error alone are not equal.
+#[test]
+fn equal_framing_errors(rt: HostRuntime) {
+    let mut dz = started(16, 0);
+    let mut plain = started(16, 0);
+    dz.receive_framing(3, 0xFF);
+    plain.receive(3, 0xFF);
+    assert!(rt; dz != plain);
+    plain.assign(&dz);
+    assert!(rt; dz == plain);
+    same(&rt, &plain.read(RBUF), &0xA3FF);
 }
 
 // With byte time 3 a line is free again at the third tick after it sent, so four lines take turns.

@@ -1,6 +1,6 @@
 -- The words of the registers as they are read, at their offsets (KN02 functional specification).
 use Rattle.std.specs.Prelude.{ℕ, ◌+◌, ◌*◌, Bool, ◌==◌, ◌&&◌, ◌||◌, List, [], ◌∷◌, if◌then◌else◌}
-use Rattle.dz_serial.specs.declared.registers.TheConstants.{CSR, RBUF, TCR, TRDY, TIE, TLINE, RDONE, RIE, MSE, MAINT, DVAL, OERR, RX_LINE, LINE_0, LINE_1, LINE_2, LINE_3}
+use Rattle.dz_serial.specs.declared.registers.TheConstants.{CSR, RBUF, TCR, TRDY, TIE, TLINE, RDONE, RIE, MSE, MAINT, DVAL, OERR, FERR, RX_LINE, LINE_0, LINE_1, LINE_2, LINE_3}
 use Rattle.dz_serial.specs.Character.{Character}
 use Rattle.dz_serial.specs.Serial.{Serial, entry_of}
 use Rattle.dz_serial.specs.Bits.{flag_of}
@@ -11,11 +11,12 @@ abbrev pub csr_of : Serial → ℕ
 csr_of s = flag_of TRDY s.trdy + flag_of TIE s.tie + s.tline * TLINE + flag_of RDONE (rdone s)
     + flag_of RIE s.rie + flag_of MSE s.mse + flag_of MAINT s.maint
 
--- RBUF: the oldest character, with DVAL, OERR, its line and its byte 7..0, or 0 where there is none.
--- FERR, 13, and PERR, 12, are 0.
+-- RBUF: the oldest character, with DVAL, OERR, FERR, its line and its byte 7..0, or 0 where there is
+-- none. PERR, 12, is 0.
 abbrev pub rbuf_of : List Character → ℕ
 rbuf_of [] = 0
-rbuf_of (oldest ∷ later) = DVAL + flag_of OERR oldest.overrun + oldest.line * RX_LINE + oldest.byte
+rbuf_of (oldest ∷ later) = DVAL + flag_of OERR oldest.overrun + flag_of FERR oldest.framing
+    + oldest.line * RX_LINE + oldest.byte
 
 -- TCR: the line enables
 abbrev pub tcr_of : Serial → ℕ

@@ -5,9 +5,10 @@ use Rattle.std.specs.Cmp.Lexicographic.{pointwise}
 use Rattle.dz_serial.specs.Character.{Character}
 use Rattle.dz_serial.specs.Serial.{Serial}
 
--- line, byte and mark
+-- line, byte, mark and framing error
 abbrev pub is_same_character : Character → Character → Bool
-is_same_character a b = nat_eq a.line b.line && nat_eq a.byte b.byte && beq a.overrun b.overrun
+is_same_character a b =
+    nat_eq a.line b.line && nat_eq a.byte b.byte && beq a.overrun b.overrun && beq a.framing b.framing
 
 -- the silo, and what there is of each line
 abbrev pub has_same_lines : Serial → Serial → Bool

@@ -50,6 +50,7 @@ impl Dz {
         let oldest = self.silo.remove(0);
         flag(DVAL, true)
             + flag(OERR, oldest.overrun)
+            + flag(FERR, oldest.framing)
             + oldest.line as u32 * RX_LINE
             + oldest.byte as u32
     }

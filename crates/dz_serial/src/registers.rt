@@ -48,6 +48,9 @@ pub(crate) const DVAL: u32 = 0x8000;
 /// In RBUF: bytes of the line were lost just before this one.
 pub(crate) const OERR: u32 = 0x4000;
 
+/// In RBUF: the character has a framing error.
+pub(crate) const FERR: u32 = 0x2000;
+
 /// In RBUF: the lower of the two bits of the character's line.
 pub(crate) const RX_LINE: u32 = 0x0100;
 

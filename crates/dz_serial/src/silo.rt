@@ -1,7 +1,7 @@
 //! The silo: received characters wait in it until RBUF is read.
 
 ghost use Rattle.std.specs.Prelude.{◌≡◌, ◌≤◌};
-ghost use Rattle.dz_serial.specs.Silo.{stored, arrived, scanner_off};
+ghost use Rattle.dz_serial.specs.Silo.{stored, taken, arrived, arrived_framing, scanner_off};
 
 use crate::dz::{Dz, LINES};
 use std::marker::Model;
@@ -9,13 +9,14 @@ use std::marker::Model;
 /// How many characters the silo holds.
 pub(crate) const SILO: usize = 64;
 
-/// A received character: its line, at most 3, its byte, and whether bytes of the line were lost
-/// just before it.
+/// A received character: its line, at most 3, its byte, whether bytes of the line were lost just
+/// before it, and whether it has a framing error.
 #[derive(Clone, Copy, Debug, Default, PartialEq, Eq)]
 pub(crate) struct Received {
     pub(crate) line: u8,
     pub(crate) byte: u8,
     pub(crate) overrun: bool,
+    pub(crate) framing: bool,
 }
 
 impl Model for Received {
@@ -24,11 +25,11 @@ impl Model for Received {
 
     ghost Value = { Character };
 
-    ghost view = { λ a. record { line = a.line; byte = a.byte; overrun = a.overrun } };
+    ghost view = { λ a. record { line = a.line; byte = a.byte; overrun = a.overrun; framing = a.framing } };
 
     ghost invariant = { λ a. a.line ≤ 3 };
 
-    ghost inverse = { λ c. record { line = c.line; byte = c.byte; overrun = c.overrun } };
+    ghost inverse = { λ c. record { line = c.line; byte = c.byte; overrun = c.overrun; framing = c.framing } };
 }
 
 impl Dz {
@@ -40,15 +41,33 @@ impl Dz {
         requires { line ≤ 3 }
         ensures { self.new ≡ arrived self.old line byte }
     {
+        self.take(line, byte, false);
+    }
+
+    /// A byte with a framing error arrives at a line, which is at most 3. It is treated as any other
+    /// byte, and has FERR.
+    #[tactic(auto, unfolding(crate::specs::Silo::arrived_framing))]
+    pub fn receive_framing(&mut self, line: u8, byte: u8)
+        requires { line ≤ 3 }
+        ensures { self.new ≡ arrived_framing self.old line byte }
+    {
+        self.take(line, byte, true);
+    }
+
+    /// Takes a byte if MSE is 1 and the line's receiver is on.
+    fn take(&mut self, line: u8, byte: u8, framing: bool)
+        requires { line ≤ 3 }
+        ensures { self.new ≡ taken self.old line byte framing }
+    {
         if self.mse && self.receivers[line as usize] {
-            self.store(line, byte);
+            self.store(line, byte, framing);
         }
     }
 
     /// Stores a byte, or marks its line where the silo is full.
-    fn store(&mut self, line: u8, byte: u8)
+    fn store(&mut self, line: u8, byte: u8, framing: bool)
         requires { line ≤ 3 }
-        ensures { self.new ≡ stored self.old line byte }
+        ensures { self.new ≡ stored self.old line byte framing }
     {
         let place = line as usize;
         if self.silo.len() < SILO {
@@ -57,6 +76,7 @@ impl Dz {
                 line,
                 byte,
                 overrun,
+                framing,
             });
             self.lost[place] = false;
         } else {

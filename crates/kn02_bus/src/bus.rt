@@ -2,15 +2,15 @@
 
 ghost use Rattle.std.specs.Prelude.{◌≡◌, ◌≤◌, ◌<◌, ◌%◌, slice_index};
 ghost use Rattle.kn02_bus.specs.State.{reset_bus};
-ghost use Rattle.kn02_bus.specs.Tick.{arrived, ticked};
+ghost use Rattle.kn02_bus.specs.Tick.{arrived, arrived_framing, wired, ticked};
 
 use crate::laws::quiet_laws;
 use crate::parts::Parts;
 use crate::schedule::Schedule;
 use std::marker::Model;
 
-/// The devices of the board, and the enables of its interrupt lines. It takes no memory beyond its
-/// own.
+/// The devices of the board, the enables of its interrupt lines, and the levels of the external
+/// ones. It takes no memory beyond its own.
 #[derive(Drop)]
 pub struct Bus {
     /// The parts as they were when the quiet ticks began.
@@ -74,6 +74,27 @@ impl Bus {
     {
         quiet_laws();
         self.parts.receive(line, byte);
+        self.schedule.lines = self.parts.lines();
+    }
+
+    /// A byte with a framing error arrives at a line of the serial part, which is at most 3.
+    pub fn receive_framing(&mut self, line: u8, byte: u8)
+        requires { line ≤ 3 }
+        ensures { self.new ≡ arrived_framing self.old line byte }
+    {
+        quiet_laws();
+        self.parts.receive_framing(line, byte);
+        self.schedule.lines = self.parts.lines();
+    }
+
+    /// Sets the level of external line `k` of the board, which is at most 2. It stays until it is set
+    /// again.
+    pub fn wire(&mut self, k: u8, level: bool)
+        requires { k ≤ 2 }
+        ensures { self.new ≡ wired self.old k level }
+    {
+        quiet_laws();
+        self.parts.wire(k, level);
         self.schedule.lines = self.parts.lines();
     }
 

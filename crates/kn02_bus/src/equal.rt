@@ -50,6 +50,7 @@ impl Debug for Bus {
             .field("serial", &now.serial)
             .field("clock", &now.clock)
             .field("enables", &now.enables)
+            .field("levels", &now.levels)
             .finish()
     }
 }

@@ -1,6 +1,6 @@
 //! Laws of the physical map and of quiet ticks: nothing runs here.
 
-ghost use Rattle.std.specs.Prelude.{◌≡◌, ℕ, ◌+◌, ◌-◌, ◌*◌, ◌/◌, ◌≤◌, Some, None};
+ghost use Rattle.std.specs.Prelude.{◌≡◌, ℕ, Bool, ◌+◌, ◌-◌, ◌*◌, ◌/◌, ◌≤◌, Some, None};
 ghost use Rattle.r3k_word.specs.Layout.{place_of_word};
 ghost use Rattle.kn02_bus.specs.Region.{region_of};
 ghost use Rattle.kn02_bus.specs.declared.region.Region.TheVariants as region;
@@ -8,7 +8,7 @@ ghost use Rattle.kn02_bus.specs.declared.region.Device.TheVariants as device;
 ghost use Rattle.kn02_bus.specs.State.{BusState};
 ghost use Rattle.kn02_bus.specs.Lines.{lines_of};
 ghost use Rattle.kn02_bus.specs.Access.{csr_of, loaded, after_load};
-ghost use Rattle.kn02_bus.specs.Tick.{arrived};
+ghost use Rattle.kn02_bus.specs.Tick.{arrived, arrived_framing, wired};
 ghost use Rattle.kn02_bus.specs.Quiet.{after, passed, quiet_of};
 
 use crate::region::Device;
@@ -27,7 +27,8 @@ pub fn region_laws()
 {}
 
 /// In quiet ticks the parts do nothing but count. The interrupt lines and CSR stay as they are, and a
-/// byte that arrives and a read of the serial part neither see those ticks nor end them.
+/// byte that arrives, with a framing error or without, an external line that gets its level and a read
+/// of the serial part neither see those ticks nor end them.
 pub fn quiet_laws()
     ensures passes { (bus : BusState) (n : ℕ) → n ≤ quiet_of bus → after n bus ≡ passed n bus }
     ensures lines { (bus : BusState) (n : ℕ) → n ≤ quiet_of bus → lines_of (after n bus) ≡ lines_of bus }
@@ -36,6 +37,14 @@ pub fn quiet_laws()
         after n (arrived bus line byte) ≡ arrived (after n bus) line byte }
     ensures quiet_arrival { (bus : BusState) (line byte : ℕ) →
         quiet_of (arrived bus line byte) ≡ quiet_of bus }
+    ensures framing { (bus : BusState) (n line byte : ℕ) → n ≤ quiet_of bus →
+        after n (arrived_framing bus line byte) ≡ arrived_framing (after n bus) line byte }
+    ensures quiet_framing { (bus : BusState) (line byte : ℕ) →
+        quiet_of (arrived_framing bus line byte) ≡ quiet_of bus }
+    ensures wire { (bus : BusState) (n k : ℕ) (level : Bool) →
+        after n (wired bus k level) ≡ wired (after n bus) k level }
+    ensures quiet_wire { (bus : BusState) (k : ℕ) (level : Bool) →
+        quiet_of (wired bus k level) ≡ quiet_of bus }
     ensures word { (bus : BusState) (n offset : ℕ) → n ≤ quiet_of bus →
         loaded (after n bus) (device.Serial offset) ≡ loaded bus (device.Serial offset) }
     ensures read { (bus : BusState) (n offset : ℕ) → n ≤ quiet_of bus →

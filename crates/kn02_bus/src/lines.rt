@@ -4,7 +4,7 @@ ghost use Rattle.std.specs.Prelude.{◌≡◌};
 ghost use Rattle.kn02_bus.specs.Lines.{board_lines, lines_of};
 
 use crate::bus::{Bus, Lines};
-use crate::csr::SERIAL_LINE;
+use crate::csr::*;
 use crate::laws::quiet_laws;
 use crate::parts::Parts;
 
@@ -30,14 +30,13 @@ impl Parts {
         }
     }
 
-    /// The board's lines, one bit each.
+    /// The board's lines, one bit each: bit 7 is that of the serial part, and bits 2 to 0 are external.
     pub(crate) fn board_lines(&self) -> u8
         ensures { result ≡ board_lines self.now }
     {
-        if self.serial.interrupts() {
-            SERIAL_LINE
-        } else {
-            0
-        }
+        flag(SERIAL_LINE, self.serial.interrupts())
+            + flag(LINE_2, self.levels[2])
+            + flag(LINE_1, self.levels[1])
+            + flag(LINE_0, self.levels[0])
     }
 }

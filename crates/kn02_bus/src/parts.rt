@@ -2,7 +2,7 @@
 
 ghost use Rattle.std.specs.Prelude.{◌≡◌, ◌≤◌, ◌<◌, ◌%◌, slice_index};
 ghost use Rattle.kn02_bus.specs.State.{reset_bus};
-ghost use Rattle.kn02_bus.specs.Tick.{arrived, ticked};
+ghost use Rattle.kn02_bus.specs.Tick.{arrived, arrived_framing, wired, ticked};
 ghost use Rattle.kn02_bus.specs.Quiet.{quiet_of, after};
 
 use crate::laws::quiet_laws;
@@ -10,13 +10,18 @@ use dz_serial::Dz;
 use mc146818::Clock;
 use std::marker::Model;
 
-/// The serial part, the clock, and the enables of the board's interrupt lines.
+/// How many lines of the board are external.
+pub(crate) const EXTERNAL: usize = 3;
+
+/// The serial part, the clock, and of the board's interrupt lines the enables and the external levels.
 #[derive(Drop)]
 pub(crate) struct Parts {
     pub(crate) serial: Dz,
     pub(crate) clock: Clock,
     /// Bit k lets line k of the board raise its interrupt.
     pub(crate) enables: u8,
+    /// Of each external line of the board, 0 to 2: its level.
+    pub(crate) levels: [bool; EXTERNAL],
 }
 
 impl Model for Parts {
@@ -24,7 +29,7 @@ impl Model for Parts {
 
     ghost Value = { BusState };
 
-    ghost view = { λ b. record { serial = b.serial; clock = b.clock; enables = b.enables } };
+    ghost view = { λ b. record { serial = b.serial; clock = b.clock; enables = b.enables; levels = b.levels } };
 }
 
 impl PartialEq for Parts {
@@ -42,7 +47,10 @@ impl PartialEq for Parts {
         ensures value { result ≡ is_same self.now other.now }
         ensures equal { IsTrue result ↔ (self.now ≡ other.now) }
     {
-        self.serial == other.serial && self.clock == other.clock && self.enables == other.enables
+        self.serial == other.serial
+            && self.clock == other.clock
+            && self.enables == other.enables
+            && self.levels == other.levels
     }
 }
 
@@ -61,6 +69,7 @@ impl Parts {
             serial: Dz::new(byte_time),
             clock: Clock::new(start, unit),
             enables: 0,
+            levels: [false; EXTERNAL],
         }
     }
 
@@ -71,6 +80,7 @@ impl Parts {
         self.serial.assign(&other.serial);
         self.clock.assign(&other.clock);
         self.enables = other.enables;
+        self.levels = other.levels;
     }
 
     /// The same parts once more.
@@ -88,6 +98,22 @@ impl Parts {
         ensures { self.new ≡ arrived self.old line byte }
     {
         self.serial.receive(line, byte);
+    }
+
+    /// A byte with a framing error arrives at a line of the serial part, which is at most 3.
+    pub(crate) fn receive_framing(&mut self, line: u8, byte: u8)
+        requires { line ≤ 3 }
+        ensures { self.new ≡ arrived_framing self.old line byte }
+    {
+        self.serial.receive_framing(line, byte);
+    }
+
+    /// Sets the level of external line `k`, which is at most 2.
+    pub(crate) fn wire(&mut self, k: u8, level: bool)
+        requires { k ≤ 2 }
+        ensures { self.new ≡ wired self.old k level }
+    {
+        self.levels[k as usize] = level;
     }
 
     /// Clock and serial part advance by a tick.

@@ -1,20 +1,21 @@
 -- What is so of both parts is so of the bus.
 use Rattle.std.proofs.Common.{◌≡◌, ℕ, ◌+◌, ◌*◌, ◌≤◌, sym, ap, arith, ◌∙◌}
-use Rattle.std.specs.Prelude.{if◌then◌else◌, min}
+use Rattle.std.specs.Prelude.{min}
 use Rattle.r3k_word.specs.Word.{has}
 use Rattle.dz_serial.specs.Serial.{Serial}
+use Rattle.dz_serial.specs.Bits.{flag_of}
 use Rattle.dz_serial.specs.Quiet as serial_quiet
 use Rattle.dz_serial.specs.Reads.{word_read}
 use Rattle.mc146818.specs.Quiet as clock_quiet
 use Rattle.kn02_bus.specs.declared.csr.TheConstants.{SERIAL_LINE, ENABLE}
 use Rattle.kn02_bus.specs.declared.region.Device.TheVariants as device
 use Rattle.kn02_bus.specs.State.{BusState}
-use Rattle.kn02_bus.specs.Lines.{lines_of}
+use Rattle.kn02_bus.specs.Lines.{external_lines, lines_of}
 use Rattle.kn02_bus.specs.Access.{after_load, csr_of}
-use Rattle.kn02_bus.specs.Tick.{arrived}
+use Rattle.kn02_bus.specs.Tick.{arrived, arrived_framing, wired}
 use Rattle.kn02_bus.specs.Quiet.{quiet_of}
 use Rattle.kn02_bus.proofs.Quiet.{after_parts}
-use Rattle.kn02_bus.proofs.Unseen.{arrived_is_quiet, passed_arrived, read_is_quiet, passed_read, word_of_passed}
+use Rattle.kn02_bus.proofs.Unseen.{arrived_is_quiet, passed_arrived, framing_is_quiet, passed_framing, read_is_quiet, passed_read, word_of_passed}
 use Rattle.kn02_bus.proofs.laws.quiet_laws.Goals as goal
 
 pub returns-clause-passes : goal.returns-clause-passes
@@ -31,7 +32,7 @@ returns-clause-lines c = λ bus n h.
     let serial : n ≤ serial_quiet.quiet_of bus.serial = omega arith in
     let clock : n ≤ clock_quiet.quiet_of bus.clock = omega arith in
     ap lines_of (after_parts n bus) ∙ (λ i. record {
-      board = has bus.enables (if c.quiet_laws.ensures.line bus.serial n serial i then SERIAL_LINE else 0);
+      board = has bus.enables (flag_of SERIAL_LINE (c.quiet_laws.ensures.line bus.serial n serial i) + external_lines bus.levels);
       clock = c.quiet_laws-2.ensures.line bus.clock n clock i;
     })
 
@@ -39,7 +40,7 @@ pub returns-clause-csr : goal.returns-clause-csr
 returns-clause-csr c = λ bus n h.
     let serial : n ≤ serial_quiet.quiet_of bus.serial = omega arith in
     ap csr_of (after_parts n bus)
-    ∙ (λ i. bus.enables * ENABLE + (if c.quiet_laws.ensures.line bus.serial n serial i then SERIAL_LINE else 0))
+    ∙ (λ i. bus.enables * ENABLE + (flag_of SERIAL_LINE (c.quiet_laws.ensures.line bus.serial n serial i) + external_lines bus.levels))
 
 pub returns-clause-quiet_arrival : goal.returns-clause-quiet_arrival
 returns-clause-quiet_arrival c = λ bus line byte.
@@ -49,10 +50,27 @@ pub returns-clause-arrival : goal.returns-clause-arrival
 returns-clause-arrival c = λ bus n line byte h.
     let still : quiet_of (arrived bus line byte) ≡ quiet_of bus = returns-clause-quiet_arrival c bus line byte in
     let within : n ≤ quiet_of (arrived bus line byte) = omega arith in
-    let with_serial = λ (s : Serial). let b : BusState = record { serial = s; clock = clock_quiet.passed n bus.clock; enables = bus.enables } in b in
+    let with_serial = λ (s : Serial). let b : BusState = record { serial = s; clock = clock_quiet.passed n bus.clock; enables = bus.enables; levels = bus.levels } in b in
     returns-clause-passes c (arrived bus line byte) n within
     ∙ (ap with_serial (passed_arrived n bus.serial line byte)
     ∙ ap (λ (b : BusState). arrived b line byte) (sym (returns-clause-passes c bus n h)))
+
+pub returns-clause-quiet_framing : goal.returns-clause-quiet_framing
+returns-clause-quiet_framing c = λ bus line byte.
+    ap (λ (n : ℕ). min n (clock_quiet.quiet_of bus.clock)) (framing_is_quiet bus.serial line byte)
+
+pub returns-clause-framing : goal.returns-clause-framing
+returns-clause-framing c = λ bus n line byte h.
+    let still : quiet_of (arrived_framing bus line byte) ≡ quiet_of bus = returns-clause-quiet_framing c bus line byte in
+    let within : n ≤ quiet_of (arrived_framing bus line byte) = omega arith in
+    let with_serial = λ (s : Serial). let b : BusState = record { serial = s; clock = clock_quiet.passed n bus.clock; enables = bus.enables; levels = bus.levels } in b in
+    returns-clause-passes c (arrived_framing bus line byte) n within
+    ∙ (ap with_serial (passed_framing n bus.serial line byte)
+    ∙ ap (λ (b : BusState). arrived_framing b line byte) (sym (returns-clause-passes c bus n h)))
+
+pub returns-clause-wire : goal.returns-clause-wire
+returns-clause-wire c = λ bus n k level.
+    after_parts n (wired bus k level) ∙ ap (λ (b : BusState). wired b k level) (sym (after_parts n bus))
 
 pub returns-clause-word : goal.returns-clause-word
 returns-clause-word c = λ bus n offset h.
@@ -67,7 +85,7 @@ returns-clause-read c = λ bus n offset h.
     let read = device.Serial offset in
     let still : quiet_of (after_load bus read) ≡ quiet_of bus = returns-clause-quiet_read c bus offset in
     let within : n ≤ quiet_of (after_load bus read) = omega arith in
-    let with_serial = λ (s : Serial). let b : BusState = record { serial = s; clock = clock_quiet.passed n bus.clock; enables = bus.enables } in b in
+    let with_serial = λ (s : Serial). let b : BusState = record { serial = s; clock = clock_quiet.passed n bus.clock; enables = bus.enables; levels = bus.levels } in b in
     returns-clause-passes c (after_load bus read) n within
     ∙ (ap with_serial (passed_read n bus.serial offset)
     ∙ ap (λ (b : BusState). after_load b read) (sym (returns-clause-passes c bus n h)))
