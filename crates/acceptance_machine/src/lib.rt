@@ -4,6 +4,8 @@
 #[cfg(test)]
 mod devices;
 #[cfg(test)]
+mod external_lines;
+#[cfg(test)]
 mod interrupts;
 #[cfg(test)]
 mod isolated;

@@ -2,7 +2,7 @@
 
 use cop0::number::{BAD_VADDR, CAUSE, CONTEXT, ENTRY_HI, EPC};
 use dz_serial::Sent;
-use input_log::Event;
+use input_log::{Event, Kind};
 use r3k_asm::assemble;
 use r3k_image::{Image, raw_rom};
 use r3k_live::FlatMemory;
@@ -17,6 +17,7 @@ use std::test::Fail;
 /// A byte that arrives on line 0.
 pub const BYTE: Event = Event {
     time: 0,
+    kind: Kind::Byte,
     line: 0,
     byte: 0x41,
 };
@@ -26,7 +27,7 @@ pub const BYTE: Event = Event {
 pub enum Then<'a> {
     /// Runs so many steps.
     Run(u32),
-    /// Runs a step in which these bytes arrive.
+    /// Runs a step with these events.
     Receive(&'a [Event]),
     /// Runs as many steps, each of which sends this byte or none.
     Sends(&'a [Option<Sent>]),
@@ -213,7 +214,7 @@ impl Machine {
         }
     }
 
-    /// Runs a step in which these bytes arrive.
+    /// Runs a step with these events.
     pub fn receive(&mut self, events: &[Event]) {
         self.done = step(&mut self.core, &mut self.memory, events);
         self.steps = self.steps.saturating_add(1);

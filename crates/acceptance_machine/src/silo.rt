@@ -3,7 +3,7 @@
 use crate::machine::{BYTE, Machine, Then, plays_source};
 use cop0::number::{BAD_VADDR, CAUSE};
 use dz_serial::Sent;
-use input_log::Event;
+use input_log::{Event, Kind};
 use std::test::Fail;
 
 // Turns on the receivers of lines 0 to 2, and the scanner.
@@ -48,6 +48,72 @@ fn burst(rt: HostRuntime) -> Result<(), Fail> {
             Then::Gives(5, &[0x8031, 0x8241, 0xC033, 0xC134, 0x8135, 0x8036, 0, 0]),
         ],
     );
+    Ok(())
+}
+
+// A byte with a framing error, and the byte after it with one and without.
+const ERROR: Event = Event {
+    kind: Kind::Framing,
+    ..BYTE
+};
+
+const NEXT: Event = Event { byte: 0xC1, ..BYTE };
+
+const NEXT_ERROR: Event = Event {
+    byte: 0xC1,
+    ..ERROR
+};
+
+// The silo is full, and a framing error of line 0 is lost. A load then makes room. The next byte of the line that arrives, with a
+// framing error or without, is read by one load of each kind, when the others are out: it has OERR, and FERR for its own error
+// alone.
+#[test]
+fn framing_error_in_a_full_silo(rt: HostRuntime) -> Result<(), Fail> {
+    for (next, load, want) in [
+        (NEXT_ERROR, 0x8C26_0008, 0x0000_E0C1), // lw r6, 8(r1)
+        (NEXT_ERROR, 0x8426_0008, 0xFFFF_E0C1), // lh
+        (NEXT_ERROR, 0x9426_0008, 0x0000_E0C1), // lhu
+        (NEXT_ERROR, 0x8026_0008, 0xFFFF_FFC1), // lb
+        (NEXT_ERROR, 0x9026_0008, 0x0000_00C1), // lbu
+        (NEXT_ERROR, 0x8026_0009, 0xFFFF_FFE0), // lb r6, 9(r1)
+        (NEXT_ERROR, 0x9026_0009, 0x0000_00E0), // lbu
+        (NEXT, 0x8C26_0008, 0x0000_C0C1),
+        (NEXT, 0x8026_0009, 0xFFFF_FFC0),
+    ] {
+        let mut events = [BYTE; 65];
+        events[64] = ERROR;
+        // lw r5, 8(r1), but for one
+        let mut loads = [0x8C25_0008; 66];
+        loads[64] = load;
+        let mut machine = Machine::boot_with(rt.alloc(), &LISTENS, 9, &loads)?;
+        machine.run(9);
+        machine.receive(&events);
+        machine.receive(&[next]);
+        machine.play(
+            &rt,
+            &[
+                Then::Gives(5, &[0x8041; 62]),
+                Then::Run(1),
+                Then::Landed(6, &[want]),
+                Then::Gives(5, &[0]),
+            ],
+        );
+    }
+    Ok(())
+}
+
+// Framing errors before MSE is set, in step 8 and before, and of line 3, whose receiver is off, are no characters. One of line 2
+// is.
+#[test]
+fn framing_error_with_the_receiver_off(rt: HostRuntime) -> Result<(), Fail> {
+    let mut machine = Machine::boot_with(rt.alloc(), &LISTENS, 9, &[0x8C25_0008; 3])?;
+    machine.receive(&[ERROR]);
+    machine.run(7);
+    machine.receive(&[ERROR]);
+    machine.receive(&[Event { line: 3, ..ERROR }]);
+    machine.play(&rt, &[Then::Landed(5, &[0])]);
+    machine.receive(&[Event { line: 3, ..ERROR }, Event { line: 2, ..ERROR }]);
+    machine.play(&rt, &[Then::Landed(5, &[0xA241]), Then::Gives(5, &[0])]);
     Ok(())
 }
 

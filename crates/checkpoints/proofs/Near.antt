@@ -1,6 +1,6 @@
 -- What follows where a span nearly applies.
 use Rattle.std.proofs.Common.{◌≡◌, ℕ, ◌*◌, not, IsFalse, IsTrue, List, length, sym, subst}
-use Rattle.input_log.specs.Event.{TimedByte}
+use Rattle.input_log.specs.Event.{LogEvent}
 use Rattle.r3k_machine.specs.State.{State}
 use Rattle.r3k_machine.specs.Run.{run, trace}
 use Rattle.r3k_machine.specs.Locality.{IsApart}
@@ -12,7 +12,7 @@ use Rattle.r3k_live.proofs.Overlaid.{differing, no_page_of_both, outside_carried
 use Rattle.span_fact.specs.Span.{Span, end_of, steps_of}
 use Rattle.checkpoints.specs.Kept.{NearlyApplies}
 
-pub near_steps : (pages span : ℕ) (s : Span) (start : State) (events : List TimedByte) → NearlyApplies pages span s start events → length start.words ≡ length s.start.words
+pub near_steps : (pages span : ℕ) (s : Span) (start : State) (events : List LogEvent) → NearlyApplies pages span s start events → length start.words ≡ length s.start.words
     → trace pages events (s.index * span) start span ≡ steps_of pages span s
 near_steps pages span s start events near long =
     let touched = touched_pages pages (steps_of pages span s) in
@@ -20,9 +20,9 @@ near_steps pages span s start events near long =
     let same = run_elsewhere pages s.events (s.index * span) (λ page. not (holds touched page)) s.start start start.words span
     (same_on touched s.start start (sym near.same_core) long near.same_touched) none
     in
-    subst (λ (log : List TimedByte). trace pages log (s.index * span) start span ≡ steps_of pages span s) near.same_events same.0
+    subst (λ (log : List LogEvent). trace pages log (s.index * span) start span ≡ steps_of pages span s) near.same_events same.0
 
-pub near_end : (pages span : ℕ) (s : Span) (start : State) (events : List TimedByte) (wider carried : List ℕ)
+pub near_end : (pages span : ℕ) (s : Span) (start : State) (events : List LogEvent) (wider carried : List ℕ)
     → NearlyApplies pages span s start events → length start.words ≡ length s.start.words → SameOutside wider s.start.words start.words
     → IsApart (holds carried) (holds (touched_pages pages (steps_of pages span s)))
     → ((page : ℕ) → IsTrue (holds wider page) → IsFalse (holds (touched_pages pages (steps_of pages span s)) page) → IsTrue (holds carried page))
@@ -32,5 +32,5 @@ near_end pages span s start events wider carried near long outside apart all =
     let with_pages = differing carried s.start start (sym near.same_core) long (outside_carried touched wider carried s.start.words start.words near.same_touched outside all) in
     let none = apart_from_all pages s.events (s.index * span) (holds carried) s.start span apart in
     let same = run_elsewhere pages s.events (s.index * span) (holds carried) s.start start start.words span with_pages none in
-    subst (λ (log : List TimedByte). ◌≡◌ {A = State} (run pages log (s.index * span) start span) (record (end_of pages span s) { words = overlaid carried (end_of pages span s).words start.words })) near.same_events
+    subst (λ (log : List LogEvent). ◌≡◌ {A = State} (run pages log (s.index * span) start span) (record (end_of pages span s) { words = overlaid carried (end_of pages span s).words start.words })) near.same_events
     (state_overlaid carried (end_of pages span s) start.words (run pages s.events (s.index * span) start span) same.1)

@@ -1,6 +1,6 @@
 -- Records of spans that are kept (own).
 use Rattle.std.specs.Prelude.{◌≡◌, ℕ, ◌+◌, ◌<◌, ◌≤◌, Bool, false, IsTrue, List, length, Option, Some, None, IfSome, IsSome, slice_index_or}
-use Rattle.input_log.specs.Event.{TimedByte}
+use Rattle.input_log.specs.Event.{LogEvent}
 use Rattle.r3k_machine.specs.State.{State}
 use Rattle.r3k_pages.specs.Pages.{SamePage, holds}
 use Rattle.r3k_live.specs.Record.{touched_pages}
@@ -30,13 +30,13 @@ abbrev pub SameOn : List ℕ → List ℕ → List ℕ → Type 0
 SameOn set a b = (page : ℕ) → IsTrue (holds set page) → SamePage page a b
 
 -- a span nearly applies: its events are these, and its start differs from this one only in words of pages that it does not touch
-pub record NearlyApplies (pages span : ℕ) (s : Span) (start : State) (events : List TimedByte) : Type 0 where
+pub record NearlyApplies (pages span : ℕ) (s : Span) (start : State) (events : List LogEvent) : Type 0 where
   pub same_events : s.events ≡ events
   pub same_core : s.start.core ≡ start.core
   pub same_touched : SameOn (touched_pages pages (steps_of pages span s)) s.start.words start.words
 
 -- there is one that does
-abbrev pub IsNear : (pages span : ℕ) → Option Span → State → List TimedByte → Type 0
+abbrev pub IsNear : (pages span : ℕ) → Option Span → State → List LogEvent → Type 0
 IsNear pages span None start events = ⊥
 IsNear pages span (Some s) start events = NearlyApplies pages span s start events
 

@@ -1,7 +1,7 @@
 //! Laws of records that nearly apply: nothing runs here.
 
 ghost use Rattle.std.specs.Prelude.{◌≡◌, ℕ, ◌*◌, IsFalse, IsTrue, List, length};
-ghost use Rattle.input_log.specs.Event.{TimedByte};
+ghost use Rattle.input_log.specs.Event.{LogEvent};
 ghost use Rattle.r3k_pages.specs.Pages.{SameOutside, holds, overlaid};
 ghost use Rattle.r3k_machine.specs.State.{State};
 ghost use Rattle.r3k_machine.specs.Run.{run, trace};
@@ -13,10 +13,10 @@ ghost use Rattle.checkpoints.specs.Kept.{NearlyApplies};
 /// Where a span nearly applies, the steps from that start tell the same, and they end where the span ends, with the pages that
 /// differ and that it does not touch carried over from the start.
 pub fn near_laws()
-    ensures steps { (pages span : ℕ) (s : Span) (start : State) (events : List TimedByte) →
+    ensures steps { (pages span : ℕ) (s : Span) (start : State) (events : List LogEvent) →
         NearlyApplies pages span s start events → length start.words ≡ length s.start.words →
         trace pages events (s.index * span) start span ≡ steps_of pages span s }
-    ensures end { (pages span : ℕ) (s : Span) (start : State) (events : List TimedByte) (differing carried : List ℕ) →
+    ensures end { (pages span : ℕ) (s : Span) (start : State) (events : List LogEvent) (differing carried : List ℕ) →
         NearlyApplies pages span s start events → length start.words ≡ length s.start.words →
         SameOutside differing s.start.words start.words →
         IsApart (holds carried) (holds (touched_pages pages (steps_of pages span s))) →

@@ -3,7 +3,7 @@ use Rattle.std.proofs.Common.{◌≡◌, ℕ, zero, suc, ◌+◌, ◌<◌, ◌�
 use Rattle.std.proofs.lemmas.Bool.{cases_Bool, cases_lt, eqb-true, or_from}
 use Rattle.std.proofs.lemmas.List.{get_or_past}
 use Rattle.std.proofs.lemmas.List.Folds.{Any-from_list_any}
-use Rattle.input_log.specs.Event.{TimedByte}
+use Rattle.input_log.specs.Event.{LogEvent}
 use Rattle.r3k_machine.specs.declared.step.Done.{Done}
 use Rattle.r3k_machine.specs.State.{State}
 use Rattle.r3k_machine.specs.Step.{told}
@@ -36,7 +36,7 @@ step_not_past pages page done past within =
           | inr over ↦ rw (get_or_past done.touched k None over) refl
         ]
 
-none_past : (pages : ℕ) (log : List TimedByte) (time : ℕ) (s : State) (n page : ℕ) → page_count_of pages ≤ page → is_touched (trace pages log time s n) page ≡ false
+none_past : (pages : ℕ) (log : List LogEvent) (time : ℕ) (s : State) (n page : ℕ) → page_count_of pages ≤ page → is_touched (trace pages log time s n) page ≡ false
 unfolding trace
 none_past pages log time s zero page past = refl
 none_past pages log time s (suc n) page past =
@@ -60,7 +60,7 @@ not_held pages steps page past =
       | inr free ↦ free
     ]
 
-pub recorded : (pages : ℕ) (log : List TimedByte) (time : ℕ) (s : State) (n page : ℕ)
+pub recorded : (pages : ℕ) (log : List LogEvent) (time : ℕ) (s : State) (n page : ℕ)
     → holds (touched_pages pages (trace pages log time s n)) page ≡ is_touched (trace pages log time s n) page
 recorded pages log time s n page =
     let steps = trace pages log time s n in
@@ -69,6 +69,6 @@ recorded pages log time s n page =
       | inr past ↦ not_held pages steps page past ∙ sym (none_past pages log time s n page past)
     ]
 
-pub apart_from_all : (pages : ℕ) (log : List TimedByte) (time : ℕ) (set : ℕ → Bool) (s : State) (n : ℕ)
+pub apart_from_all : (pages : ℕ) (log : List LogEvent) (time : ℕ) (set : ℕ → Bool) (s : State) (n : ℕ)
     → IsApart set (holds (touched_pages pages (trace pages log time s n))) → IsApart set (is_touched (trace pages log time s n))
 apart_from_all pages log time set s n apart = λ page held. sym (recorded pages log time s n page) ∙ apart page held

@@ -2,7 +2,7 @@
 use Rattle.std.proofs.Common.{◌≡◌, ℕ, suc, ◌+◌, ◌-◌, ◌<◌, leb, ltb, ◌&&◌, List, [], ◌∷◌, ◌++◌, Some, ap, ◌∙◌, arith, ◌==◌, inl, inr}
 use Rattle.std.proofs.lemmas.Bool.{eq-eqb, eqb-true, cases_Bool}
 use Rattle.std.proofs.lemmas.Bool.Decides.{nat_tests}
-use Rattle.input_log.specs.Event.{TimedByte}
+use Rattle.input_log.specs.Event.{LogEvent}
 use Rattle.input_log.specs.Log.{later_than, window_of}
 use Rattle.input_log.proofs.Filter.{filter-filter}
 use Rattle.r3k_machine.specs.Run.{arriving, run, trace}
@@ -11,17 +11,17 @@ use Rattle.r3k_machine.specs.Step.{next, told}
 use Rattle.r3k_live.specs.Visits.{first_visit}
 
 -- the events of later times are left
-pub left_later : (past time : ℕ) (events : List TimedByte) → past < time → window_of time (time + 1) (later_than past events) ≡ window_of time (time + 1) events
+pub left_later : (past time : ℕ) (events : List LogEvent) → past < time → window_of time (time + 1) (later_than past events) ≡ window_of time (time + 1) events
 left_later past time events later =
     filter-filter (λ e. leb time e.time && ltb e.time (time + 1)) (λ e. ltb past e.time) (λ e. leb time e.time && ltb e.time (time + 1))
     (λ e. grind (arith, nat_tests)) events
 
-pub run_more : (pages : ℕ) (log : List TimedByte) (time : ℕ) (s : State) (made : ℕ)
+pub run_more : (pages : ℕ) (log : List LogEvent) (time : ℕ) (s : State) (made : ℕ)
     → next pages (arriving log (time + made)) (run pages log time s made) ≡ run pages log time s (made + 1)
 unfolding run
 run_more pages log time s made = ap (run pages log time s) (let e : suc made ≡ made + 1 = omega arith in e)
 
-pub trace_more : (pages : ℕ) (log : List TimedByte) (time : ℕ) (s : State) (made : ℕ)
+pub trace_more : (pages : ℕ) (log : List LogEvent) (time : ℕ) (s : State) (made : ℕ)
     → trace pages log time s made ++ told pages (arriving log (time + made)) (run pages log time s made) ∷ [] ≡ trace pages log time s (made + 1)
 unfolding trace
 trace_more pages log time s made = ap (trace pages log time s) (let e : suc made ≡ made + 1 = omega arith in e)
@@ -29,7 +29,7 @@ trace_more pages log time s made = ap (trace pages log time s) (let e : suc made
 one_less : (made steps : ℕ) → made < steps → steps - made ≡ suc (steps - (made + 1))
 one_less made steps before = omega (arith, before)
 
-pub visit_here : (pages : ℕ) (log : List TimedByte) (time : ℕ) (s : State) (stop made steps : ℕ) → made < steps
+pub visit_here : (pages : ℕ) (log : List LogEvent) (time : ℕ) (s : State) (stop made steps : ℕ) → made < steps
     → (run pages log time s (made + 1)).core.pc ≡ stop → first_visit pages log time s stop made (steps - made) ≡ Some (made + 1)
 unfolding first_visit
 visit_here pages log time s stop made steps before here =
@@ -37,7 +37,7 @@ visit_here pages log time s stop made steps before here =
     ∙ rw (eq-eqb (run pages log time s (suc made)).core.pc stop (ap (λ (n : ℕ). (run pages log time s n).core.pc) (let e : suc made ≡ made + 1 = omega arith in e) ∙ here))
     (ap Some (let e : suc made ≡ made + 1 = omega arith in e))
 
-pub visit_on : (pages : ℕ) (log : List TimedByte) (time : ℕ) (s : State) (stop made steps : ℕ) → made < steps
+pub visit_on : (pages : ℕ) (log : List LogEvent) (time : ℕ) (s : State) (stop made steps : ℕ) → made < steps
     → ¬ ((run pages log time s (made + 1)).core.pc ≡ stop)
     → first_visit pages log time s stop made (steps - made) ≡ first_visit pages log time s stop (made + 1) (steps - (made + 1))
 unfolding first_visit

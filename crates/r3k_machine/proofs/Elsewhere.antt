@@ -3,7 +3,7 @@ use Rattle.std.proofs.Common.{◌≡◌, ℕ, zero, suc, ◌+◌, Bool, false, �
 use Rattle.std.proofs.Math.Path.{ap₂}
 use Rattle.std.proofs.lemmas.Bool.{or_parts}
 use Rattle.std.proofs.lemmas.List.Folds.{list_any-append}
-use Rattle.input_log.specs.Event.{TimedByte}
+use Rattle.input_log.specs.Event.{LogEvent}
 use Rattle.r3k_machine.specs.declared.step.Done.{Done}
 use Rattle.r3k_machine.specs.Core.{Core}
 use Rattle.r3k_machine.specs.State.{State}
@@ -12,7 +12,7 @@ use Rattle.r3k_machine.specs.Run.{run, trace, arriving}
 use Rattle.r3k_machine.specs.Locality.{IsApart, IsWithPages, is_touched, touches}
 use Rattle.r3k_machine.proofs.Untouched.{step_follows}
 
-pub step_elsewhere : (pages : ℕ) (events : List TimedByte) (set : ℕ → Bool) (s t : State) (other : List ℕ)
+pub step_elsewhere : (pages : ℕ) (events : List LogEvent) (set : ℕ → Bool) (s t : State) (other : List ℕ)
     → IsWithPages set s other t → IsApart set (λ page. touches page (told pages events s))
     → (told pages events t ≡ told pages events s) × IsWithPages set (next pages events s) other (next pages events t)
 step_elsewhere pages events set s t other w apart =
@@ -28,7 +28,7 @@ both set first done apart =
     (halves.0, (or_parts (touches page done) false halves.1).0) in
     ((λ page held. (parts page (apart page held)).0), (λ page held. (parts page (apart page held)).1))
 
-pub run_elsewhere : (pages : ℕ) (log : List TimedByte) (time : ℕ) (set : ℕ → Bool) (s t : State) (other : List ℕ) (n : ℕ)
+pub run_elsewhere : (pages : ℕ) (log : List LogEvent) (time : ℕ) (set : ℕ → Bool) (s t : State) (other : List ℕ) (n : ℕ)
     → IsWithPages set s other t → IsApart set (is_touched (trace pages log time s n))
     → (trace pages log time t n ≡ trace pages log time s n) × IsWithPages set (run pages log time s n) other (run pages log time t n)
 unfolding run trace

@@ -4,7 +4,7 @@ use Rattle.std.proofs.Math.Path.{ap₂}
 use Rattle.std.proofs.lemmas.List.{append-nil}
 use Rattle.std.specs.List.{cons_option}
 use Rattle.std.proofs.lemmas.List.Elements.{filter_map-append}
-use Rattle.input_log.specs.Event.{TimedByte}
+use Rattle.input_log.specs.Event.{LogEvent}
 use Rattle.input_log.specs.Log.{window_of}
 use Rattle.input_log.proofs.Window.{narrowed}
 use Rattle.r3k_machine.specs.declared.step.Done.{Done}
@@ -12,14 +12,14 @@ use Rattle.r3k_machine.specs.State.{State}
 use Rattle.r3k_machine.specs.Step.{next, told}
 use Rattle.r3k_machine.specs.Run.{run, trace, arriving, console_of, byte_on, senders_of, with_sender, last_writer, later, stores_into}
 
-pub run_split : (pages : ℕ) (log : List TimedByte) (time : ℕ) (s : State) (m n : ℕ) → run pages log time s (m + n) ≡ run pages log (time + m) (run pages log time s m) n
+pub run_split : (pages : ℕ) (log : List LogEvent) (time : ℕ) (s : State) (m n : ℕ) → run pages log time s (m + n) ≡ run pages log (time + m) (run pages log time s m) n
 unfolding run
 run_split pages log time s m zero = ap (run pages log time s) (add-zero m)
 run_split pages log time s m (suc n) =
     ap (run pages log time s) (let e : m + suc n ≡ suc (m + n) = omega arith in e)
     ∙ ap₂ (λ (t : ℕ) (u : State). next pages (arriving log t) u) (let e : time + (m + n) ≡ time + m + n = omega arith in e) (run_split pages log time s m n)
 
-pub trace_split : (pages : ℕ) (log : List TimedByte) (time : ℕ) (s : State) (m n : ℕ) → trace pages log time s (m + n) ≡ trace pages log time s m ++ trace pages log (time + m) (run pages log time s m) n
+pub trace_split : (pages : ℕ) (log : List LogEvent) (time : ℕ) (s : State) (m n : ℕ) → trace pages log time s (m + n) ≡ trace pages log time s m ++ trace pages log (time + m) (run pages log time s m) n
 unfolding trace
 trace_split pages log time s m zero = ap (trace pages log time s) (add-zero m) ∙ sym (append-nil (trace pages log time s m))
 trace_split pages log time s m (suc n) =
@@ -28,7 +28,7 @@ trace_split pages log time s m (suc n) =
     (ap₂ (λ (t : ℕ) (u : State). told pages (arriving log t) u) (let e : time + (m + n) ≡ time + m + n = omega arith in e) (run_split pages log time s m n))
     ∙ append_assoc (trace pages log time s m) (trace pages log (time + m) (run pages log time s m) n) (told pages (arriving log (time + m + n)) (run pages log (time + m) (run pages log time s m) n) ∷ []))
 
-pub trace_count : (pages : ℕ) (log : List TimedByte) (time : ℕ) (s : State) (n : ℕ) → length (trace pages log time s n) ≡ n
+pub trace_count : (pages : ℕ) (log : List LogEvent) (time : ℕ) (s : State) (n : ℕ) → length (trace pages log time s n) ≡ n
 unfolding trace
 trace_count pages log time s zero = refl
 trace_count pages log time s (suc n) =
@@ -79,32 +79,32 @@ writer_split address (done ∷ steps) rest =
     ∙ joined (length steps) (last_writer address rest) (last_writer address steps) (stores_into address done.stored)
 
 -- the events of a step within a window are those of the log
-pub arriving_own : (from to time : ℕ) (log : List TimedByte) → from ≤ time → time < to → arriving (window_of from to log) time ≡ arriving log time
+pub arriving_own : (from to time : ℕ) (log : List LogEvent) → from ≤ time → time < to → arriving (window_of from to log) time ≡ arriving log time
 arriving_own from to time log first last = narrowed from to time (time + 1) log first (omega (arith, last))
 
 -- a run and its trace depend on the events of their own times alone
-pub run_within : (pages to : ℕ) (log : List TimedByte) (time : ℕ) (s : State) (n : ℕ) → time + n ≤ to
+pub run_within : (pages to : ℕ) (log : List LogEvent) (time : ℕ) (s : State) (n : ℕ) → time + n ≤ to
     → run pages (window_of time to log) time s n ≡ run pages log time s n
 unfolding run
 run_within pages to log time s zero within = refl
 run_within pages to log time s (suc n) within =
-    ap₂ (λ (events : List TimedByte) (u : State). next pages events u)
+    ap₂ (λ (events : List LogEvent) (u : State). next pages events u)
     (arriving_own time to (time + n) log (omega arith) (omega (arith, within)))
     (run_within pages to log time s n (omega (arith, within)))
 
-trace_within : (pages to : ℕ) (log : List TimedByte) (time : ℕ) (s : State) (n : ℕ) → time + n ≤ to
+trace_within : (pages to : ℕ) (log : List LogEvent) (time : ℕ) (s : State) (n : ℕ) → time + n ≤ to
     → trace pages (window_of time to log) time s n ≡ trace pages log time s n
 unfolding trace
 trace_within pages to log time s zero within = refl
 trace_within pages to log time s (suc n) within =
     ap₂ (λ (steps : List Done) (done : Done). steps ++ done ∷ [])
     (trace_within pages to log time s n (omega (arith, within)))
-    (ap₂ (λ (events : List TimedByte) (u : State). told pages events u)
+    (ap₂ (λ (events : List LogEvent) (u : State). told pages events u)
     (arriving_own time to (time + n) log (omega arith) (omega (arith, within)))
     (run_within pages to log time s n (omega (arith, within))))
 
-pub run_own : (pages : ℕ) (log : List TimedByte) (time : ℕ) (s : State) (n : ℕ) → run pages (window_of time (time + n) log) time s n ≡ run pages log time s n
+pub run_own : (pages : ℕ) (log : List LogEvent) (time : ℕ) (s : State) (n : ℕ) → run pages (window_of time (time + n) log) time s n ≡ run pages log time s n
 run_own pages log time s n = run_within pages (time + n) log time s n (omega arith)
 
-pub trace_own : (pages : ℕ) (log : List TimedByte) (time : ℕ) (s : State) (n : ℕ) → trace pages (window_of time (time + n) log) time s n ≡ trace pages log time s n
+pub trace_own : (pages : ℕ) (log : List LogEvent) (time : ℕ) (s : State) (n : ℕ) → trace pages (window_of time (time + n) log) time s n ≡ trace pages log time s n
 trace_own pages log time s n = trace_within pages (time + n) log time s n (omega arith)

@@ -1,7 +1,7 @@
 -- A step that touches no page of a set, from two states that differ in such pages alone.
 use Rattle.std.proofs.Common.{◌≡◌, ℕ, ◌*◌, ◌/◌, ◌%◌, Bool, true, false, ◌||◌, List, Option, Some, None, Result, Ok, Err, IsFalse, slice_index, slice_index_or, if◌then◌else◌, inl, inr, refl, sym, ap, subst}
 use Rattle.std.proofs.lemmas.Bool.{cases_Bool, eq-eqb, or_parts}
-use Rattle.input_log.specs.Event.{TimedByte}
+use Rattle.input_log.specs.Event.{LogEvent}
 use Rattle.kn02_bus.specs.Region.{region_of}
 use Rattle.kn02_bus.specs.declared.region.Region.{Region}
 use Rattle.r3k_word.specs.Layout.{page_of_place, place_of_word}
@@ -166,7 +166,7 @@ module _ (set : ℕ → Bool) (own other words : List ℕ) (w : AreWithPages set
   fall_follows : (o p : Outcome) → Follows o p → Follows (with_fall o) (with_fall p)
   fall_follows o p same = λ apart. let f = same apart in (f.0, record { core = ap fallen f.1.core; words = f.1.words })
 
-  pub step_follows : (pages : ℕ) (events : List TimedByte) (core : Core) → Follows (outcome_of_step pages events (at core own)) (outcome_of_step pages events (at core words))
+  pub step_follows : (pages : ℕ) (events : List LogEvent) (core : Core) → Follows (outcome_of_step pages events (at core own)) (outcome_of_step pages events (at core words))
   unfolding outcome_of_step
   step_follows pages events core =
       let begun = sampled (ticked (arrived events core)) in

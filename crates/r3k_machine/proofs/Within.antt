@@ -1,7 +1,7 @@
 -- A step tells pages of the machine alone.
 use Rattle.std.proofs.Common.{ℕ, zero, suc, ◌+◌, ◌-◌, ◌*◌, ◌/◌, ◌%◌, List, [], ◌∷◌, All, Option, Some, None, IfSome, Result, Ok, Err, IfOk, if◌then◌else◌, slice_index, nat_lt, nat_le, ◌==◌, ◌&&◌, inl, inr, arith}
 use Rattle.std.proofs.lemmas.Bool.{and_parts, cases_Bool, ltb-true}
-use Rattle.input_log.specs.Event.{TimedByte}
+use Rattle.input_log.specs.Event.{LogEvent}
 use Rattle.kn02_bus.specs.Region.{region_of}
 use Rattle.kn02_bus.specs.declared.region.Region.{Region}
 use Rattle.r3k_word.specs.Layout.{page_of_place, place_of_word}
@@ -179,6 +179,6 @@ turn_tells pages s =
       | inr not_wanted ↦ rw not_wanted (fetch_tells pages (record { core = met s.core (meaning_of_fetch s.core); words = s.words }) (meaning_of_fetch s.core).answer)
     ]
 
-pub pages_within : (pages : ℕ) (events : List TimedByte) (s : State) → All (λ page. IfSome page (IsPage pages)) (told pages events s).touched
+pub pages_within : (pages : ℕ) (events : List LogEvent) (s : State) → All (λ page. IfSome page (IsPage pages)) (told pages events s).touched
 unfolding outcome_of_step
 pages_within pages events s = turn_tells pages (record { core = sampled (ticked (arrived events s.core)); words = s.words })

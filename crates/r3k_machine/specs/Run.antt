@@ -1,7 +1,7 @@
 -- The run (Kane and Heinrich for a step; that steps are counted, and when a byte arrives, is own).
 use Rattle.std.specs.Prelude.{ℕ, zero, suc, ◌+◌, List, [], ◌∷◌, ◌++◌, Option, Some, None, ◌==◌, if◌then◌else◌}
 use Rattle.std.specs.List.{filter_map}
-use Rattle.input_log.specs.Event.{TimedByte}
+use Rattle.input_log.specs.Event.{LogEvent}
 use Rattle.input_log.specs.Log.{window_of}
 use Rattle.r3k_image.specs.Boot.{Boot}
 use Rattle.r3k_machine.specs.declared.step.Done.{Done}
@@ -11,25 +11,25 @@ use Rattle.r3k_machine.specs.Reset.{reset}
 use Rattle.r3k_machine.specs.Step.{next, told}
 
 -- the bytes that arrive in the step of a time, in the order of the log
-abbrev pub arriving : List TimedByte → ℕ → List TimedByte
+abbrev pub arriving : List LogEvent → ℕ → List LogEvent
 arriving log time = window_of time (time + 1) log
 
 -- the state after so many steps of a machine with so many RAM pages, from a state at a time
-unfoldable pub run : ℕ → List TimedByte → ℕ → State → ℕ → State
+unfoldable pub run : ℕ → List LogEvent → ℕ → State → ℕ → State
 run pages log time s zero = s
 run pages log time s (suc n) = next pages (arriving log (time + n)) (run pages log time s n)
 
 -- what each of these steps told
-unfoldable pub trace : ℕ → List TimedByte → ℕ → State → ℕ → List Done
+unfoldable pub trace : ℕ → List LogEvent → ℕ → State → ℕ → List Done
 trace pages log time s zero = []
 trace pages log time s (suc n) = trace pages log time s n ++ told pages (arriving log (time + n)) (run pages log time s n) ∷ []
 
 -- the run from reset: the state at a position
-abbrev pub state_at : ℕ → Boot → List TimedByte → ℕ → State
+abbrev pub state_at : ℕ → Boot → List LogEvent → ℕ → State
 state_at pages image log position = run pages log 0 (reset pages image) position
 
 -- its trace: what the steps before a position told
-abbrev pub trace_at : ℕ → Boot → List TimedByte → ℕ → List Done
+abbrev pub trace_at : ℕ → Boot → List LogEvent → ℕ → List Done
 trace_at pages image log position = trace pages log 0 (reset pages image) position
 
 -- the byte that a step sent on a line
@@ -67,7 +67,7 @@ last_writer address [] = None
 last_writer address (done ∷ steps) = later 1 (last_writer address steps) (stores_into address done.stored)
 
 -- the least position after one, at most so many steps behind it, at which the PC holds an address
-unfoldable pub next_visit : ℕ → Boot → List TimedByte → (address position limit : ℕ) → Option ℕ
+unfoldable pub next_visit : ℕ → Boot → List LogEvent → (address position limit : ℕ) → Option ℕ
 next_visit pages image log address position zero = None
 next_visit pages image log address position (suc limit) =
     if (state_at pages image log (suc position)).core.pc == address then Some (suc position)

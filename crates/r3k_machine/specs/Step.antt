@@ -7,7 +7,9 @@ use Rattle.cop0.specs.Registers.{register_of, written}
 use Rattle.cop0.specs.declared.exception.Coprocessor.TheVariants.{Cp0}
 use Rattle.r3k_decode.specs.Operation.{Operation}
 use Rattle.r3k_decode.specs.Decoding.{operation_of}
-use Rattle.input_log.specs.Event.{TimedByte}
+use Rattle.input_log.specs.declared.event.Kind.{Kind}
+use Rattle.input_log.specs.declared.event.Kind.TheVariants.{Byte, Framing, Wire}
+use Rattle.input_log.specs.Event.{LogEvent}
 use Rattle.r3k_exec.specs.Access.{loaded, stored}
 use Rattle.r3k_exec.specs.Effects.{effect_of}
 use Rattle.r3k_exec.specs.declared.access.LoadKind.{LoadKind}
@@ -53,11 +55,16 @@ page_stored (Some address) = Some (address / PAGE_BYTES)
 abbrev pub storing : ℕ → Stored → Done
 storing page stored = record { sent = stored.sent; stored = stored.address; touched = Some page ∷ page_stored stored.address ∷ [] }
 
--- 1. The log's bytes reach the serial part, in the order of the log.
-abbrev pub received : List TimedByte → BusState → BusState
-received events devices = fold (λ devices event. bus.arrived devices event.line event.byte) devices events
+-- 1. The log's events take effect, in the order of the log.
+abbrev pub received_as : Kind → BusState → (line byte : ℕ) → BusState
+received_as Byte devices line byte = bus.arrived devices line byte
+received_as Framing devices line byte = bus.arrived_framing devices line byte
+received_as Wire devices line byte = bus.wired devices line (byte == 1)
 
-unfoldable pub arrived : List TimedByte → Core → Core
+abbrev pub received : List LogEvent → BusState → BusState
+received events devices = fold (λ devices event. received_as event.kind devices event.line event.byte) devices events
+
+unfoldable pub arrived : List LogEvent → Core → Core
 arrived events core = record core { bus = received events core.bus }
 
 -- 2. Clock and serial part advance by one tick.
@@ -215,13 +222,13 @@ abbrev pub with_fall : Outcome → Outcome
 with_fall o = record { state = record { core = fallen o.state.core; words = o.state.words }; done = o.done }
 
 -- One step of a machine with so many RAM pages, in which these bytes arrive: its five parts in their order.
-unfoldable pub outcome_of_step : ℕ → List TimedByte → State → Outcome
+unfoldable pub outcome_of_step : ℕ → List LogEvent → State → Outcome
 outcome_of_step pages events s =
     with_fall (outcome_of_interrupt_or_instruction pages (record { core = sampled (ticked (arrived events s.core)); words = s.words }))
 
 -- the state after a step, and what the step tells
-abbrev pub next : ℕ → List TimedByte → State → State
+abbrev pub next : ℕ → List LogEvent → State → State
 next pages events s = (outcome_of_step pages events s).state
 
-abbrev pub told : ℕ → List TimedByte → State → Done
+abbrev pub told : ℕ → List LogEvent → State → Done
 told pages events s = (outcome_of_step pages events s).done

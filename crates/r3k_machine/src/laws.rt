@@ -1,7 +1,7 @@
 //! Laws of the run: nothing runs here.
 
 ghost use Rattle.std.specs.Prelude.{◌≡◌, ℕ, ◌+◌, ◌++◌, All, Bool, IfSome, List, length};
-ghost use Rattle.input_log.specs.Event.{TimedByte};
+ghost use Rattle.input_log.specs.Event.{LogEvent};
 ghost use Rattle.input_log.specs.Log.{window_of};
 ghost use Rattle.r3k_machine.specs.declared.step.Done.{Done};
 ghost use Rattle.r3k_machine.specs.State.{State};
@@ -13,11 +13,11 @@ ghost use Rattle.r3k_machine.specs.Locality.{IsApart, IsWithPages, is_touched, t
 /// A run and its trace split at any point, and so do the console, the steps that sent its bytes, and the last writer. They
 /// depend on the events of their own times alone.
 pub fn run_laws()
-    ensures run { (pages : ℕ) (log : List TimedByte) (time : ℕ) (s : State) (m n : ℕ) →
+    ensures run { (pages : ℕ) (log : List LogEvent) (time : ℕ) (s : State) (m n : ℕ) →
         run pages log time s (m + n) ≡ run pages log (time + m) (run pages log time s m) n }
-    ensures trace { (pages : ℕ) (log : List TimedByte) (time : ℕ) (s : State) (m n : ℕ) →
+    ensures trace { (pages : ℕ) (log : List LogEvent) (time : ℕ) (s : State) (m n : ℕ) →
         trace pages log time s (m + n) ≡ trace pages log time s m ++ trace pages log (time + m) (run pages log time s m) n }
-    ensures count { (pages : ℕ) (log : List TimedByte) (time : ℕ) (s : State) (n : ℕ) → length (trace pages log time s n) ≡ n }
+    ensures count { (pages : ℕ) (log : List LogEvent) (time : ℕ) (s : State) (n : ℕ) → length (trace pages log time s n) ≡ n }
     ensures console { (line : ℕ) (first rest : List Done) →
         console_of line (first ++ rest) ≡ console_of line first ++ console_of line rest }
     ensures senders { (line time : ℕ) (first rest : List Done) →
@@ -25,9 +25,9 @@ pub fn run_laws()
     ensures sent { (line time : ℕ) (steps : List Done) → length (senders_of line time steps) ≡ length (console_of line steps) }
     ensures writer { (address : ℕ) (first rest : List Done) →
         last_writer address (first ++ rest) ≡ later (length first) (last_writer address rest) (last_writer address first) }
-    ensures own_times { (pages : ℕ) (log : List TimedByte) (time : ℕ) (s : State) (n : ℕ) →
+    ensures own_times { (pages : ℕ) (log : List LogEvent) (time : ℕ) (s : State) (n : ℕ) →
         run pages (window_of time (time + n) log) time s n ≡ run pages log time s n }
-    ensures own_times_of_trace { (pages : ℕ) (log : List TimedByte) (time : ℕ) (s : State) (n : ℕ) →
+    ensures own_times_of_trace { (pages : ℕ) (log : List LogEvent) (time : ℕ) (s : State) (n : ℕ) →
         trace pages (window_of time (time + n) log) time s n ≡ trace pages log time s n }
 {}
 
@@ -35,17 +35,17 @@ pub fn run_laws()
 /// state is the same with these words in them. So it is with the trace and the end of a run. There is one such state alone.
 /// Any page that a step touches is one of the machine.
 pub fn locality()
-    ensures pages { (pages : ℕ) (events : List TimedByte) (s : State) → All (λ page. IfSome page (IsPage pages)) (told pages events s).touched }
-    ensures told { (pages : ℕ) (events : List TimedByte) (set : ℕ → Bool) (s t : State) (other : List ℕ) →
+    ensures pages { (pages : ℕ) (events : List LogEvent) (s : State) → All (λ page. IfSome page (IsPage pages)) (told pages events s).touched }
+    ensures told { (pages : ℕ) (events : List LogEvent) (set : ℕ → Bool) (s t : State) (other : List ℕ) →
         IsWithPages set s other t → IsApart set (λ page. touches page (told pages events s)) →
         told pages events t ≡ told pages events s }
-    ensures next { (pages : ℕ) (events : List TimedByte) (set : ℕ → Bool) (s t : State) (other : List ℕ) →
+    ensures next { (pages : ℕ) (events : List LogEvent) (set : ℕ → Bool) (s t : State) (other : List ℕ) →
         IsWithPages set s other t → IsApart set (λ page. touches page (told pages events s)) →
         IsWithPages set (next pages events s) other (next pages events t) }
-    ensures trace { (pages : ℕ) (log : List TimedByte) (time : ℕ) (set : ℕ → Bool) (s t : State) (other : List ℕ) (n : ℕ) →
+    ensures trace { (pages : ℕ) (log : List LogEvent) (time : ℕ) (set : ℕ → Bool) (s t : State) (other : List ℕ) (n : ℕ) →
         IsWithPages set s other t → IsApart set (is_touched (trace pages log time s n)) →
         trace pages log time t n ≡ trace pages log time s n }
-    ensures run { (pages : ℕ) (log : List TimedByte) (time : ℕ) (set : ℕ → Bool) (s t : State) (other : List ℕ) (n : ℕ) →
+    ensures run { (pages : ℕ) (log : List LogEvent) (time : ℕ) (set : ℕ → Bool) (s t : State) (other : List ℕ) (n : ℕ) →
         IsWithPages set s other t → IsApart set (is_touched (trace pages log time s n)) →
         IsWithPages set (run pages log time s n) other (run pages log time t n) }
     ensures one { (set : ℕ → Bool) (s : State) (other : List ℕ) (t u : State) → IsWithPages set s other t → IsWithPages set s other u → t ≡ u }

@@ -1,7 +1,7 @@
 //! One step, in its written order.
 
 ghost use Rattle.std.specs.Prelude.{◌≡◌, None};
-ghost use Rattle.r3k_machine.specs.Step.{arrived, fallen, fetching, outcome_of_instruction, interrupted, outcome_of_interrupt_or_instruction, loading, next, received, sampled, storing, ticked, told};
+ghost use Rattle.r3k_machine.specs.Step.{arrived, fallen, fetching, outcome_of_instruction, interrupted, outcome_of_interrupt_or_instruction, loading, next, received, received_as, sampled, storing, ticked, told};
 ghost use Rattle.r3k_machine.specs.Told.{IsTold};
 
 use crate::exception::Exception;
@@ -10,7 +10,7 @@ use crate::load_store::{Stored, fetch};
 use crate::memory::Mem;
 use crate::state::Core;
 use dz_serial::Sent;
-use input_log::Event;
+use input_log::{Event, Kind};
 use kn02_bus::Bus;
 use r3k_word::layout::PAGE_BYTES;
 
@@ -64,18 +64,29 @@ impl Done {
     }
 }
 
-// The log's bytes reach the devices.
+// The log's events take effect.
 #[inline(never)]
 fn receive(bus: &mut Bus, events: &[Event])
     ensures { bus.new ≡ received events.now bus.old }
 {
     for event in events {
-        bus.receive(event.line, event.byte);
+        receive_one(bus, *event);
+    }
+}
+
+// An event of the log takes effect.
+fn receive_one(bus: &mut Bus, event: Event)
+    ensures { bus.new ≡ received_as event.kind bus.old event.line event.byte }
+{
+    match event.kind {
+        Kind::Byte => bus.receive(event.line, event.byte),
+        Kind::Framing => bus.receive_framing(event.line, event.byte),
+        Kind::Wire => bus.wire(event.line, event.byte == 1),
     }
 }
 
 impl Core {
-    // The log's bytes reach the serial part.
+    // The log's events take effect.
     #[inline]
     #[tactic(auto, unfolding(crate::specs::Step::arrived))]
     fn arrive(&mut self, events: &[Event])

@@ -1,6 +1,6 @@
 -- A span of a run (own): so many steps from a state, with the events of their times. All else of it follows.
 use Rattle.std.specs.Prelude.{◌≡◌, ℕ, ◌+◌, ◌*◌, List}
-use Rattle.input_log.specs.Event.{TimedByte}
+use Rattle.input_log.specs.Event.{LogEvent}
 use Rattle.input_log.specs.Log.{AreInOrder, AreWithin}
 use Rattle.r3k_machine.specs.State.{State}
 use Rattle.r3k_machine.specs.Run.{run, trace}
@@ -13,7 +13,7 @@ use Rattle.r3k_live.specs.declared.recorder.Written.{Written}
 pub record Span : Type 0 where
   pub index : ℕ
   pub start : State
-  pub events : List TimedByte
+  pub events : List LogEvent
 
 -- where it ends, and what its steps tell
 abbrev pub end_of : (pages span : ℕ) → Span → State

@@ -1,6 +1,6 @@
 use Rattle.std.proofs.Common.{◌≡◌, ℕ, ◌+◌, ◌-◌, ◌++◌, ◌∷◌, [], List, refl, sym, ap, ◌∙◌, subst, arith}
 use Rattle.std.proofs.Math.Path.{ap₂}
-use Rattle.input_log.specs.Event.{TimedByte}
+use Rattle.input_log.specs.Event.{LogEvent}
 use Rattle.r3k_machine.specs.declared.step.Done.{Done}
 use Rattle.r3k_machine.specs.Run.{run, trace}
 use Rattle.r3k_machine.specs.State.{State}
@@ -41,7 +41,7 @@ returns-then-pc-stop-clause-found g c =
     let start = state_of c.args.core.now c.args.memory.now in
     let made = c.loop-made.made in
     let arrived = c.next.ensures.events ∙ c.loop-made.invariant.left (c.args.from + made) (omega arith) in
-    let state = c.step-done.ensures.state ∙ (ap₂ (λ (events : List TimedByte) (s : State). next g.row.PAGES events s) arrived c.loop-made.invariant.state ∙ run_more g.row.PAGES log c.args.from start made) in
+    let state = c.step-done.ensures.state ∙ (ap₂ (λ (events : List LogEvent) (s : State). next g.row.PAGES events s) arrived c.loop-made.invariant.state ∙ run_more g.row.PAGES log c.args.from start made) in
     sym (c.loop-made.invariant.found
     ∙ visit_here g.row.PAGES log c.args.from start c.args.stop made c.args.steps c.loop-made-test.true
     (sym (ap (λ (s : State). s.core.pc) state) ∙ (sym c.pc.ensures ∙ c.if-pc-stop.true)))
@@ -55,7 +55,7 @@ returns-then-pc-stop-clause-state g c =
     let start = state_of c.args.core.now c.args.memory.now in
     let made = c.loop-made.made in
     let arrived = c.next.ensures.events ∙ c.loop-made.invariant.left (c.args.from + made) (omega arith) in
-    c.step-done.ensures.state ∙ (ap₂ (λ (events : List TimedByte) (s : State). next g.row.PAGES events s) arrived c.loop-made.invariant.state ∙ run_more g.row.PAGES log c.args.from start made)
+    c.step-done.ensures.state ∙ (ap₂ (λ (events : List LogEvent) (s : State). next g.row.PAGES events s) arrived c.loop-made.invariant.state ∙ run_more g.row.PAGES log c.args.from start made)
 
 pub returns-then-pc-stop-clause-recorded : goal.returns-then-pc-stop-clause-recorded
 returns-then-pc-stop-clause-recorded g c =
@@ -64,7 +64,7 @@ returns-then-pc-stop-clause-recorded g c =
     let made = c.loop-made.made in
     let so_far = trace g.row.PAGES log c.args.from start made in
     let arrived = c.next.ensures.events ∙ c.loop-made.invariant.left (c.args.from + made) (omega arith) in
-    let done = c.step-done.ensures.told ∙ ap₂ (λ (events : List TimedByte) (s : State). told g.row.PAGES events s) arrived c.loop-made.invariant.state in
+    let done = c.step-done.ensures.told ∙ ap₂ (λ (events : List LogEvent) (s : State). told g.row.PAGES events s) arrived c.loop-made.invariant.state in
     subst (λ (steps : List Done). Records g.row.PAGES steps c.note.new.self)
     (ap (λ (d : Done). so_far ++ d ∷ []) done ∙ trace_more g.row.PAGES log c.args.from start made)
     (c.note.ensures.records so_far c.loop-made.invariant.recorded)
@@ -76,8 +76,8 @@ loop-made-preserved g c =
     let made = c.loop-made.made in
     let so_far = trace g.row.PAGES log c.args.from start made in
     let arrived = c.next.ensures.events ∙ c.loop-made.invariant.left (c.args.from + made) (omega arith) in
-    let state = c.step-done.ensures.state ∙ (ap₂ (λ (events : List TimedByte) (s : State). next g.row.PAGES events s) arrived c.loop-made.invariant.state ∙ run_more g.row.PAGES log c.args.from start made) in
-    let done = c.step-done.ensures.told ∙ ap₂ (λ (events : List TimedByte) (s : State). told g.row.PAGES events s) arrived c.loop-made.invariant.state in record {
+    let state = c.step-done.ensures.state ∙ (ap₂ (λ (events : List LogEvent) (s : State). next g.row.PAGES events s) arrived c.loop-made.invariant.state ∙ run_more g.row.PAGES log c.args.from start made) in
+    let done = c.step-done.ensures.told ∙ ap₂ (λ (events : List LogEvent) (s : State). told g.row.PAGES events s) arrived c.loop-made.invariant.state in record {
       state = state;
       recorded =
           subst (λ (steps : List Done). Records g.row.PAGES steps c.note.new.self)
@@ -88,7 +88,7 @@ loop-made-preserved g c =
           ∙ visit_on g.row.PAGES log c.args.from start c.args.stop made c.args.steps c.loop-made-test.true
           (λ here. c.if-pc-stop.false (c.pc.ensures ∙ (ap (λ (s : State). s.core.pc) state ∙ here)));
       left = λ time later.
-          ap (λ (events : List TimedByte). Rattle.input_log.specs.Log.window_of time (time + 1) events) c.next.ensures.left
+          ap (λ (events : List LogEvent). Rattle.input_log.specs.Log.window_of time (time + 1) events) c.next.ensures.left
           ∙ (left_later (c.args.from + made) time c.loop-made.events (omega (arith, later))
           ∙ c.loop-made.invariant.left time (omega (arith, later)));
       stayed = λ place clean.
@@ -115,7 +115,7 @@ returns-then-pc-stop-clause-dirty g c =
     let made = c.loop-made.made in
     let so_far = trace g.row.PAGES log c.args.from start made in
     let arrived = c.next.ensures.events ∙ c.loop-made.invariant.left (c.args.from + made) (omega arith) in
-    let done = c.step-done.ensures.told ∙ ap₂ (λ (events : List TimedByte) (s : State). told g.row.PAGES events s) arrived c.loop-made.invariant.state in
+    let done = c.step-done.ensures.told ∙ ap₂ (λ (events : List LogEvent) (s : State). told g.row.PAGES events s) arrived c.loop-made.invariant.state in
     outside_pages g.row.PAGES (is_dirty (trace g.row.PAGES log c.args.from start (made + 1)))
     c.args.memory.now.words.items c.step-done.new.memory.words.items c.args.memory.now.whole c.step-done.new.memory.whole
     (λ place clean.

@@ -1,5 +1,5 @@
 use Rattle.std.proofs.Common.{ℕ, ◌*◌, List, sym, ap, subst, ◌∙◌}
-use Rattle.input_log.specs.Event.{TimedByte}
+use Rattle.input_log.specs.Event.{LogEvent}
 use Rattle.r3k_machine.specs.Run.{run, trace}
 use Rattle.r3k_machine.specs.State.{State}
 use Rattle.r3k_pages.specs.Pages.{SameOutside}
@@ -20,7 +20,7 @@ invariant_of-result g c =
     let ends = c.in_ok-share.ensures {u = tt} ∙ c.in_ok-end.ensures {u = tt} in
     let stored = (c.in_ok-dirty.ensures {u = tt}).pages steps c.run.ensures.recorded in
     let recorded = c.run.ensures.recorded in
-    subst (λ (kept : List TimedByte). Holds pages span (record { index = index; start = c.args.start.value; events = kept })
+    subst (λ (kept : List LogEvent). Holds pages span (record { index = index; start = c.args.start.value; events = kept })
     c.in_ok-share.field-0.value c.in_ok-writers.field-0.items c.in_ok-from_slice-2.field-0.items c.in_ok-dirty.dirty.items c.in_ok-touched.field-0.items)
     (sym (c.in_ok-from_slice.ensures {u = tt}).items)
     (record {
