@@ -2,7 +2,7 @@
 ghost use Rattle.timeline.specs.Sizes.{AreSizes};
 
 use crate::same::same;
-use input_log::Log;
+use input_log::{Log, MAX_POSITION};
 use r3k_image::Image;
 use refusal::Fault;
 use std::alloc::Global;
@@ -31,12 +31,20 @@ pub enum Ask<'a> {
     Console(u64, &'a [u8]),
     /// At a time a byte arrives on line 0.
     Add(u64, u8),
+    /// At a time a byte arrives on line 0 with a framing error.
+    Ferr(u64, u8),
+    /// At a time an external line gets a level.
+    Wire(u64, u8, u8),
     /// So many bytes arrive at once.
     Burst(u32, u64, u8),
     /// An event is deleted.
     Del(u64),
     /// An event has another byte.
     Set(u64, u8),
+    /// The events of the times from one position up to another are erased, which leaves n.
+    Erase(u64, u64, usize),
+    /// Such a range is refused.
+    RefusesErase(u64, u64),
     /// A word of the image is set, by its physical address.
     Patch(u32, u32),
     /// A patch at an address is refused.
@@ -96,9 +104,13 @@ impl<const PAGES: u32, const SPAN: u32> Asked<PAGES, SPAN> {
             Ask::Sent(position, place, want) => self.sent(rt, *position, *place, *want),
             Ask::Console(position, want) => self.console(rt, *position, want),
             Ask::Add(time, byte) => self.add(rt, *time, *byte),
+            Ask::Ferr(time, byte) => self.ferr(rt, *time, *byte),
+            Ask::Wire(time, line, level) => self.wire(rt, *time, *line, *level),
             Ask::Burst(count, time, byte) => self.burst(rt, *count, *time, *byte),
             Ask::Del(place) => self.del(rt, *place),
             Ask::Set(place, byte) => self.set(rt, *place, *byte),
+            Ask::Erase(from, to, left) => self.erase(rt, *from, *to, *left),
+            Ask::RefusesErase(from, to) => self.refuses_erase(rt, *from, *to),
             Ask::Patch(address, word) => self.patch(rt, *address, *word),
             Ask::RefusesPatch(address, fault) => self.refuses_patch(rt, *address, *fault),
             Ask::Refuses => self.refuses(rt),
@@ -164,6 +176,18 @@ impl<const PAGES: u32, const SPAN: u32> Asked<PAGES, SPAN> {
         assert!(rt; added);
     }
 
+    // A byte on line 0 with a framing error.
+    fn ferr(&mut self, rt: &impl Abort, time: u64, byte: u8) {
+        let added = self.timeline.ferr(time, 0, byte).is_ok();
+        assert!(rt; added);
+    }
+
+    // A level of an external line.
+    fn wire(&mut self, rt: &impl Abort, time: u64, line: u8, level: u8) {
+        let added = self.timeline.wire(time, line, level).is_ok();
+        assert!(rt; added);
+    }
+
     // So many bytes at once.
     fn burst(&mut self, rt: &impl Abort, count: u32, time: u64, byte: u8) {
         for _ in 0..count {
@@ -183,9 +207,22 @@ impl<const PAGES: u32, const SPAN: u32> Asked<PAGES, SPAN> {
         assert!(rt; set);
     }
 
+    // The events of a range are erased, which leaves n.
+    fn erase(&mut self, rt: &impl Abort, from: u64, to: u64, left: usize) {
+        let erased = self.timeline.erase(from, to);
+        same(rt, &erased, &Ok(()));
+        same(rt, &self.timeline.log().events().len(), &left);
+    }
+
+    // A range is not erased.
+    fn refuses_erase(&mut self, rt: &impl Abort, from: u64, to: u64) {
+        let erased = self.timeline.erase(from, to);
+        same(rt, &erased, &Err(Fault::Range));
+    }
+
     // An address that is none, and numbers out of their ranges.
     fn refuses(&mut self, rt: &impl Abort) {
-        let far = self.timeline.word_at(4_294_967_296, 0x100).is_err();
+        let far = self.timeline.word_at(MAX_POSITION + 1, 0x100).is_err();
         assert!(rt; far);
         let odd = self.timeline.writer_at(256, 0x102).is_err();
         assert!(rt; odd);

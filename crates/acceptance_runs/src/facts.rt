@@ -8,7 +8,7 @@ ghost use Rattle.checkpoints.specs.Kept.{span_at};
 use crate::running::{FIRST, LOOP, Running, SECOND, Then, echo, plays, record_of, shared};
 use crate::same::{same, same_at};
 use checkpoints::Kept;
-use input_log::{Event, Log};
+use input_log::{Event, Kind, Log};
 use r3k_asm::assemble;
 use r3k_live::{Boundary, counted};
 use r3k_pages::page_laws;
@@ -138,6 +138,7 @@ fn stores_into_pages(rt: HostRuntime) -> Result<(), Fail> {
 // An event of step 5, where the echo program has not turned its receiver on: nothing comes of it, but the events differ.
 const EARLY: Event = Event {
     time: 5,
+    kind: Kind::Byte,
     line: 0,
     byte: 0x41,
 };
@@ -194,6 +195,50 @@ fn record_with_an_event(rt: HostRuntime) -> Result<(), Fail> {
             ),
         ],
     )
+}
+
+// Events that differ in their kind alone.
+const BYTE: Event = Event { byte: 1, ..FIRST };
+
+const FRAMING: Event = Event {
+    kind: Kind::Framing,
+    ..BYTE
+};
+
+const WIRE: Event = Event {
+    kind: Kind::Wire,
+    ..BYTE
+};
+
+// A record with an event is not taken for the same event of two other kinds.
+fn told_apart<'a>(
+    rt: &(impl Abort + AllocGlobal),
+    event: &'a [Event],
+    other: &'a [Event],
+    third: &'a [Event],
+) -> Result<(), Fail> {
+    plays(
+        rt,
+        "the echo program",
+        echo(rt.alloc())?,
+        &[
+            Then::Record(0, 0, &[]),
+            Then::Record(1, 1, event),
+            Then::Put,
+            Then::Applies(1, 1, event, true),
+            Then::Applies(1, 1, other, false),
+            Then::Applies(1, 1, third, false),
+            Then::Applies(1, 1, &[], false),
+        ],
+    )
+}
+
+/// A record with an event is taken for one of its kind alone.
+#[test]
+fn record_with_an_event_of_each_kind(rt: HostRuntime) -> Result<(), Fail> {
+    told_apart(&rt, &[BYTE], &[FRAMING], &[WIRE])?;
+    told_apart(&rt, &[FRAMING], &[WIRE], &[BYTE])?;
+    told_apart(&rt, &[WIRE], &[BYTE], &[FRAMING])
 }
 
 // A start with one word set, at a place of this page: what is outside the page stays.

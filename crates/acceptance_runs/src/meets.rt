@@ -3,7 +3,7 @@
 use crate::asked::{Ask, asks};
 use crate::running::{Then, plays};
 use cop0::number::{RANDOM, STATUS};
-use input_log::Event;
+use input_log::{Event, Kind};
 use r3k_asm::assemble;
 use r3k_image::Image;
 use std::alloc::Global;
@@ -60,6 +60,7 @@ impl Thing {
     fn event(&self, byte: u8) -> Event {
         Event {
             time: self.time,
+            kind: Kind::Byte,
             line: 0,
             byte,
         }
@@ -496,6 +497,7 @@ fn words_of_memory(rt: HostRuntime) -> Result<(), Fail> {
 // A byte of step 16, where line 0 receives.
 const EARLY: Event = Event {
     time: 16,
+    kind: Kind::Byte,
     line: 0,
     byte: 0x41,
 };
@@ -512,6 +514,25 @@ fn mark_of_a_lost_byte(rt: HostRuntime) -> Result<(), Fail> {
         program(rt.alloc(), "", CLEARED)?,
         &[EARLY; 64],
         &[EARLY; 65],
+    )
+}
+
+// A byte of step 56, after the load of step 48.
+const LATE: Event = Event { time: 56, ..EARLY };
+
+/// A byte in the silo with a framing error and without.
+#[test]
+fn framing_error_in_the_silo(rt: HostRuntime) -> Result<(), Fail> {
+    let error = Event {
+        kind: Kind::Framing,
+        ..LATE
+    };
+    told_apart(
+        &rt,
+        "a framing error in the silo",
+        program(rt.alloc(), "", CLEARED)?,
+        &[LATE],
+        &[error],
     )
 }
 

@@ -2,6 +2,7 @@
 //! steps from step 9 on, a byte is read in the first step of the next turn, and sent 8 steps later with a byte time of 16 steps.
 use crate::asked::{Ask, asks};
 use crate::running::echo;
+use input_log::MAX_POSITION;
 use refusal::Fault;
 use std::test::Fail;
 use timeline::Writer;
@@ -63,6 +64,141 @@ fn two_edits(rt: HostRuntime) -> Result<(), Fail> {
             Ask::Writer(256, TAKEN, Writer::Step(81)),
             Ask::Costs(64),
             Ask::Console(256, &[0x41]),
+            Ask::Costs(0),
+        ],
+    )
+}
+
+/// A framing error in place of the byte of step 70 costs its span alone, and so does the byte in place of the error. RBUF, as
+/// step 77 stores it, has FERR.
+#[test]
+fn framing_over_echo(rt: HostRuntime) -> Result<(), Fail> {
+    asks(
+        &rt,
+        rt.alloc(),
+        echo(rt.alloc())?,
+        &[
+            Ask::Writer(256, TAKEN, Writer::Never),
+            Ask::Costs(256),
+            Ask::Add(70, 0x41),
+            Ask::Writer(256, TAKEN, Writer::Step(81)),
+            Ask::Costs(64),
+            Ask::Del(0),
+            Ask::Ferr(70, 0x41),
+            Ask::Writer(256, TAKEN, Writer::Step(81)),
+            Ask::Costs(64),
+            Ask::Console(256, &[0x41]),
+            Ask::Costs(0),
+            Ask::Word(78, RECEIVED, 0xA041),
+            Ask::Costs(14),
+            Ask::Del(0),
+            Ask::Add(70, 0x41),
+            Ask::Writer(256, TAKEN, Writer::Step(81)),
+            Ask::Costs(64),
+            Ask::Word(78, RECEIVED, 0x8041),
+            Ask::Costs(14),
+        ],
+    )
+}
+
+/// An external line, of which the program makes nothing: the runs differ in its level, from the span in which it rises up to the end
+/// of the span in which it falls.
+#[test]
+fn external_line(rt: HostRuntime) -> Result<(), Fail> {
+    asks(
+        &rt,
+        rt.alloc(),
+        echo(rt.alloc())?,
+        &[
+            Ask::Console(256, &[]),
+            Ask::Costs(256),
+            Ask::Wire(70, 1, 1),
+            Ask::Wire(90, 1, 0),
+            Ask::Console(256, &[]),
+            Ask::Costs(64),
+            Ask::Del(1),
+            Ask::Console(256, &[]),
+            Ask::Costs(192),
+            // What it costs up to the fall stands.
+            Ask::Wire(140, 1, 0),
+            Ask::Console(256, &[]),
+            Ask::Costs(128),
+            // A level that is set again.
+            Ask::Wire(150, 1, 0),
+            Ask::Console(256, &[]),
+            Ask::Costs(64),
+        ],
+    )
+}
+
+/// Bytes of steps 70 and 130 are erased at once, and that of step 200 stays, whose span costs nothing.
+#[test]
+fn erased_bytes(rt: HostRuntime) -> Result<(), Fail> {
+    asks(
+        &rt,
+        rt.alloc(),
+        echo(rt.alloc())?,
+        &[
+            Ask::Writer(256, TAKEN, Writer::Never),
+            Ask::Costs(256),
+            Ask::Add(70, 0x41),
+            Ask::Add(130, 0x43),
+            Ask::Add(200, 0x42),
+            Ask::Writer(256, TAKEN, Writer::Step(213)),
+            Ask::Costs(192),
+            Ask::Console(256, &[0x41, 0x43, 0x42]),
+            Ask::RefusesErase(131, 70),
+            Ask::Console(256, &[0x41, 0x43, 0x42]),
+            Ask::Costs(0),
+            Ask::Erase(70, 131, 1),
+            Ask::Costs(0),
+            Ask::Writer(256, TAKEN, Writer::Step(213)),
+            Ask::Costs(128),
+            Ask::Console(256, &[0x42]),
+            Ask::Sent(256, 0, Ok(215)),
+            Ask::Erase(0, 0, 1),
+            Ask::Console(256, &[0x42]),
+            Ask::Costs(0),
+        ],
+    )
+}
+
+/// Of eight spans the second, third, fourth and sixth have a byte each. Erasing costs the spans whose bytes it takes, and neither
+/// those before them nor those after them.
+#[test]
+fn erasing_between_spans(rt: HostRuntime) -> Result<(), Fail> {
+    asks(
+        &rt,
+        rt.alloc(),
+        echo(rt.alloc())?,
+        &[
+            Ask::Console(512, &[]),
+            Ask::Costs(512),
+            Ask::Add(70, 0x41),
+            Ask::Add(130, 0x42),
+            Ask::Add(200, 0x43),
+            Ask::Add(330, 0x44),
+            Ask::Console(512, &[0x41, 0x42, 0x43, 0x44]),
+            Ask::Costs(256),
+            Ask::Erase(128, 256, 2),
+            Ask::Console(512, &[0x41, 0x44]),
+            Ask::Costs(128),
+            Ask::Sent(512, 1, Ok(347)),
+            // No byte is left between the two.
+            Ask::Erase(71, 330, 2),
+            Ask::Console(512, &[0x41, 0x44]),
+            Ask::Costs(0),
+            Ask::Erase(70, 71, 1),
+            Ask::Console(512, &[0x44]),
+            Ask::Costs(64),
+            Ask::Erase(0, MAX_POSITION, 0),
+            Ask::Console(512, &[]),
+            Ask::Costs(64),
+            // Erased before anything is asked, an event costs nothing.
+            Ask::Add(70, 0x41),
+            Ask::Wire(330, 0, 1),
+            Ask::Erase(70, 331, 0),
+            Ask::Console(512, &[]),
             Ask::Costs(0),
         ],
     )

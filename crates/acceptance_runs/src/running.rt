@@ -4,7 +4,7 @@ ghost use Rattle.std.specs.Prelude.{◌≡◌, ◌+◌, ◌*◌, ◌^◌, ◌<�
 ghost use Rattle.r3k_word.specs.declared.layout.TheConstants.{MAX_RAM_PAGES};
 
 use checkpoints::Kept;
-use input_log::{Event, Log};
+use input_log::{Event, Kind, Log};
 use r3k_asm::{AsmFault, assemble};
 use r3k_image::Image;
 use r3k_live::{Boundary, Live, Recorder, SentAt, Written};
@@ -29,6 +29,7 @@ pub const TAKEN: u32 = 0x41;
 /// A byte for the turn that begins at step 75.
 pub const FIRST: Event = Event {
     time: 70,
+    kind: Kind::Byte,
     line: 0,
     byte: 0x41,
 };
@@ -36,6 +37,7 @@ pub const FIRST: Event = Event {
 /// A byte for the turn that begins at step 207.
 pub const SECOND: Event = Event {
     time: 200,
+    kind: Kind::Byte,
     line: 0,
     byte: 0x42,
 };
@@ -524,7 +526,17 @@ const MOST: u64 = 1 << 32;
 fn log_of(alloc: Global, events: &[Event]) -> Result<Log, Fail> {
     let mut log = Log::new(alloc);
     for event in events {
-        log.add(event.time, event.line, event.byte)?;
+        let Event {
+            time,
+            line,
+            byte,
+            ..
+        } = *event;
+        match event.kind {
+            Kind::Byte => log.add(time, line, byte)?,
+            Kind::Framing => log.ferr(time, line, byte)?,
+            Kind::Wire => log.wire(time, line, byte)?,
+        };
     }
     Ok(log)
 }
@@ -590,10 +602,11 @@ fn are_pages<const PAGES: u32, const SPAN: u32>(
     Ok(recorder.dirty(alloc)?.as_slice() == dirty && recorder.touched(alloc)?.as_slice() == touched)
 }
 
-// Events of line 0, by their times and bytes.
+// Bytes of line 0, by their times and themselves.
 fn are_events(found: &[Event], events: &[(u64, u8)]) -> bool {
     found.len() == events.len()
         && found.iter().zip(events).all(|(found, event)| found.line == 0
+            && found.kind == Kind::Byte
             && found.time == event.0
             && found.byte == event.1)
 }

@@ -155,3 +155,32 @@ fn states_after_edits(rt: HostRuntime) -> Result<(), Fail> {
         ],
     )
 }
+
+/// A framing error, a level and erasing forget them too, also where no event is erased, and a refused range does not.
+#[test]
+fn states_after_other_edits(rt: HostRuntime) -> Result<(), Fail> {
+    asks(
+        &rt,
+        rt.alloc(),
+        echo(rt.alloc())?,
+        &[
+            Ask::Word(100, RECEIVED, 0),
+            Ask::Costs(100),
+            Ask::Ferr(3000, 0x41),
+            Ask::Word(100, RECEIVED, 0),
+            Ask::Costs(36),
+            Ask::Wire(3000, 2, 1),
+            Ask::Word(100, RECEIVED, 0),
+            Ask::Costs(36),
+            Ask::RefusesErase(1, 0),
+            Ask::Word(100, RECEIVED, 0),
+            Ask::Costs(0),
+            Ask::Erase(0, 0, 2),
+            Ask::Word(100, RECEIVED, 0),
+            Ask::Costs(36),
+            Ask::Erase(3000, 3001, 0),
+            Ask::Word(100, RECEIVED, 0),
+            Ask::Costs(36),
+        ],
+    )
+}

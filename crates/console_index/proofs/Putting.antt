@@ -5,6 +5,7 @@ use Rattle.std.proofs.Math.Path.{ap₂}
 use Rattle.std.proofs.Math.Seq.{take-append_seam}
 use Rattle.std.proofs.lemmas.List.{get_or-set_same, get_or-set_other, get_or-take, get_or_past, length-take}
 use Rattle.console_index.specs.Counts.{count_at}
+use Rattle.console_index.specs.declared.tree.TheConstants.{LEVELS}
 use Rattle.console_index.specs.Tree.{Grown, HasRoom, IsIndex, IsLevel, IsLevelBut, IsPut, IsTree, IsTreeBut, Same, bottom, most}
 
 which : (i index : ℕ) → (i ≡ index) ⊎ ¬ (i ≡ index)
@@ -28,7 +29,7 @@ pub most_half : (higher : ℕ) → most (suc higher) ≡ most higher / 2
 unfolding most
 most_half higher = refl
 
-pub most_low : (higher : ℕ) → most higher ≤ 2 ^ 47
+pub most_low : (higher : ℕ) → most higher ≤ 2 ^ 55
 unfolding most
 most_low zero = omega arith
 most_low (suc higher) = let low = most_low higher in omega (arith, low)
@@ -190,7 +191,7 @@ tree_grown (a ∷ old) (b ∷ new) count grown tree =
     )
 
 -- a byte more than the nodes of the lowest of all levels may have
-pub most_of_all : (levels : ℕ) → levels ≡ 27 → most levels ≡ 1048576
+pub most_of_all : (levels : ℕ) → levels ≡ LEVELS → most levels ≡ 1048576
 unfolding most
 most_of_all levels all = rw all refl
 
@@ -225,7 +226,7 @@ same_take (suc held) (x ∷ a) (y ∷ b) long_a long_b same =
     (same_take held a b (omega (arith, long_a)) (omega (arith, long_b)) (λ m within. same (suc m) (omega (arith, within))))
 
 -- all levels are made while there are no spans
-pub deepened : (count : ℕ) (old new : List (List (List ℕ))) → IsIndex count old → length new ≤ 27 → (length old ≡ 27 → new ≡ old) → IsIndex count new
+pub deepened : (count : ℕ) (old new : List (List (List ℕ))) → IsIndex count old → length new ≤ LEVELS → (length old ≡ LEVELS → new ≡ old) → IsIndex count new
 deepened zero old new index few same = record {
   tree = tree_none new zero refl;
   few = few;
@@ -234,7 +235,7 @@ deepened zero old new index few same = record {
 }
 deepened (suc count) old new index few same = subst (λ levels. IsIndex (suc count) levels) (sym (same (index.deep (omega arith)))) index
 
-pub deepened_view : (count : ℕ) (old new : List (List (List ℕ))) → IsIndex count old → (length old ≡ 27 → new ≡ old) → take count (bottom new) ≡ take count (bottom old)
+pub deepened_view : (count : ℕ) (old new : List (List (List ℕ))) → IsIndex count old → (length old ≡ LEVELS → new ≡ old) → take count (bottom new) ≡ take count (bottom old)
 deepened_view zero old new index same = refl
 deepened_view (suc count) old new index same = ap (λ levels. take (suc count) (bottom levels)) (same (index.deep (omega arith)))
 

@@ -2,6 +2,7 @@
 -- both are there. Behind the nodes that are there a level may have room.
 use Rattle.std.specs.Prelude.{◌≡◌, ℕ, zero, suc, ◌+◌, ◌*◌, ◌/◌, ◌^◌, ◌<◌, ◌≤◌, List, [], ◌∷◌, length, slice_index_or}
 use Rattle.console_index.specs.Counts.{count_at}
+use Rattle.console_index.specs.declared.tree.TheConstants.{LEVELS, MAX_SPANS}
 
 -- the lowest level
 abbrev pub bottom : List (List (List ℕ)) → List (List ℕ)
@@ -9,7 +10,7 @@ bottom levels = slice_index_or levels 0 []
 
 -- no node of the lowest of so many levels has more
 unfoldable pub most : ℕ → ℕ
-most zero = 2 ^ 47
+most zero = 2 ^ 55
 most (suc higher) = most higher / 2
 
 -- a level with so many nodes, but for one that is to be put there, below so many levels, of which the lowest has its sums
@@ -54,9 +55,9 @@ Grown (a ∷ old) (b ∷ new) = Keeps a b × Grown old new
 -- an index of so many spans
 pub record IsIndex (count : ℕ) (levels : List (List (List ℕ))) : Type 0 where
   pub tree : IsTree count levels
-  pub few : length levels ≤ 27
-  pub deep : 0 < count → length levels ≡ 27
-  pub small : count ≤ 2 ^ 26
+  pub few : length levels ≤ LEVELS
+  pub deep : 0 < count → length levels ≡ LEVELS
+  pub small : count ≤ MAX_SPANS
 
 -- the first spans stay
 abbrev pub Same : ℕ → List (List ℕ) → List (List ℕ) → Type 0

@@ -2,6 +2,7 @@
 
 ghost use Rattle.std.specs.Prelude.{◌≡◌, ◌≢◌, ◌+◌, ◌^◌, ◌<◌, ◌≤◌, ℕ, All, IfOk, MatchOption, OnErr, [], length, max, slice_index_or};
 ghost use Rattle.console_index.specs.Counts.{IsPlace, count_at, total};
+ghost use Rattle.console_index.specs.declared.tree.TheConstants.{MAX_SPANS};
 
 use crate::level::Level;
 use crate::tree::{deepen, find_in, sum_below, update};
@@ -41,7 +42,7 @@ impl ConsoleIndex {
 
     /// Puts the counts of a span. Where memory is refused, all is as it was.
     pub fn replace(&mut self, index: u64, counts: [u32; 4]) -> Result<(), AllocError>
-        requires index { index < 2 ^ 26 }
+        requires index { index < MAX_SPANS }
         requires counts { All (λ count. count ≤ 1048576) counts }
         ensures there { IfOk result (λ _. slice_index_or self.new index [] ≡ counts) }
         ensures others { IfOk result (λ _. (i : ℕ) → i ≢ index → (line : ℕ) → count_at self.new line i ≡ count_at self.old line i) }

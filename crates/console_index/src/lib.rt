@@ -6,3 +6,4 @@ mod level;
 mod tree;
 
 pub use index::ConsoleIndex;
+pub use tree::MAX_SPANS;

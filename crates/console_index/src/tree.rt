@@ -2,14 +2,17 @@
 
 ghost use Rattle.std.specs.Prelude.{◌≡◌, ◌+◌, ◌/◌, ◌^◌, ◌<◌, ◌≤◌, ℕ, [], IfOk, OnErr, length, max, slice_index, slice_index_or, slice_set};
 ghost use Rattle.console_index.specs.Counts.{count_at, total};
-ghost use Rattle.console_index.specs.declared.tree.TheConstants.{LEVELS};
+ghost use Rattle.console_index.specs.declared.tree.TheConstants.{LEVELS, MAX_SPANS};
 ghost use Rattle.console_index.specs.Tree.{Grown, HasRoom, IsPut, IsTree, IsTreeBut, Same, bottom, most};
 
 use crate::level::{Level, joined};
 use std::alloc::{AllocError, Global};
 
+/// How many spans there may be: those of all positions up to 2^40 - 1, where a span has 64 steps.
+pub const MAX_SPANS: u64 = 1 << 34;
+
 /// How many levels hold all spans that there may be.
-pub(crate) const LEVELS: usize = 27;
+pub(crate) const LEVELS: usize = 35;
 
 /// How many bytes of a line the spans below one have together.
 pub(crate) fn sum_below(levels: &[Level], line: u8, end: usize) -> u64
@@ -133,8 +136,8 @@ pub(crate) fn update(
     counts: [u64; 4],
 ) -> Result<(), AllocError>
     requires deep { length levels.old ≡ LEVELS }
-    requires held { held ≤ 2 ^ 26 }
-    requires index { index < 2 ^ 26 }
+    requires held { held ≤ MAX_SPANS }
+    requires index { index < MAX_SPANS }
     requires tree { IsTree held levels.old }
     requires small { (line : ℕ) → line ≤ 3 → slice_index counts line ≤ 1048576 }
     ensures tree { IfOk result (λ _. IsTree (max held (index + 1)) levels.new) }

@@ -3,7 +3,7 @@ use Rattle.std.proofs.Common.{◌≡◌, ℕ, ◌&&◌, Bool, not, true, false, 
 use Rattle.std.proofs.Math.Path.{ap₂}
 use Rattle.std.proofs.lemmas.Bool.{and_parts}
 use Rattle.std.proofs.lemmas.Grind.{same_number_lists}
-use Rattle.input_log.specs.Event.{TimedByte}
+use Rattle.input_log.specs.Event.{LogEvent}
 use Rattle.r3k_word.specs.Layout.{page_of_place}
 use Rattle.r3k_machine.specs.Core.{Core}
 use Rattle.r3k_machine.specs.State.{State}
@@ -32,7 +32,7 @@ all_others : (old lost new : List ℕ) → Loses old lost new → (page : ℕ) �
 all_others old lost new loses page held free = loses page ∙ ap₂ (λ (a b : Bool). a && not b) held free
 
 -- the start still differs on these pages alone
-pub start_carried : (pages span : ℕ) (s : Span) (start : State) (events : List TimedByte) (old new : List ℕ) → NearlyApplies pages span s start events
+pub start_carried : (pages span : ℕ) (s : Span) (start : State) (events : List LogEvent) (old new : List ℕ) → NearlyApplies pages span s start events
     → Loses old (touched_pages pages (steps_of pages span s)) new → SameOutside old s.start.words start.words
     → SameOutside new s.start.words start.words
 start_carried pages span s start events old new near loses same =

@@ -4,7 +4,7 @@ use Rattle.std.proofs.Math.Nat.{mul-le-mul_right}
 use Rattle.std.proofs.lemmas.Bool.{cases_lt}
 use Rattle.std.proofs.lemmas.List.{append-nil, length-map}
 use Rattle.std.specs.List.{cons_option}
-use Rattle.input_log.specs.Event.{TimedByte}
+use Rattle.input_log.specs.Event.{LogEvent}
 use Rattle.r3k_image.specs.Boot.{Boot}
 use Rattle.r3k_machine.specs.declared.step.Done.{Done}
 use Rattle.r3k_machine.specs.Run.{byte_on, console_of, last_writer, later, senders_of, trace_at}
@@ -24,16 +24,16 @@ use Rattle.present_run.proofs.Steps.{trace_long}
 use Rattle.present_run.proofs.Told.{console_front, senders_front, span_steps, trace_none, up_to_next, writer_span}
 
 -- so many records are joined
-abbrev pub AreJoined : (pages span : ℕ) → Boot → List TimedByte → List (Option Span) → ℕ → Type 0
+abbrev pub AreJoined : (pages span : ℕ) → Boot → List LogEvent → List (Option Span) → ℕ → Type 0
 AreJoined pages span image log spans count = (i : ℕ) → i < count → IsJoined pages span i (slice_index_or spans i None) (span_of pages span image log i)
 
-steps_joined : (pages span : ℕ) (image : Boot) (log : List TimedByte) (i : ℕ) (o : Option Span) → IsJoined pages span i o (span_of pages span image log i)
+steps_joined : (pages span : ℕ) (image : Boot) (log : List LogEvent) (i : ℕ) (o : Option Span) → IsJoined pages span i o (span_of pages span image log i)
     → steps_in pages span o ≡ steps_between pages image log (i * span) ((i + 1) * span)
 steps_joined pages span image log i None joined = absurd joined.near
 steps_joined pages span image log i (Some r) joined =
     same_steps pages span i (Some r) r (span_of pages span image log i) refl refl joined ∙ span_steps pages span image log i
 
-pub writer_told : (pages span : ℕ) (image : Boot) (log : List TimedByte) (spans : List (Option Span)) (count address : ℕ) (found : Option (ℕ × ℕ))
+pub writer_told : (pages span : ℕ) (image : Boot) (log : List LogEvent) (spans : List (Option Span)) (count address : ℕ) (found : Option (ℕ × ℕ))
     → AreJoined pages span image log spans count → IsLastWriter pages span spans count address found
     → last_writer address (trace_at pages image log (count * span)) ≡ step_of span found
 writer_told pages span image log spans count address found joined last =
@@ -46,10 +46,10 @@ writer_told pages span image log spans count address found joined last =
     found last
 
 -- how many bytes a line had where a span starts
-abbrev pub length_at : (pages span : ℕ) → Boot → List TimedByte → (line index : ℕ) → ℕ
+abbrev pub length_at : (pages span : ℕ) → Boot → List LogEvent → (line index : ℕ) → ℕ
 length_at pages span image log line index = length (console_of line (trace_at pages image log (index * span)))
 
-pub count_told : (pages span : ℕ) (image : Boot) (log : List TimedByte) (spans : List (Option Span)) (line count : ℕ)
+pub count_told : (pages span : ℕ) (image : Boot) (log : List LogEvent) (spans : List (Option Span)) (line count : ℕ)
     → AreJoined pages span image log spans count → sent_below pages span spans line count ≡ length_at pages span image log line count
 count_told pages span image log spans line count joined =
     sent_joined pages span spans line count (length_at pages span image log line)
@@ -61,7 +61,7 @@ count_told pages span image log spans line count joined =
     (sym (steps_joined pages span image log i (slice_index_or spans i None) (joined i within)))))
 
 -- a console goes on
-pub goes_on : (pages : ℕ) (image : Boot) (log : List TimedByte) (line from to : ℕ) → from ≤ to
+pub goes_on : (pages : ℕ) (image : Boot) (log : List LogEvent) (line from to : ℕ) → from ≤ to
     → length (console_of line (trace_at pages image log from)) ≤ length (console_of line (trace_at pages image log to))
 goes_on pages image log line from to before =
     let front = console_of line (trace_at pages image log from) in
@@ -74,7 +74,7 @@ none : (bytes : List ℕ) → length bytes ≡ 0 → bytes ≡ []
 none [] empty = refl
 none (byte ∷ rest) empty = absurd (let e : ⊥ = omega (arith, empty) in e)
 
-pub same_console : (pages : ℕ) (image : Boot) (log : List TimedByte) (line from to : ℕ) → from ≤ to
+pub same_console : (pages : ℕ) (image : Boot) (log : List LogEvent) (line from to : ℕ) → from ≤ to
     → length (console_of line (trace_at pages image log to)) ≤ length (console_of line (trace_at pages image log from))
     → console_of line (trace_at pages image log to) ≡ console_of line (trace_at pages image log from)
 same_console pages image log line from to before few =
@@ -97,7 +97,7 @@ enough from count console (byte ∷ more) full =
     ap (part_of from count) (sym (append_assoc console (byte ∷ []) more))
     ∙ (enough from count (console ++ byte ∷ []) more (subst (λ (part : List ℕ). count ≤ length part) (sym next) full) ∙ next)
 
-pub shown_enough : (pages : ℕ) (image : Boot) (log : List TimedByte) (line from count begin end : ℕ) (bytes : List ℕ) → begin ≤ end
+pub shown_enough : (pages : ℕ) (image : Boot) (log : List LogEvent) (line from count begin end : ℕ) (bytes : List ℕ) → begin ≤ end
     → bytes ≡ part_of from count (console_of line (trace_at pages image log begin)) → count ≤ length bytes
     → bytes ≡ part_of from count (console_of line (trace_at pages image log end))
 shown_enough pages image log line from count begin end bytes before is full =
@@ -113,14 +113,14 @@ unfolding sent_below
 below_next pages span spans line i = ap (sent_below pages span spans line) (let e : i + 1 ≡ suc i = omega arith in e)
 
 -- where the byte at a place was sent
-pub sender_from : (pages span : ℕ) (image : Boot) (log : List TimedByte) (spans : List (Option Span)) (line place count : ℕ) (found : Option (ℕ × ℕ))
+pub sender_from : (pages span : ℕ) (image : Boot) (log : List LogEvent) (spans : List (Option Span)) (line place count : ℕ) (found : Option (ℕ × ℕ))
     → AreJoined pages span image log spans count → IsSender pages span spans line place count found
     → length_at pages span image log line (span_or count found) ≤ place
 sender_from pages span image log spans line place count None joined is = omega (arith, is, count_told pages span image log spans line count joined)
 sender_from pages span image log spans line place count (Some found) joined is =
     omega (arith, is.0, is.1, count_told pages span image log spans line (found.0) (λ i below. joined i (omega (arith, below, is.0))))
 
-pub sender_to : (pages span : ℕ) (image : Boot) (log : List TimedByte) (spans : List (Option Span)) (line place count : ℕ) (found : ℕ × ℕ)
+pub sender_to : (pages span : ℕ) (image : Boot) (log : List LogEvent) (spans : List (Option Span)) (line place count : ℕ) (found : ℕ × ℕ)
     → AreJoined pages span image log spans count → IsSender pages span spans line place count (Some found)
     → place < length_at pages span image log line (found.0 + 1)
 sender_to pages span image log spans line place count found joined is =
@@ -141,12 +141,12 @@ few_bytes : (line : ℕ) (steps : List Done) → length (console_of line steps) 
 few_bytes line [] = omega arith
 few_bytes line (done ∷ steps) = few_more (byte_on line done.sent) (console_of line steps) (length steps) (few_bytes line steps)
 
-pub few_at : (pages span : ℕ) (image : Boot) (log : List TimedByte) (line index : ℕ) → length_at pages span image log line index ≤ index * span
+pub few_at : (pages span : ℕ) (image : Boot) (log : List LogEvent) (line index : ℕ) → length_at pages span image log line index ≤ index * span
 few_at pages span image log line index =
     omega (arith, few_bytes line (trace_at pages image log (index * span)), trace_long pages image log (index * span))
 
 -- the next span that sent a byte
-pub later_sender : (pages span : ℕ) (image : Boot) (log : List TimedByte) (line index next spans total : ℕ) → index < spans
+pub later_sender : (pages span : ℕ) (image : Boot) (log : List LogEvent) (line index next spans total : ℕ) → index < spans
     → total ≡ length_at pages span image log line (index + 1) → (next < spans → total < length_at pages span image log line (next + 1)) → index + 1 ≤ next
 later_sender pages span image log line index next spans total within is to =
     elim (cases_lt next (index + 1)) [
@@ -156,7 +156,7 @@ later_sender pages span image log line index next spans total within is to =
       | inr behind ↦ behind
     ]
 
-pub shows_next : (pages span : ℕ) (image : Boot) (log : List TimedByte) (line from count index next : ℕ) (shown : Shown) → index + 1 ≤ next
+pub shows_next : (pages span : ℕ) (image : Boot) (log : List LogEvent) (line from count index next : ℕ) (shown : Shown) → index + 1 ≤ next
     → length_at pages span image log line next ≤ shown.total
     → Shows from count (console_of line (trace_at pages image log ((index + 1) * span))) shown
     → Shows from count (console_of line (trace_at pages image log (next * span))) shown
@@ -166,7 +166,7 @@ shows_next pages span image log line from count index next shown behind few show
     shows
 
 -- a byte that a span sent is not behind all of that span's
-pub not_behind : (pages span : ℕ) (image : Boot) (log : List TimedByte) (line index place more : ℕ)
+pub not_behind : (pages span : ℕ) (image : Boot) (log : List LogEvent) (line index place more : ℕ)
     → length_at pages span image log line index ≤ place → place < length_at pages span image log line (index + 1)
     → ¬ (length (steps_on line (sent_from 0 (steps_between pages image log (index * span) ((index + 1) * span)))) + more ≡ place - length_at pages span image log line index)
 not_behind pages span image log line index place more low high behind =

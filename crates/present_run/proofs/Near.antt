@@ -1,7 +1,7 @@
 -- Records that nearly are those of spans of the run.
 use Rattle.std.proofs.Common.{◌≡◌, ℕ, ◌+◌, ◌*◌, not, IfSome, List, length, Option, None, Some, refl, sym, ap, subst, ◌∙◌}
 use Rattle.std.proofs.Math.Path.{ap₂}
-use Rattle.input_log.specs.Event.{TimedByte}
+use Rattle.input_log.specs.Event.{LogEvent}
 use Rattle.r3k_image.specs.Boot.{Boot}
 use Rattle.r3k_machine.specs.State.{State}
 use Rattle.r3k_machine.specs.Run.{run, state_at, trace}
@@ -18,14 +18,14 @@ use Rattle.present_run.specs.Runs.{IsJoined}
 use Rattle.present_run.proofs.Spans.{ends, if_some}
 
 -- a record that is there
-pub nearly : (pages span : ℕ) (o : Option Span) (r : Span) (start : State) (events : List TimedByte) → o ≡ Some r → IsNear pages span o start events
+pub nearly : (pages span : ℕ) (o : Option Span) (r : Span) (start : State) (events : List LogEvent) → o ≡ Some r → IsNear pages span o start events
     → NearlyApplies pages span r start events
 nearly pages span o r start events is near = subst (λ (o : Option Span). IsNear pages span o start events) is near
 
 -- the same said otherwise
-pub moved : (pages span : ℕ) (o p : Option Span) (a b : State) (x y : List TimedByte) → o ≡ p → a ≡ b → x ≡ y → IsNear pages span o a x → IsNear pages span p b y
+pub moved : (pages span : ℕ) (o p : Option Span) (a b : State) (x y : List LogEvent) → o ≡ p → a ≡ b → x ≡ y → IsNear pages span o a x → IsNear pages span p b y
 moved pages span o p a b x y op ab xy near =
-    subst (λ (y : List TimedByte). IsNear pages span p b y) xy
+    subst (λ (y : List LogEvent). IsNear pages span p b y) xy
     (subst (λ (b : State). IsNear pages span p b x) ab
     (subst (λ (p : Option Span). IsNear pages span p a x) op near))
 
@@ -45,10 +45,10 @@ same_core pages span r s near long number =
     let same = run_elsewhere pages r.events (r.index * span) (λ page. not (holds touched page)) r.start s.start s.start.words span
     (same_on touched r.start s.start (sym near.same_core) long near.same_touched) none
     in
-    sym (subst (λ (log : List TimedByte). (run pages log (s.index * span) s.start span).core ≡ (end_of pages span r).core) near.same_events
+    sym (subst (λ (log : List LogEvent). (run pages log (s.index * span) s.start span).core ≡ (end_of pages span r).core) near.same_events
     (subst (λ (n : ℕ). (run pages r.events (n * span) s.start span).core ≡ (end_of pages span r).core) number same.1.core))
 
-pub core_behind : (pages span : ℕ) (image : Boot) (log : List TimedByte) (index : ℕ) (o : Option Span) → IsJoined pages span index o (span_of pages span image log index)
+pub core_behind : (pages span : ℕ) (image : Boot) (log : List LogEvent) (index : ℕ) (o : Option Span) → IsJoined pages span index o (span_of pages span image log index)
     → IfSome o (λ r. (end_of pages span r).core ≡ (state_at pages image log ((index + 1) * span)).core)
 core_behind pages span image log index o joined = by_cases o joined.near joined.number joined.long
   where
@@ -67,10 +67,10 @@ pub end_from : (pages span : ℕ) (r s : Span) (start : State) → start ≡ s.s
 end_from pages span r s start same number events =
     ap (λ (start : State). run pages r.events (r.index * span) start span) same
     ∙ (ap (λ (n : ℕ). run pages r.events (n * span) s.start span) number
-    ∙ ap (λ (log : List TimedByte). run pages log (s.index * span) s.start span) events)
+    ∙ ap (λ (log : List LogEvent). run pages log (s.index * span) s.start span) events)
 
 -- a record of the span itself
-pub is_joined : (pages span : ℕ) (image : Boot) (log : List TimedByte) (index : ℕ) (o : Option Span) → o ≡ Some (span_of pages span image log index)
+pub is_joined : (pages span : ℕ) (image : Boot) (log : List LogEvent) (index : ℕ) (o : Option Span) → o ≡ Some (span_of pages span image log index)
     → IsJoined pages span index o (span_of pages span image log index)
 is_joined pages span image log index o is =
     let s : Span = span_of pages span image log index in
@@ -80,4 +80,4 @@ is_joined pages span image log index o is =
 pub same_span : (r s : Span) → r.index ≡ s.index → r.start ≡ s.start → r.events ≡ s.events → r ≡ s
 same_span r s number start events =
     ap (λ (n : ℕ). let t : Span = record { index = n; start = r.start; events = r.events } in t) number
-    ∙ ap₂ (λ (start : State) (events : List TimedByte). let t : Span = record { index = s.index; start = start; events = events } in t) start events
+    ∙ ap₂ (λ (start : State) (events : List LogEvent). let t : Span = record { index = s.index; start = start; events = events } in t) start events

@@ -1,7 +1,7 @@
 -- The next span, and the record of its number that is kept.
 use Rattle.std.proofs.Common.{◌≡◌, ◌⊎◌, inl, inr, ℕ, zero, suc, ◌+◌, ◌*◌, ◌<◌, ◌≤◌, Bool, true, false, IsTrue, IfSome, MatchOption, List, [], ◌∷◌, ◌++◌, length, length-append, map, slice_get, slice_index_or, Option, Some, None, refl, sym, ap, subst, ◌∙◌, arith}
 use Rattle.std.proofs.lemmas.Bool.{cases_lt, true≢false}
-use Rattle.input_log.specs.Event.{TimedByte}
+use Rattle.input_log.specs.Event.{LogEvent}
 use Rattle.r3k_image.specs.Boot.{Boot}
 use Rattle.r3k_machine.specs.State.{State}
 use Rattle.r3k_machine.specs.Reset.{reset}
@@ -28,7 +28,7 @@ map_some P Q None f p = tt
 map_some P Q (Some x) f p = f x p
 
 -- behind a span that was run
-pub behind_run : (pages span : ℕ) (image : Boot) (log : List TimedByte) (valid : ℕ) (old new : List ℕ) (n : Span) (o s : Option Span)
+pub behind_run : (pages span : ℕ) (image : Boot) (log : List LogEvent) (valid : ℕ) (old new : List ℕ) (n : Span) (o s : Option Span)
     → Follows pages span o s
     → IfSome o (λ o. SameOutside old o.start.words (state_at pages image log (valid * span)).words)
     → IfSome o (λ o. SameOutside old o.start.words n.start.words → SameOutside new (end_of pages span o).words (end_of pages span n).words)
@@ -50,7 +50,7 @@ behind_kept pages span set words r o (Some s) is follows same =
     subst (λ (start : State). SameOutside set start.words words) (sym (subst (λ (o : Option Span). Follows pages span o (Some s)) is follows)) same
 
 -- the first record, once it is that of the run
-pub from_reset : (pages span : ℕ) (image : Boot) (log : List TimedByte) (patched : List ℕ) (o : Option Span) → o ≡ Some (span_of pages span image log 0)
+pub from_reset : (pages span : ℕ) (image : Boot) (log : List LogEvent) (patched : List ℕ) (o : Option Span) → o ≡ Some (span_of pages span image log 0)
     → IfSome o (λ s. SameOutside patched s.start.words (reset pages image).words)
 from_reset pages span image log patched o is =
     into_some _ o (span_of pages span image log 0) is
@@ -58,7 +58,7 @@ from_reset pages span image log patched o is =
     (ap (state_at pages image log) (let e : 0 * span ≡ 0 = omega arith in e) ∙ at_reset pages image log)))
 
 -- the first record after one was put, or was not
-pub first_put : (pages span : ℕ) (image : Boot) (log : List TimedByte) (valid : ℕ) (patched : List ℕ) (before after : Option Span)
+pub first_put : (pages span : ℕ) (image : Boot) (log : List LogEvent) (valid : ℕ) (patched : List ℕ) (before after : Option Span)
     → (¬ (0 ≡ valid) → after ≡ before) → (valid ≡ 0 → (after ≡ Some (span_of pages span image log 0)) ⊎ (after ≡ before))
     → IfSome before (λ s. SameOutside patched s.start.words (reset pages image).words)
     → IfSome after (λ s. SameOutside patched s.start.words (reset pages image).words)
@@ -71,7 +71,7 @@ first_put pages span image log (suc k) patched before after others there was =
     subst (λ (o : Option Span). IfSome o (λ s. SameOutside patched s.start.words (reset pages image).words)) (sym (others (λ e. let x : ⊥ = omega (arith, e) in x))) was
 
 -- the first record after the join of one that may start where its span does
-pub first_joined : (pages span : ℕ) (image : Boot) (log : List TimedByte) (valid : ℕ) (exact : Bool) (old new : List ℕ) (o : Option Span)
+pub first_joined : (pages span : ℕ) (image : Boot) (log : List LogEvent) (valid : ℕ) (exact : Bool) (old new : List ℕ) (o : Option Span)
     → (valid ≡ 0 → IsTrue exact → o ≡ Some (span_of pages span image log 0)) → ((IsTrue exact → 0 < valid) → new ≡ old)
     → IfSome o (λ s. SameOutside old s.start.words (reset pages image).words)
     → IfSome o (λ s. SameOutside new s.start.words (reset pages image).words)
@@ -90,14 +90,14 @@ and_last P valid before here i within =
     ]
 
 -- where spans end, at first
-pub no_ends : (pages span : ℕ) (image : Boot) (log : List TimedByte) (count : ℕ) (ends : List State) → count ≡ 0 → ends ≡ [] → AreEnds pages span image log count ends
+pub no_ends : (pages span : ℕ) (image : Boot) (log : List LogEvent) (count : ℕ) (ends : List State) → count ≡ 0 → ends ≡ [] → AreEnds pages span image log count ends
 no_ends pages span image log count ends none empty = record {
   many = ap (λ (e : List State). length e) empty ∙ sym none;
   each = λ index within. absurd (let e : ⊥ = omega (arith, none, within) in e);
 }
 
 -- and with one more
-pub more_ends : (pages span : ℕ) (image : Boot) (log : List TimedByte) (count : ℕ) (ends : List State) (end : State) → AreEnds pages span image log count ends
+pub more_ends : (pages span : ℕ) (image : Boot) (log : List LogEvent) (count : ℕ) (ends : List State) (end : State) → AreEnds pages span image log count ends
     → end ≡ state_at pages image log ((count + 1) * span) → AreEnds pages span image log (count + 1) (ends ++ end ∷ [])
 more_ends pages span image log count ends end are is = record {
   many = length-append ends (end ∷ []) ∙ ap (λ (n : ℕ). n + 1) are.many;

@@ -5,7 +5,7 @@ use Rattle.std.proofs.Math.Path.{ap₂}
 use Rattle.std.specs.Option.{option_eq}
 use Rattle.std.proofs.lemmas.Bool.{cases_Bool, eqb-true, false≢true}
 use Rattle.r3k_live.specs.Visits.{first_visit}
-use Rattle.input_log.specs.Event.{TimedByte}
+use Rattle.input_log.specs.Event.{LogEvent}
 use Rattle.input_log.specs.Log.{window_of}
 use Rattle.r3k_image.specs.Boot.{Boot}
 use Rattle.r3k_machine.specs.Reset.{reset}
@@ -20,7 +20,7 @@ pub next_start : (index span : ℕ) → (index + 1) * span ≡ index * span + sp
 next_start index span = add-mul index 1 span ∙ ap (λ (n : ℕ). index * span + n) (let e : 1 * span ≡ span = omega arith in e)
 
 -- a span of the run ends where the next one starts
-pub ends : (pages span : ℕ) (image : Boot) (log : List TimedByte) (index : ℕ)
+pub ends : (pages span : ℕ) (image : Boot) (log : List LogEvent) (index : ℕ)
     → end_of pages span (span_of pages span image log index) ≡ state_at pages image log ((index + 1) * span)
 ends pages span image log index =
     let from = index * span in
@@ -31,13 +31,13 @@ ends pages span image log index =
     ∙ (sym (run_split pages log 0 (reset pages image) from span)
     ∙ ap (state_at pages image log) (sym (next_start index span)))))
 
-pub follow : (pages span : ℕ) (image : Boot) (log : List TimedByte) (a b : Option Span) (index : ℕ)
+pub follow : (pages span : ℕ) (image : Boot) (log : List LogEvent) (a b : Option Span) (index : ℕ)
     → a ≡ Some (span_of pages span image log index) → b ≡ Some (span_of pages span image log (index + 1)) → Follows pages span a b
 follow pages span image log a b index is_a is_b =
     subst (λ (o : Option Span). Follows pages span o b) (sym is_a)
     (subst (λ (o : Option Span). Follows pages span (Some (span_of pages span image log index)) o) (sym is_b) (sym (ends pages span image log index)))
 
-pub at_reset : (pages : ℕ) (image : Boot) (log : List TimedByte) → state_at pages image log 0 ≡ reset pages image
+pub at_reset : (pages : ℕ) (image : Boot) (log : List LogEvent) → state_at pages image log 0 ≡ reset pages image
 unfolding run
 at_reset pages image log = refl
 
@@ -45,18 +45,18 @@ pub some_is : {A : Type 0} (a b : A) → Some a ≡ Some b → a ≡ b
 some_is a b same = ap (λ (o : Option _). unwrap_or o a) same
 
 -- the span behind another one of the run
-pub behind : (pages span : ℕ) (image : Boot) (log : List TimedByte) (index next : ℕ) → next ≡ index + 1 →
+pub behind : (pages span : ℕ) (image : Boot) (log : List LogEvent) (index next : ℕ) → next ≡ index + 1 →
     (let s : Span = record { index = next; start = end_of pages span (span_of pages span image log index); events = window_of (next * span) ((next + 1) * span) log } in s)
     ≡ span_of pages span image log next
 behind pages span image log index next is =
     ap (λ (start : State). let s : Span = record { index = next; start = start; events = window_of (next * span) ((next + 1) * span) log } in s)
     (ends pages span image log index ∙ ap (λ (n : ℕ). state_at pages image log (n * span)) (sym is))
 
-pub span_is : (pages span : ℕ) (image : Boot) (log : List TimedByte) (index valid : ℕ) (start : State) (events : List TimedByte) → index ≡ valid
+pub span_is : (pages span : ℕ) (image : Boot) (log : List LogEvent) (index valid : ℕ) (start : State) (events : List LogEvent) → index ≡ valid
     → start ≡ state_at pages image log (valid * span) → events ≡ window_of (index * span) ((index + 1) * span) log
     → (let s : Span = record { index = index; start = start; events = events } in s) ≡ span_of pages span image log valid
 span_is pages span image log index valid start events is start_is events_is =
-    ap₂ (λ (start : State) (events : List TimedByte). let s : Span = record { index = index; start = start; events = events } in s) start_is events_is
+    ap₂ (λ (start : State) (events : List LogEvent). let s : Span = record { index = index; start = start; events = events } in s) start_is events_is
     ∙ ap (λ (n : ℕ). let s : Span = record { index = n; start = state_at pages image log (valid * span); events = window_of (n * span) ((n + 1) * span) log } in s) is
 
 -- what a call leaves, whether it fails or not
@@ -92,14 +92,14 @@ same_some None n is = absurd (false≢true is)
 same_some (Some m) n is = ap (λ (x : ℕ). Some x) (eqb-true m n is)
 
 -- going on from a position
-pub gone_within : (pages : ℕ) (image : Boot) (log : List TimedByte) (time to n : ℕ) → time + n ≤ to
+pub gone_within : (pages : ℕ) (image : Boot) (log : List LogEvent) (time to n : ℕ) → time + n ≤ to
     → run pages (window_of time to log) time (state_at pages image log time) n ≡ state_at pages image log (time + n)
 gone_within pages image log time to n within =
     let s = state_at pages image log time in
     run_within pages to log time s n within
     ∙ (ap (λ (t : ℕ). run pages log t s n) (sym (zero-add time)) ∙ sym (run_split pages log 0 (reset pages image) time n))
 
-pub gone_on : (pages : ℕ) (image : Boot) (log : List TimedByte) (time position : ℕ) → time ≤ position
+pub gone_on : (pages : ℕ) (image : Boot) (log : List LogEvent) (time position : ℕ) → time ≤ position
     → run pages (window_of time position log) time (state_at pages image log time) (position - time) ≡ state_at pages image log position
 gone_on pages image log time position before =
     gone_within pages image log time position (position - time) (omega (arith, before))
@@ -110,7 +110,7 @@ abbrev pub behind_time : ℕ → Option ℕ → Option ℕ
 behind_time time None = None
 behind_time time (Some steps) = Some (time + steps)
 
-pub seen : (pages : ℕ) (image : Boot) (log : List TimedByte) (address time to k limit : ℕ) → time + (k + limit) ≤ to
+pub seen : (pages : ℕ) (image : Boot) (log : List LogEvent) (address time to k limit : ℕ) → time + (k + limit) ≤ to
     → behind_time time (first_visit pages (window_of time to log) time (state_at pages image log time) address k limit)
     ≡ next_visit pages image log address (time + k) limit
 unfolding first_visit next_visit
@@ -130,7 +130,7 @@ abbrev pub or_behind : Option ℕ → Option ℕ → Option ℕ
 or_behind None later = later
 or_behind (Some found) later = Some found
 
-pub visit_split : (pages : ℕ) (image : Boot) (log : List TimedByte) (address position m n : ℕ)
+pub visit_split : (pages : ℕ) (image : Boot) (log : List LogEvent) (address position m n : ℕ)
     → next_visit pages image log address position (m + n) ≡ or_behind (next_visit pages image log address position m) (next_visit pages image log address (position + m) n)
 unfolding next_visit
 visit_split pages image log address position zero n =

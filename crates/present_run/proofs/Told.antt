@@ -3,7 +3,7 @@ use Rattle.std.proofs.Common.{◌≡◌, ℕ, suc, ◌+◌, ◌-◌, ◌*◌, �
 use Rattle.std.specs.Option.{is_some}
 use Rattle.std.proofs.lemmas.Bool.{true≢false}
 use Rattle.std.proofs.Math.Path.{ap₂}
-use Rattle.input_log.specs.Event.{TimedByte}
+use Rattle.input_log.specs.Event.{LogEvent}
 use Rattle.input_log.specs.Log.{window_of}
 use Rattle.r3k_image.specs.Boot.{Boot}
 use Rattle.r3k_machine.specs.declared.step.Done.{Done}
@@ -20,7 +20,7 @@ use Rattle.present_run.proofs.Spans.{next_start, some_is}
 use Rattle.present_run.proofs.Steps.{trace_front, trace_long}
 
 -- the steps of a span
-pub span_steps : (pages span : ℕ) (image : Boot) (log : List TimedByte) (index : ℕ)
+pub span_steps : (pages span : ℕ) (image : Boot) (log : List LogEvent) (index : ℕ)
     → steps_of pages span (span_of pages span image log index) ≡ steps_between pages image log (index * span) ((index + 1) * span)
 span_steps pages span image log index =
     let from = index * span in
@@ -30,17 +30,17 @@ span_steps pages span image log index =
     ∙ ap (trace pages log from start) (let e : span ≡ (index + 1) * span - from = omega (arith, next_start index span) in e))
 
 -- the steps up to a position, with the events of their times
-pub own_steps : (pages : ℕ) (image : Boot) (log events : List TimedByte) (s : State) (from position : ℕ) → from ≤ position → events ≡ window_of from position log
+pub own_steps : (pages : ℕ) (image : Boot) (log events : List LogEvent) (s : State) (from position : ℕ) → from ≤ position → events ≡ window_of from position log
     → s ≡ state_at pages image log from → trace pages events from s (position - from) ≡ steps_between pages image log from position
 own_steps pages image log events s from position before events_are stands =
-    ap₂ (λ (events : List TimedByte) (s : State). trace pages events from s (position - from)) events_are stands
+    ap₂ (λ (events : List LogEvent) (s : State). trace pages events from s (position - from)) events_are stands
     ∙ (ap (λ (to : ℕ). trace pages (window_of from to log) from (state_at pages image log from) (position - from)) (let e : position ≡ from + (position - from) = omega (arith, before) in e)
     ∙ trace_own pages log from (state_at pages image log from) (position - from))
 
-pub between_count : (pages : ℕ) (image : Boot) (log : List TimedByte) (from to : ℕ) → length (steps_between pages image log from to) ≡ to - from
+pub between_count : (pages : ℕ) (image : Boot) (log : List LogEvent) (from to : ℕ) → length (steps_between pages image log from to) ≡ to - from
 between_count pages image log from to = trace_count pages log from (state_at pages image log from) (to - from)
 
-pub writer_front : (pages : ℕ) (image : Boot) (log : List TimedByte) (address from position : ℕ) → from ≤ position
+pub writer_front : (pages : ℕ) (image : Boot) (log : List LogEvent) (address from position : ℕ) → from ≤ position
     → last_writer address (trace_at pages image log position)
     ≡ later from (last_writer address (steps_between pages image log from position)) (last_writer address (trace_at pages image log from))
 writer_front pages image log address from position before =
@@ -49,7 +49,7 @@ writer_front pages image log address from position before =
     ∙ ap (λ (n : ℕ). later n (last_writer address (steps_between pages image log from position)) (last_writer address (trace_at pages image log from)))
     (trace_long pages image log from))
 
-pub console_front : (pages : ℕ) (image : Boot) (log : List TimedByte) (line from position : ℕ) → from ≤ position
+pub console_front : (pages : ℕ) (image : Boot) (log : List LogEvent) (line from position : ℕ) → from ≤ position
     → console_of line (trace_at pages image log from) ++ bytes_on line (sent_from 0 (steps_between pages image log from position))
     ≡ console_of line (trace_at pages image log position)
 console_front pages image log line from position before =
@@ -58,7 +58,7 @@ console_front pages image log line from position before =
     ∙ (sym (console_split line (trace_at pages image log from) steps)
     ∙ ap (console_of line) (sym (trace_front pages image log from position before)))
 
-pub senders_front : (pages : ℕ) (image : Boot) (log : List TimedByte) (line from position : ℕ) → from ≤ position
+pub senders_front : (pages : ℕ) (image : Boot) (log : List LogEvent) (line from position : ℕ) → from ≤ position
     → senders_of line 0 (trace_at pages image log position)
     ≡ senders_of line 0 (trace_at pages image log from) ++ map (λ k. from + k) (steps_on line (sent_from 0 (steps_between pages image log from position)))
 senders_front pages image log line from position before =
@@ -74,14 +74,14 @@ senders_front pages image log line from position before =
 pub up_to_next : (index span : ℕ) → index * span ≤ (index + 1) * span
 up_to_next index span = omega (arith, next_start index span)
 
-pub writer_span : (pages span : ℕ) (image : Boot) (log : List TimedByte) (address index next : ℕ) → next ≡ index + 1
+pub writer_span : (pages span : ℕ) (image : Boot) (log : List LogEvent) (address index next : ℕ) → next ≡ index + 1
     → last_writer address (trace_at pages image log (next * span))
     ≡ later (index * span) (last_writer address (steps_between pages image log (index * span) ((index + 1) * span))) (last_writer address (trace_at pages image log (index * span)))
 writer_span pages span image log address index next is =
     ap (λ (n : ℕ). last_writer address (trace_at pages image log (n * span))) is
     ∙ writer_front pages image log address (index * span) ((index + 1) * span) (up_to_next index span)
 
-pub trace_none : (pages span : ℕ) (image : Boot) (log : List TimedByte) (index : ℕ) → index ≡ 0 → trace_at pages image log (index * span) ≡ []
+pub trace_none : (pages span : ℕ) (image : Boot) (log : List LogEvent) (index : ℕ) → index ≡ 0 → trace_at pages image log (index * span) ≡ []
 unfolding trace
 trace_none pages span image log index is = ap (λ (n : ℕ). trace_at pages image log (n * span)) is ∙ ap (trace_at pages image log) (let e : 0 * span ≡ 0 = omega arith in e)
 

@@ -1,6 +1,6 @@
 -- What is kept of runs, and what a query of the present run costs (own).
 use Rattle.std.specs.Prelude.{◌≡◌, ◌⊎◌, ℕ, zero, suc, ◌+◌, ◌-◌, ◌*◌, ◌<◌, ◌≤◌, List, Option, Some, None, slice_index_or}
-use Rattle.input_log.specs.Event.{TimedByte}
+use Rattle.input_log.specs.Event.{LogEvent}
 use Rattle.input_log.specs.Log.{window_of}
 use Rattle.r3k_image.specs.Boot.{Boot}
 use Rattle.r3k_machine.specs.Run.{state_at}
@@ -16,7 +16,7 @@ pub record Holding : Type 0 where
   pub steps : ℕ
 
 -- a span of the run from reset
-abbrev pub span_of : (pages span : ℕ) → Boot → List TimedByte → ℕ → Span
+abbrev pub span_of : (pages span : ℕ) → Boot → List LogEvent → ℕ → Span
 span_of pages span image log index = record {
   index = index;
   start = state_at pages image log (index * span);

@@ -1,6 +1,6 @@
 -- The present run of a history, as it is kept (own).
 use Rattle.std.specs.Prelude.{◌≡◌, ℕ, ◌+◌, ◌-◌, ◌*◌, ◌/◌, ◌<◌, ◌≤◌, IfSome, IsTrue, List, Option, Some, length, map, slice_get}
-use Rattle.input_log.specs.Event.{TimedByte}
+use Rattle.input_log.specs.Event.{LogEvent}
 use Rattle.r3k_image.specs.Boot.{Boot}
 use Rattle.r3k_machine.specs.Reset.{reset}
 use Rattle.r3k_machine.specs.declared.step.Done.{Done}
@@ -16,15 +16,15 @@ use Rattle.present_run.specs.Sizes.{AreSizes}
 use Rattle.present_run.specs.declared.runs.Runs.{Runs}
 
 -- what the steps from a position up to another one tell
-abbrev pub steps_between : (pages : ℕ) → Boot → List TimedByte → (from to : ℕ) → List Done
+abbrev pub steps_between : (pages : ℕ) → Boot → List LogEvent → (from to : ℕ) → List Done
 steps_between pages image log from to = trace pages log from (state_at pages image log from) (to - from)
 
 -- what is held with the run of a history
-abbrev pub holding_of : {pages span : ℕ} → Boot → List TimedByte → Runs pages span → Holding
+abbrev pub holding_of : {pages span : ℕ} → Boot → List LogEvent → Runs pages span → Holding
 holding_of image log runs = record { history = record { image = image; log = log }; spans = runs.kept.spans; steps = runs.live.steps }
 
 -- a state of the run between two positions
-pub record IsOnTheWay (pages : ℕ) (image : Boot) (log : List TimedByte) (from to position : ℕ) (state : State) : Type 0 where
+pub record IsOnTheWay (pages : ℕ) (image : Boot) (log : List LogEvent) (from to position : ℕ) (state : State) : Type 0 where
   pub is : state ≡ state_at pages image log position
   pub least : from ≤ position
   pub most : position ≤ to
@@ -36,7 +36,7 @@ pub record IsJoined (pages span index : ℕ) (o : Option Span) (s : Span) : Type
   pub long : IfSome o (λ r. length s.start.words ≡ length r.start.words)
 
 -- where the spans of the run end, so many from the first on
-pub record AreEnds (pages span : ℕ) (image : Boot) (log : List TimedByte) (count : ℕ) (ends : List State) : Type 0 where
+pub record AreEnds (pages span : ℕ) (image : Boot) (log : List LogEvent) (count : ℕ) (ends : List State) : Type 0 where
   pub many : length ends ≡ count
   pub each : (index : ℕ) → index < count → slice_get ends index ≡ Some (state_at pages image log ((index + 1) * span))
 
@@ -44,7 +44,7 @@ pub record AreEnds (pages span : ℕ) (image : Boot) (log : List TimedByte) (cou
 -- spans end; the last of them may be known to be that of the run. The index has what the records tell, and all of the joined ones.
 -- The record of the next span starts with the same words as that span outside the differing pages, and the first record with those
 -- of reset outside the patched ones.
-pub record AreOf {pages span : ℕ} (image : Boot) (log : List TimedByte) (runs : Runs pages span) : Type 0 where
+pub record AreOf {pages span : ℕ} (image : Boot) (log : List LogEvent) (runs : Runs pages span) : Type 0 where
   pub sizes : AreSizes pages span
   pub start : runs.reset.value ≡ reset pages image
   pub stands : IfSome runs.at (λ position. runs.live.state ≡ state_at pages image log position)

@@ -4,7 +4,7 @@ ghost use Rattle.std.specs.Prelude.{◌≡◌, ◌+◌, ◌-◌, ◌*◌, ◌/�
 ghost use Rattle.r3k_machine.specs.Run.{next_visit};
 ghost use Rattle.r3k_live.specs.Living.{counted};
 ghost use Rattle.r3k_live.specs.Recording.{Records};
-ghost use Rattle.present_run.specs.History.{max_position};
+ghost use Rattle.input_log.specs.Limits.{max_position};
 ghost use Rattle.present_run.specs.Reuse.{Reaches, Spends};
 ghost use Rattle.present_run.specs.Runs.{AreOf, IsOnTheWay, holding_of, steps_between};
 

@@ -1,7 +1,7 @@
 //! The present run of a history: the machine that runs, and the records of spans that are kept.
 
 ghost use Rattle.std.specs.Prelude.{◌≡◌, ◌↔◌, ◌⊎◌, [], ◌∷◌, ℕ, ◌+◌, ◌-◌, ◌*◌, ◌^◌, ◌<◌, ◌≤◌, IfOk, IfSome, IsTrue, List, OnErr, Some, slice_set};
-ghost use Rattle.input_log.specs.Event.{TimedByte};
+ghost use Rattle.input_log.specs.Event.{LogEvent};
 ghost use Rattle.r3k_image.specs.Boot.{Boot};
 ghost use Rattle.r3k_word.specs.Layout.{word_count_of};
 ghost use Rattle.r3k_machine.specs.Reset.{reset};
@@ -9,7 +9,7 @@ ghost use Rattle.r3k_machine.specs.Run.{state_at};
 ghost use Rattle.r3k_pages.specs.Pages.{SameOutside, page_count_of};
 ghost use Rattle.r3k_live.specs.Living.{counted};
 ghost use Rattle.checkpoints.specs.Kept.{Follows, span_at};
-ghost use Rattle.span_index.specs.Index.{Agrees};
+ghost use Rattle.span_index.specs.Index.{Agrees, max_spans};
 ghost use Rattle.present_run.specs.Reuse.{Applies, Reaches, Serves, Spends, span_of};
 ghost use Rattle.present_run.specs.Runs.{AreOf, IsJoined, holding_of};
 ghost use Rattle.present_run.specs.Sizes.{AreSizes};
@@ -77,7 +77,7 @@ impl<const PAGES: u32, const SPAN: u32> Runs<PAGES, SPAN> {
     /// Where a span starts, not behind those that are joined.
     pub(crate) fn start_of(&self, index: u64) -> &Rc<Boundary<PAGES>>
         requires { index ≤ self.now.kept.valid }
-        ensures { (image : Boot) (log : List TimedByte) → AreOf {pages = PAGES} {span = SPAN} image log self.now →
+        ensures { (image : Boot) (log : List LogEvent) → AreOf {pages = PAGES} {span = SPAN} image log self.now →
             result.now.value ≡ state_at PAGES image log (index * SPAN) }
     {
         if index == 0 {
@@ -111,7 +111,7 @@ impl<const PAGES: u32, const SPAN: u32> Runs<PAGES, SPAN> {
     fn extend(&mut self, alloc: Global, inputs: &Inputs) -> Result<(), AllocError>
         requires of { AreOf {pages = PAGES} {span = SPAN} inputs.now.image inputs.now.log self.old }
         requires time { (self.old.kept.valid + 1) * SPAN < 2 ^ 64 }
-        requires few { self.old.kept.valid < 2 ^ 26 }
+        requires few { self.old.kept.valid < max_spans }
         ensures of { AreOf {pages = PAGES} {span = SPAN} inputs.now.image inputs.now.log self.new }
         ensures joined { IfOk result (λ _. self.new.kept.valid ≡ self.old.kept.valid + 1) }
         ensures others { (i : ℕ) → ¬ (i ≡ self.old.kept.valid) → span_at self.new.kept i ≡ span_at self.old.kept i }
@@ -141,7 +141,7 @@ impl<const PAGES: u32, const SPAN: u32> Runs<PAGES, SPAN> {
         requires of { AreOf {pages = PAGES} {span = SPAN} inputs.now.image inputs.now.log self.old }
         requires start { start.now ≡ state_at PAGES inputs.now.image inputs.now.log (self.old.kept.valid * SPAN) }
         requires serves { Serves PAGES SPAN (holding_of inputs.now.image inputs.now.log self.old) self.old.kept.valid }
-        requires few { self.old.kept.valid < 2 ^ 26 }
+        requires few { self.old.kept.valid < max_spans }
         ensures of { AreOf {pages = PAGES} {span = SPAN} inputs.now.image inputs.now.log self.new }
         ensures joined { IfOk result (λ _. self.new.kept.valid ≡ self.old.kept.valid + 1) }
         ensures spans { self.new.kept.spans ≡ self.old.kept.spans }
@@ -167,7 +167,7 @@ impl<const PAGES: u32, const SPAN: u32> Runs<PAGES, SPAN> {
         requires of { AreOf {pages = PAGES} {span = SPAN} inputs.now.image inputs.now.log self.old }
         requires start { start.value ≡ state_at PAGES inputs.now.image inputs.now.log (self.old.kept.valid * SPAN) }
         requires time { (self.old.kept.valid + 1) * SPAN < 2 ^ 64 }
-        requires few { self.old.kept.valid < 2 ^ 26 }
+        requires few { self.old.kept.valid < max_spans }
         ensures of { AreOf {pages = PAGES} {span = SPAN} inputs.now.image inputs.now.log self.new }
         ensures joined { IfOk result (λ _. self.new.kept.valid ≡ self.old.kept.valid + 1) }
         ensures others { (i : ℕ) → ¬ (i ≡ self.old.kept.valid) → span_at self.new.kept i ≡ span_at self.old.kept i }
@@ -187,7 +187,7 @@ impl<const PAGES: u32, const SPAN: u32> Runs<PAGES, SPAN> {
     // Keeps the record of the next span, which was run, in place of the one of its number.
     fn keep(&mut self, inputs: &Inputs, fact: Fact<PAGES, SPAN>) -> Result<(), AllocError>
         requires of { AreOf {pages = PAGES} {span = SPAN} inputs.now.image inputs.now.log self.old }
-        requires few { self.old.kept.valid < 2 ^ 26 }
+        requires few { self.old.kept.valid < max_spans }
         requires fact { fact ≡ span_of PAGES SPAN inputs.now.image inputs.now.log self.old.kept.valid }
         ensures of { AreOf {pages = PAGES} {span = SPAN} inputs.now.image inputs.now.log self.new }
         ensures applies { IfOk result (λ _. Applies PAGES SPAN (holding_of inputs.now.image inputs.now.log self.new) self.old.kept.valid) }
@@ -223,7 +223,7 @@ impl<const PAGES: u32, const SPAN: u32> Runs<PAGES, SPAN> {
         requires exact { IsTrue exact → Applies PAGES SPAN (holding_of inputs.now.image inputs.now.log self.old) self.old.kept.valid }
         requires follows { IsTrue follows → IfSome (span_at self.old.kept (self.old.kept.valid + 1))
             (λ s. SameOutside self.old.differing s.start.words (state_at PAGES inputs.now.image inputs.now.log ((self.old.kept.valid + 1) * SPAN)).words) }
-        requires few { self.old.kept.valid < 2 ^ 26 }
+        requires few { self.old.kept.valid < max_spans }
         ensures of { AreOf {pages = PAGES} {span = SPAN} inputs.now.image inputs.now.log self.new }
         ensures joined { IfOk result (λ _. self.new.kept.valid ≡ self.old.kept.valid + 1) }
         ensures spans { self.new.kept.spans ≡ self.old.kept.spans }
@@ -278,7 +278,7 @@ impl<const PAGES: u32, const SPAN: u32> Runs<PAGES, SPAN> {
     ) -> Result<(), AllocError>
         requires of { AreOf {pages = PAGES} {span = SPAN} inputs.now.image inputs.now.log self.old }
         requires time { (index + 1) * SPAN < 2 ^ 64 }
-        requires few { index ≤ 2 ^ 26 }
+        requires few { index ≤ max_spans }
         ensures of { AreOf {pages = PAGES} {span = SPAN} inputs.now.image inputs.now.log self.new }
         ensures joined { IfOk result (λ _. index ≤ self.new.kept.valid) }
         ensures spends { Spends PAGES SPAN index 0 (holding_of inputs.now.image inputs.now.log self.old)
@@ -295,7 +295,7 @@ impl<const PAGES: u32, const SPAN: u32> Runs<PAGES, SPAN> {
     /// No record is joined any more, and the machine stands nowhere in the run: what determines the run has changed but for its
     /// start. The records stay.
     pub fn forget(&mut self)
-        ensures of { (image : Boot) (log : List TimedByte) → AreSizes PAGES SPAN → self.old.reset.value ≡ reset PAGES image →
+        ensures of { (image : Boot) (log : List LogEvent) → AreSizes PAGES SPAN → self.old.reset.value ≡ reset PAGES image →
             IfSome (span_at self.old.kept 0) (λ s. SameOutside self.old.patched s.start.words (reset PAGES image).words) →
             Agrees PAGES SPAN self.old.told self.old.kept.spans → AreOf {pages = PAGES} {span = SPAN} image log self.new }
         ensures spans { self.new.kept.spans ≡ self.old.kept.spans }
@@ -325,7 +325,7 @@ impl<const PAGES: u32, const SPAN: u32> Runs<PAGES, SPAN> {
     /// Starts the run anew, from a reset that differs in a page. The records stay.
     pub fn restart(&mut self, start: Rc<Boundary<PAGES>>, page: u32)
         requires { page < page_count_of PAGES }
-        ensures of { (image changed : Boot) (log : List TimedByte) → AreOf {pages = PAGES} {span = SPAN} image log self.old →
+        ensures of { (image changed : Boot) (log : List LogEvent) → AreOf {pages = PAGES} {span = SPAN} image log self.old →
             start.entry.value ≡ reset PAGES changed → SameOutside (page ∷ []) (reset PAGES image).words (reset PAGES changed).words →
             AreOf {pages = PAGES} {span = SPAN} changed log self.new }
         ensures spans { self.new.kept.spans ≡ self.old.kept.spans }

@@ -2,13 +2,13 @@
 //! recorder.
 
 ghost use Rattle.std.specs.Prelude.{◌≡◌, ℕ, ◌+◌, ◌-◌, ◌*◌, ◌/◌, ◌%◌, ◌^◌, ◌<◌, ◌≤◌, [], IfOk, IfSome, List, Some, length, slice_get, slice_index};
-ghost use Rattle.input_log.specs.Event.{TimedByte};
+ghost use Rattle.input_log.specs.Event.{LogEvent};
 ghost use Rattle.r3k_image.specs.Boot.{Boot};
 ghost use Rattle.r3k_word.specs.Layout.{word_count_of};
 ghost use Rattle.r3k_machine.specs.Run.{console_of, last_writer, senders_of, state_at, trace_at};
 ghost use Rattle.r3k_live.specs.Record.{sent_from};
 ghost use Rattle.present_run.specs.Console.{Shows};
-ghost use Rattle.present_run.specs.History.{max_position};
+ghost use Rattle.input_log.specs.Limits.{max_position};
 ghost use Rattle.present_run.specs.Reuse.{Reaches, Spends};
 ghost use Rattle.present_run.specs.Runs.{AreOf, IsOnTheWay, holding_of, steps_between};
 ghost use Rattle.present_run.specs.Seeking.{Seeks};

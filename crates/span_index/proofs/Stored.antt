@@ -1,6 +1,6 @@
 -- A step that stores into a word touches its page.
 use Rattle.std.proofs.Common.{◌≡◌, ℕ, ◌/◌, ◌%◌, Bool, List, true, false, Option, Some, None, IfSome, Result, Ok, Err, IfOk, slice_index_or, if◌then◌else◌, refl}
-use Rattle.input_log.specs.Event.{TimedByte}
+use Rattle.input_log.specs.Event.{LogEvent}
 use Rattle.r3k_word.specs.declared.layout.TheConstants.{PAGE_BYTES}
 use Rattle.cop0.specs.Changes as control
 use Rattle.r3k_decode.specs.Decoding.{operation_of}
@@ -80,6 +80,6 @@ turn_touches pages s =
     (by_option Completes (completion_of_operation pages met_core i) (operation_of i.word) tt
     (λ operation. effect_completes pages met_core i.page (effect_of operation (operands_of met_core.core operation)))))))
 
-pub step_touches : (pages : ℕ) (events : List TimedByte) (s : State) → TouchesStored (told pages events s)
+pub step_touches : (pages : ℕ) (events : List LogEvent) (s : State) → TouchesStored (told pages events s)
 unfolding outcome_of_step
 step_touches pages events s = turn_touches pages (record { core = sampled (ticked (arrived events s.core)); words = s.words })

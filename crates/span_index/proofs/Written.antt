@@ -3,7 +3,7 @@
 use Rattle.std.proofs.Common.{◌≡◌, ℕ, zero, suc, ◌+◌, ◌*◌, ◌/◌, ◌<◌, ◌≤◌, ◌==◌, false, List, [], ◌∷◌, length, All, Option, Some, None, IfSome, nat_eq, slice_index_or, inl, inr, refl, sym, ap, ◌∙◌, arith}
 use Rattle.std.proofs.lemmas.Bool.{cases_Bool, cases_lt, eq-eqb, eqb-true, or_from, or_parts, true≢false}
 use Rattle.std.proofs.lemmas.List.{get_or_past}
-use Rattle.input_log.specs.Event.{TimedByte}
+use Rattle.input_log.specs.Event.{LogEvent}
 use Rattle.r3k_word.specs.declared.layout.TheConstants.{PAGE_BYTES}
 use Rattle.r3k_machine.specs.declared.step.Done.{Done}
 use Rattle.r3k_machine.specs.State.{State}
@@ -48,7 +48,7 @@ step_not_past pages page done past all touches = at_store done.stored touches
         let within = told_within pages done.touched (address / PAGE_BYTES) all touches in
         not_equal (address / PAGE_BYTES) page (λ same. absurd (let e : ⊥ = omega (arith, same, within, past) in e))
 
-none_past : (pages : ℕ) (log : List TimedByte) (time : ℕ) (s : State) (n page : ℕ) → page_count_of pages ≤ page → is_dirty (trace pages log time s n) page ≡ false
+none_past : (pages : ℕ) (log : List LogEvent) (time : ℕ) (s : State) (n page : ℕ) → page_count_of pages ≤ page → is_dirty (trace pages log time s n) page ≡ false
 unfolding trace
 none_past pages log time s zero page past = refl
 none_past pages log time s (suc n) page past =
@@ -59,7 +59,7 @@ none_past pages log time s (suc n) page past =
     ∙ or_from (is_dirty (trace pages log time s n) page) (stores_in page done.stored) (none_past pages log time s n page past)
     (step_not_past pages page done past (pages_within pages events here) (step_touches pages events here))
 
-clean : (pages : ℕ) (log : List TimedByte) (time : ℕ) (s : State) (n page : ℕ) → holds (dirty_pages pages (trace pages log time s n)) page ≡ false
+clean : (pages : ℕ) (log : List LogEvent) (time : ℕ) (s : State) (n page : ℕ) → holds (dirty_pages pages (trace pages log time s n)) page ≡ false
     → is_dirty (trace pages log time s n) page ≡ false
 clean pages log time s n page free =
     elim (cases_lt page (page_count_of pages)) [

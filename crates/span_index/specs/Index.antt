@@ -5,9 +5,14 @@ use Rattle.r3k_machine.specs.declared.step.Done.{Done}
 use Rattle.r3k_machine.specs.Run.{last_writer}
 use Rattle.r3k_live.specs.Record.{dirty_pages, sent_from}
 use Rattle.span_fact.specs.Span.{Span, steps_of}
+use Rattle.write_index.specs.declared.tree.TheConstants.{MAX_SPANS}
 use Rattle.write_index.specs.Pages.{pages_at}
 use Rattle.console_index.specs.Counts.{count_at}
 use Rattle.span_index.specs.Sent.{bytes_on}
+
+-- how many spans there may be
+abbrev pub max_spans : ℕ
+max_spans = MAX_SPANS
 
 -- the pages and the counts by span, and the number of the record that may have changed since they were put
 pub record Index : Type 0 where

@@ -6,7 +6,7 @@ ghost use Rattle.r3k_machine.specs.Run.{last_writer};
 ghost use Rattle.span_fact.specs.Span.{Span};
 ghost use Rattle.write_index.specs.Pages.{pages_at};
 ghost use Rattle.console_index.specs.Counts.{count_at};
-ghost use Rattle.span_index.specs.Index.{Agrees, Has, IsLastWriter, IsSender, IsSettled, sent_below, steps_at};
+ghost use Rattle.span_index.specs.Index.{Agrees, Has, IsLastWriter, IsSender, IsSettled, max_spans, sent_below, steps_at};
 
 use crate::counts::counts_of;
 use checkpoints::Kept;
@@ -27,13 +27,13 @@ pub struct SpanIndex {
 
 impl Model for SpanIndex {
     ghost use Rattle.std.specs.Prelude.{◌^◌, ◌<◌, IfSome};
-    ghost use Rattle.span_index.specs.Index.{Index};
+    ghost use Rattle.span_index.specs.Index.{Index, max_spans};
 
     ghost Value = { Index };
 
     ghost view = { λ index. record { writes = index.writes; consoles = index.consoles; stale = index.stale } };
 
-    ghost invariant = { λ index. IfSome index.stale (λ i. i < 2 ^ 26) };
+    ghost invariant = { λ index. IfSome index.stale (λ i. i < max_spans) };
 }
 
 impl SpanIndex {
@@ -51,7 +51,7 @@ impl SpanIndex {
 
     /// Notes that the record of a number has changed, where no other one has changed since it was settled.
     pub fn note(&mut self, index: u64)
-        requires number { index < 2 ^ 26 }
+        requires number { index < max_spans }
         requires one { IfSome self.old.stale (λ other. other ≡ index) }
         ensures noted { self.new ≡ record self.old { stale = Some index } }
         ensures agrees { (pages span : ℕ) (old new : List (Option Span)) → Agrees pages span self.old old →
@@ -87,7 +87,7 @@ impl SpanIndex {
         kept: &Kept<PAGES, SPAN>,
         index: u64,
     ) -> Result<(), AllocError>
-        requires number { index < 2 ^ 26 }
+        requires number { index < max_spans }
         requires span { SPAN ≤ 1048576 }
         ensures there { IfOk result (λ _. Has PAGES SPAN self.new index (slice_index_or kept.now.spans index None)) }
         ensures others { (i : ℕ) (s : Option Span) → i ≢ index → Has PAGES SPAN self.old i s → Has PAGES SPAN self.new i s }
@@ -101,7 +101,7 @@ impl SpanIndex {
 
     // Puts the pages and the counts of a number into both trees. Where memory is refused, one of them may have what is new.
     fn replace(&mut self, index: u64, pages: &[u32], counts: [u32; 4]) -> Result<(), AllocError>
-        requires index { index < 2 ^ 26 }
+        requires index { index < max_spans }
         requires pages { IsStrictlyIncreasing pages.now }
         requires counts { All (λ count. count ≤ 1048576) counts }
         ensures pages { IfOk result (λ _. pages_at self.new.writes index ≡ pages.now) }

@@ -1,14 +1,14 @@
 -- What is held after an edit.
 use Rattle.std.proofs.Common.{◌≡◌, ℕ, List, [], Option, Result, Ok, sym, ap, subst, ◌∙◌}
 use Rattle.std.proofs.Math.Path.{ap₂}
-use Rattle.input_log.specs.Event.{TimedByte}
+use Rattle.input_log.specs.Event.{LogEvent}
 use Rattle.r3k_image.specs.Boot.{Boot}
 use Rattle.refusal.specs.declared.fault.Fault.{Fault}
 use Rattle.span_fact.specs.Span.{Span}
 use Rattle.timeline.specs.Landed.{Landed, with_image, with_log}
 
 -- Both are held, by one value and what is equal to it: the first speaks of a log that is edited, the second of what it leaves.
-pub log_edited : (edit : List TimedByte → Result (List TimedByte) Fault) (inside old : Landed) (log : List TimedByte) (spans : List (Option Span)) (steps : ℕ) (landings : List ℕ)
+pub log_edited : (edit : List LogEvent → Result (List LogEvent) Fault) (inside old : Landed) (log : List LogEvent) (spans : List (Option Span)) (steps : ℕ) (landings : List ℕ)
     → inside ≡ old → edit inside.history.log ≡ Ok log → spans ≡ inside.spans → steps ≡ inside.steps → landings ≡ []
     → with_log old (edit old.history.log) ≡ Ok (record { history = record { image = inside.history.image; log = log }; spans = spans; steps = steps; landings = landings })
 log_edited edit inside old log spans steps landings same is same_spans same_steps none =

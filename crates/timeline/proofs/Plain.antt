@@ -8,7 +8,8 @@ use Rattle.r3k_machine.specs.Run.{console_of, last_writer, state_at, trace_at}
 use Rattle.refusal.specs.declared.fault.Fault.{Fault}
 use Rattle.refusal.specs.declared.fault.Fault.TheVariants.{Range, TooFar, Unaligned}
 use Rattle.present_run.specs.Console.{shown_of}
-use Rattle.present_run.specs.History.{History, max_position}
+use Rattle.input_log.specs.Limits.{max_position}
+use Rattle.present_run.specs.History.{History}
 use Rattle.timeline.specs.Query.{console_at, of_place, of_word, up_to_max, word_at, writer_at, writer_of}
 use Rattle.timeline.specs.declared.writer.Writer.{Writer}
 

@@ -1,7 +1,7 @@
 -- What a timeline holds, and what its queries and edits do with that (own).
 use Rattle.std.specs.Prelude.{◌≡◌, ◌⊎◌, ℕ, ◌+◌, ◌/◌, ◌%◌, ◌<◌, List, [], ◌∷◌, take, Contains, Option, Result, Ok, Err, IfOk, OnErr, nat_eq}
 use Rattle.std.specs.Set.{remove_key}
-use Rattle.input_log.specs.Event.{TimedByte}
+use Rattle.input_log.specs.Event.{LogEvent}
 use Rattle.r3k_image.specs.Boot.{Boot}
 use Rattle.r3k_machine.specs.Run.{state_at}
 use Rattle.r3k_machine.specs.State.{State}
@@ -51,7 +51,7 @@ pub record IsLanding (pages span : ℕ) (h : Holding) (position : ℕ) (state : 
   pub served : (index : ℕ) → index < position / span → Serves pages span h index
 
 -- what is held with the log, or the image, that an edit leaves: the records stay, and no state is kept
-abbrev pub with_log : Landed → Result (List TimedByte) Fault → Result Landed Fault
+abbrev pub with_log : Landed → Result (List LogEvent) Fault → Result Landed Fault
 with_log h (Ok log) = Ok (record { history = record { image = h.history.image; log = log }; spans = h.spans; steps = h.steps; landings = [] })
 with_log h (Err fault) = Err fault
 

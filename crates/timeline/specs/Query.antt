@@ -9,7 +9,8 @@ use Rattle.r3k_word.specs.Layout.{place_of_word}
 use Rattle.refusal.specs.declared.fault.Fault.{Fault}
 use Rattle.refusal.specs.declared.fault.Fault.TheVariants.{NotFound, NotMemory, Range, TooFar, Unaligned}
 use Rattle.present_run.specs.Console.{shown_of}
-use Rattle.present_run.specs.History.{History, max_position}
+use Rattle.input_log.specs.Limits.{max_position}
+use Rattle.present_run.specs.History.{History}
 use Rattle.timeline.specs.declared.writer.Writer.{Writer}
 use Rattle.timeline.specs.declared.writer.Writer.TheVariants.{Step, Image, Never}
 

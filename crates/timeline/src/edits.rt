@@ -1,7 +1,8 @@
 //! Edits of the history. Records of spans outlive them, though they may no longer be those of the run.
 
 ghost use Rattle.std.specs.Prelude.{◌≡◌, IfOk, length};
-ghost use Rattle.input_log.specs.Edits.{adding, deleting, moving, setting, up_to, without};
+ghost use Rattle.input_log.specs.declared.event.Kind.TheVariants.{Byte, Framing, Wire};
+ghost use Rattle.input_log.specs.Edits.{adding, deleting, erasing, moving, setting, up_to, without};
 ghost use Rattle.r3k_image.specs.Boot.{FitsRam};
 ghost use Rattle.r3k_image.specs.Patch.{patching};
 ghost use Rattle.refusal.specs.Given.{Changes, ChangesOrLacks};
@@ -12,13 +13,35 @@ use r3k_word::layout::{page_of, place_of};
 use refusal::Fault;
 
 impl<const PAGES: u32, const SPAN: u32> Timeline<PAGES, SPAN> {
-    /// Adds an event after all events of its time or an earlier one, and gives its place in the log. A time or a line out of
-    /// its range, and a log that is full, are `Range`.
+    /// Adds the arrival of a byte after all events of its time or an earlier one, and gives its place in the log. A time or a
+    /// line out of its range, and a log that is full, are `Range`.
     pub fn add(&mut self, time: u64, line: u8, byte: u8) -> Result<usize, Fault>
-        ensures log { ChangesOrLacks (with_log self.old (adding (record { time = time; line = line; byte = byte }) self.old.history.log)) self.old self.new result }
+        ensures log { ChangesOrLacks (with_log self.old (adding (record { time = time; kind = Byte; line = line; byte = byte }) self.old.history.log)) self.old self.new result }
         ensures place { IfOk result (λ place. place ≡ length (up_to time self.old.history.log)) }
     {
         let place = self.inputs.log.add(time, line, byte)?;
+        self.runs.forget();
+        self.landings.clear();
+        Ok(place)
+    }
+
+    /// Adds the arrival of a byte with a framing error, as `add` does that of a byte.
+    pub fn ferr(&mut self, time: u64, line: u8, byte: u8) -> Result<usize, Fault>
+        ensures log { ChangesOrLacks (with_log self.old (adding (record { time = time; kind = Framing; line = line; byte = byte }) self.old.history.log)) self.old self.new result }
+        ensures place { IfOk result (λ place. place ≡ length (up_to time self.old.history.log)) }
+    {
+        let place = self.inputs.log.ferr(time, line, byte)?;
+        self.runs.forget();
+        self.landings.clear();
+        Ok(place)
+    }
+
+    /// Adds a level, 0 or 1, of an external line, 0 to 2, as `add` does a byte. Another line or level is `Range` too.
+    pub fn wire(&mut self, time: u64, line: u8, level: u8) -> Result<usize, Fault>
+        ensures log { ChangesOrLacks (with_log self.old (adding (record { time = time; kind = Wire; line = line; byte = level }) self.old.history.log)) self.old self.new result }
+        ensures place { IfOk result (λ place. place ≡ length (up_to time self.old.history.log)) }
+    {
+        let place = self.inputs.log.wire(time, line, level)?;
         self.runs.forget();
         self.landings.clear();
         Ok(place)
@@ -34,7 +57,8 @@ impl<const PAGES: u32, const SPAN: u32> Timeline<PAGES, SPAN> {
         Ok(())
     }
 
-    /// Gives an event another byte. `NoEvent` if there is none.
+    /// Gives an event another byte. `NoEvent` if there is none, `Range` if it is the level of an external line and the byte is
+    /// above 1.
     pub fn set(&mut self, place: u64, byte: u8) -> Result<(), Fault>
         ensures { Changes (with_log self.old (setting place byte self.old.history.log)) self.old self.new result }
     {
@@ -54,6 +78,17 @@ impl<const PAGES: u32, const SPAN: u32> Timeline<PAGES, SPAN> {
         self.runs.forget();
         self.landings.clear();
         Ok(place)
+    }
+
+    /// Takes out every event of the times from one position up to another, which is left out, in one edit. A position above
+    /// the greatest, and `from` above `to`, are `Range`. It takes no memory.
+    pub fn erase(&mut self, from: u64, to: u64) -> Result<(), Fault>
+        ensures { Changes (with_log self.old (erasing from to self.old.history.log)) self.old self.new result }
+    {
+        self.inputs.log.erase(from, to)?;
+        self.runs.forget();
+        self.landings.clear();
+        Ok(())
     }
 
     /// Sets a word of the image, by its physical address, also where its value stays the same. `Unaligned` if the address is not

@@ -1,13 +1,13 @@
 //! Queries of the state at a position: from one that is kept there, or by going there from the nearest one that is kept.
 
 ghost use Rattle.std.specs.Prelude.{◌≡◌, ◌⊎◌, ◌∷◌, ◌+◌, ◌*◌, ◌/◌, ◌%◌, ◌<◌, ◌≤◌, ℕ, Contains, IfOk, IfSome, List, Some, slice_index, take};
-ghost use Rattle.input_log.specs.Event.{TimedByte};
+ghost use Rattle.input_log.specs.Event.{LogEvent};
 ghost use Rattle.r3k_image.specs.Boot.{Boot};
 ghost use Rattle.r3k_word.specs.Layout.{word_count_of};
 ghost use Rattle.r3k_machine.specs.Run.{state_at};
 ghost use Rattle.r3k_machine.specs.State.{State};
 ghost use Rattle.landings.specs.Landings.{positions_of};
-ghost use Rattle.present_run.specs.History.{max_position};
+ghost use Rattle.input_log.specs.Limits.{max_position};
 ghost use Rattle.present_run.specs.Reuse.{Reaches, Spends};
 ghost use Rattle.timeline.specs.Landed.{Lands, holding};
 ghost use Rattle.present_run.specs.Runs.{AreOf, IsOnTheWay};
@@ -81,7 +81,7 @@ pub(crate) fn nearest_in_span<const PAGES: u32, const SPAN: u32>(
     position: u64,
 ) -> Option<(u64, &Rc<Boundary<PAGES>>)>
     requires { 0 < SPAN }
-    ensures { (image : Boot) (log : List TimedByte) →
+    ensures { (image : Boot) (log : List LogEvent) →
         ((e : ℕ × State) → Contains landings.now e → e.1 ≡ state_at PAGES image log e.0) →
         IfSome result (λ n. IsOnTheWay PAGES image log (position / SPAN * SPAN) position n.0 n.1.now.value) }
 {

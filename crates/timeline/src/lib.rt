@@ -7,6 +7,7 @@ mod queries;
 mod timeline;
 mod writer;
 
+pub use input_log::MAX_POSITION;
 pub use present_run::lacking_laws;
-pub use timeline::{MAX_POSITION, Timeline};
+pub use timeline::Timeline;
 pub use writer::Writer;

@@ -9,14 +9,15 @@
 
 ghost use Rattle.std.specs.Prelude.{◌≡◌, ◌≤◌, IfOk, MatchResult, Ok};
 ghost use Rattle.refusal.specs.Given.{Gives, GivesFault};
-ghost use Rattle.present_run.specs.History.{max_position};
+ghost use Rattle.input_log.specs.Limits.{max_position};
 ghost use Rattle.timeline.specs.Query.{console_at, core_at, next_pc, sent_at, word_at, writer_at, writer_of};
 ghost use Rattle.timeline.specs.Landed.{Asks, Lands};
 
 use crate::landed::nearest_in_span;
-use crate::timeline::{MAX_POSITION, Timeline};
+use crate::timeline::Timeline;
 use crate::writer::Writer;
 use arrayvec::ArrayVec;
+use input_log::MAX_POSITION;
 use r3k_machine::Core;
 use r3k_word::layout::place_of;
 use refusal::Fault;

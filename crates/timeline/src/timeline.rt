@@ -16,9 +16,6 @@ use r3k_image::{Image, ImageFault, ImageKind};
 use std::alloc::Global;
 use std::marker::Model;
 
-/// The greatest position.
-pub const MAX_POSITION: u64 = 4_294_967_295;
-
 /// An image and a log that can be edited, on a machine with `PAGES` pages of RAM. Queries are answered as if the machine was
 /// run from reset for each. What was run is kept in spans of `SPAN` steps, and run again only where it no longer applies; and so are
 /// the last 8 states inside spans that were asked for, up to the next edit.

@@ -5,6 +5,7 @@ use Rattle.std.proofs.Math.Seq.{take-append_seam}
 use Rattle.std.proofs.lemmas.Bool.{cases_Bool, eq-eqb, eqb-true, true≢false}
 use Rattle.std.proofs.lemmas.List.{get_or-set_same, get_or-set_other, get_or-take, get_or_past, length-take}
 use Rattle.write_index.specs.Pages.{IsUnion, pages_at}
+use Rattle.write_index.specs.declared.tree.TheConstants.{LEVELS}
 use Rattle.write_index.specs.Tree.{Grown, HasRoom, IsIndex, IsLevel, IsLevelBut, IsPut, IsTree, IsTreeBut, Same, bottom}
 use Rattle.write_index.proofs.Merge.{before_or}
 
@@ -165,7 +166,7 @@ same_take (suc held) (x ∷ a) (y ∷ b) long_a long_b same =
     (same_take held a b (omega (arith, long_a)) (omega (arith, long_b)) (λ m within. same (suc m) (omega (arith, within))))
 
 -- all levels are made while there are no spans
-pub deepened : (count : ℕ) (old new : List (List (List ℕ))) → IsIndex count old → length new ≤ 27 → (length old ≡ 27 → new ≡ old) → IsIndex count new
+pub deepened : (count : ℕ) (old new : List (List (List ℕ))) → IsIndex count old → length new ≤ LEVELS → (length old ≡ LEVELS → new ≡ old) → IsIndex count new
 deepened zero old new index few same = record {
   tree = tree_none new zero refl;
   few = few;
@@ -174,7 +175,7 @@ deepened zero old new index few same = record {
 }
 deepened (suc count) old new index few same = subst (λ levels. IsIndex (suc count) levels) (sym (same (index.deep (omega arith)))) index
 
-pub deepened_view : (count : ℕ) (old new : List (List (List ℕ))) → IsIndex count old → (length old ≡ 27 → new ≡ old) → take count (bottom new) ≡ take count (bottom old)
+pub deepened_view : (count : ℕ) (old new : List (List (List ℕ))) → IsIndex count old → (length old ≡ LEVELS → new ≡ old) → take count (bottom new) ≡ take count (bottom old)
 deepened_view zero old new index same = refl
 deepened_view (suc count) old new index same = ap (λ levels. take (suc count) (bottom levels)) (same (index.deep (omega arith)))
 

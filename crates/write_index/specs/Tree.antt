@@ -1,7 +1,8 @@
 -- A tree of unions by levels (own): the lowest level has the sets of the spans, and each node above has the pages of two nodes once
 -- both are there. Behind the nodes that are there a level may have room.
-use Rattle.std.specs.Prelude.{◌≡◌, ℕ, ◌+◌, ◌*◌, ◌/◌, ◌^◌, ◌<◌, ◌≤◌, List, [], ◌∷◌, length, slice_index_or}
+use Rattle.std.specs.Prelude.{◌≡◌, ℕ, ◌+◌, ◌*◌, ◌/◌, ◌<◌, ◌≤◌, List, [], ◌∷◌, length, slice_index_or}
 use Rattle.write_index.specs.Pages.{IsUnion, pages_at}
+use Rattle.write_index.specs.declared.tree.TheConstants.{LEVELS, MAX_SPANS}
 
 -- the lowest level
 abbrev pub bottom : List (List (List ℕ)) → List (List ℕ)
@@ -47,9 +48,9 @@ Grown (a ∷ old) (b ∷ new) = Keeps a b × Grown old new
 -- an index of so many spans
 pub record IsIndex (count : ℕ) (levels : List (List (List ℕ))) : Type 0 where
   pub tree : IsTree count levels
-  pub few : length levels ≤ 27
-  pub deep : 0 < count → length levels ≡ 27
-  pub small : count ≤ 2 ^ 26
+  pub few : length levels ≤ LEVELS
+  pub deep : 0 < count → length levels ≡ LEVELS
+  pub small : count ≤ MAX_SPANS
 
 -- the first spans stay
 abbrev pub Same : ℕ → List (List ℕ) → List (List ℕ) → Type 0

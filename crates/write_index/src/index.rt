@@ -3,6 +3,7 @@
 ghost use Rattle.std.specs.Prelude.{◌≡◌, ◌≢◌, ◌+◌, ◌-◌, ◌*◌, ◌^◌, ◌<◌, ◌≤◌, ℕ, IfOk, IfSome, OnErr, [], length, max, min};
 ghost use Rattle.std.specs.List.Sorted.{IsStrictlyIncreasing};
 ghost use Rattle.write_index.specs.Pages.{HasDigits, IsLast, pages_at};
+ghost use Rattle.write_index.specs.declared.tree.TheConstants.{MAX_SPANS};
 
 use crate::level::Level;
 use crate::page_set::PageSet;
@@ -44,7 +45,7 @@ impl WriteIndex {
 
     /// Puts the pages of a span, an ascending set. Where memory is refused, all is as it was.
     pub fn replace(&mut self, index: u64, pages: &[u32]) -> Result<(), AllocError>
-        requires index { index < 2 ^ 26 }
+        requires index { index < MAX_SPANS }
         requires pages { IsStrictlyIncreasing pages.now }
         ensures there { IfOk result (λ _. pages_at self.new index ≡ pages.now) }
         ensures others { IfOk result (λ _. (i : ℕ) → i ≢ index → pages_at self.new i ≡ pages_at self.old i) }

@@ -9,3 +9,4 @@ mod tree;
 
 pub use index::WriteIndex;
 pub use search::Asked;
+pub use tree::MAX_SPANS;

@@ -3,14 +3,17 @@
 ghost use Rattle.std.specs.Prelude.{◌≡◌, ◌+◌, ◌*◌, ◌/◌, ◌^◌, ◌<◌, ◌≤◌, ℕ, [], IfOk, OnErr, length, max, slice_set};
 ghost use Rattle.write_index.specs.Pages.{IsLast, IsUnion, holds, pages_at};
 ghost use Rattle.write_index.specs.Tree.{Grown, HasRoom, IsPut, IsTree, IsTreeBut, Same, bottom};
-ghost use Rattle.write_index.specs.declared.tree.TheConstants.{LEVELS};
+ghost use Rattle.write_index.specs.declared.tree.TheConstants.{LEVELS, MAX_SPANS};
 
 use crate::level::Level;
 use crate::page_set::PageSet;
 use std::alloc::{AllocError, Global};
 
+/// How many spans there may be: those of all positions up to 2^40 - 1, where a span has 64 steps.
+pub const MAX_SPANS: u64 = 1 << 34;
+
 /// How many levels hold all spans that there may be.
-pub(crate) const LEVELS: usize = 27;
+pub(crate) const LEVELS: usize = 35;
 
 /// Makes all levels.
 pub(crate) fn deepen(alloc: Global, levels: &mut Vec<Level>) -> Result<(), AllocError>
@@ -34,8 +37,8 @@ pub(crate) fn update(
     set: PageSet,
 ) -> Result<(), AllocError>
     requires deep { length levels.old ≡ LEVELS }
-    requires held { held ≤ 2 ^ 26 }
-    requires index { index < 2 ^ 26 }
+    requires held { held ≤ MAX_SPANS }
+    requires index { index < MAX_SPANS }
     requires tree { IsTree held levels.old }
     ensures tree { IfOk result (λ _. IsTree (max held (index + 1)) levels.new) }
     ensures bottom { IfOk result (λ _. IsPut held index set (bottom levels.old) (bottom levels.new)) }

@@ -1,6 +1,6 @@
 use Rattle.std.proofs.Common.{◌-◌, List, ◌∙◌, subst}
 use Rattle.std.proofs.Math.Path.{ap₂}
-use Rattle.input_log.specs.Event.{TimedByte}
+use Rattle.input_log.specs.Event.{LogEvent}
 use Rattle.r3k_machine.specs.declared.step.Done.{Done}
 use Rattle.r3k_machine.specs.State.{State}
 use Rattle.r3k_machine.specs.Run.{run}
@@ -20,7 +20,7 @@ returns-clause-of g c =
       start = c.requires.of.start;
       stands =
           c.run.ensures.state
-          ∙ (ap₂ (λ (events : List TimedByte) (s : State). run pages events time s (c.args.position - time)) c.window.ensures.events stood
+          ∙ (ap₂ (λ (events : List LogEvent) (s : State). run pages events time s (c.args.position - time)) c.window.ensures.events stood
           ∙ gone_on pages image log time c.args.position c.requires.before);
       recorded = tt;
       joined = c.requires.of.joined;

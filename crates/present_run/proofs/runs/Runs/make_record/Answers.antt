@@ -1,6 +1,6 @@
 use Rattle.std.proofs.Common.{◌≡◌, ℕ, ◌+◌, ◌*◌, List, ap, sym, ◌∙◌, arith}
 use Rattle.std.proofs.Math.Path.{ap₂}
-use Rattle.input_log.specs.Event.{TimedByte}
+use Rattle.input_log.specs.Event.{LogEvent}
 use Rattle.input_log.specs.Log.{window_of}
 use Rattle.r3k_machine.specs.Run.{state_at}
 use Rattle.r3k_live.specs.Living.{counted}
@@ -10,7 +10,7 @@ use Rattle.present_run.proofs.Spans.{ends, next_start, span_is}
 use Rattle.present_run.proofs.runs.Runs.make_record.Goals as goal
 
 -- the events of the times of the span of an index
-in_span : (span index from : ℕ) (log events : List TimedByte) → from ≡ index * span → events ≡ window_of from (from + span) log
+in_span : (span index from : ℕ) (log events : List LogEvent) → from ≡ index * span → events ≡ window_of from (from + span) log
     → events ≡ window_of (index * span) ((index + 1) * span) log
 in_span span index from log events is events_is =
     events_is ∙ ap₂ (λ (a b : ℕ). window_of a b log) is (ap (λ (n : ℕ). n + span) is ∙ sym (next_start index span))

@@ -1,6 +1,6 @@
 use Rattle.std.proofs.Common.{◌≡◌, ℕ, ◌+◌, ◌-◌, ◌≤◌, List, Option, unwrap_or, sym, ap, ◌∙◌, arith, subst}
 use Rattle.std.proofs.Math.Path.{ap₂}
-use Rattle.input_log.specs.Event.{TimedByte}
+use Rattle.input_log.specs.Event.{LogEvent}
 use Rattle.r3k_machine.specs.State.{State}
 use Rattle.r3k_machine.specs.Run.{next_visit, run}
 use Rattle.r3k_live.specs.Visits.{first_visit}
@@ -33,7 +33,7 @@ returns-in-Some-clause-of g c =
       stands =
           c.visit-found.ensures.state
           ∙ (ap (λ (o : Option ℕ). run pages c.window.result.now time c.args.self.now.live.state (unwrap_or o steps)) c.in-Some.is
-          ∙ (ap₂ (λ (events : List TimedByte) (s : State). run pages events time s c.in-Some.steps) c.window.ensures.events stood
+          ∙ (ap₂ (λ (events : List LogEvent) (s : State). run pages events time s c.in-Some.steps) c.window.ensures.events stood
           ∙ gone_within pages image log time c.args.last c.in-Some.steps (omega (arith, bound, c.requires.before))));
       recorded = tt;
       joined = c.requires.of.joined;
@@ -53,7 +53,7 @@ returns-in-Some-clause-found g c =
     let time = c.args.time in
     let stood = if_some _ c.args.self.now.at time c.requires.stands c.requires.of.stands in
     ap (behind_time time) (sym c.in-Some.is ∙ (c.visit-found.ensures.found
-    ∙ ap₂ (λ (events : List TimedByte) (s : State). first_visit pages events time s c.args.address 0 (c.args.last - time)) c.window.ensures.events stood))
+    ∙ ap₂ (λ (events : List LogEvent) (s : State). first_visit pages events time s c.args.address 0 (c.args.last - time)) c.window.ensures.events stood))
     ∙ (seen pages image log c.args.address time c.args.last 0 (c.args.last - time) (omega (arith, c.requires.before))
     ∙ ap (λ (t : ℕ). next_visit pages image log c.args.address t (c.args.last - time)) (let e : time + 0 ≡ time = omega arith in e))
 
@@ -76,7 +76,7 @@ returns-in-None-clause-of g c =
       stands =
           c.visit-found.ensures.state
           ∙ (ap (λ (o : Option ℕ). run pages c.window.result.now time c.args.self.now.live.state (unwrap_or o steps)) c.in-None.is
-          ∙ (ap₂ (λ (events : List TimedByte) (s : State). run pages events time s steps) c.window.ensures.events stood
+          ∙ (ap₂ (λ (events : List LogEvent) (s : State). run pages events time s steps) c.window.ensures.events stood
           ∙ gone_on pages image log time c.args.last c.requires.before));
       recorded = tt;
       joined = c.requires.of.joined;
@@ -96,6 +96,6 @@ returns-in-None-clause-found g c =
     let time = c.args.time in
     let stood = if_some _ c.args.self.now.at time c.requires.stands c.requires.of.stands in
     ap (behind_time time) (sym c.in-None.is ∙ (c.visit-found.ensures.found
-    ∙ ap₂ (λ (events : List TimedByte) (s : State). first_visit pages events time s c.args.address 0 (c.args.last - time)) c.window.ensures.events stood))
+    ∙ ap₂ (λ (events : List LogEvent) (s : State). first_visit pages events time s c.args.address 0 (c.args.last - time)) c.window.ensures.events stood))
     ∙ (seen pages image log c.args.address time c.args.last 0 (c.args.last - time) (omega (arith, c.requires.before))
     ∙ ap (λ (t : ℕ). next_visit pages image log c.args.address t (c.args.last - time)) (let e : time + 0 ≡ time = omega arith in e))

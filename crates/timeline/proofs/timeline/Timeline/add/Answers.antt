@@ -1,4 +1,5 @@
 use Rattle.std.proofs.Common.{ap}
+use Rattle.input_log.specs.declared.event.Kind.TheVariants.{Byte}
 use Rattle.input_log.specs.Edits.{adding}
 use Rattle.landings.specs.Landings.{positions_of}
 use Rattle.timeline.proofs.Edited.{log_edited}
@@ -16,5 +17,5 @@ invariant_of-self-2 g c =
 
 pub returns-clause-log : goal.returns-clause-log
 returns-clause-log g c =
-    log_edited (adding (record { time = c.args.time; line = c.args.line; byte = c.args.byte })) _ c.args.self.now c.add.new.self _ _ _ c.self.view_is ((c.in_ok-place.ensures {u = tt}).log) c.forget.ensures.spans c.forget.ensures.steps
+    log_edited (adding (record { time = c.args.time; kind = Byte; line = c.args.line; byte = c.args.byte })) _ c.args.self.now c.add.new.self _ _ _ c.self.view_is ((c.in_ok-place.ensures {u = tt}).log) c.forget.ensures.spans c.forget.ensures.steps
     (ap positions_of c.clear.ensures)
