@@ -55,13 +55,13 @@ fn load_slot_loses_to_its_own_write(rt: HostRuntime) -> Result<(), Fail> {
     holds(&rt, rt.alloc(), "image", &image, &[], script, want)
 }
 
-/// Positions are 0 to 4294967295, in whole numbers, and a refused move stays where it is.
+/// Positions are 0 to 1099511627775, in whole numbers, and a refused move stays where it is.
 #[test]
 fn limits_of_moves(rt: HostRuntime) -> Result<(), Fail> {
     let cases = [
         (
-            "goto 4294967295\nstep 1\ngoto 4294967296\npos\ngoto 0\nback 1\n",
-            "pos 4294967295\nerror 7 TooFar\nerror 7 TooFar\npos 4294967295\npos 0\nerror 7 TooFar\n",
+            "goto 1099511627775\nstep 1\ngoto 1099511627776\npos\ngoto 0\nback 1\n",
+            "pos 1099511627775\nerror 7 TooFar\nerror 7 TooFar\npos 1099511627775\npos 0\nerror 7 TooFar\n",
         ),
         (
             "goto 1\nstep 18446744073709551615\npos\n",
@@ -72,8 +72,8 @@ fn limits_of_moves(rt: HostRuntime) -> Result<(), Fail> {
             "error 7 TooFar\npos 0\n",
         ),
         (
-            "step 4294967295\nback 4294967294\nback 0\nstep 0\nback 2\nback 1\n",
-            "pos 4294967295\npos 1\npos 1\npos 1\nerror 7 TooFar\npos 0\n",
+            "step 1099511627775\nback 1099511627774\nback 0\nstep 0\nback 2\nback 1\n",
+            "pos 1099511627775\npos 1\npos 1\npos 1\nerror 7 TooFar\npos 0\n",
         ),
         (
             "step\nback 1 2\nstep -1\nback 18446744073709551616\npos\n",

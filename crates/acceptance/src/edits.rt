@@ -6,8 +6,8 @@ use std::alloc::Global;
 use std::process::Abort;
 use std::test::Fail;
 
-// Holds the replies to a script, on a source and an empty log, to these.
-fn says(
+/// Holds the replies to a script, on a source and an empty log, to these.
+pub fn says(
     rt: &impl Abort,
     alloc: Global,
     source: &str,
@@ -79,10 +79,12 @@ fn patched_loop(rt: HostRuntime) -> Result<(), Fail> {
 fn last_writer_and_limits(rt: HostRuntime) -> Result<(), Fail> {
     let script =
         "goto 2\nwriter 0x40\nwriter 0x200\nwriter 0x1fc00000\ngoto 4294967295\nstep 1\ngoto 4294967296\npos\n\
-        goto 0\nback 1\nadd 4294967295 0 1\n";
+        goto 0\nback 1\nadd 4294967295 0 1\n\
+        goto 1099511627775\nstep 1\ngoto 1099511627776\npos\nadd 1099511627775 0 1\n";
     let want =
-        "pos 2\nwriter 1\nwriter never\nwriter image\npos 4294967295\nerror 7 TooFar\nerror 7 TooFar\n\
-        pos 4294967295\npos 0\nerror 7 TooFar\nerror 3 Range\n";
+        "pos 2\nwriter 1\nwriter never\nwriter image\npos 4294967295\npos 4294967296\npos 4294967296\n\
+        pos 4294967296\npos 0\nerror 7 TooFar\nevent 0\n\
+        pos 1099511627775\nerror 7 TooFar\nerror 7 TooFar\npos 1099511627775\nerror 3 Range\n";
     says(
         &rt,
         rt.alloc(),
@@ -210,12 +212,12 @@ fn refusals_in_their_order(rt: HostRuntime) -> Result<(), Fail> {
         ("visit 0xbfc00002 0\n", "error 3 Range\n"),
         ("visit 0 1048577\n", "error 3 Range\n"),
         (
-            "goto 4294967295\nvisit 2 1\n",
-            "pos 4294967295\nerror 5 Unaligned\n",
+            "goto 1099511627775\nvisit 2 1\n",
+            "pos 1099511627775\nerror 5 Unaligned\n",
         ),
         (
-            "goto 4294967295\nvisit 0 1\n",
-            "pos 4294967295\nerror 7 TooFar\n",
+            "goto 1099511627775\nvisit 0 1\n",
+            "pos 1099511627775\nerror 7 TooFar\n",
         ),
         ("find 4 0\n", "error 3 Range\n"),
         ("find 3 18446744073709551615\n", "error 8 NotFound\n"),
@@ -224,14 +226,14 @@ fn refusals_in_their_order(rt: HostRuntime) -> Result<(), Fail> {
         ("patch 0x10000 0\n", "error 6 NotMemory\n"),
         ("add 0 4 0\n", "error 3 Range\n"),
         (
-            "add 4294967294 3 255\nlog 0 1\n",
-            "event 0\nlog 1\n0 4294967294 3 0xff\n",
+            "add 1099511627774 3 255\nlog 0 1\n",
+            "event 0\nlog 1\n0 1099511627774 3 0xff\n",
         ),
         ("del 18446744073709551615\n", "error 4 NoEvent\n"),
         ("set 0 256\n", "error 3 Range\n"),
         ("set 0 255\n", "error 4 NoEvent\n"),
-        ("move 0 4294967295\n", "error 3 Range\n"),
-        ("move 0 4294967294\n", "error 4 NoEvent\n"),
+        ("move 0 1099511627775\n", "error 3 Range\n"),
+        ("move 0 1099511627774\n", "error 4 NoEvent\n"),
     ];
     for (script, want) in &cases {
         says(&rt, rt.alloc(), "", *script, *want)?;

@@ -3,6 +3,42 @@
 use crate::commands::holds;
 use std::test::Fail;
 
+const BUTTON: &[u8; 1392] = b"\
+    # A button at external line 0. Its interrupt notes in which turn of the main loop it was pressed, waits for its release, and counts it.\n\
+    #\n\
+    # 0x1000  the presses, the turns of the main loop at the last one, and the board's CSR at its release: three words\n\
+    #\n\
+    # r20 and r21 have the board's CSR and 0x1000 in kseg1, r16 counts turns and r17 presses. r8, r9 and r26 are the handler's.\n\
+    \x20       lui r20, 0xbff0\n\
+    \x20       lui r21, 0xa000\n\
+    \x20       ori r21, r21, 0x1000\n\
+    \x20       lui r8, 0x0001\n\
+    \x20       sw r8, 0(r20)                   # external line 0 may interrupt, lines 1 and 2 may not\n\
+    \x20       lui r8, 0x0040\n\
+    \x20       ori r8, r8, 0x0401\n\
+    \x20       mtc0 r8, c12                    # Status: BEV, the board's interrupt line, IEc\n\
+    loop:\n\
+    \x20       addiu r16, r16, 1\n\
+    \x20       j loop\n\
+    \x20       sll r0, r0, 0                   # in the jump's delay slot\n\
+    \n\
+    # The general vector, with BEV 1. The line asks for an interrupt as long as it is up.\n\
+    \x20       .org 0x1fc00180\n\
+    \x20       sw r16, 4(r21)\n\
+    wait:\n\
+    \x20       lw r8, 0(r20)                   # bits 2 to 0 are the levels\n\
+    \x20       sll r0, r0, 0                   # in the load's delay slot\n\
+    \x20       andi r9, r8, 1\n\
+    \x20       bne r9, r0, wait\n\
+    \x20       sll r0, r0, 0\n\
+    \x20       addiu r17, r17, 1\n\
+    \x20       sw r17, 0(r21)\n\
+    \x20       sw r8, 8(r21)\n\
+    \x20       mfc0 r26, c14                   # EPC\n\
+    \x20       sll r0, r0, 0\n\
+    \x20       jr r26\n\
+    \x20       rfe                             # in the jump's delay slot\n";
+
 const DRIVER: &[u8; 4014] = b"\
     # A driver by interrupts: what arrives at a serial line is sent back on the same line, from a ring of 16 bytes in RAM, and each\n\
     # update of the clock is noted. The main loop counts its turns.\n\
@@ -241,7 +277,7 @@ const LOAD_SLOT: &[u8; 529] = b"\
     \x20       addu r3, r2, r0                 # reads r2 in the load's delay slot: r3 becomes 0\n\
     \x20       addu r4, r2, r0                 # the value has landed: r4 becomes 5\n";
 
-const RANDOM_1: &[u8; 3912] = b"\
+const RANDOM_1: &[u8; 4072] = b"\
     \x52\x33\x4b\x49\x4d\x47\x31\x0a\x01\x00\x00\x00\x01\x00\x00\x00\
     \x00\x00\x00\x00\x00\x00\x01\x01\x01\x00\x20\x06\x09\x00\x00\x00\
     \x00\x00\x00\x00\x07\x00\x00\x00\x00\x00\x1a\x3c\x00\x22\x5a\x37\
@@ -351,7 +387,7 @@ const RANDOM_1: &[u8; 3912] = b"\
     \x74\x00\x5a\x33\x10\x00\x5a\x3b\x03\x00\x40\x13\x00\x00\x00\x00\
     \x08\x00\x60\x03\x10\x00\x00\x42\x00\x08\x1a\x40\xc0\xbf\x1b\x3c\
     \x02\xd1\x1a\x00\x00\x10\x7b\x37\x21\xd8\x5b\x03\x08\x00\x60\x03\
-    \x00\x60\x99\x40\x00\x02\xc0\x1f\xd7\x00\x00\x00\xe0\xbf\x01\x3c\
+    \x00\x60\x99\x40\x00\x02\xc0\x1f\xff\x00\x00\x00\xe0\xbf\x01\x3c\
     \x00\x00\x21\x34\x00\x00\x02\x3c\x00\x10\x42\x34\x08\x00\x22\xac\
     \xe0\xbf\x01\x3c\x00\x00\x21\x34\x00\x00\x02\x3c\x01\x10\x42\x34\
     \x08\x00\x22\xac\xe0\xbf\x01\x3c\x00\x00\x21\x34\x00\x00\x02\x3c\
@@ -369,51 +405,61 @@ const RANDOM_1: &[u8; 3912] = b"\
     \x00\x00\x02\x3c\x3b\x00\x42\x34\x04\x00\x22\xac\xe8\xbf\x01\x3c\
     \x00\x00\x21\x34\x00\x00\x02\x3c\x58\x00\x42\x34\x0c\x00\x22\xac\
     \xe8\xbf\x01\x3c\x00\x00\x21\x34\x00\x00\x02\x3c\x23\x00\x42\x34\
-    \x14\x00\x22\xac\xf0\xbf\x01\x3c\x00\x00\x21\x34\x00\x00\x02\x3c\
-    \x00\x00\x42\x34\x00\x00\x22\xac\xff\xff\x01\x3c\x00\xf0\x21\x34\
-    \x00\x50\x81\x40\xe0\x1f\x01\x3c\x00\x07\x21\x34\x00\x10\x81\x40\
-    \x00\x00\x01\x3c\x00\x0b\x21\x34\x00\x00\x81\x40\x02\x00\x00\x42\
-    \xff\x7f\x01\x3c\x00\xf0\x21\x34\x00\x50\x81\x40\x00\x10\x01\x3c\
-    \x00\x05\x21\x34\x00\x10\x81\x40\x00\x00\x01\x3c\x00\x22\x21\x34\
-    \x00\x00\x81\x40\x02\x00\x00\x42\x00\x00\x01\x3c\x40\x00\x21\x34\
-    \x00\x50\x81\x40\xc0\x1f\x01\x3c\x00\x17\x21\x34\x00\x10\x81\x40\
-    \x00\x00\x01\x3c\x00\x09\x21\x34\x00\x00\x81\x40\x02\x00\x00\x42\
-    \x40\x00\x01\x3c\x40\x00\x21\x34\x00\x50\x81\x40\x00\x00\x01\x3c\
-    \x00\x17\x21\x34\x00\x10\x81\x40\x00\x00\x01\x3c\x00\x0d\x21\x34\
+    \x14\x00\x22\xac\xf0\xbf\x01\x3c\x00\x00\x21\x34\x05\x00\x02\x3c\
+    \x00\x00\x42\x34\x00\x00\x22\xac\xff\x7f\x01\x3c\x00\xf0\x21\x34\
+    \x00\x50\x81\x40\x00\x00\x01\x3c\x00\x13\x21\x34\x00\x10\x81\x40\
+    \x00\x00\x01\x3c\x00\x27\x21\x34\x00\x00\x81\x40\x02\x00\x00\x42\
+    \x00\x00\x01\x3c\x40\x00\x21\x34\x00\x50\x81\x40\xe8\x1f\x01\x3c\
+    \x00\x06\x21\x34\x00\x10\x81\x40\x00\x00\x01\x3c\x00\x04\x21\x34\
     \x00\x00\x81\x40\x02\x00\x00\x42\x00\x00\x01\x3c\x00\x10\x21\x34\
-    \x00\x50\x81\x40\xc0\x1f\x01\x3c\x00\x1f\x21\x34\x00\x10\x81\x40\
-    \x00\x00\x01\x3c\x00\x2f\x21\x34\x00\x00\x81\x40\x02\x00\x00\x42\
-    \x00\x00\x01\x3c\x00\x10\x21\x34\x00\x50\x81\x40\x00\x00\x01\x3c\
-    \x00\x23\x21\x34\x00\x10\x81\x40\x00\x00\x01\x3c\x00\x27\x21\x34\
-    \x00\x00\x81\x40\x02\x00\x00\x42\x00\x00\x01\x3c\x80\x10\x21\x34\
-    \x00\x50\x81\x40\xc0\x1f\x01\x3c\x00\x16\x21\x34\x00\x10\x81\x40\
-    \x00\x00\x01\x3c\x00\x30\x21\x34\x00\x00\x81\x40\x02\x00\x00\x42\
-    \x00\x00\x01\x3c\x00\x00\x21\x34\x00\x50\x81\x40\xff\xff\x01\x3c\
-    \xff\xff\x21\x34\xff\xff\x02\x3c\xff\xff\x42\x34\x95\x09\x03\x3c\
-    \xb4\x45\x63\x34\xff\xff\x04\x3c\xff\xff\x84\x34\xff\xff\x05\x3c\
-    \xff\xff\xa5\x34\x02\xf9\x06\x3c\x5a\x15\xc6\x34\xcc\x90\x07\x3c\
-    \xa0\xb6\xe7\x34\x00\x80\x08\x3c\x00\x00\x08\x35\x00\x00\x09\x3c\
-    \x00\x00\x29\x35\x4b\xa6\x0a\x3c\xc2\x31\x4a\x35\x00\x00\x0b\x3c\
-    \x01\x00\x6b\x35\xff\xff\x0c\x3c\xff\xff\x8c\x35\xff\xff\x0d\x3c\
-    \xff\xff\xad\x35\x00\x00\x0e\x3c\x00\x00\xce\x35\x00\x00\x0f\x3c\
-    \x01\x00\xef\x35\x00\x80\x10\x3c\x04\x20\x10\x36\xc0\xbf\x11\x3c\
-    \x1c\x10\x31\x36\x00\x80\x12\x3c\x0c\x20\x52\x36\x40\x00\x13\x3c\
-    \x18\x00\x73\x36\x00\x80\x14\x3c\x25\x20\x94\x36\x00\xb0\x15\x3c\
-    \x00\x00\xb5\x36\x00\xa0\x16\x3c\x0c\x20\xd6\x36\x00\x80\x17\x3c\
-    \x18\x20\xf7\x36\x00\xa0\x18\x3c\x08\x20\x18\x37\x6b\x8b\x19\x3c\
-    \x0d\xbb\x39\x37\x00\x80\x1a\x3c\x00\x00\x5a\x37\x00\x80\x1b\x3c\
-    \x00\x00\x7b\x37\x00\x00\x1c\x3c\x80\x03\x9c\x37\x00\xa0\x1d\x3c\
-    \xe4\x13\xbd\x37\xff\xff\x1e\x3c\xac\xf4\xde\x37\x00\x80\x1f\x3c\
-    \x00\x00\xff\x37\x11\x00\x60\x00\x13\x00\x80\x00\x00\x60\x99\x40\
-    \x08\x00\xc0\x03\x10\x00\x00\x42\x00\x10\xc0\x1f\x42\x01\x00\x00\
-    \x26\x08\x86\x01\x23\x9e\xa0\x34\x18\x00\x2e\x00\x07\x00\xe0\x03\
-    \x29\x8e\x1d\x10\x05\x00\x28\xaa\x12\x40\x10\x00\x19\x00\xaa\x00\
-    \x13\x04\xf0\x0f\x0a\x00\xc6\x82\x08\x00\x00\x42\x20\x70\xfb\x03\
-    \x28\x00\xc0\x92\x18\x00\xca\xae\x2b\x40\xc3\x01\xff\xff\x28\x8e\
-    \x18\x00\x80\x01\x0c\x00\x40\x18\x1b\x00\x34\x01\x18\x00\x8f\x96\
-    \x33\x00\xc7\xa2\xc2\x0a\x1f\x00\x11\x00\x20\x01\x24\x30\x09\x00\
-    \x03\x00\x50\x04\x13\x00\xc0\x00\x1a\x00\xd5\x00\xff\xff\x41\x82\
-    \x81\x00\x91\x04\x1b\x00\x26\x00\x30\x00\xa5\xaa\x27\x04\xf0\x0b\
+    \x00\x50\x81\x40\x00\x00\x01\x3c\x00\x17\x21\x34\x00\x10\x81\x40\
+    \x00\x00\x01\x3c\x00\x00\x21\x34\x00\x00\x81\x40\x02\x00\x00\x42\
+    \x00\x00\x01\x3c\x80\x10\x21\x34\x00\x50\x81\x40\x00\x00\x01\x3c\
+    \x00\x1b\x21\x34\x00\x10\x81\x40\x00\x00\x01\x3c\x00\x21\x21\x34\
+    \x00\x00\x81\x40\x02\x00\x00\x42\x00\x00\x01\x3c\x00\x00\x21\x34\
+    \x00\x50\x81\x40\x00\x00\x01\x3c\x00\x22\x21\x34\x00\x10\x81\x40\
+    \x00\x00\x01\x3c\x00\x3d\x21\x34\x00\x00\x81\x40\x02\x00\x00\x42\
+    \x00\x00\x01\x3c\x40\x00\x21\x34\x00\x50\x81\x40\x00\x00\x01\x3c\
+    \x00\x22\x21\x34\x00\x10\x81\x40\x00\x00\x01\x3c\x00\x05\x21\x34\
+    \x00\x00\x81\x40\x02\x00\x00\x42\x40\x00\x01\x3c\x80\x00\x21\x34\
+    \x00\x50\x81\x40\xc0\x1f\x01\x3c\x00\x17\x21\x34\x00\x10\x81\x40\
+    \x00\x00\x01\x3c\x00\x3a\x21\x34\x00\x00\x81\x40\x02\x00\x00\x42\
+    \xff\x7f\x01\x3c\x00\xf0\x21\x34\x00\x50\x81\x40\x00\x00\x01\x3c\
+    \x00\x12\x21\x34\x00\x10\x81\x40\x00\x00\x01\x3c\x00\x34\x21\x34\
+    \x00\x00\x81\x40\x02\x00\x00\x42\x00\x00\x01\x3c\x00\x10\x21\x34\
+    \x00\x50\x81\x40\x00\x10\x01\x3c\x00\x05\x21\x34\x00\x10\x81\x40\
+    \x00\x00\x01\x3c\x00\x2b\x21\x34\x00\x00\x81\x40\x02\x00\x00\x42\
+    \x40\x00\x01\x3c\x00\x00\x21\x34\x00\x50\x81\x40\x00\x00\x01\x3c\
+    \x00\x12\x21\x34\x00\x10\x81\x40\x00\x00\x01\x3c\x00\x35\x21\x34\
+    \x00\x00\x81\x40\x02\x00\x00\x42\x00\x00\x01\x3c\x00\x10\x21\x34\
+    \x00\x50\x81\x40\xe0\x1f\x01\x3c\x00\x06\x21\x34\x00\x10\x81\x40\
+    \x00\x00\x01\x3c\x00\x06\x21\x34\x00\x00\x81\x40\x02\x00\x00\x42\
+    \x00\x00\x01\x3c\x00\x00\x21\x34\x00\x50\x81\x40\x00\x00\x01\x3c\
+    \x20\x00\x21\x34\xff\x7f\x02\x3c\xff\xff\x42\x34\x00\x00\x03\x3c\
+    \x00\x00\x63\x34\xf3\xbc\x04\x3c\x6d\x5b\x84\x34\x5b\x63\x05\x3c\
+    \x7e\x0b\xa5\x34\xf0\xf3\x06\x3c\xb1\xa4\xc6\x34\x00\x00\x07\x3c\
+    \x01\x00\xe7\x34\x03\xd8\x08\x3c\xff\x91\x08\x35\x05\x4f\x09\x3c\
+    \x37\xf0\x29\x35\xff\xff\x0a\x3c\xff\xff\x4a\x35\xff\xff\x0b\x3c\
+    \xff\xff\x6b\x35\x84\xfd\x0c\x3c\xf3\x5e\x8c\x35\x81\x07\x0d\x3c\
+    \x7a\x57\xad\x35\x00\x00\x0e\x3c\x2a\x00\xce\x35\x00\x00\x0f\x3c\
+    \x26\x00\xef\x35\x00\xa0\x10\x3c\x08\x20\x10\x36\x40\x00\x11\x3c\
+    \x34\x00\x31\x36\x00\x80\x12\x3c\x30\x20\x52\x36\x00\xa0\x13\x3c\
+    \x00\x20\x73\x36\x00\xa0\x14\x3c\x00\x20\x94\x36\xe0\x9f\x15\x3c\
+    \x00\x00\xb5\x36\x7f\x80\x16\x3c\xf4\xff\xd6\x36\xe0\x9f\x17\x3c\
+    \x00\x00\xf7\x36\xc0\xbf\x18\x3c\x34\x10\x18\x37\x44\x00\x19\x3c\
+    \x25\x6b\x39\x37\x00\x00\x1a\x3c\x01\x00\x5a\x37\x00\x80\x1b\x3c\
+    \x00\x00\x7b\x37\x00\x80\x1c\x3c\xa8\x14\x9c\x37\xff\x7f\x1d\x3c\
+    \x58\xf0\xbd\x37\x00\x80\x1e\x3c\xa0\x13\xde\x37\xff\xff\x1f\x3c\
+    \xff\xff\xff\x37\x11\x00\x60\x00\x13\x00\x80\x00\x00\x60\x99\x40\
+    \x08\x00\x80\x03\x10\x00\x00\x42\x00\x10\xc0\x1f\x42\x01\x00\x00\
+    \x27\x50\x47\x03\x1a\x00\x8d\xa2\x07\xa0\xc4\x03\x02\x00\x00\x42\
+    \xf6\xdd\xcf\x2c\x04\x10\xf4\x02\xe7\xcb\x0d\x3c\x58\x09\x45\x24\
+    \x1b\x00\x2a\x01\x05\x00\x40\x04\x94\x0d\x54\x24\x00\xf8\x82\x40\
+    \x2b\x68\x5e\x01\x2a\x18\x90\x00\x0c\xdd\x63\x34\x01\x00\x00\x42\
+    \x02\x00\x70\x04\x25\x20\x89\x00\x1a\x00\x01\x93\x1a\x00\x85\x01\
+    \x4d\x82\xc3\x01\x26\x28\x09\x01\x49\x62\x0f\x3c\x21\x04\xf0\x0f\
+    \x0a\x00\x40\x15\x18\x00\xa7\x00\x2b\x38\xae\x01\x1a\x04\xf0\x0b\
+    \x00\x00\x80\xac\x1f\x04\xf0\x0b\x19\x00\x2a\x00\x27\x04\xf0\x0b\
     \x21\x04\xf0\x0f\x69\x00\x80\xac\x02\x00\x90\x04\x27\x38\x7e\x02\
     \x1b\x00\xea\x01\x02\x00\x30\x06\x06\x00\x00\x42\x06\x50\xb2\x01\
     \x00\x68\x81\x40\x13\x00\xa0\x00\x00\x41\x13\x00\x08\x00\x87\x14\
@@ -488,10 +534,10 @@ const RANDOM_1: &[u8; 3912] = b"\
     \x09\x00\x4a\x15\x19\x91\xc3\x25\x00\x00\x00\xaa\x29\x00\x69\x8a\
     \xbf\xfe\x00\x10\x00\x00\x00\x00";
 
-const RANDOM_2: &[u8; 252] = b"\
+const RANDOM_2: &[u8; 288] = b"\
     \x52\x33\x4b\x49\x4d\x47\x31\x0a\xc8\x00\x00\x00\x01\x00\x00\x00\
     \x00\x00\x00\x00\x00\x00\x01\x01\x01\x00\x20\x06\x02\x00\x00\x00\
-    \x00\x00\xc0\x1f\x26\x00\x00\x00\xe0\xbf\x01\x3c\x00\x00\x21\x34\
+    \x00\x00\xc0\x1f\x28\x00\x00\x00\xe0\xbf\x01\x3c\x00\x00\x21\x34\
     \x00\x00\x02\x3c\x00\x10\x42\x34\x08\x00\x22\xac\xe0\xbf\x01\x3c\
     \x00\x00\x21\x34\x00\x00\x02\x3c\x01\x10\x42\x34\x08\x00\x22\xac\
     \xe0\xbf\x01\x3c\x00\x00\x21\x34\x00\x00\x02\x3c\x02\x10\x42\x34\
@@ -500,11 +546,13 @@ const RANDOM_2: &[u8; 252] = b"\
     \x00\x00\x02\x3c\x01\x00\x42\x34\x10\x00\x22\xac\xe0\xbf\x01\x3c\
     \x00\x00\x21\x34\x00\x00\x02\x3c\x20\x00\x42\x34\x00\x00\x22\xac\
     \xe0\xbf\x10\x3c\x00\x00\x10\x36\x00\xa0\x11\x3c\x00\x20\x31\x36\
-    \x00\x80\x12\x3c\x00\x30\x52\x36\x00\x04\xf0\x0b\x00\x00\x00\x00\
-    \x00\x10\xc0\x1f\x0d\x00\x00\x00\x08\x00\x06\x8e\x00\x00\x00\x00\
-    \x14\x00\x26\xae\x00\x3c\x06\x00\x06\x00\xe1\x04\x00\x00\x00\x00\
-    \x10\x00\x40\xae\x18\x00\x06\xae\x08\x00\x40\xae\x01\x00\x00\x10\
-    \x00\x00\x00\x00\xf4\xff\x00\x10\x00\x00\x00\x00";
+    \x00\x80\x12\x3c\x00\x30\x52\x36\xf0\xbf\x13\x3c\x00\x00\x73\x36\
+    \x00\x04\xf0\x0b\x00\x00\x00\x00\x00\x10\xc0\x1f\x14\x00\x00\x00\
+    \x08\x00\x06\x8e\x00\x00\x00\x00\x14\x00\x26\xae\x00\x3c\x06\x00\
+    \x05\x00\xe1\x04\x00\x00\x00\x00\x18\x00\x06\xae\x14\x00\x40\xae\
+    \x05\x00\x00\x10\x00\x00\x00\x00\x00\x00\x00\x00\x00\x00\x00\x00\
+    \x00\x00\x00\x00\x00\x00\x00\x00\x1a\x00\x0a\x24\xff\xff\x4a\x25\
+    \xfe\xff\x40\x1d\x00\x00\x00\x00\xed\xff\x00\x10\x00\x00\x00\x00";
 
 const USER_MODE: &[u8; 2195] = b"\
     # Boot code that starts a user program through translation entries: its pages are refilled as they are missed, and it makes a\n\
@@ -561,6 +609,95 @@ const USER_MODE: &[u8; 2195] = b"\
     \x20       lui r10, 0x0040\n\
     \x20       jr r10\n\
     \x20       rfe                             # in the jump's delay slot: user mode\n";
+
+/// The example `button`.
+#[test]
+fn button(rt: HostRuntime) -> Result<(), Fail> {
+    let alloc = rt.alloc();
+    holds(
+        &rt,
+        alloc,
+        "source",
+        BUTTON,
+        b"\
+        \x52\x33\x4b\x4c\x4f\x47\x32\x0a\x03\x00\x00\x00\x64\x00\x00\x00\
+        \x00\x00\x00\x00\x02\x00\x01\x6e\x00\x00\x00\x00\x00\x00\x00\x02\
+        \x02\x01\x78\x00\x00\x00\x00\x00\x00\x00\x02\x00\x00",
+        b"\
+        log 0 8\n\
+        # The button is pressed in step 100.\n\
+        goto 100\n\
+        cp0\n\
+        step 1\n\
+        cp0\n\
+        # It is released in step 120, and the handler sees it in step 122.\n\
+        goto 120\n\
+        cp0\n\
+        step 1\n\
+        cp0\n\
+        goto 128\n\
+        mem 0x1000 3\n\
+        step 2\n\
+        mem 0x1000 3\n\
+        writer 0x1000\n\
+        goto 137\n\
+        reg 16\n\
+        # Released in step 117 it would have been seen then.\n\
+        move 2 117\n\
+        goto 124\n\
+        writer 0x1000\n\
+        mem 0x1000 3\n\
+        # Without the other line.\n\
+        set 1 0\n\
+        goto 125\n\
+        mem 0x1008 1\n\
+        # A level is 0 or 1. Had the button never been pressed, the loop would have gone on.\n\
+        set 0 2\n\
+        set 0 0\n\
+        goto 129\n\
+        writer 0x1000\n\
+        reg 16\n",
+        b"\
+        log 3\n\
+        0 100 0 0x01 wire\n\
+        1 110 2 0x01 wire\n\
+        2 120 0 0x00 wire\n\
+        pos 100\n\
+        index 0x00000000 random 0x00001300 entrylo 0x00000000 context 0x00000000 badvaddr 0x00000000 entryhi 0x00000000 status 0x00400401 cause 0x00000000 epc 0x00000000 prid 0x00000220\n\
+        pos 101\n\
+        index 0x00000000 random 0x00001200 entrylo 0x00000000 context 0x00000000 badvaddr 0x00000000 entryhi 0x00000000 status 0x00400404 cause 0x80000400 epc 0xbfc00024 prid 0x00000220\n\
+        pos 120\n\
+        index 0x00000000 random 0x00003700 entrylo 0x00000000 context 0x00000000 badvaddr 0x00000000 entryhi 0x00000000 status 0x00400404 cause 0x80000400 epc 0xbfc00024 prid 0x00000220\n\
+        pos 121\n\
+        index 0x00000000 random 0x00003600 entrylo 0x00000000 context 0x00000000 badvaddr 0x00000000 entryhi 0x00000000 status 0x00400404 cause 0x80000000 epc 0xbfc00024 prid 0x00000220\n\
+        pos 128\n\
+        0x00001000 0x00000000\n\
+        0x00001004 0x0000001f\n\
+        0x00001008 0x00000000\n\
+        pos 130\n\
+        0x00001000 0x00000001\n\
+        0x00001004 0x0000001f\n\
+        0x00001008 0x00010004\n\
+        writer 128\n\
+        pos 137\n\
+        r16 0x00000020\n\
+        event 2\n\
+        pos 124\n\
+        writer 123\n\
+        0x00001000 0x00000001\n\
+        0x00001004 0x0000001f\n\
+        0x00001008 0x00000000\n\
+        event 1\n\
+        pos 125\n\
+        0x00001008 0x00010000\n\
+        error 3 Range\n\
+        event 0\n\
+        pos 129\n\
+        writer never\n\
+        r16 0x00000029\n",
+    )?;
+    Ok(())
+}
 
 /// The example `driver`.
 #[test]
@@ -970,14 +1107,14 @@ fn using(rt: HostRuntime) -> Result<(), Fail> {
         step 2\n\
         back 4\n\
         back 2\n\
-        goto 4294967295\n\
+        goto 1099511627775\n\
         step 1\n",
         b"\
         pos 3\n\
         pos 5\n\
         pos 1\n\
         error 7 TooFar\n\
-        pos 4294967295\n\
+        pos 1099511627775\n\
         error 7 TooFar\n",
     )?;
     holds(
@@ -1221,6 +1358,23 @@ fn using(rt: HostRuntime) -> Result<(), Fail> {
         &rt,
         alloc,
         "source",
+        BUTTON,
+        b"\
+        \x52\x33\x4b\x4c\x4f\x47\x32\x0a\x03\x00\x00\x00\x64\x00\x00\x00\
+        \x00\x00\x00\x00\x02\x00\x01\x6e\x00\x00\x00\x00\x00\x00\x00\x02\
+        \x02\x01\x78\x00\x00\x00\x00\x00\x00\x00\x02\x00\x00",
+        b"\
+        log 0 32\n",
+        b"\
+        log 3\n\
+        0 100 0 0x01 wire\n\
+        1 110 2 0x01 wire\n\
+        2 120 0 0x00 wire\n",
+    )?;
+    holds(
+        &rt,
+        alloc,
+        "source",
         ECHO,
         b"",
         b"\
@@ -1231,7 +1385,7 @@ fn using(rt: HostRuntime) -> Result<(), Fail> {
         console 0 0 8\n\
         add 200 0 0x42\n\
         console 0 0 8\n\
-        add 4294967295 0 1\n",
+        add 1099511627775 0 1\n",
         b"\
         pos 256\n\
         writer never\n\
@@ -1241,6 +1395,61 @@ fn using(rt: HostRuntime) -> Result<(), Fail> {
         event 1\n\
         console 0 2 4142\n\
         error 3 Range\n",
+    )?;
+    holds(
+        &rt,
+        alloc,
+        "source",
+        ECHO,
+        b"",
+        b"\
+        goto 256\n\
+        ferr 70 0 0x41\n\
+        log 0 1\n\
+        writer 0x104\n\
+        console 0 0 8\n\
+        goto 78\n\
+        mem 0x100 1\n\
+        ferr 70 4 0x41\n",
+        b"\
+        pos 256\n\
+        event 0\n\
+        log 1\n\
+        0 70 0 0x41 framing\n\
+        writer 81\n\
+        console 0 1 41\n\
+        pos 78\n\
+        0x00000100 0x0000a041\n\
+        error 3 Range\n",
+    )?;
+    holds(
+        &rt,
+        alloc,
+        "source",
+        BUTTON,
+        b"",
+        b"\
+        wire 10 0 1\n\
+        wire 20 0 0\n\
+        log 0 2\n\
+        goto 11\n\
+        cp0\n\
+        set 0 2\n\
+        wire 5 3 1\n\
+        set 0 0\n\
+        cp0\n",
+        b"\
+        event 0\n\
+        event 1\n\
+        log 2\n\
+        0 10 0 0x01 wire\n\
+        1 20 0 0x00 wire\n\
+        pos 11\n\
+        index 0x00000000 random 0x00003400 entrylo 0x00000000 context 0x00000000 badvaddr 0x00000000 entryhi 0x00000000 status 0x00400404 cause 0x80000400 epc 0xbfc00024 prid 0x00000220\n\
+        error 3 Range\n\
+        error 3 Range\n\
+        event 0\n\
+        index 0x00000000 random 0x00003400 entrylo 0x00000000 context 0x00000000 badvaddr 0x00000000 entryhi 0x00000000 status 0x00400401 cause 0x00000000 epc 0x00000000 prid 0x00000220\n",
     )?;
     holds(
         &rt,
@@ -1268,6 +1477,44 @@ fn using(rt: HostRuntime) -> Result<(), Fail> {
         alloc,
         "source",
         ECHO,
+        b"",
+        b"\
+        goto 256\n\
+        writer 0x104\n\
+        add 70 0 0x41\n\
+        add 130 0 0x43\n\
+        add 200 0 0x42\n\
+        writer 0x104\n\
+        console 0 0 8\n\
+        erase 131 70\n\
+        erase 70 131\n\
+        log 0 8\n\
+        writer 0x104\n\
+        console 0 0 8\n\
+        find 0 0\n\
+        erase 0 0\n",
+        b"\
+        pos 256\n\
+        writer never\n\
+        event 0\n\
+        event 1\n\
+        event 2\n\
+        writer 213\n\
+        console 0 3 414342\n\
+        error 3 Range\n\
+        log 1\n\
+        log 1\n\
+        0 200 0 0x42\n\
+        writer 213\n\
+        console 0 1 42\n\
+        find 215\n\
+        log 1\n",
+    )?;
+    holds(
+        &rt,
+        alloc,
+        "source",
+        ECHO,
         b"\
         \x52\x33\x4b\x4c\x4f\x47\x31\x0a\x02\x00\x00\x00\x46\x00\x00\x00\
         \x00\x41\xc8\x00\x00\x00\x00\x42",
@@ -1277,14 +1524,20 @@ fn using(rt: HostRuntime) -> Result<(), Fail> {
         set 1 0x43\n\
         console 0 0 8\n\
         set 2 256\n\
-        set 2 255\n",
+        set 2 255\n\
+        wire 90 1 1\n\
+        set 1 2\n\
+        set 1 0\n",
         b"\
         pos 256\n\
         console 0 2 4142\n\
         event 1\n\
         console 0 2 4143\n\
         error 3 Range\n\
-        error 4 NoEvent\n",
+        error 4 NoEvent\n\
+        event 1\n\
+        error 3 Range\n\
+        event 1\n",
     )?;
     holds(
         &rt,
@@ -1298,7 +1551,7 @@ fn using(rt: HostRuntime) -> Result<(), Fail> {
         add 4 0 3\n\
         move 1 5\n\
         log 0 8\n\
-        move 0 4294967295\n\
+        move 0 1099511627775\n\
         move 3 5\n",
         b"\
         event 0\n\
@@ -1369,13 +1622,17 @@ fn random(rt: HostRuntime) -> Result<(), Fail> {
         "image",
         RANDOM_1,
         b"\
-        \x52\x33\x4b\x4c\x4f\x47\x31\x0a\x10\x00\x00\x00\x95\x00\x00\x00\
-        \x00\x75\xeb\x00\x00\x00\x00\xbb\x18\x01\x00\x00\x02\x98\x2d\x01\
-        \x00\x00\x03\xfe\x0b\x03\x00\x00\x01\x39\x1d\x04\x00\x00\x02\xbe\
-        \x5f\x05\x00\x00\x03\x71\x15\x07\x00\x00\x03\x09\x5b\x07\x00\x00\
-        \x03\x70\xeb\x07\x00\x00\x00\x62\x3d\x08\x00\x00\x02\x92\x57\x08\
-        \x00\x00\x03\xe5\x60\x08\x00\x00\x03\x8a\xd7\x08\x00\x00\x00\xe8\
-        \x09\x09\x00\x00\x02\xbb\x9e\x0a\x00\x00\x03\x04",
+        \x52\x33\x4b\x4c\x4f\x47\x31\x0a\x1a\x00\x00\x00\x80\x00\x00\x00\
+        \x01\x0a\xad\x01\x00\x00\x01\x5a\xf1\x01\x00\x00\x02\xdd\x2e\x02\
+        \x00\x00\x01\x24\x2f\x02\x00\x00\x02\xf6\x72\x02\x00\x00\x03\xe9\
+        \x55\x03\x00\x00\x03\x67\x5b\x03\x00\x00\x01\xa2\xf5\x03\x00\x00\
+        \x02\x3b\xb1\x04\x00\x00\x02\xb8\xfc\x04\x00\x00\x01\xa7\x8a\x05\
+        \x00\x00\x03\x6d\x9e\x05\x00\x00\x03\xa2\xc2\x05\x00\x00\x01\x6c\
+        \x38\x06\x00\x00\x03\xe0\xe8\x06\x00\x00\x03\x13\x38\x07\x00\x00\
+        \x01\x83\x05\x08\x00\x00\x01\x55\x1e\x08\x00\x00\x01\x16\x31\x08\
+        \x00\x00\x00\xdf\x8e\x08\x00\x00\x01\x1b\xb2\x08\x00\x00\x01\xea\
+        \xfa\x08\x00\x00\x03\x10\x02\x09\x00\x00\x00\xc2\x0b\x0b\x00\x00\
+        \x03\x0b\x71\x0b\x00\x00\x03\x68",
         b"\
         goto 1525\n\
         step 9\n\
@@ -1450,163 +1707,189 @@ fn random(rt: HostRuntime) -> Result<(), Fail> {
         console 3 1 256\n\
         log 0 32\n\
         goto 2863\n\
-        add 1654 0 90\n\
-        writer 0x1fc01078\n\
-        log 0 32\n\
-        writer 0x1fc003cc\n\
-        console 1 15 256\n\
-        add 134 3 24\n\
-        writer 0x1fc00434\n\
-        pos\n\
-        writer 0x1fc01030\n\
-        writer 0x2020\n\
-        add 2167 0 178\n\
-        writer 0x1fc20000\n\
-        writer 0x24\n\
-        find 1 6\n\
-        find 2 35\n\
-        visit 0xbfc00184 1\n\
-        regs\n\
-        goto 2863\n\
-        set 1000000 256\n\
-        goto 1198\n\
-        patch 0x1fc0103c 0x35290000\n\
-        mem 0x202c 2\n\
-        find 0 0\n\
-        mem 0x2054 1\n\
-        writer 0x1fc003f8\n\
-        patch 0x1fc00454 0x0\n\
-        find 3 5\n\
-        console 1 10 256\n\
-        writer 0x1fc002fc\n\
-        regs\n\
-        add 363 1 81\n\
-        find 3 19\n\
-        mem 0x1fc002a0 2\n\
-        find 2 15\n\
-        console 1 0 256\n\
-        visit 0x46c 300\n\
-        regs\n\
-        goto 1198\n\
-        add 1 0 256\n\
-        goto 196601\n\
-        add 196616 2 45\n\
-        find 2 12\n\
-        cp0\n\
-        writer 0x1fc00394\n\
-        writer 0x1fc00528\n\
-        visit 0xbfc0125c 70000\n\
-        regs\n\
-        add 107944 2 158\n\
-        mem 0x100000 2\n\
-        writer 0x2000\n\
-        writer 0x2064\n\
-        mem 0x2002 2\n\
-        visit 0xbfc01258 70000\n\
-        regs\n\
-        goto 196602\n\
-        set 5 7\n\
-        console 2 38 256\n\
-        writer 0x2044\n\
-        writer 0x1fc00448\n\
-        writer 0x74\n\
-        visit 0xbfc01260 1\n\
-        regs\n\
-        goto 196602\n\
-        patch 0x100000000 0\n\
-        goto 46734\n\
-        add 20010 2 20\n\
-        find 1 54\n\
-        writer 0x1fc01064\n\
-        find 3 205\n\
-        writer 0x1fc00264\n\
-        del 13\n\
-        find 3 199\n\
-        writer 0x1fc00548\n\
-        writer 0x1fc004c0\n\
+        set 2 0\n\
         writer 0x2048\n\
-        visit 0xbfc01264 1\n\
-        regs\n\
-        goto 46734\n\
-        set 3 185\n\
+        writer 0x2048\n\
+        console 1 6 256\n\
+        writer 0x1fc00594\n\
+        set 5 31\n\
+        writer 0x2048\n\
+        writer 0x2048\n\
+        console 3 8 256\n\
+        mem 0x1fc01000 1\n\
+        move 7 4294967293\n\
+        writer 0x0\n\
         log 0 32\n\
-        find 3 68\n\
-        writer 0x50\n\
-        console 1 171 256\n\
-        patch 0x100000000 0\n\
-        goto 58021\n\
-        del 12\n\
-        writer 0x1fc002c8\n\
-        writer 0x1fc01004\n\
-        writer 0x7ffffc\n\
-        find 1 103\n\
-        add 20527 1 240\n\
-        console 3 95 256\n\
-        writer 0x2070\n\
-        find 3 58\n\
-        log 0 32\n\
-        visit 0xbfc01258 1\n\
-        regs\n\
-        goto 58021\n\
-        set 3 243\n\
-        regs\n\
-        writer 0x2020\n\
+        find 1 53\n\
+        writer 0x2048\n\
+        ferr 1 0 256\n\
+        goto 4294967293\n\
+        step 5\n\
         pos\n\
-        writer 0x1fc00200\n\
-        visit 0xbfc01258 1\n\
+        goto 4294967295\n\
+        step 3\n\
+        pos\n\
+        goto 2863\n\
+        goto 63793\n\
+        del 16\n\
+        writer 0x2048\n\
+        writer 0x1fc0107c\n\
+        writer 0x2048\n\
+        writer 0x2048\n\
+        visit 0xbfc001a0 20\n\
         regs\n\
-        goto 58021\n\
-        visit 0x2 1048576\n\
-        goto 196610\n\
-        patch 0x7ffffc 0x28b9e8e2\n\
-        mem 0x200c 3\n\
-        writer 0x48\n\
-        writer 0x205c\n\
-        find 2 189\n\
-        del 13\n\
+        goto 63793\n\
+        add 44704 1 10\n\
+        writer 0x469c\n\
+        writer 0x2048\n\
+        writer 0x2048\n\
+        console 1 400 256\n\
+        move 13 63810\n\
+        pos\n\
+        find 1 551\n\
+        writer 0x38c8\n\
+        writer 0x2aac\n\
+        visit 0x800052fc 70000\n\
+        regs\n\
+        goto 63793\n\
+        add 1 4 1\n\
+        goto 65555\n\
+        patch 0x4dd4 0x0\n\
+        find 2 439\n\
+        console 1 621 256\n\
+        writer 0x2028\n\
+        writer 0x2024\n\
+        visit 0xbfc001b4 300\n\
+        regs\n\
+        goto 65555\n\
+        del 0\n\
         cp0\n\
+        writer 0x2048\n\
+        find 1 941\n\
+        console 3 530 256\n\
+        visit 0xbfc001a0 70000\n\
+        regs\n\
+        patch 0x2048 0x3\n\
+        writer 0x2048\n\
+        writer 0x2048\n\
+        find 3 769\n\
+        writer 0x5070\n\
+        visit 0xbfc001b4 1\n\
+        regs\n\
+        wire 1099511627775 0 1\n\
+        goto 1099511627773\n\
+        back 4\n\
+        pos\n\
+        goto 4294967293\n\
+        back 2\n\
+        pos\n\
+        goto 65556\n\
+        goto 131059\n\
+        wire 4294967295 1 1\n\
+        mem 0x2048 2\n\
+        log 0 32\n\
+        mem 0x2048 2\n\
+        writer 0x2c\n\
+        visit 0xbfc00190 1\n\
+        regs\n\
+        goto 131059\n\
+        patch 0x2048 0x1\n\
+        writer 0x2048\n\
+        writer 0x2048\n\
+        find 2 75\n\
+        mem 0x2048 2\n\
+        patch 0x2078 0xfa615ffa\n\
+        writer 0x263c\n\
+        find 1 280\n\
+        find 1 2689\n\
+        writer 0x2048\n\
+        erase 1099511627776 1099511627776\n\
+        goto 1099511627774\n\
+        step 5\n\
+        pos\n\
+        goto 1099511627777\n\
+        step 4\n\
+        pos\n\
+        goto 131059\n\
+        goto 1517\n\
+        patch 0x1fc005a8 0x0\n\
+        cp0\n\
+        writer 0x1fc0037c\n\
+        writer 0x1fc00444\n\
+        writer 0x2048\n\
+        visit 0xbfc0018c 70000\n\
+        regs\n\
+        goto 1517\n\
+        set 5 1\n\
+        writer 0x2048\n\
+        writer 0x1fc20000\n\
+        writer 0x2048\n\
+        console 2 9 256\n\
+        erase 311 645\n\
+        writer 0x2048\n\
+        log 0 32\n\
+        writer 0x3000\n\
+        writer 0x2048\n\
+        visit 0xbfc001b8 300\n\
+        regs\n\
+        goto 1517\n\
+        wire 1 3 1\n\
+        goto 13240\n\
+        del 17\n\
+        writer 0x2048\n\
+        console 2 118 256\n\
+        cp0\n\
+        mem 0x2048 1\n\
+        visit 0xbfc0018c 1\n\
+        regs\n\
+        goto 13240\n\
+        del 11\n\
+        console 1 252 256\n\
+        writer 0x2048\n\
+        writer 0x2048\n\
+        writer 0x2048\n\
+        del 0\n\
+        mem 0x2054 2\n\
+        writer 0x2048\n\
+        writer 0x1fc004dc\n\
         writer 0x1fe00000\n\
-        writer 0x1fc01018\n\
-        writer 0x2060\n\
-        set 19 74\n\
-        cp0\n\
-        writer 0x2054\n\
-        writer 0x2074\n\
-        writer 0x78\n\
-        patch 0x101 0x100000000\n",
+        visit 0xbfc001ac 70000\n\
+        regs\n\
+        goto 13240\n\
+        add 1 4 1\n",
         b"\
         pos 1525\n\
         pos 1534\n\
         pos 1532\n\
-        pc 0xbfc00188 next 0xbfc0018c hi 0x00000000 lo 0x01002000 delay 0 load r27 0x00000000\n\
-        r0 0x00000000 0xffffffff 0xffffffff 0x01002000\n\
-        r4 0x00000000 0xffffffff 0x004caa2d 0x90ccb6a0\n\
-        r8 0x80000000 0x8000b0ef 0xa64b31c2 0x00000001\n\
-        r12 0x80000000 0x013e4000 0xffffbf0c 0xe0180000\n\
-        r16 0x80002004 0xbfc0101c 0x8000200c 0x00400018\n\
-        r20 0x80002025 0xb0000000 0xa000200c 0x80002018\n\
-        r24 0xa0002008 0x8b6bbb0d 0xbfe00000 0x000004b4\n\
-        r28 0x00000380 0xa00013e4 0xfffff4ac 0xbfc013e8\n\
-        r21 0xb0000000\n\
-        index 0x00003000 random 0x00002b00 entrylo 0x1fc01600 context 0x00000000 badvaddr 0x000004b4 entryhi 0x00000000 status 0x0063bb34 cause 0x00000008 epc 0x000004b4 prid 0x00000220\n\
+        pc 0xbfc00180 next 0xbfc00184 hi 0x00000000 lo 0xbcf35b6d delay 0 load none\n\
+        r0 0x00000000 0x00000020 0x7fffffff 0x00000000\n\
+        r4 0xbcf35b6d 0x635b0b00 0xf3f0a4b1 0xf3f04142\n\
+        r8 0xd80391ff 0x4f05f037 0xffffffff 0xffffffff\n\
+        r12 0xfd845ef3 0x48019037 0x0000002a 0x00000026\n\
+        r16 0xa0002008 0x00400034 0x80002030 0xa0002000\n\
+        r20 0xa0002000 0x9fe00000 0x807ffff4 0x9fe00000\n\
+        r24 0xbfc01034 0x00446b25 0x00000010 0x80001610\n\
+        r28 0x800014a8 0x7ffff058 0x800013a0 0xffffffff\n\
+        r21 0x9fe00000\n\
+        index 0x00000600 random 0x00002b00 entrylo 0x1fe00600 context 0x00000000 badvaddr 0x00000000 entryhi 0x00000000 status 0x00446b24 cause 0x00000300 epc 0x80001610 prid 0x00000220\n\
         tlb 12 0x00000000 0x00000000\n\
-        where 0x1fe00000 cached\n\
-        0x1fc01020 0x0ff00413\n\
-        0x1fc01024 0x82c6000a\n\
-        0x1fc01028 0x42000008\n\
-        0x1fc0102c 0x03fb7020\n\
-        0x1fc01030 0x92c00028\n\
-        0x1fc01034 0xaeca0018\n\
-        0x1fc01038 0x01c3402b\n\
-        0x1fc0103c 0x8e28ffff\n\
-        0x1fc01040 0x01800018\n\
-        0x1fc01044 0x1840000c\n\
-        0x1fc01048 0x0134001b\n\
-        0x1fc0104c 0x968f0018\n\
-        0x1fc01050 0xa2c70033\n\
-        0x1fc01054 0x001f0ac2\n\
-        0x1fc01058 0x01200011\n\
-        0x1fc0105c 0x00093024\n\
+        where tlbl\n\
+        0x1fc01020 0x012a001b\n\
+        0x1fc01024 0x04400005\n\
+        0x1fc01028 0x24540d94\n\
+        0x1fc0102c 0x4082f800\n\
+        0x1fc01030 0x015e682b\n\
+        0x1fc01034 0x0090182a\n\
+        0x1fc01038 0x3463dd0c\n\
+        0x1fc0103c 0x42000001\n\
+        0x1fc01040 0x04700002\n\
+        0x1fc01044 0x00892025\n\
+        0x1fc01048 0x9301001a\n\
+        0x1fc0104c 0x0185001a\n\
+        0x1fc01050 0x01c3824d\n\
+        0x1fc01054 0x01092826\n\
+        0x1fc01058 0x3c0f6249\n\
+        0x1fc0105c 0x0ff00421\n\
         0x00001020 0x017d6e4d break 390585\n\
         0x00001024 0x00e15020 add r10, r7, r1\n\
         0x00001028 0x346e04f7 ori r14, r3, 0x04f7\n\
@@ -1623,56 +1906,66 @@ fn random(rt: HostRuntime) -> Result<(), Fail> {
         0x00001054 0x0531fffd bgezal r9, 0x0000104c\n\
         0x00001058 0x1d00000c bgtz r8, 0x0000108c\n\
         0x0000105c 0x26ede21f addiu r13, r23, -7649\n\
-        console 2 27 00000000000000000000000000000000000000000000000000\n\
-        log 16\n\
-        0 149 0 0x75\n\
-        1 235 0 0xbb\n\
-        2 280 2 0x98\n\
-        3 301 3 0xfe\n\
-        4 779 1 0x39\n\
-        5 1053 2 0xbe\n\
-        6 1375 3 0x71\n\
-        7 1813 3 0x09\n\
-        8 1883 3 0x70\n\
-        9 2027 0 0x62\n\
-        10 2109 2 0x92\n\
-        11 2135 3 0xe5\n\
-        12 2144 3 0x8a\n\
-        13 2263 0 0xe8\n\
-        14 2313 2 0xbb\n\
-        15 2718 3 0x04\n\
+        console 2 26 005a0000240000000000670000000000000000000000006c\n\
+        log 26\n\
+        0 128 1 0x0a\n\
+        1 429 1 0x5a\n\
+        2 497 2 0xdd\n\
+        3 558 1 0x24\n\
+        4 559 2 0xf6\n\
+        5 626 3 0xe9\n\
+        6 853 3 0x67\n\
+        7 859 1 0xa2\n\
+        8 1013 2 0x3b\n\
+        9 1201 2 0xb8\n\
+        10 1276 1 0xa7\n\
+        11 1418 3 0x6d\n\
+        12 1438 3 0xa2\n\
+        13 1474 1 0x6c\n\
+        14 1592 3 0xe0\n\
+        15 1768 3 0x13\n\
+        16 1848 1 0x83\n\
+        17 2053 1 0x55\n\
+        18 2078 1 0x16\n\
+        19 2097 0 0xdf\n\
+        20 2190 1 0x1b\n\
+        21 2226 1 0xea\n\
+        22 2298 3 0x10\n\
+        23 2306 0 0xc2\n\
+        24 2827 3 0x0b\n\
+        25 2929 3 0x68\n\
         pos 2535\n\
         pos 2545\n\
         pos 2527\n\
-        pc 0xbfc00194 next 0xbfc00198 hi 0x00000000 lo 0x01002000 delay 0 load none\n\
-        r0 0x00000000 0xffffffff 0xffffffff 0x01002000\n\
-        r4 0x00000000 0xffffffff 0x004caa2d 0x90ccb6a0\n\
-        r8 0x80000000 0x8000b0ef 0xa64b31c2 0x00000001\n\
-        r12 0x80000000 0x013e4000 0xffffbf0c 0xe0180000\n\
-        r16 0x80002004 0xbfc0101c 0x8000200c 0x00400018\n\
-        r20 0x80002025 0xb0000000 0xa000200c 0x80002018\n\
-        r24 0xa0002008 0x8b6bbb0d 0xbfe80000 0x00000000\n\
-        r28 0x00000380 0xa00013e4 0xfffff4ac 0xbfc013e8\n\
-        r16 0x80002004\n\
-        index 0x00003000 random 0x00003800 entrylo 0x1fc01600 context 0x00000000 badvaddr 0x000005ac entryhi 0x00000000 status 0x0063bb34 cause 0x00000008 epc 0x000005ac prid 0x00000220\n\
+        pc 0xbfc0018c next 0xbfc00190 hi 0x00000000 lo 0xbcf35b6d delay 0 load none\n\
+        r0 0x00000000 0x00000020 0x7fffffff 0x00000000\n\
+        r4 0xbcf35b6d 0x635b0b00 0xf3f0a4b1 0xf3f04142\n\
+        r8 0xd80391ff 0x4f05f037 0xffffffff 0xffffffff\n\
+        r12 0xfd845ef3 0x48019037 0x0000002a 0x00000026\n\
+        r16 0xa0002008 0x00400034 0x80002030 0xa0002000\n\
+        r20 0xa0002000 0x9fe00000 0x807ffff4 0x9fe00000\n\
+        r24 0xbfc01034 0x00446b25 0xbfe00000 0x00000000\n\
+        r28 0x800014a8 0x7ffff058 0x800013a0 0xffffffff\n\
+        r16 0xa0002008\n\
+        index 0x00000600 random 0x00003800 entrylo 0x1fe00600 context 0x00000000 badvaddr 0x00000000 entryhi 0x00000000 status 0x00446b24 cause 0x00000300 epc 0x80001708 prid 0x00000220\n\
         tlb 44 0x00000000 0x00000000\n\
         where 0x00001003 cached\n\
-        0x1fc01028 0x42000008\n\
-        0x1fc0102c 0x03fb7020\n\
-        0x1fc01030 0x92c00028\n\
-        0x1fc01034 0xaeca0018\n\
-        0x1fc01038 0x01c3402b\n\
-        0x1fc0103c 0x8e28ffff\n\
-        0x1fc01040 0x01800018\n\
-        0x1fc01044 0x1840000c\n\
-        0x1fc01048 0x0134001b\n\
-        0x1fc0104c 0x968f0018\n\
-        0x1fc01050 0xa2c70033\n\
-        0x1fc01054 0x001f0ac2\n\
-        0x1fc01058 0x01200011\n\
-        0x1fc0105c 0x00093024\n\
-        0x1fc01060 0x04500003\n\
-        0x1fc01064 0x00c00013\n\
+        0x1fc01028 0x24540d94\n\
+        0x1fc0102c 0x4082f800\n\
+        0x1fc01030 0x015e682b\n\
+        0x1fc01034 0x0090182a\n\
+        0x1fc01038 0x3463dd0c\n\
+        0x1fc0103c 0x42000001\n\
+        0x1fc01040 0x04700002\n\
+        0x1fc01044 0x00892025\n\
+        0x1fc01048 0x9301001a\n\
+        0x1fc0104c 0x0185001a\n\
+        0x1fc01050 0x01c3824d\n\
+        0x1fc01054 0x01092826\n\
+        0x1fc01058 0x3c0f6249\n\
+        0x1fc0105c 0x0ff00421\n\
+        0x1fc01060 0x1540000a\n\
+        0x1fc01064 0x00a70018\n\
         0x0000003c 0x00000000 sll r0, r0, 0\n\
         0x00000040 0x00000000 sll r0, r0, 0\n\
         0x00000044 0x00000000 sll r0, r0, 0\n\
@@ -1690,37 +1983,47 @@ fn random(rt: HostRuntime) -> Result<(), Fail> {
         0x00000074 0x00000000 sll r0, r0, 0\n\
         0x00000078 0x00000000 sll r0, r0, 0\n\
         console 0 0 none\n\
-        log 16\n\
-        0 149 0 0x75\n\
-        1 235 0 0xbb\n\
-        2 280 2 0x98\n\
-        3 301 3 0xfe\n\
-        4 779 1 0x39\n\
-        5 1053 2 0xbe\n\
-        6 1375 3 0x71\n\
-        7 1813 3 0x09\n\
-        8 1883 3 0x70\n\
-        9 2027 0 0x62\n\
-        10 2109 2 0x92\n\
-        11 2135 3 0xe5\n\
-        12 2144 3 0x8a\n\
-        13 2263 0 0xe8\n\
-        14 2313 2 0xbb\n\
-        15 2718 3 0x04\n\
+        log 26\n\
+        0 128 1 0x0a\n\
+        1 429 1 0x5a\n\
+        2 497 2 0xdd\n\
+        3 558 1 0x24\n\
+        4 559 2 0xf6\n\
+        5 626 3 0xe9\n\
+        6 853 3 0x67\n\
+        7 859 1 0xa2\n\
+        8 1013 2 0x3b\n\
+        9 1201 2 0xb8\n\
+        10 1276 1 0xa7\n\
+        11 1418 3 0x6d\n\
+        12 1438 3 0xa2\n\
+        13 1474 1 0x6c\n\
+        14 1592 3 0xe0\n\
+        15 1768 3 0x13\n\
+        16 1848 1 0x83\n\
+        17 2053 1 0x55\n\
+        18 2078 1 0x16\n\
+        19 2097 0 0xdf\n\
+        20 2190 1 0x1b\n\
+        21 2226 1 0xea\n\
+        22 2298 3 0x10\n\
+        23 2306 0 0xc2\n\
+        24 2827 3 0x0b\n\
+        25 2929 3 0x68\n\
         pos 3413\n\
         pos 3425\n\
         pos 3420\n\
-        pc 0xbfc00188 next 0xbfc0018c hi 0x00000000 lo 0x01002000 delay 0 load r27 0x00000000\n\
-        r0 0x00000000 0xffffffff 0xffffffff 0x01002000\n\
-        r4 0x00000000 0xffffffff 0x004caa2d 0x90ccb6a0\n\
-        r8 0x80000000 0x8000b0ef 0xa64b31c2 0x00000001\n\
-        r12 0x80000000 0x013e4000 0xffffbf0c 0xe0180000\n\
-        r16 0x80002004 0xbfc0101c 0x8000200c 0x00400018\n\
-        r20 0x80002025 0xb0000000 0xa000200c 0x80002018\n\
-        r24 0xa0002008 0x8b6bbb0d 0xbfe00000 0x0000068c\n\
-        r28 0x00000380 0xa00013e4 0xfffff4ac 0xbfc013e8\n\
-        r12 0x80000000\n\
-        index 0x00003000 random 0x00003b00 entrylo 0x1fc01600 context 0x00000000 badvaddr 0x0000068c entryhi 0x00000000 status 0x0063bb34 cause 0x00000008 epc 0x0000068c prid 0x00000220\n\
+        pc 0xbfc00180 next 0xbfc00184 hi 0x00000000 lo 0xbcf35b6d delay 0 load none\n\
+        r0 0x00000000 0x00000020 0x7fffffff 0x00000000\n\
+        r4 0xbcf35b6d 0x635b0b00 0xf3f0a4b1 0xf3f04142\n\
+        r8 0xd80391ff 0x4f05f037 0xffffffff 0xffffffff\n\
+        r12 0xfd845ef3 0x48019037 0x0000002a 0x00000026\n\
+        r16 0xa0002008 0x00400034 0x80002030 0xa0002000\n\
+        r20 0xa0002000 0x9fe00000 0x807ffff4 0x9fe00000\n\
+        r24 0xbfc01034 0x00446b25 0x00000010 0x800017e8\n\
+        r28 0x800014a8 0x7ffff058 0x800013a0 0xffffffff\n\
+        r12 0xfd845ef3\n\
+        index 0x00000600 random 0x00003b00 entrylo 0x1fe00600 context 0x00000000 badvaddr 0x00000000 entryhi 0x00000000 status 0x00446b24 cause 0x00000300 epc 0x800017e8 prid 0x00000220\n\
         tlb 19 0x00000000 0x00000000\n\
         where tlbl\n\
         0x00000028 0x00000000\n\
@@ -1755,38 +2058,48 @@ fn random(rt: HostRuntime) -> Result<(), Fail> {
         0x0000106c 0x00594823 subu r9, r2, r25\n\
         0x00001070 0x02126823 subu r13, r16, r18\n\
         0x00001074 0x001d2903 sra r5, r29, 4\n\
-        console 2 66 bbfe00000000000000000000000000000000000000000000000000000000000000000000000000e50000000000000000000000000000000000000000000000000000\n\
-        log 16\n\
-        0 149 0 0x75\n\
-        1 235 0 0xbb\n\
-        2 280 2 0x98\n\
-        3 301 3 0xfe\n\
-        4 779 1 0x39\n\
-        5 1053 2 0xbe\n\
-        6 1375 3 0x71\n\
-        7 1813 3 0x09\n\
-        8 1883 3 0x70\n\
-        9 2027 0 0x62\n\
-        10 2109 2 0x92\n\
-        11 2135 3 0xe5\n\
-        12 2144 3 0x8a\n\
-        13 2263 0 0xe8\n\
-        14 2313 2 0xbb\n\
-        15 2718 3 0x04\n\
+        console 2 66 0000005a0000240000000000670000000000000000000000006c000000000013000000000055df001b0010000000000000000000000b000000000000000000000000\n\
+        log 26\n\
+        0 128 1 0x0a\n\
+        1 429 1 0x5a\n\
+        2 497 2 0xdd\n\
+        3 558 1 0x24\n\
+        4 559 2 0xf6\n\
+        5 626 3 0xe9\n\
+        6 853 3 0x67\n\
+        7 859 1 0xa2\n\
+        8 1013 2 0x3b\n\
+        9 1201 2 0xb8\n\
+        10 1276 1 0xa7\n\
+        11 1418 3 0x6d\n\
+        12 1438 3 0xa2\n\
+        13 1474 1 0x6c\n\
+        14 1592 3 0xe0\n\
+        15 1768 3 0x13\n\
+        16 1848 1 0x83\n\
+        17 2053 1 0x55\n\
+        18 2078 1 0x16\n\
+        19 2097 0 0xdf\n\
+        20 2190 1 0x1b\n\
+        21 2226 1 0xea\n\
+        22 2298 3 0x10\n\
+        23 2306 0 0xc2\n\
+        24 2827 3 0x0b\n\
+        25 2929 3 0x68\n\
         pos 1387\n\
         pos 1387\n\
         pos 1378\n\
-        pc 0xbfc001a0 next 0xbfc001a4 hi 0x00000000 lo 0x01002000 delay 0 load r26 0x00000008\n\
-        r0 0x00000000 0xffffffff 0xffffffff 0x01002000\n\
-        r4 0x00000000 0xffffffff 0x004caa2d 0x90ccb6a0\n\
-        r8 0x80000000 0x8000b0ef 0xa64b31c2 0x00000001\n\
-        r12 0x80000000 0x013e4000 0xffffbf0c 0xe0180000\n\
-        r16 0x80002004 0xbfc0101c 0x8000200c 0x00400018\n\
-        r20 0x80002025 0xb0000000 0xa000200c 0x80002018\n\
-        r24 0xa0002008 0x8b6bbb0d 0xbfe80000 0x0000048c\n\
-        r28 0x00000380 0xa00013e4 0xfffff4ac 0xbfc013e8\n\
-        r28 0x00000380\n\
-        index 0x00003000 random 0x00001d00 entrylo 0x1fc01600 context 0x00000000 badvaddr 0x0000048c entryhi 0x00000000 status 0x0063bb34 cause 0x00000008 epc 0x0000048c prid 0x00000220\n\
+        pc 0xbfc00198 next 0xbfc0019c hi 0x00000000 lo 0xbcf35b6d delay 0 load r27 0x00000000\n\
+        r0 0x00000000 0x00000020 0x7fffffff 0x00000000\n\
+        r4 0xbcf35b6d 0x635b0b00 0xf3f0a4b1 0xf3f04142\n\
+        r8 0xd80391ff 0x4f05f037 0xffffffff 0xffffffff\n\
+        r12 0xfd845ef3 0x48019037 0x0000002a 0x00000026\n\
+        r16 0xa0002008 0x00400034 0x80002030 0xa0002000\n\
+        r20 0xa0002000 0x9fe00000 0x807ffff4 0x9fe00000\n\
+        r24 0xbfc01034 0x00446b25 0xbfe80000 0x00000000\n\
+        r28 0x800014a8 0x7ffff058 0x800013a0 0xffffffff\n\
+        r28 0x800014a8\n\
+        index 0x00000600 random 0x00001d00 entrylo 0x1fe00600 context 0x00000000 badvaddr 0x00000000 entryhi 0x00000000 status 0x00446b24 cause 0x00000300 epc 0x800015e8 prid 0x00000220\n\
         tlb 7 0x00000000 0x00000000\n\
         where 0x00001003 cached\n\
         0x00001004 0x40996000\n\
@@ -1821,40 +2134,50 @@ fn random(rt: HostRuntime) -> Result<(), Fail> {
         0x0000003c 0x00000000 sll r0, r0, 0\n\
         0x00000040 0x00000000 sll r0, r0, 0\n\
         0x00000044 0x00000000 sll r0, r0, 0\n\
-        console 3 23 0000000000000000000000000000000000000000000000\n\
-        log 16\n\
-        0 149 0 0x75\n\
-        1 235 0 0xbb\n\
-        2 280 2 0x98\n\
-        3 301 3 0xfe\n\
-        4 779 1 0x39\n\
-        5 1053 2 0xbe\n\
-        6 1375 3 0x71\n\
-        7 1813 3 0x09\n\
-        8 1883 3 0x70\n\
-        9 2027 0 0x62\n\
-        10 2109 2 0x92\n\
-        11 2135 3 0xe5\n\
-        12 2144 3 0x8a\n\
-        13 2263 0 0xe8\n\
-        14 2313 2 0xbb\n\
-        15 2718 3 0x04\n\
+        console 3 23 00000000000000e900000000a200000000000000000000\n\
+        log 26\n\
+        0 128 1 0x0a\n\
+        1 429 1 0x5a\n\
+        2 497 2 0xdd\n\
+        3 558 1 0x24\n\
+        4 559 2 0xf6\n\
+        5 626 3 0xe9\n\
+        6 853 3 0x67\n\
+        7 859 1 0xa2\n\
+        8 1013 2 0x3b\n\
+        9 1201 2 0xb8\n\
+        10 1276 1 0xa7\n\
+        11 1418 3 0x6d\n\
+        12 1438 3 0xa2\n\
+        13 1474 1 0x6c\n\
+        14 1592 3 0xe0\n\
+        15 1768 3 0x13\n\
+        16 1848 1 0x83\n\
+        17 2053 1 0x55\n\
+        18 2078 1 0x16\n\
+        19 2097 0 0xdf\n\
+        20 2190 1 0x1b\n\
+        21 2226 1 0xea\n\
+        22 2298 3 0x10\n\
+        23 2306 0 0xc2\n\
+        24 2827 3 0x0b\n\
+        25 2929 3 0x68\n\
         pos 971\n\
         pos 972\n\
         pos 953\n\
-        pc 0x00000424 next 0x00000428 hi 0x00000000 lo 0x01002000 delay 0 load none\n\
-        r0 0x00000000 0xffffffff 0xffffffff 0x01002000\n\
-        r4 0x00000000 0xffffffff 0x004caa2d 0x90ccb6a0\n\
-        r8 0x80000000 0x8000b0ef 0xa64b31c2 0x00000001\n\
-        r12 0x80000000 0x013e4000 0xffffbf0c 0xe0180000\n\
-        r16 0x80002004 0xbfc0101c 0x8000200c 0x00400018\n\
-        r20 0x80002025 0xb0000000 0xa000200c 0x80002018\n\
-        r24 0xa0002008 0x8b6bbb0d 0x00000010 0x00000424\n\
-        r28 0x00000380 0xa00013e4 0xfffff4ac 0xbfc013e8\n\
-        r27 0x00000424\n\
-        index 0x00003000 random 0x00003e00 entrylo 0x1fc01600 context 0x00000000 badvaddr 0x00000420 entryhi 0x00000000 status 0x0063bb3d cause 0x00000008 epc 0x00000420 prid 0x00000220\n\
+        pc 0xbfc001b4 next 0xbfc001b8 hi 0x00000000 lo 0xbcf35b6d delay 0 load none\n\
+        r0 0x00000000 0x00000020 0x7fffffff 0x00000000\n\
+        r4 0xbcf35b6d 0x635b0b00 0xf3f0a4b1 0xf3f04142\n\
+        r8 0xd80391ff 0x4f05f037 0xffffffff 0xffffffff\n\
+        r12 0xfd845ef3 0x48019037 0x0000002a 0x00000026\n\
+        r16 0xa0002008 0x00400034 0x80002030 0xa0002000\n\
+        r20 0xa0002000 0x9fe00000 0x807ffff4 0x9fe00000\n\
+        r24 0xbfc01034 0x00446b25 0x00000010 0x80001580\n\
+        r28 0x800014a8 0x7ffff058 0x800013a0 0xffffffff\n\
+        r27 0x80001580\n\
+        index 0x00000600 random 0x00003e00 entrylo 0x1fe00600 context 0x00000000 badvaddr 0x00000000 entryhi 0x00000000 status 0x00446b24 cause 0x00000300 epc 0x8000157c prid 0x00000220\n\
         tlb 28 0x00000000 0x00000000\n\
-        where 0x00002000 cached\n\
+        where 0x00001000 cached\n\
         0x00000014 0x03600008\n\
         0x00000018 0x42000010\n\
         0x0000001c 0x00000000\n\
@@ -1887,40 +2210,50 @@ fn random(rt: HostRuntime) -> Result<(), Fail> {
         0x0000104c 0x3049003b andi r9, r2, 0x003b\n\
         0x00001050 0x008a0019 multu r4, r10\n\
         0x00001054 0x0531fffd bgezal r9, 0x0000104c\n\
-        console 3 14 00000000000000000000000000\n\
-        log 16\n\
-        0 149 0 0x75\n\
-        1 235 0 0xbb\n\
-        2 280 2 0x98\n\
-        3 301 3 0xfe\n\
-        4 779 1 0x39\n\
-        5 1053 2 0xbe\n\
-        6 1375 3 0x71\n\
-        7 1813 3 0x09\n\
-        8 1883 3 0x70\n\
-        9 2027 0 0x62\n\
-        10 2109 2 0x92\n\
-        11 2135 3 0xe5\n\
-        12 2144 3 0x8a\n\
-        13 2263 0 0xe8\n\
-        14 2313 2 0xbb\n\
-        15 2718 3 0x04\n\
+        console 3 14 000000000000e900000000a200\n\
+        log 26\n\
+        0 128 1 0x0a\n\
+        1 429 1 0x5a\n\
+        2 497 2 0xdd\n\
+        3 558 1 0x24\n\
+        4 559 2 0xf6\n\
+        5 626 3 0xe9\n\
+        6 853 3 0x67\n\
+        7 859 1 0xa2\n\
+        8 1013 2 0x3b\n\
+        9 1201 2 0xb8\n\
+        10 1276 1 0xa7\n\
+        11 1418 3 0x6d\n\
+        12 1438 3 0xa2\n\
+        13 1474 1 0x6c\n\
+        14 1592 3 0xe0\n\
+        15 1768 3 0x13\n\
+        16 1848 1 0x83\n\
+        17 2053 1 0x55\n\
+        18 2078 1 0x16\n\
+        19 2097 0 0xdf\n\
+        20 2190 1 0x1b\n\
+        21 2226 1 0xea\n\
+        22 2298 3 0x10\n\
+        23 2306 0 0xc2\n\
+        24 2827 3 0x0b\n\
+        25 2929 3 0x68\n\
         pos 1042\n\
         pos 1057\n\
         pos 1039\n\
-        pc 0xbfc00194 next 0xbfc00198 hi 0x00000000 lo 0x01002000 delay 0 load none\n\
-        r0 0x00000000 0xffffffff 0xffffffff 0x01002000\n\
-        r4 0x00000000 0xffffffff 0x004caa2d 0x90ccb6a0\n\
-        r8 0x80000000 0x8000b0ef 0xa64b31c2 0x00000001\n\
-        r12 0x80000000 0x013e4000 0xffffbf0c 0xe0180000\n\
-        r16 0x80002004 0xbfc0101c 0x8000200c 0x00400018\n\
-        r20 0x80002025 0xb0000000 0xa000200c 0x80002018\n\
-        r24 0xa0002008 0x8b6bbb0d 0xbfe80000 0x00000000\n\
-        r28 0x00000380 0xa00013e4 0xfffff4ac 0xbfc013e8\n\
+        pc 0xbfc0018c next 0xbfc00190 hi 0x00000000 lo 0xbcf35b6d delay 0 load none\n\
+        r0 0x00000000 0x00000020 0x7fffffff 0x00000000\n\
+        r4 0xbcf35b6d 0x635b0b00 0xf3f0a4b1 0xf3f04142\n\
+        r8 0xd80391ff 0x4f05f037 0xffffffff 0xffffffff\n\
+        r12 0xfd845ef3 0x48019037 0x0000002a 0x00000026\n\
+        r16 0xa0002008 0x00400034 0x80002030 0xa0002000\n\
+        r20 0xa0002000 0x9fe00000 0x807ffff4 0x9fe00000\n\
+        r24 0xbfc01034 0x00446b25 0xbfe00000 0x00000000\n\
+        r28 0x800014a8 0x7ffff058 0x800013a0 0xffffffff\n\
         r0 0x00000000\n\
-        index 0x00003000 random 0x00002000 entrylo 0x1fc01600 context 0x00000000 badvaddr 0x00000438 entryhi 0x00000000 status 0x0063bb34 cause 0x00000008 epc 0x00000438 prid 0x00000220\n\
+        index 0x00000600 random 0x00002000 entrylo 0x1fe00600 context 0x00000000 badvaddr 0x00000000 entryhi 0x00000000 status 0x00446b24 cause 0x00000300 epc 0x80001594 prid 0x00000220\n\
         tlb 63 0x00000000 0x00000000\n\
-        where 0x1fe00000 cached\n\
+        where tlbl\n\
         0x00000024 0x00000000\n\
         0x00000028 0x00000000\n\
         0x0000002c 0x00000000\n\
@@ -1953,294 +2286,341 @@ fn random(rt: HostRuntime) -> Result<(), Fail> {
         0x0000203c 0x00000000 sll r0, r0, 0\n\
         0x00002040 0x3a7f89d6 xori r31, r19, 0x89d6\n\
         0x00002044 0x00000001 .word 0x00000001\n\
-        console 3 16 000000000000000000000000000000\n\
-        log 16\n\
-        0 149 0 0x75\n\
-        1 235 0 0xbb\n\
-        2 280 2 0x98\n\
-        3 301 3 0xfe\n\
-        4 779 1 0x39\n\
-        5 1053 2 0xbe\n\
-        6 1375 3 0x71\n\
-        7 1813 3 0x09\n\
-        8 1883 3 0x70\n\
-        9 2027 0 0x62\n\
-        10 2109 2 0x92\n\
-        11 2135 3 0xe5\n\
-        12 2144 3 0x8a\n\
-        13 2263 0 0xe8\n\
-        14 2313 2 0xbb\n\
-        15 2718 3 0x04\n\
+        console 3 16 000000000000e900000000a2000000\n\
+        log 26\n\
+        0 128 1 0x0a\n\
+        1 429 1 0x5a\n\
+        2 497 2 0xdd\n\
+        3 558 1 0x24\n\
+        4 559 2 0xf6\n\
+        5 626 3 0xe9\n\
+        6 853 3 0x67\n\
+        7 859 1 0xa2\n\
+        8 1013 2 0x3b\n\
+        9 1201 2 0xb8\n\
+        10 1276 1 0xa7\n\
+        11 1418 3 0x6d\n\
+        12 1438 3 0xa2\n\
+        13 1474 1 0x6c\n\
+        14 1592 3 0xe0\n\
+        15 1768 3 0x13\n\
+        16 1848 1 0x83\n\
+        17 2053 1 0x55\n\
+        18 2078 1 0x16\n\
+        19 2097 0 0xdf\n\
+        20 2190 1 0x1b\n\
+        21 2226 1 0xea\n\
+        22 2298 3 0x10\n\
+        23 2306 0 0xc2\n\
+        24 2827 3 0x0b\n\
+        25 2929 3 0x68\n\
         pos 2863\n\
-        event 7\n\
+        event 2\n\
+        writer 279\n\
+        writer 279\n\
+        console 1 54 000000000000000000000000000000a700006d00000000000000008300000000160000ea000000000000000000000000\n\
         writer image\n\
-        log 17\n\
-        0 149 0 0x75\n\
-        1 235 0 0xbb\n\
-        2 280 2 0x98\n\
-        3 301 3 0xfe\n\
-        4 779 1 0x39\n\
-        5 1053 2 0xbe\n\
-        6 1375 3 0x71\n\
-        7 1654 0 0x5a\n\
-        8 1813 3 0x09\n\
-        9 1883 3 0x70\n\
-        10 2027 0 0x62\n\
-        11 2109 2 0x92\n\
-        12 2135 3 0xe5\n\
-        13 2144 3 0x8a\n\
-        14 2263 0 0xe8\n\
-        15 2313 2 0xbb\n\
-        16 2718 3 0x04\n\
+        event 5\n\
+        writer 279\n\
+        writer 279\n\
+        console 3 54 00000000a20000000000000000000000a20000e00000000000000000000000000000c20000000000000000000000\n\
+        0x1fc01000 0x03475027\n\
+        event 25\n\
         writer image\n\
-        console 1 55 000000000000000000000000000000000000007000006200000000e8000000000000000000000000\n\
-        event 0\n\
-        writer image\n\
-        pos 2863\n\
-        writer image\n\
-        writer image\n\
-        event 15\n\
-        writer never\n\
-        writer never\n\
-        find 541\n\
-        find 1949\n\
-        error 8 NotFound\n\
-        pc 0xbfc00194 next 0xbfc00198 hi 0x00000000 lo 0x01002000 delay 0 load none\n\
-        r0 0x00000000 0xffffffff 0xffffffff 0x01002000\n\
-        r4 0x00000000 0xffffffff 0x004caa2d 0x90ccb6a0\n\
-        r8 0x80000000 0x8000b0ef 0xa64b31c2 0x00000001\n\
-        r12 0x80000000 0x013e4000 0xffffbf0c 0xe0180000\n\
-        r16 0x80002004 0xbfc0101c 0x8000200c 0x00400018\n\
-        r20 0x80002025 0xb0000000 0xa000200c 0x80002018\n\
-        r24 0xa0002008 0x8b6bbb0d 0xbfe80000 0x00000000\n\
-        r28 0x00000380 0xa00013e4 0xfffff4ac 0xbfc013e8\n\
-        pos 2863\n\
+        log 26\n\
+        0 128 1 0x0a\n\
+        1 429 1 0x5a\n\
+        2 497 2 0x00\n\
+        3 558 1 0x24\n\
+        4 559 2 0xf6\n\
+        5 626 3 0x1f\n\
+        6 853 3 0x67\n\
+        7 1013 2 0x3b\n\
+        8 1201 2 0xb8\n\
+        9 1276 1 0xa7\n\
+        10 1418 3 0x6d\n\
+        11 1438 3 0xa2\n\
+        12 1474 1 0x6c\n\
+        13 1592 3 0xe0\n\
+        14 1768 3 0x13\n\
+        15 1848 1 0x83\n\
+        16 2053 1 0x55\n\
+        17 2078 1 0x16\n\
+        18 2097 0 0xdf\n\
+        19 2190 1 0x1b\n\
+        20 2226 1 0xea\n\
+        21 2298 3 0x10\n\
+        22 2306 0 0xc2\n\
+        23 2827 3 0x0b\n\
+        24 2929 3 0x68\n\
+        25 4294967293 1 0xa2\n\
+        find 2815\n\
+        writer 279\n\
         error 3 Range\n\
-        pos 1198\n\
+        pos 4294967293\n\
+        pos 4294967298\n\
+        pos 4294967298\n\
+        pos 4294967295\n\
+        pos 4294967298\n\
+        pos 4294967298\n\
+        pos 2863\n\
+        pos 63793\n\
+        log 25\n\
+        writer 279\n\
+        writer image\n\
+        writer 279\n\
+        writer 279\n\
+        pos 63796\n\
+        pc 0xbfc001a0 next 0xbfc001a4 hi 0x00000000 lo 0xbcf35b6d delay 0 load r26 0x00000300\n\
+        r0 0x00000000 0x00000020 0x7fffffff 0x00000000\n\
+        r4 0xbcf35b6d 0x635b0b00 0xf3f0a4b1 0xf3f04142\n\
+        r8 0xd80391ff 0x4f05f037 0xffffffff 0xffffffff\n\
+        r12 0xfd845ef3 0x48019037 0x0000002a 0x00000026\n\
+        r16 0xa0002008 0x00400034 0x80002030 0xa0002000\n\
+        r20 0xa0002000 0x9fe00000 0x807ffff4 0x9fe00000\n\
+        r24 0xbfc01034 0x00446b25 0xbfe80000 0x800052dc\n\
+        r28 0x800014a8 0x7ffff058 0x800013a0 0xffffffff\n\
+        pos 63793\n\
+        event 24\n\
+        writer never\n\
+        writer 279\n\
+        writer 279\n\
+        console 1 1324 00000000000000000000000000000000000000000000000000000000000000000000000000000000000000000000000000000000000000000000000000000000000000000000000000000000000000000000000000000000000000000000000000000000000000000000000000000000000000000000000000000000000000000000000000000000000000000000000000000000000000000000000000000000000000000000000000000000000000000000000000000000000000000000000000000000000000000000000000000000000000000000000000000000000000000000000000000000000000000000000000000000000000000000000000000000\n\
+        event 24\n\
+        pos 63793\n\
+        find 26719\n\
+        writer never\n\
+        writer never\n\
+        pos 63915\n\
+        pc 0x800052fc next 0x80005300 hi 0x00000000 lo 0xbcf35b6d delay 0 load none\n\
+        r0 0x00000000 0x00000020 0x7fffffff 0x00000000\n\
+        r4 0xbcf35b6d 0x635b0b00 0xf3f0a4b1 0xf3f04142\n\
+        r8 0xd80391ff 0x4f05f037 0xffffffff 0xffffffff\n\
+        r12 0xfd845ef3 0x48019037 0x0000002a 0x00000026\n\
+        r16 0xa0002008 0x00400034 0x80002030 0xa0002000\n\
+        r20 0xa0002000 0x9fe00000 0x807ffff4 0x9fe00000\n\
+        r24 0xbfc01034 0x00446b25 0x00000010 0x800052fc\n\
+        r28 0x800014a8 0x7ffff058 0x800013a0 0xffffffff\n\
+        pos 63793\n\
+        error 3 Range\n\
+        pos 65555\n\
         ok\n\
-        0x0000202c 0x00000001\n\
-        0x00002030 0x80000000\n\
+        find 21359\n\
+        console 1 1361 00000000000000000000000000000000000000000000000000000000000000000000000000000000000000000000000000000000000000000000000000000000000000000000000000000000000000000000000000000000000000000000000000000000000000000000000000000000000000000000000000000000000000000000000000000000000000000000000000000000000000000000000000000000000000000000000000000000000000000000000000000000000000000000000000000000000000000000000000000000000000000000000000000000000000000000000000000000000000000000000000000000000000000000000000000000\n\
+        writer image\n\
+        writer image\n\
+        pos 65561\n\
+        pc 0xbfc001b4 next 0xbfc001b8 hi 0x00000000 lo 0xbcf35b6d delay 0 load none\n\
+        r0 0x00000000 0x00000020 0x7fffffff 0x00000000\n\
+        r4 0xbcf35b6d 0x635b0b00 0xf3f0a4b1 0xf3f04142\n\
+        r8 0xd80391ff 0x4f05f037 0xffffffff 0xffffffff\n\
+        r12 0xfd845ef3 0x48019037 0x0000002a 0x00000026\n\
+        r16 0xa0002008 0x00400034 0x80002030 0xa0002000\n\
+        r20 0xa0002000 0x9fe00000 0x807ffff4 0x9fe00000\n\
+        r24 0xbfc01034 0x00446b25 0x00000010 0x80005498\n\
+        r28 0x800014a8 0x7ffff058 0x800013a0 0xffffffff\n\
+        pos 65555\n\
+        log 25\n\
+        index 0x00000600 random 0x00001c00 entrylo 0x1fe00600 context 0x00000000 badvaddr 0x00000000 entryhi 0x00000000 status 0x00446b24 cause 0x00000300 epc 0x80005494 prid 0x00000220\n\
+        writer 279\n\
+        find 45439\n\
+        console 3 1360 00000000000000000000000000000000000000000000000000000000000000000000000000000000000000000000000000000000000000000000000000000000000000000000000000000000000000000000000000000000000000000000000000000000000000000000000000000000000000000000000000000000000000000000000000000000000000000000000000000000000000000000000000000000000000000000000000000000000000000000000000000000000000000000000000000000000000000000000000000000000000000000000000000000000000000000000000000000000000000000000000000000000000000000000000000000\n\
+        pos 65556\n\
+        pc 0xbfc001a0 next 0xbfc001a4 hi 0x00000000 lo 0xbcf35b6d delay 0 load r26 0x00000300\n\
+        r0 0x00000000 0x00000020 0x7fffffff 0x00000000\n\
+        r4 0xbcf35b6d 0x635b0b00 0xf3f0a4b1 0xf3f04142\n\
+        r8 0xd80391ff 0x4f05f037 0xffffffff 0xffffffff\n\
+        r12 0xfd845ef3 0x48019037 0x0000002a 0x00000026\n\
+        r16 0xa0002008 0x00400034 0x80002030 0xa0002000\n\
+        r20 0xa0002000 0x9fe00000 0x807ffff4 0x9fe00000\n\
+        r24 0xbfc01034 0x00446b25 0xbfe80000 0x80005494\n\
+        r28 0x800014a8 0x7ffff058 0x800013a0 0xffffffff\n\
+        ok\n\
+        writer 279\n\
+        writer 279\n\
+        find 37215\n\
+        writer never\n\
         error 8 NotFound\n\
+        pc 0xbfc001a0 next 0xbfc001a4 hi 0x00000000 lo 0xbcf35b6d delay 0 load r26 0x00000300\n\
+        r0 0x00000000 0x00000020 0x7fffffff 0x00000000\n\
+        r4 0xbcf35b6d 0x635b0b00 0xf3f0a4b1 0xf3f04142\n\
+        r8 0xd80391ff 0x4f05f037 0xffffffff 0xffffffff\n\
+        r12 0xfd845ef3 0x48019037 0x0000002a 0x00000026\n\
+        r16 0xa0002008 0x00400034 0x80002030 0xa0002000\n\
+        r20 0xa0002000 0x9fe00000 0x807ffff4 0x9fe00000\n\
+        r24 0xbfc01034 0x00446b25 0xbfe80000 0x80005494\n\
+        r28 0x800014a8 0x7ffff058 0x800013a0 0xffffffff\n\
+        error 3 Range\n\
+        pos 1099511627773\n\
+        pos 1099511627769\n\
+        pos 1099511627769\n\
+        pos 4294967293\n\
+        pos 4294967291\n\
+        pos 4294967291\n\
+        pos 65556\n\
+        pos 131059\n\
+        event 25\n\
+        0x00002048 0xffffffff\n\
+        0x0000204c 0xffffffff\n\
+        log 26\n\
+        0 429 1 0x5a\n\
+        1 497 2 0x00\n\
+        2 558 1 0x24\n\
+        3 559 2 0xf6\n\
+        4 626 3 0x1f\n\
+        5 853 3 0x67\n\
+        6 1013 2 0x3b\n\
+        7 1201 2 0xb8\n\
+        8 1276 1 0xa7\n\
+        9 1418 3 0x6d\n\
+        10 1438 3 0xa2\n\
+        11 1474 1 0x6c\n\
+        12 1768 3 0x13\n\
+        13 1848 1 0x83\n\
+        14 2078 1 0x16\n\
+        15 2097 0 0xdf\n\
+        16 2190 1 0x1b\n\
+        17 2226 1 0xea\n\
+        18 2298 3 0x10\n\
+        19 2306 0 0xc2\n\
+        20 2827 3 0x0b\n\
+        21 2929 3 0x68\n\
+        22 44704 1 0x0a\n\
+        23 63810 3 0xe0\n\
+        24 4294967293 1 0xa2\n\
+        25 4294967295 1 0x01 wire\n\
+        0x00002048 0xffffffff\n\
+        0x0000204c 0xffffffff\n\
+        writer never\n\
+        error 8 NotFound\n\
+        pc 0xbfc0019c next 0xbfc001a0 hi 0x00000000 lo 0xbcf35b6d delay 0 load r27 0x8000948c\n\
+        r0 0x00000000 0x00000020 0x7fffffff 0x00000000\n\
+        r4 0xbcf35b6d 0x635b0b00 0xf3f0a4b1 0xf3f04142\n\
+        r8 0xd80391ff 0x4f05f037 0xffffffff 0xffffffff\n\
+        r12 0xfd845ef3 0x48019037 0x0000002a 0x00000026\n\
+        r16 0xa0002008 0x00400034 0x80002030 0xa0002000\n\
+        r20 0xa0002000 0x9fe00000 0x807ffff4 0x9fe00000\n\
+        r24 0xbfc01034 0x00446b25 0xbfe80000 0x00000000\n\
+        r28 0x800014a8 0x7ffff058 0x800013a0 0xffffffff\n\
+        pos 131059\n\
+        ok\n\
+        writer 279\n\
+        writer 279\n\
+        find 3887\n\
+        0x00002048 0xffffffff\n\
+        0x0000204c 0xffffffff\n\
+        ok\n\
+        writer never\n\
+        find 13711\n\
+        find 129343\n\
+        writer 279\n\
+        error 3 Range\n\
+        pos 1099511627774\n\
+        error 7 TooFar\n\
+        pos 1099511627774\n\
+        error 7 TooFar\n\
+        error 7 TooFar\n\
+        pos 1099511627774\n\
+        pos 131059\n\
+        pos 1517\n\
+        ok\n\
+        index 0x00000600 random 0x00003a00 entrylo 0x1fe00600 context 0x00000000 badvaddr 0x00000000 entryhi 0x00000000 status 0x00646b24 cause 0x00000300 epc 0x8000160c prid 0x00000220\n\
+        writer image\n\
+        writer image\n\
+        writer 279\n\
+        pos 1519\n\
+        pc 0xbfc0018c next 0xbfc00190 hi 0x00000000 lo 0xbcf35b6d delay 0 load none\n\
+        r0 0x00000000 0x00000020 0x7fffffff 0x00000000\n\
+        r4 0xbcf35b6d 0x635b0b04 0xf3f0a4b1 0xf3f04142\n\
+        r8 0xd80391ff 0x4f05f037 0xffffffff 0xffffffff\n\
+        r12 0xfd845ef3 0x48019037 0x0000002a 0x00000026\n\
+        r16 0xa0002008 0x00400034 0x80002030 0xa0002000\n\
+        r20 0xa0002000 0x9fe00000 0x807ffff4 0x9fe00000\n\
+        r24 0x00001034 0x00446b25 0xbfe00000 0x00000000\n\
+        r28 0x800014a8 0x7ffff058 0x800013a0 0xffffffff\n\
+        pos 1517\n\
+        event 5\n\
+        writer 279\n\
+        writer never\n\
+        writer 279\n\
+        console 2 26 000000010000000000000000000000006c\n\
+        log 21\n\
+        writer 279\n\
+        log 21\n\
+        0 853 3 0x01\n\
+        1 1013 2 0x3b\n\
+        2 1201 2 0xb8\n\
+        3 1276 1 0xa7\n\
+        4 1418 3 0x6d\n\
+        5 1438 3 0xa2\n\
+        6 1474 1 0x6c\n\
+        7 1768 3 0x13\n\
+        8 1848 1 0x83\n\
+        9 2078 1 0x16\n\
+        10 2097 0 0xdf\n\
+        11 2190 1 0x1b\n\
+        12 2226 1 0xea\n\
+        13 2298 3 0x10\n\
+        14 2306 0 0xc2\n\
+        15 2827 3 0x0b\n\
+        16 2929 3 0x68\n\
+        17 44704 1 0x0a\n\
+        18 63810 3 0xe0\n\
+        19 4294967293 1 0xa2\n\
+        20 4294967295 1 0x01 wire\n\
+        writer never\n\
+        writer 279\n\
+        pos 1530\n\
+        pc 0xbfc001b8 next 0x80001610 hi 0x00000000 lo 0xbcf35b6d delay 1 load none\n\
+        r0 0x00000000 0x00000020 0x7fffffff 0x00000000\n\
+        r4 0xbcf35b6d 0x635b0b04 0xf3f0a4b1 0xf3f04142\n\
+        r8 0xd80391ff 0x4f05f037 0xffffffff 0xffffffff\n\
+        r12 0xfd845ef3 0x48019037 0x0000002a 0x00000026\n\
+        r16 0xa0002008 0x00400034 0x80002030 0xa0002000\n\
+        r20 0xa0002000 0x9fe00000 0x807ffff4 0x9fe00000\n\
+        r24 0x00001034 0x00446b25 0x00000010 0x80001610\n\
+        r28 0x800014a8 0x7ffff058 0x800013a0 0xffffffff\n\
+        pos 1517\n\
+        error 3 Range\n\
+        pos 13240\n\
+        log 20\n\
+        writer 279\n\
+        console 2 270 0000000000000000000000000000000000000000000000000000000000000000000000000000000000000000000000000000000000000000000000000000000000000000000000000000000000000000000000000000000000000000000000000000000000000000000000000000000000000000000000000000000000000000000000000000000000000000000000000000000000000000\n\
+        index 0x00000600 random 0x00002700 entrylo 0x1fe00600 context 0x00000000 badvaddr 0x00000000 entryhi 0x00000000 status 0x00646b24 cause 0x00000300 epc 0x8000217c prid 0x00000220\n\
+        0x00002048 0xffffffff\n\
+        error 8 NotFound\n\
+        pc 0xbfc001b0 next 0xbfc001b4 hi 0x00000000 lo 0xbcf35b6d delay 1 load none\n\
+        r0 0x00000000 0x00000020 0x7fffffff 0x00000000\n\
+        r4 0xbcf35b6d 0x635b0b04 0xf3f0a4b1 0xf3f04142\n\
+        r8 0xd80391ff 0x4f05f037 0xffffffff 0xffffffff\n\
+        r12 0xfd845ef3 0x48019037 0x0000002a 0x00000026\n\
+        r16 0xa0002008 0x00400034 0x80002030 0xa0002000\n\
+        r20 0xa0002000 0x9fe00000 0x807ffff4 0x9fe00000\n\
+        r24 0x00001034 0x00446b25 0x00000010 0x80002180\n\
+        r28 0x800014a8 0x7ffff058 0x800013a0 0xffffffff\n\
+        pos 13240\n\
+        log 19\n\
+        console 1 271 00000000000000000000000000000000000000\n\
+        writer 279\n\
+        writer 279\n\
+        writer 279\n\
+        log 18\n\
         0x00002054 0x0000000c\n\
+        0x00002058 0xf528e0be\n\
+        writer 279\n\
         writer image\n\
-        ok\n\
-        find 525\n\
-        console 1 20 00390000000000000000\n\
-        writer image\n\
-        pc 0xbfc00190 next 0xbfc00194 hi 0x00000000 lo 0x01002000 delay 0 load none\n\
-        r0 0x00000000 0xffff0000 0xffffffff 0x01002000\n\
-        r4 0x00000000 0xffffffff 0x004caa2d 0x90ccb6a0\n\
-        r8 0x80000000 0x8000b0ef 0xa64b31c2 0x00000001\n\
-        r12 0x80000000 0x013e4000 0xffffbf0c 0xe0180000\n\
-        r16 0x80002004 0xbfc0101c 0x8000200c 0x00400018\n\
-        r20 0x80002025 0xb0000000 0xa000200c 0x80002018\n\
-        r24 0xa0002008 0x8b6bbb0d 0xbfe00000 0x00000000\n\
-        r28 0x00000380 0xa00013e4 0xfffff4ac 0xbfc013e8\n\
-        event 5\n\
-        find 1197\n\
-        0x1fc002a0 0x3c01bfe8\n\
-        0x1fc002a4 0x34210000\n\
-        find 989\n\
-        console 1 20 1800000000000000000000390000000000000000\n\
-        pos 1241\n\
-        pc 0x0000046c next 0x00000470 hi 0x00000000 lo 0x01002000 delay 0 load none\n\
-        r0 0x00000000 0xffff0000 0xffffffff 0x01002000\n\
-        r4 0x00000000 0xffffffff 0x004caa2d 0x90ccb6a0\n\
-        r8 0x80000000 0x8000b0ef 0xa64b31c2 0x00000001\n\
-        r12 0x80000000 0x013e4000 0xffffbf0c 0xe0180000\n\
-        r16 0x80002004 0xbfc0101c 0x8000200c 0x00400018\n\
-        r20 0x80002025 0xb0000000 0xa000200c 0x80002018\n\
-        r24 0xa0002008 0x8b6bbb0d 0x00000010 0x0000046c\n\
-        r28 0x00000380 0xa00013e4 0xfffff4ac 0xbfc013e8\n\
-        pos 1198\n\
-        error 3 Range\n\
-        pos 196601\n\
-        event 20\n\
-        find 845\n\
-        index 0x00003000 random 0x00001600 entrylo 0x1fc01600 context 0x00000008 badvaddr 0x80002025 entryhi 0x00001080 status 0x006bbb3d cause 0x00000020 epc 0xbfc01248 prid 0x00000220\n\
-        writer image\n\
-        writer image\n\
-        pos 196602\n\
-        pc 0xbfc0125c next 0xbfc01260 hi 0x00000000 lo 0xffffffff delay 0 load none\n\
-        r0 0x00000000 0x00000000 0x0fc011fc 0x01002000\n\
-        r4 0x90ccc3b4 0xa00013e3 0x00000000 0x90ccb6a0\n\
-        r8 0x80000000 0x00000000 0xb0005055 0xa0000267\n\
-        r12 0x00000001 0x013e4000 0x80009fbd 0xefffcfb2\n\
-        r16 0x80002004 0xbfc0101c 0x8000200c 0x00400018\n\
-        r20 0xb0005056 0xb0000000 0xffffffff 0x80002018\n\
-        r24 0xa0002008 0x8b6bbb0d 0x00000030 0xbfc0124c\n\
-        r28 0xffffffff 0xa00013e4 0x0000117e 0x00002020\n\
-        event 20\n\
-        0x00100000 0x00000000\n\
-        0x00100004 0x00000000\n\
-        writer image\n\
-        writer image\n\
-        error 5 Unaligned\n\
-        pos 196605\n\
-        pc 0xbfc01258 next 0xbfc0125c hi 0x00000000 lo 0xffffffff delay 0 load none\n\
-        r0 0x00000000 0x00000000 0x0fc011fc 0x01002000\n\
-        r4 0x90ccc3b4 0xa00013e3 0x00000000 0x90ccb6a0\n\
-        r8 0x80000000 0x00000000 0xb0005055 0xa0000267\n\
-        r12 0x00000001 0x013e4000 0x80009fbd 0xefffcfb2\n\
-        r16 0x80002004 0xbfc0101c 0x8000200c 0x00400018\n\
-        r20 0xb0005056 0xb0000000 0xffffffff 0x80002018\n\
-        r24 0xa0002008 0x8b6bbb0d 0x00000030 0xbfc0124c\n\
-        r28 0xffffffff 0xa00013e4 0x0000117e 0x00002020\n\
-        pos 196602\n\
-        event 5\n\
-        console 2 277 00e5000000000000000000000000000000000000000000000000000000000000000000000000000000000000000000000000000000000000000000000000000000000000000000000000000000000000000000000000000000000000000000000000000000000000000000000000000000000000000000000000000000000000000000000000000000000000000000000000000000000000000000000000000000000000000000000000000000000000000000000000000000000000000000000000000000000000000000000000000000000000000000000000000000000000000000000000000000000000000000\n\
-        writer image\n\
-        writer image\n\
-        writer never\n\
-        pos 196603\n\
-        pc 0xbfc01260 next 0xbfc01264 hi 0x00000000 lo 0xffffffff delay 0 load none\n\
-        r0 0x00000000 0x00000000 0x0fc011fc 0x01002000\n\
-        r4 0x90ccc3b4 0xa00013e3 0x00000000 0x90ccb6a0\n\
-        r8 0x80000000 0x00000000 0xb0005055 0xa0000267\n\
-        r12 0x00000001 0x013e4000 0x80009fbd 0xefffcfb2\n\
-        r16 0x80002004 0xbfc0101c 0x8000200c 0x00400018\n\
-        r20 0xb0005056 0xb0000000 0xffffffff 0x80002018\n\
-        r24 0xa0002008 0x8b6bbb0d 0x00000030 0xbfc0124c\n\
-        r28 0xffffffff 0xa00013e4 0x0000117e 0x00002020\n\
-        pos 196602\n\
-        error 3 Range\n\
-        pos 46734\n\
-        event 20\n\
-        find 2845\n\
-        writer image\n\
-        find 10125\n\
-        writer image\n\
-        log 22\n\
-        find 9837\n\
-        writer image\n\
-        writer image\n\
-        writer image\n\
-        error 8 NotFound\n\
-        pc 0xbfc0125c next 0xbfc01260 hi 0x00000000 lo 0xffffffff delay 0 load none\n\
-        r0 0x00000000 0x00000000 0x0fc011fc 0x01002000\n\
-        r4 0x90ccc3b4 0xa00013e3 0x00000000 0x90ccb6a0\n\
-        r8 0x80000000 0x00000000 0xb0005055 0xa0000267\n\
-        r12 0x00000001 0x013e4000 0x80009fbd 0xefffcfb2\n\
-        r16 0x80002004 0xbfc0101c 0x8000200c 0x00400018\n\
-        r20 0xb0005056 0xb0000000 0xffffffff 0x80002018\n\
-        r24 0xa0002008 0x8b6bbb0d 0x00000030 0xbfc0124c\n\
-        r28 0xffffffff 0xa00013e4 0x0000117e 0x00002020\n\
-        pos 46734\n\
-        event 3\n\
-        log 22\n\
-        0 134 3 0x18\n\
-        1 149 0 0x75\n\
-        2 235 0 0xbb\n\
-        3 280 2 0xb9\n\
-        4 301 3 0xfe\n\
-        5 363 1 0x07\n\
-        6 779 1 0x39\n\
-        7 1053 2 0xbe\n\
-        8 1375 3 0x71\n\
-        9 1654 0 0x5a\n\
-        10 1813 3 0x09\n\
-        11 1883 3 0x70\n\
-        12 2027 0 0x62\n\
-        13 2135 3 0xe5\n\
-        14 2144 3 0x8a\n\
-        15 2167 0 0xb2\n\
-        16 2263 0 0xe8\n\
-        17 2313 2 0xbb\n\
-        18 2718 3 0x04\n\
-        19 20010 2 0x14\n\
-        20 107944 2 0x9e\n\
-        21 196616 2 0x2d\n\
-        find 3549\n\
-        writer never\n\
-        console 1 277 00000000000000000000000000000000000000000000000000000000000000000000000000000000000000000000000000000000000000000000000000000000000000000000000000000000000000000000000000000000000000000000000000000000000000000000\n\
-        error 3 Range\n\
-        pos 58021\n\
-        log 21\n\
-        writer image\n\
-        writer image\n\
-        writer never\n\
-        find 5197\n\
-        event 19\n\
-        console 3 276 00000000000000000000000000000000000000000000000000000000000000000000000000000000000000000000000000000000000000000000000000000000000000000000000000000000000000000000000000000000000000000000000000000000000000000000000000000000000000000000000000000000000000000000000000000000000000000000000000000000000000000000000000000000000000000000000000000000000000000000000000\n\
-        writer image\n\
-        find 3069\n\
-        log 22\n\
-        0 134 3 0x18\n\
-        1 149 0 0x75\n\
-        2 235 0 0xbb\n\
-        3 280 2 0xb9\n\
-        4 301 3 0xfe\n\
-        5 363 1 0x07\n\
-        6 779 1 0x39\n\
-        7 1053 2 0xbe\n\
-        8 1375 3 0x71\n\
-        9 1654 0 0x5a\n\
-        10 1813 3 0x09\n\
-        11 1883 3 0x70\n\
-        12 2135 3 0xe5\n\
-        13 2144 3 0x8a\n\
-        14 2167 0 0xb2\n\
-        15 2263 0 0xe8\n\
-        16 2313 2 0xbb\n\
-        17 2718 3 0x04\n\
-        18 20010 2 0x14\n\
-        19 20527 1 0xf0\n\
-        20 107944 2 0x9e\n\
-        21 196616 2 0x2d\n\
-        error 8 NotFound\n\
-        pc 0xbfc01258 next 0xbfc0125c hi 0x00000000 lo 0xffffffff delay 0 load none\n\
-        r0 0x00000000 0x00000000 0x0fc011fc 0x01002000\n\
-        r4 0x90ccc3b4 0xa00013e3 0x00000000 0x90ccb6a0\n\
-        r8 0x80000000 0x00000000 0xb0005055 0xa0000267\n\
-        r12 0x00000001 0x013e4000 0x80009fbd 0xefffcfb2\n\
-        r16 0x80002004 0xbfc0101c 0x8000200c 0x00400018\n\
-        r20 0xb0005056 0xb0000000 0xffffffff 0x80002018\n\
-        r24 0xa0002008 0x8b6bbb0d 0x00000030 0xbfc0124c\n\
-        r28 0xffffffff 0xa00013e4 0x0000117e 0x00002020\n\
-        pos 58021\n\
-        event 3\n\
-        pc 0xbfc01258 next 0xbfc0125c hi 0x00000000 lo 0xffffffff delay 0 load none\n\
-        r0 0x00000000 0x00000000 0x0fc011fc 0x01002000\n\
-        r4 0x90ccc3b4 0xa00013e3 0x00000000 0x90ccb6a0\n\
-        r8 0x80000000 0x00000000 0xb0005055 0xa0000267\n\
-        r12 0x00000001 0x013e4000 0x80009fbd 0xefffcfb2\n\
-        r16 0x80002004 0xbfc0101c 0x8000200c 0x00400018\n\
-        r20 0xb0005056 0xb0000000 0xffffffff 0x80002018\n\
-        r24 0xa0002008 0x8b6bbb0d 0x00000030 0xbfc0124c\n\
-        r28 0xffffffff 0xa00013e4 0x0000117e 0x00002020\n\
-        writer image\n\
-        pos 58021\n\
-        writer image\n\
-        error 8 NotFound\n\
-        pc 0xbfc01258 next 0xbfc0125c hi 0x00000000 lo 0xffffffff delay 0 load none\n\
-        r0 0x00000000 0x00000000 0x0fc011fc 0x01002000\n\
-        r4 0x90ccc3b4 0xa00013e3 0x00000000 0x90ccb6a0\n\
-        r8 0x80000000 0x00000000 0xb0005055 0xa0000267\n\
-        r12 0x00000001 0x013e4000 0x80009fbd 0xefffcfb2\n\
-        r16 0x80002004 0xbfc0101c 0x8000200c 0x00400018\n\
-        r20 0xb0005056 0xb0000000 0xffffffff 0x80002018\n\
-        r24 0xa0002008 0x8b6bbb0d 0x00000030 0xbfc0124c\n\
-        r28 0xffffffff 0xa00013e4 0x0000117e 0x00002020\n\
-        pos 58021\n\
-        error 5 Unaligned\n\
-        pos 196610\n\
-        ok\n\
-        0x0000200c 0x00000000\n\
-        0x00002010 0x34bc54b1\n\
-        0x00002014 0x36b45056\n\
-        writer never\n\
-        writer image\n\
-        find 9341\n\
-        log 21\n\
-        index 0x00003000 random 0x00000d00 entrylo 0x1fc01600 context 0x00000008 badvaddr 0x80002025 entryhi 0x00001080 status 0x006bbb3d cause 0x00000020 epc 0xbfc01248 prid 0x00000220\n\
         error 6 NotMemory\n\
-        writer image\n\
-        writer image\n\
-        event 19\n\
-        index 0x00003000 random 0x00000d00 entrylo 0x1fc01600 context 0x00000008 badvaddr 0x80002025 entryhi 0x00001080 status 0x006bbb3d cause 0x00000020 epc 0xbfc01248 prid 0x00000220\n\
-        writer image\n\
-        writer image\n\
-        writer never\n\
+        pos 13255\n\
+        pc 0xbfc001ac next 0xbfc001b0 hi 0x00000000 lo 0xbcf35b6d delay 0 load none\n\
+        r0 0x00000000 0x00000020 0x7fffffff 0x00000000\n\
+        r4 0xbcf35b6d 0x635b0b04 0xf3f0a4b1 0xf3f04142\n\
+        r8 0xd80391ff 0x4f05f037 0xffffffff 0xffffffff\n\
+        r12 0xfd845ef3 0x48019037 0x0000002a 0x00000026\n\
+        r16 0xa0002008 0x00400034 0x80002030 0xa0002000\n\
+        r20 0xa0002000 0x9fe00000 0x807ffff4 0x9fe00000\n\
+        r24 0x00001034 0x00446b25 0x00000010 0x80002184\n\
+        r28 0x800014a8 0x7ffff058 0x800013a0 0xffffffff\n\
+        pos 13240\n\
         error 3 Range\n",
     )?;
     holds(
@@ -2249,14 +2629,10 @@ fn random(rt: HostRuntime) -> Result<(), Fail> {
         "image",
         RANDOM_2,
         b"\
-        \x52\x33\x4b\x4c\x4f\x47\x31\x0a\x13\x00\x00\x00\x1f\x00\x00\x00\
-        \x02\x18\x2f\x00\x00\x00\x03\x8a\x8e\x00\x00\x00\x00\xed\xa9\x00\
-        \x00\x00\x03\x46\xc1\x00\x00\x00\x02\xb2\x51\x01\x00\x00\x00\x4f\
-        \x5a\x01\x00\x00\x00\xb0\x74\x01\x00\x00\x03\x46\x30\x02\x00\x00\
-        \x00\xf8\x39\x03\x00\x00\x02\x1a\xcf\x03\x00\x00\x02\xa7\x03\x04\
-        \x00\x00\x00\xc4\xe2\x05\x00\x00\x00\xe3\x4d\x06\x00\x00\x03\xa1\
-        \xd6\x06\x00\x00\x00\x4b\x86\x08\x00\x00\x02\x9f\xa8\x08\x00\x00\
-        \x02\xfc\x65\x09\x00\x00\x01\x6e\x9f\x0a\x00\x00\x01\xad",
+        \x52\x33\x4b\x4c\x4f\x47\x32\x0a\x04\x00\x00\x00\xa9\x00\x00\x00\
+        \x00\x00\x00\x00\x02\x01\x01\xe2\x05\x00\x00\x00\x00\x00\x00\x00\
+        \x03\x17\x88\x07\x00\x00\x00\x00\x00\x00\x02\x01\x00\x4a\x0b\x00\
+        \x00\x00\x00\x00\x00\x00\x02\xb2",
         b"\
         goto 2496\n\
         step 11\n\
@@ -2331,125 +2707,162 @@ fn random(rt: HostRuntime) -> Result<(), Fail> {
         console 2 1 256\n\
         log 0 32\n\
         goto 151316\n\
-        del 19\n\
-        mem 0x1fc00094 4\n\
-        mem 0x3008 4\n\
-        mem 0x3010 2\n\
-        find 0 9\n\
-        patch 0x1fc00044 0x0\n\
-        mem 0x3010 1\n\
-        writer 0x1fc0001c\n\
+        add 994 0 132\n\
+        writer 0x1fc01044\n\
         regs\n\
-        writer 0x3008\n\
-        patch 0x3008 0x0\n\
-        writer 0x3008\n\
-        console 0 7 256\n\
+        writer 0x3014\n\
+        find 0 1\n\
+        patch 0x2014 0x3c128000\n\
+        mem 0x2020 1\n\
+        writer 0x1fc0004c\n\
+        regs\n\
         writer 0x2014\n\
-        mem 0x2014 2\n\
-        move 0 4294967295\n\
-        goto 3509\n\
-        patch 0x2060 0x0\n\
-        console 0 5 256\n\
-        writer 0x3010\n\
-        writer 0x3010\n\
-        writer 0x2014\n\
-        del 1\n\
-        writer 0x3008\n\
-        writer 0x2010\n\
-        mem 0x50 3\n\
-        pos\n\
-        set 15 204\n\
-        writer 0x3000\n\
-        writer 0x1fc00080\n\
-        writer 0x1fc01054\n\
-        find 0 4\n\
-        visit 0xbfc0102c 1\n\
-        regs\n\
-        set 1000000 255\n\
-        goto 54561\n\
-        set 8 177\n\
-        pos\n\
-        writer 0x3010\n\
-        writer 0x206c\n\
-        find 0 8\n\
-        set 9 143\n\
-        mem 0x2014 3\n\
-        regs\n\
-        writer 0x3008\n\
-        writer 0x1fc00078\n\
-        visit 0xbfc0102c 70000\n\
-        regs\n\
-        goto 54561\n\
-        add 43524 2 149\n\
-        find 0 0\n\
+        erase 30613 30614\n\
+        mem 0x3014 4\n\
         console 3 0 256\n\
-        writer 0x100000\n\
-        writer 0x1fe00000\n\
-        find 0 18446744073709551615\n\
-        goto 65554\n\
-        add 65552 2 123\n\
-        find 0 5\n\
-        writer 0x3010\n\
-        writer 0x2002\n\
-        writer 0x2014\n\
-        patch 0x2014 0x0\n\
+        mem 0x2014 2\n\
+        console 0 1 256\n\
+        visit 0xbfc01008 70000\n\
         regs\n\
-        writer 0x1fc40000\n\
-        find 0 6\n\
-        console 0 11 256\n\
-        move 8 14098\n\
-        writer 0x1fc0002c\n\
-        log 0 32\n\
-        writer 0x3008\n\
+        set 1000000 256\n\
+        goto 154261\n\
+        patch 0x1fc20000 0x46f5d91f\n\
+        writer 0x3014\n\
+        mem 0x3000 1\n\
+        find 0 2\n\
+        mem 0x1fc01040 3\n\
+        patch 0x1fc01040 0x36312000\n\
+        mem 0x3000 4\n\
         writer 0x2014\n\
-        set 1000000 255\n\
-        goto 184853\n\
-        patch 0x7ffffc 0x0\n\
+        writer 0x3014\n\
+        find 0 2\n\
+        visit 0xbfc01028 1\n\
+        regs\n\
+        add 50131 0 188\n\
+        regs\n\
+        log 0 32\n\
+        writer 0x3014\n\
+        find 0 2\n\
+        patch 0x101 0x100000000\n\
+        goto 4294967293\n\
+        step 4\n\
+        pos\n\
+        goto 4294967296\n\
+        step 0\n\
+        pos\n\
+        goto 154261\n\
+        goto 188690\n\
+        del 6\n\
+        writer 0x1fc00080\n\
+        find 0 0\n\
+        console 0 2 256\n\
+        mem 0x3014 4\n\
+        visit 0xbfc01008 300\n\
+        regs\n\
+        goto 188690\n\
+        ferr 4907 1 185\n\
+        writer 0x2014\n\
+        regs\n\
+        writer 0x2014\n\
+        writer 0x2014\n\
+        visit 0xbfc01000 20\n\
+        regs\n\
+        goto 188690\n\
+        wire 4294967297 2 0\n\
+        writer 0x2014\n\
+        writer 0x3014\n\
+        writer 0x1fc00028\n\
+        writer 0x2014\n\
+        patch 0x101 0x100000000\n\
+        goto 1099511627773\n\
+        back 3\n\
+        pos\n\
+        goto 4294967297\n\
+        step 4\n\
+        pos\n\
+        goto 188690\n\
+        goto 133251\n\
+        patch 0x7ffffc 0x5ff43f9d\n\
+        find 0 4\n\
+        find 0 2\n\
+        writer 0x2014\n\
+        log 0 32\n\
+        visit 0xbfc01030 70000\n\
+        regs\n\
+        erase 120935 182441\n\
+        pos\n\
+        console 3 0 256\n\
         writer 0x2014\n\
         mem 0x2004 4\n\
-        writer 0x1fc00070\n\
-        console 0 9 256\n\
-        set 15 241\n\
-        writer 0x3010\n\
-        writer 0x3010\n\
+        ferr 11342 3 154\n\
+        console 0 5 256\n\
+        writer 0x1fc01018\n\
+        find 0 2\n\
+        writer 0x3014\n\
+        visit 0xbfc0102c 20\n\
         regs\n\
-        log 0 32\n\
-        move 11 161618\n\
-        writer 0x3010\n\
-        find 0 9\n\
-        cp0\n\
+        visit 0 0\n\
+        goto 1099511627774\n\
+        step 4\n\
         pos\n\
-        set 1000000 255\n\
-        goto 3280\n\
-        add 65537 0 177\n\
-        writer 0x1fc00020\n\
-        console 0 8 256\n\
-        writer 0x2014\n\
-        writer 0x2014\n\
-        add 3187 1 202\n\
-        console 2 0 256\n\
-        writer 0x8\n\
-        mem 0x3008 2\n\
-        mem 0x1fc01040 3\n\
-        del 13\n\
-        writer 0x2014\n\
+        goto 1099511627774\n\
+        back 1\n\
+        pos\n\
+        goto 133279\n\
+        goto 157458\n\
+        del 2\n\
+        cp0\n\
+        writer 0x1fc0008c\n\
+        mem 0x3014 1\n\
+        mem 0x2014 2\n\
+        erase 54735 1099511627777\n\
         console 0 0 256\n\
-        writer 0x3010\n\
-        mem 0x3008 4\n\
-        visit 0xbfc01008 20\n\
+        writer 0x2014\n\
+        writer 0x2014\n\
+        writer 0x2014\n\
+        move 8 157450\n\
+        log 0 32\n\
+        writer 0x3014\n\
+        mem 0x3014 2\n\
+        mem 0x1fc01040 3\n\
+        add 1099511627775 0 1\n\
+        goto 4294967295\n\
+        back 0\n\
+        pos\n\
+        goto 4294967292\n\
+        step 3\n\
+        pos\n\
+        goto 157458\n\
+        goto 822\n\
+        add 672 3 249\n\
+        find 0 1\n\
+        writer 0x1fc00074\n\
+        find 0 1\n\
+        console 0 0 256\n\
+        visit 0xbfc01008 70000\n\
         regs\n\
-        goto 3280\n\
-        patch 0x101 0x100000000\n",
+        goto 822\n\
+        set 3 107\n\
+        console 0 1 256\n\
+        console 0 0 256\n\
+        regs\n\
+        console 0 1 256\n\
+        patch 0x3014 0x0\n\
+        console 0 0 256\n\
+        writer 0x3014\n\
+        writer 0x201c\n\
+        writer 0x2014\n\
+        set 0 2\n",
         b"\
         pos 2496\n\
         pos 2507\n\
         pos 2506\n\
-        pc 0xbfc01008 next 0xbfc0100c hi 0x00000000 lo 0x00000000 delay 0 load none\n\
+        pc 0xbfc01034 next 0xbfc01038 hi 0x00000000 lo 0x00000000 delay 0 load none\n\
         r0 0x00000000 0xbfe00000 0x00000020 0x00000000\n\
         r4 0x00000000 0x00000000 0x00000000 0x00000000\n\
         r8 0x00000000 0x00000000 0x00000000 0x00000000\n\
         r12 0x00000000 0x00000000 0x00000000 0x00000000\n\
-        r16 0xbfe00000 0xa0002000 0x80003000 0x00000000\n\
+        r16 0xbfe00000 0xa0002000 0x80003000 0xbff00000\n\
         r20 0x00000000 0x00000000 0x00000000 0x00000000\n\
         r24 0x00000000 0x00000000 0x00000000 0x00000000\n\
         r28 0x00000000 0x00000000 0x00000000 0x00000000\n\
@@ -2490,35 +2903,20 @@ fn random(rt: HostRuntime) -> Result<(), Fail> {
         0x00002054 0x00000000 sll r0, r0, 0\n\
         0x00002058 0x00000000 sll r0, r0, 0\n\
         console 2 0 none\n\
-        log 19\n\
-        0 31 2 0x18\n\
-        1 47 3 0x8a\n\
-        2 142 0 0xed\n\
-        3 169 3 0x46\n\
-        4 193 2 0xb2\n\
-        5 337 0 0x4f\n\
-        6 346 0 0xb0\n\
-        7 372 3 0x46\n\
-        8 560 0 0xf8\n\
-        9 825 2 0x1a\n\
-        10 975 2 0xa7\n\
-        11 1027 0 0xc4\n\
-        12 1506 0 0xe3\n\
-        13 1613 3 0xa1\n\
-        14 1750 0 0x4b\n\
-        15 2182 2 0x9f\n\
-        16 2216 2 0xfc\n\
-        17 2405 1 0x6e\n\
-        18 2719 1 0xad\n\
+        log 4\n\
+        0 169 1 0x01 wire\n\
+        1 1506 3 0x17\n\
+        2 1928 1 0x00 wire\n\
+        3 2890 2 0xb2\n\
         pos 3223\n\
         pos 3224\n\
         pos 3207\n\
-        pc 0xbfc01008 next 0xbfc0100c hi 0x00000000 lo 0x00000000 delay 0 load none\n\
+        pc 0xbfc01044 next 0xbfc0103c hi 0x00000000 lo 0x00000000 delay 1 load none\n\
         r0 0x00000000 0xbfe00000 0x00000020 0x00000000\n\
         r4 0x00000000 0x00000000 0x00000000 0x00000000\n\
-        r8 0x00000000 0x00000000 0x00000000 0x00000000\n\
+        r8 0x00000000 0x00000000 0x00000005 0x00000000\n\
         r12 0x00000000 0x00000000 0x00000000 0x00000000\n\
-        r16 0xbfe00000 0xa0002000 0x80003000 0x00000000\n\
+        r16 0xbfe00000 0xa0002000 0x80003000 0xbff00000\n\
         r20 0x00000000 0x00000000 0x00000000 0x00000000\n\
         r24 0x00000000 0x00000000 0x00000000 0x00000000\n\
         r28 0x00000000 0x00000000 0x00000000 0x00000000\n\
@@ -2559,35 +2957,20 @@ fn random(rt: HostRuntime) -> Result<(), Fail> {
         0x00002064 0x00000000 sll r0, r0, 0\n\
         0x00002068 0x00000000 sll r0, r0, 0\n\
         console 1 0 none\n\
-        log 19\n\
-        0 31 2 0x18\n\
-        1 47 3 0x8a\n\
-        2 142 0 0xed\n\
-        3 169 3 0x46\n\
-        4 193 2 0xb2\n\
-        5 337 0 0x4f\n\
-        6 346 0 0xb0\n\
-        7 372 3 0x46\n\
-        8 560 0 0xf8\n\
-        9 825 2 0x1a\n\
-        10 975 2 0xa7\n\
-        11 1027 0 0xc4\n\
-        12 1506 0 0xe3\n\
-        13 1613 3 0xa1\n\
-        14 1750 0 0x4b\n\
-        15 2182 2 0x9f\n\
-        16 2216 2 0xfc\n\
-        17 2405 1 0x6e\n\
-        18 2719 1 0xad\n\
+        log 4\n\
+        0 169 1 0x01 wire\n\
+        1 1506 3 0x17\n\
+        2 1928 1 0x00 wire\n\
+        3 2890 2 0xb2\n\
         pos 455\n\
         pos 468\n\
         pos 460\n\
-        pc 0xbfc0102c next 0xbfc01030 hi 0x00000000 lo 0x00000000 delay 0 load none\n\
+        pc 0xbfc0103c next 0xbfc01040 hi 0x00000000 lo 0x00000000 delay 0 load none\n\
         r0 0x00000000 0xbfe00000 0x00000020 0x00000000\n\
         r4 0x00000000 0x00000000 0x00000000 0x00000000\n\
-        r8 0x00000000 0x00000000 0x00000000 0x00000000\n\
+        r8 0x00000000 0x00000000 0x0000000b 0x00000000\n\
         r12 0x00000000 0x00000000 0x00000000 0x00000000\n\
-        r16 0xbfe00000 0xa0002000 0x80003000 0x00000000\n\
+        r16 0xbfe00000 0xa0002000 0x80003000 0xbff00000\n\
         r20 0x00000000 0x00000000 0x00000000 0x00000000\n\
         r24 0x00000000 0x00000000 0x00000000 0x00000000\n\
         r28 0x00000000 0x00000000 0x00000000 0x00000000\n\
@@ -2628,35 +3011,20 @@ fn random(rt: HostRuntime) -> Result<(), Fail> {
         0x00002048 0x00000000 sll r0, r0, 0\n\
         0x0000204c 0x00000000 sll r0, r0, 0\n\
         console 3 0 none\n\
-        log 19\n\
-        0 31 2 0x18\n\
-        1 47 3 0x8a\n\
-        2 142 0 0xed\n\
-        3 169 3 0x46\n\
-        4 193 2 0xb2\n\
-        5 337 0 0x4f\n\
-        6 346 0 0xb0\n\
-        7 372 3 0x46\n\
-        8 560 0 0xf8\n\
-        9 825 2 0x1a\n\
-        10 975 2 0xa7\n\
-        11 1027 0 0xc4\n\
-        12 1506 0 0xe3\n\
-        13 1613 3 0xa1\n\
-        14 1750 0 0x4b\n\
-        15 2182 2 0x9f\n\
-        16 2216 2 0xfc\n\
-        17 2405 1 0x6e\n\
-        18 2719 1 0xad\n\
+        log 4\n\
+        0 169 1 0x01 wire\n\
+        1 1506 3 0x17\n\
+        2 1928 1 0x00 wire\n\
+        3 2890 2 0xb2\n\
         pos 2793\n\
         pos 2803\n\
         pos 2788\n\
-        pc 0xbfc01030 next 0xbfc01000 hi 0x00000000 lo 0x00000000 delay 1 load none\n\
+        pc 0xbfc01040 next 0xbfc01044 hi 0x00000000 lo 0x00000000 delay 0 load none\n\
         r0 0x00000000 0xbfe00000 0x00000020 0x00000000\n\
         r4 0x00000000 0x00000000 0x00000000 0x00000000\n\
-        r8 0x00000000 0x00000000 0x00000000 0x00000000\n\
+        r8 0x00000000 0x00000000 0x00000017 0x00000000\n\
         r12 0x00000000 0x00000000 0x00000000 0x00000000\n\
-        r16 0xbfe00000 0xa0002000 0x80003000 0x00000000\n\
+        r16 0xbfe00000 0xa0002000 0x80003000 0xbff00000\n\
         r20 0x00000000 0x00000000 0x00000000 0x00000000\n\
         r24 0x00000000 0x00000000 0x00000000 0x00000000\n\
         r28 0x00000000 0x00000000 0x00000000 0x00000000\n\
@@ -2696,36 +3064,21 @@ fn random(rt: HostRuntime) -> Result<(), Fail> {
         0x00002040 0x00000000 sll r0, r0, 0\n\
         0x00002044 0x00000000 sll r0, r0, 0\n\
         0x00002048 0x00000000 sll r0, r0, 0\n\
-        console 0 10 184ff81ac4e34b9f6ead\n\
-        log 19\n\
-        0 31 2 0x18\n\
-        1 47 3 0x8a\n\
-        2 142 0 0xed\n\
-        3 169 3 0x46\n\
-        4 193 2 0xb2\n\
-        5 337 0 0x4f\n\
-        6 346 0 0xb0\n\
-        7 372 3 0x46\n\
-        8 560 0 0xf8\n\
-        9 825 2 0x1a\n\
-        10 975 2 0xa7\n\
-        11 1027 0 0xc4\n\
-        12 1506 0 0xe3\n\
-        13 1613 3 0xa1\n\
-        14 1750 0 0x4b\n\
-        15 2182 2 0x9f\n\
-        16 2216 2 0xfc\n\
-        17 2405 1 0x6e\n\
-        18 2719 1 0xad\n\
+        console 0 1 17\n\
+        log 4\n\
+        0 169 1 0x01 wire\n\
+        1 1506 3 0x17\n\
+        2 1928 1 0x00 wire\n\
+        3 2890 2 0xb2\n\
         pos 3020\n\
         pos 3037\n\
         pos 3020\n\
-        pc 0xbfc01030 next 0xbfc01000 hi 0x00000000 lo 0x00000000 delay 1 load none\n\
+        pc 0xbfc0103c next 0xbfc01040 hi 0x00000000 lo 0x00000000 delay 0 load none\n\
         r0 0x00000000 0xbfe00000 0x00000020 0x00000000\n\
-        r4 0x00000000 0x00000000 0x00000000 0x00000000\n\
-        r8 0x00000000 0x00000000 0x00000000 0x00000000\n\
+        r4 0x00000000 0x00000000 0x000082b2 0x82b20000\n\
+        r8 0x00000000 0x00000000 0x00000007 0x00000000\n\
         r12 0x00000000 0x00000000 0x00000000 0x00000000\n\
-        r16 0xbfe00000 0xa0002000 0x80003000 0x00000000\n\
+        r16 0xbfe00000 0xa0002000 0x80003000 0xbff00000\n\
         r20 0x00000000 0x00000000 0x00000000 0x00000000\n\
         r24 0x00000000 0x00000000 0x00000000 0x00000000\n\
         r28 0x00000000 0x00000000 0x00000000 0x00000000\n\
@@ -2733,16 +3086,16 @@ fn random(rt: HostRuntime) -> Result<(), Fail> {
         index 0x00000000 random 0x00000b00 entrylo 0x00000000 context 0x00000000 badvaddr 0x00000000 entryhi 0x00000000 status 0x00400000 cause 0x00000000 epc 0x00000000 prid 0x00000220\n\
         tlb 5 0x00000000 0x00000000\n\
         where tlbl\n\
-        0x1fc01024 0x10000001\n\
+        0x1fc01024 0x00000000\n\
         0x1fc01028 0x00000000\n\
-        0x1fc0102c 0x1000fff4\n\
+        0x1fc0102c 0x00000000\n\
         0x1fc01030 0x00000000\n\
         0x1fc01034 0x00000000\n\
-        0x1fc01038 0x00000000\n\
-        0x1fc0103c 0x00000000\n\
-        0x1fc01040 0x00000000\n\
+        0x1fc01038 0x240a001a\n\
+        0x1fc0103c 0x254affff\n\
+        0x1fc01040 0x1d40fffe\n\
         0x1fc01044 0x00000000\n\
-        0x1fc01048 0x00000000\n\
+        0x1fc01048 0x1000ffed\n\
         0x1fc0104c 0x00000000\n\
         0x1fc01050 0x00000000\n\
         0x1fc01054 0x00000000\n\
@@ -2766,35 +3119,20 @@ fn random(rt: HostRuntime) -> Result<(), Fail> {
         0x00002060 0x00000000 sll r0, r0, 0\n\
         0x00002064 0x00000000 sll r0, r0, 0\n\
         console 1 0 none\n\
-        log 19\n\
-        0 31 2 0x18\n\
-        1 47 3 0x8a\n\
-        2 142 0 0xed\n\
-        3 169 3 0x46\n\
-        4 193 2 0xb2\n\
-        5 337 0 0x4f\n\
-        6 346 0 0xb0\n\
-        7 372 3 0x46\n\
-        8 560 0 0xf8\n\
-        9 825 2 0x1a\n\
-        10 975 2 0xa7\n\
-        11 1027 0 0xc4\n\
-        12 1506 0 0xe3\n\
-        13 1613 3 0xa1\n\
-        14 1750 0 0x4b\n\
-        15 2182 2 0x9f\n\
-        16 2216 2 0xfc\n\
-        17 2405 1 0x6e\n\
-        18 2719 1 0xad\n\
+        log 4\n\
+        0 169 1 0x01 wire\n\
+        1 1506 3 0x17\n\
+        2 1928 1 0x00 wire\n\
+        3 2890 2 0xb2\n\
         pos 3628\n\
         pos 3643\n\
         pos 3624\n\
-        pc 0xbfc0100c next 0xbfc01010 hi 0x00000000 lo 0x00000000 delay 0 load none\n\
+        pc 0xbfc0103c next 0xbfc01040 hi 0x00000000 lo 0x00000000 delay 0 load none\n\
         r0 0x00000000 0xbfe00000 0x00000020 0x00000000\n\
         r4 0x00000000 0x00000000 0x00000000 0x00000000\n\
-        r8 0x00000000 0x00000000 0x00000000 0x00000000\n\
+        r8 0x00000000 0x00000000 0x00000012 0x00000000\n\
         r12 0x00000000 0x00000000 0x00000000 0x00000000\n\
-        r16 0xbfe00000 0xa0002000 0x80003000 0x00000000\n\
+        r16 0xbfe00000 0xa0002000 0x80003000 0xbff00000\n\
         r20 0x00000000 0x00000000 0x00000000 0x00000000\n\
         r24 0x00000000 0x00000000 0x00000000 0x00000000\n\
         r28 0x00000000 0x00000000 0x00000000 0x00000000\n\
@@ -2803,11 +3141,11 @@ fn random(rt: HostRuntime) -> Result<(), Fail> {
         tlb 43 0x00000000 0x00000000\n\
         where 0x00001003 cached\n\
         0x1fc01034 0x00000000\n\
-        0x1fc01038 0x00000000\n\
-        0x1fc0103c 0x00000000\n\
-        0x1fc01040 0x00000000\n\
+        0x1fc01038 0x240a001a\n\
+        0x1fc0103c 0x254affff\n\
+        0x1fc01040 0x1d40fffe\n\
         0x1fc01044 0x00000000\n\
-        0x1fc01048 0x00000000\n\
+        0x1fc01048 0x1000ffed\n\
         0x1fc0104c 0x00000000\n\
         0x1fc01050 0x00000000\n\
         0x1fc01054 0x00000000\n\
@@ -2835,252 +3173,294 @@ fn random(rt: HostRuntime) -> Result<(), Fail> {
         0x00001074 0x00000000 sll r0, r0, 0\n\
         0x00001078 0x00000000 sll r0, r0, 0\n\
         console 2 0 none\n\
-        log 19\n\
-        0 31 2 0x18\n\
-        1 47 3 0x8a\n\
-        2 142 0 0xed\n\
-        3 169 3 0x46\n\
-        4 193 2 0xb2\n\
-        5 337 0 0x4f\n\
-        6 346 0 0xb0\n\
-        7 372 3 0x46\n\
-        8 560 0 0xf8\n\
-        9 825 2 0x1a\n\
-        10 975 2 0xa7\n\
-        11 1027 0 0xc4\n\
-        12 1506 0 0xe3\n\
-        13 1613 3 0xa1\n\
-        14 1750 0 0x4b\n\
-        15 2182 2 0x9f\n\
-        16 2216 2 0xfc\n\
-        17 2405 1 0x6e\n\
-        18 2719 1 0xad\n\
+        log 4\n\
+        0 169 1 0x01 wire\n\
+        1 1506 3 0x17\n\
+        2 1928 1 0x00 wire\n\
+        3 2890 2 0xb2\n\
         pos 151316\n\
-        error 4 NoEvent\n\
-        0x1fc00094 0x00000000\n\
-        0x1fc00098 0x00000000\n\
-        0x1fc0009c 0x00000000\n\
-        0x1fc000a0 0x00000000\n\
-        0x00003008 0x00000000\n\
-        0x0000300c 0x00000000\n\
-        0x00003010 0x00000000\n\
+        event 1\n\
+        writer image\n\
+        pc 0xbfc01044 next 0xbfc0103c hi 0x00000000 lo 0x00000000 delay 1 load none\n\
+        r0 0x00000000 0xbfe00000 0x00000020 0x00000000\n\
+        r4 0x00000000 0x00000000 0x00000000 0x00000000\n\
+        r8 0x00000000 0x00000000 0x00000012 0x00000000\n\
+        r12 0x00000000 0x00000000 0x00000000 0x00000000\n\
+        r16 0xbfe00000 0xa0002000 0x80003000 0xbff00000\n\
+        r20 0x00000000 0x00000000 0x00000000 0x00000000\n\
+        r24 0x00000000 0x00000000 0x00000000 0x00000000\n\
+        r28 0x00000000 0x00000000 0x00000000 0x00000000\n\
+        writer 2959\n\
+        find 1593\n\
+        ok\n\
+        0x00002020 0x00000000\n\
+        writer image\n\
+        pc 0xbfc01044 next 0xbfc0103c hi 0x00000000 lo 0x00000000 delay 1 load none\n\
+        r0 0x00000000 0xbfe00000 0x00000020 0x00000000\n\
+        r4 0x00000000 0x00000000 0x00000000 0x00000000\n\
+        r8 0x00000000 0x00000000 0x00000012 0x00000000\n\
+        r12 0x00000000 0x00000000 0x00000000 0x00000000\n\
+        r16 0xbfe00000 0xa0002000 0x80003000 0xbff00000\n\
+        r20 0x00000000 0x00000000 0x00000000 0x00000000\n\
+        r24 0x00000000 0x00000000 0x00000000 0x00000000\n\
+        r28 0x00000000 0x00000000 0x00000000 0x00000000\n\
+        writer 151284\n\
+        log 5\n\
         0x00003014 0x00000000\n\
-        0x00003010 0x00000000\n\
-        0x00003014 0x00000000\n\
-        find 2727\n\
-        ok\n\
-        0x00003010 0x00000000\n\
-        writer image\n\
-        pc 0xbfc01030 next 0xbfc01000 hi 0x00000000 lo 0x00000000 delay 1 load none\n\
-        r0 0x00000000 0xbfe00000 0x00000020 0x00000000\n\
-        r4 0x00000000 0x00000000 0x00000000 0x00000000\n\
-        r8 0x00000000 0x00000000 0x00000000 0x00000000\n\
-        r12 0x00000000 0x00000000 0x00000000 0x00000000\n\
-        r16 0xbfe00000 0xa0002000 0x80003000 0x00000000\n\
-        r20 0x00000000 0x00000000 0x00000000 0x00000000\n\
-        r24 0x00000000 0x00000000 0x00000000 0x00000000\n\
-        r28 0x00000000 0x00000000 0x00000000 0x00000000\n\
-        writer 2728\n\
-        ok\n\
-        writer 2728\n\
-        console 0 10 9f6ead\n\
-        writer 151311\n\
-        0x00002014 0x00000000\n\
-        0x00002018 0x00000000\n\
-        error 3 Range\n\
-        pos 3509\n\
-        ok\n\
-        console 0 10 e34b9f6ead\n\
-        writer 2726\n\
-        writer 2726\n\
-        writer 3503\n\
-        log 18\n\
-        writer 2731\n\
-        writer never\n\
-        0x00000050 0x00000000\n\
-        0x00000054 0x00000000\n\
-        0x00000058 0x00000000\n\
-        pos 3509\n\
-        event 15\n\
-        writer never\n\
-        writer image\n\
-        writer never\n\
-        find 1039\n\
-        pos 3510\n\
-        pc 0xbfc0102c next 0xbfc01030 hi 0x00000000 lo 0x00000000 delay 0 load none\n\
-        r0 0x00000000 0xbfe00000 0x00000020 0x00000000\n\
-        r4 0x00000000 0x00000000 0x00000000 0x00000000\n\
-        r8 0x00000000 0x00000000 0x00000000 0x00000000\n\
-        r12 0x00000000 0x00000000 0x00000000 0x00000000\n\
-        r16 0xbfe00000 0xa0002000 0x80003000 0x00000000\n\
-        r20 0x00000000 0x00000000 0x00000000 0x00000000\n\
-        r24 0x00000000 0x00000000 0x00000000 0x00000000\n\
-        r28 0x00000000 0x00000000 0x00000000 0x00000000\n\
-        error 4 NoEvent\n\
-        pos 54561\n\
-        event 8\n\
-        pos 54561\n\
-        writer 2729\n\
-        writer never\n\
-        find 2413\n\
-        event 9\n\
-        0x00002014 0x00000000\n\
-        0x00002018 0x00000000\n\
-        0x0000201c 0x00000000\n\
-        pc 0xbfc01004 next 0xbfc01008 hi 0x00000000 lo 0x00000000 delay 0 load r6 0x00000000\n\
-        r0 0x00000000 0xbfe00000 0x00000020 0x00000000\n\
-        r4 0x00000000 0x00000000 0x00000000 0x00000000\n\
-        r8 0x00000000 0x00000000 0x00000000 0x00000000\n\
-        r12 0x00000000 0x00000000 0x00000000 0x00000000\n\
-        r16 0xbfe00000 0xa0002000 0x80003000 0x00000000\n\
-        r20 0x00000000 0x00000000 0x00000000 0x00000000\n\
-        r24 0x00000000 0x00000000 0x00000000 0x00000000\n\
-        r28 0x00000000 0x00000000 0x00000000 0x00000000\n\
-        writer 2731\n\
-        writer image\n\
-        pos 54566\n\
-        pc 0xbfc0102c next 0xbfc01030 hi 0x00000000 lo 0x00000000 delay 0 load none\n\
-        r0 0x00000000 0xbfe00000 0x00000020 0x00000000\n\
-        r4 0x00000000 0x00000000 0x00000000 0x00000000\n\
-        r8 0x00000000 0x00000000 0x00000000 0x00000000\n\
-        r12 0x00000000 0x00000000 0x00000000 0x00000000\n\
-        r16 0xbfe00000 0xa0002000 0x80003000 0x00000000\n\
-        r20 0x00000000 0x00000000 0x00000000 0x00000000\n\
-        r24 0x00000000 0x00000000 0x00000000 0x00000000\n\
-        r28 0x00000000 0x00000000 0x00000000 0x00000000\n\
-        pos 54561\n\
-        event 18\n\
-        find 45\n\
+        0x00003018 0x00000000\n\
+        0x0000301c 0x00000000\n\
+        0x00003020 0x00000000\n\
         console 3 0 none\n\
-        writer never\n\
-        error 6 NotMemory\n\
-        error 8 NotFound\n\
-        pos 65554\n\
-        event 19\n\
-        find 1516\n\
-        writer 43534\n\
-        error 5 Unaligned\n\
-        writer 65551\n\
-        ok\n\
-        pc 0xbfc01014 next 0xbfc0102c hi 0x00000000 lo 0x00000000 delay 1 load none\n\
-        r0 0x00000000 0xbfe00000 0x00000020 0x00000000\n\
-        r4 0x00000000 0x00000000 0x00000000 0x00000000\n\
-        r8 0x00000000 0x00000000 0x00000000 0x00000000\n\
-        r12 0x00000000 0x00000000 0x00000000 0x00000000\n\
-        r16 0xbfe00000 0xa0002000 0x80003000 0x00000000\n\
-        r20 0x00000000 0x00000000 0x00000000 0x00000000\n\
-        r24 0x00000000 0x00000000 0x00000000 0x00000000\n\
-        r28 0x00000000 0x00000000 0x00000000 0x00000000\n\
-        error 6 NotMemory\n\
-        find 1758\n\
-        console 0 11 none\n\
-        event 17\n\
-        writer image\n\
-        log 20\n\
-        0 31 2 0x18\n\
-        1 142 0 0xed\n\
-        2 169 3 0x46\n\
-        3 193 2 0xb2\n\
-        4 337 0 0x4f\n\
-        5 346 0 0xb0\n\
-        6 372 3 0x46\n\
-        7 560 0 0xf8\n\
-        8 975 2 0x8f\n\
-        9 1027 0 0xc4\n\
-        10 1506 0 0xe3\n\
-        11 1613 3 0xa1\n\
-        12 1750 0 0x4b\n\
-        13 2182 2 0x9f\n\
-        14 2216 2 0xcc\n\
-        15 2405 1 0x6e\n\
-        16 2719 1 0xad\n\
-        17 14098 2 0xb1\n\
-        18 43524 2 0x95\n\
-        19 65552 2 0x7b\n\
-        writer 43536\n\
-        writer 65551\n\
-        error 4 NoEvent\n\
-        pos 184853\n\
-        ok\n\
-        writer 184852\n\
-        0x00002004 0x00000000\n\
-        0x00002008 0x00000000\n\
-        0x0000200c 0x00000000\n\
-        0x00002010 0x00000000\n\
-        writer image\n\
-        console 0 12 b1957b\n\
-        event 15\n\
-        writer 65563\n\
-        writer 65563\n\
-        pc 0xbfc0100c next 0xbfc01010 hi 0x00000000 lo 0x00000000 delay 0 load none\n\
-        r0 0x00000000 0xbfe00000 0x00000020 0x00000000\n\
-        r4 0x00000000 0x00000000 0x00000000 0x00000000\n\
-        r8 0x00000000 0x00000000 0x00000000 0x00000000\n\
-        r12 0x00000000 0x00000000 0x00000000 0x00000000\n\
-        r16 0xbfe00000 0xa0002000 0x80003000 0x00000000\n\
-        r20 0x00000000 0x00000000 0x00000000 0x00000000\n\
-        r24 0x00000000 0x00000000 0x00000000 0x00000000\n\
-        r28 0x00000000 0x00000000 0x00000000 0x00000000\n\
-        log 20\n\
-        0 31 2 0x18\n\
-        1 142 0 0xed\n\
-        2 169 3 0x46\n\
-        3 193 2 0xb2\n\
-        4 337 0 0x4f\n\
-        5 346 0 0xb0\n\
-        6 372 3 0x46\n\
-        7 560 0 0xf8\n\
-        8 975 2 0x8f\n\
-        9 1027 0 0xc4\n\
-        10 1506 0 0xe3\n\
-        11 1613 3 0xa1\n\
-        12 1750 0 0x4b\n\
-        13 2182 2 0x9f\n\
-        14 2216 2 0xcc\n\
-        15 2405 1 0xf1\n\
-        16 2719 1 0xad\n\
-        17 14098 2 0xb1\n\
-        18 43524 2 0x95\n\
-        19 65552 2 0x7b\n\
-        event 19\n\
-        writer 161627\n\
-        find 14109\n\
-        index 0x00000000 random 0x00000a00 entrylo 0x00000000 context 0x00000000 badvaddr 0x00000000 entryhi 0x00000000 status 0x00400000 cause 0x00000000 epc 0x00000000 prid 0x00000220\n\
-        pos 184853\n\
-        error 4 NoEvent\n\
-        pos 3280\n\
-        event 18\n\
-        writer image\n\
-        console 0 9 ad\n\
-        writer 3272\n\
-        writer 3272\n\
-        event 16\n\
-        console 2 0 none\n\
-        writer never\n\
-        0x00003008 0x00000000\n\
-        0x0000300c 0x00000000\n\
-        0x1fc01040 0x00000000\n\
-        0x1fc01044 0x00000000\n\
-        0x1fc01048 0x00000000\n\
-        log 21\n\
-        writer 3272\n\
-        console 0 10 184ff88fe34b9ff1adca\n\
-        writer 3199\n\
-        0x00003008 0x00000000\n\
-        0x0000300c 0x00000000\n\
-        0x00003010 0x00000000\n\
-        0x00003014 0x00000000\n\
-        pos 3288\n\
+        0x00002014 0x00000000\n\
+        0x00002018 0x00000000\n\
+        console 0 3 17b2\n\
+        pos 151375\n\
         pc 0xbfc01008 next 0xbfc0100c hi 0x00000000 lo 0x00000000 delay 0 load none\n\
         r0 0x00000000 0xbfe00000 0x00000020 0x00000000\n\
         r4 0x00000000 0x00000000 0x00000000 0x00000000\n\
         r8 0x00000000 0x00000000 0x00000000 0x00000000\n\
         r12 0x00000000 0x00000000 0x00000000 0x00000000\n\
-        r16 0xbfe00000 0xa0002000 0x80003000 0x00000000\n\
+        r16 0xbfe00000 0xa0002000 0x80003000 0xbff00000\n\
         r20 0x00000000 0x00000000 0x00000000 0x00000000\n\
         r24 0x00000000 0x00000000 0x00000000 0x00000000\n\
         r28 0x00000000 0x00000000 0x00000000 0x00000000\n\
-        pos 3280\n\
+        error 3 Range\n\
+        pos 154261\n\
+        ok\n\
+        writer 2959\n\
+        0x00003000 0x00000000\n\
+        find 2958\n\
+        0x1fc01040 0x1d40fffe\n\
+        0x1fc01044 0x00000000\n\
+        0x1fc01048 0x1000ffed\n\
+        ok\n\
+        0x00003000 0x00000000\n\
+        0x00003004 0x00000000\n\
+        0x00003008 0x00000000\n\
+        0x0000300c 0x00000000\n\
+        writer 154250\n\
+        writer 2911\n\
+        find 2910\n\
+        error 8 NotFound\n\
+        pc 0xbfc01044 next 0xbfc01048 hi 0x00000000 lo 0x00000000 delay 0 load none\n\
+        r0 0x00000000 0xbfe00000 0x00000020 0x00000000\n\
+        r4 0x00000000 0x00000000 0x00000000 0x00000000\n\
+        r8 0x00000000 0x00000000 0x00000019 0x00000000\n\
+        r12 0x00000000 0x00000000 0x00000000 0x00000000\n\
+        r16 0xbfe00000 0xa0002000 0x80003000 0xbff00000\n\
+        r20 0x00000000 0x00000000 0x00000000 0x00000000\n\
+        r24 0x00000000 0x00000000 0x00000000 0x00000000\n\
+        r28 0x00000000 0x00000000 0x00000000 0x00000000\n\
+        event 5\n\
+        pc 0xbfc01044 next 0xbfc01048 hi 0x00000000 lo 0x00000000 delay 0 load none\n\
+        r0 0x00000000 0xbfe00000 0x00000020 0x00000000\n\
+        r4 0x00000000 0x00000000 0x00000000 0x00000000\n\
+        r8 0x00000000 0x00000000 0x00000019 0x00000000\n\
+        r12 0x00000000 0x00000000 0x00000000 0x00000000\n\
+        r16 0xbfe00000 0xa0002000 0x80003000 0xbff00000\n\
+        r20 0x00000000 0x00000000 0x00000000 0x00000000\n\
+        r24 0x00000000 0x00000000 0x00000000 0x00000000\n\
+        r28 0x00000000 0x00000000 0x00000000 0x00000000\n\
+        log 6\n\
+        0 169 1 0x01 wire\n\
+        1 994 0 0x84\n\
+        2 1506 3 0x17\n\
+        3 1928 1 0x00 wire\n\
+        4 2890 2 0xb2\n\
+        5 50131 0 0xbc\n\
+        writer 50143\n\
+        find 2910\n\
+        error 3 Range\n\
+        pos 4294967293\n\
+        pos 4294967297\n\
+        pos 4294967297\n\
+        pos 4294967296\n\
+        pos 4294967296\n\
+        pos 4294967296\n\
+        pos 154261\n\
+        pos 188690\n\
+        error 4 NoEvent\n\
+        writer image\n\
+        find 1006\n\
+        console 0 4 b2bc\n\
+        0x00003014 0x00000000\n\
+        0x00003018 0x00000000\n\
+        0x0000301c 0x00000000\n\
+        0x00003020 0x00000000\n\
+        pos 188698\n\
+        pc 0xbfc01008 next 0xbfc0100c hi 0x00000000 lo 0x00000000 delay 0 load none\n\
+        r0 0x00000000 0xbfe00000 0x00000020 0x00000000\n\
+        r4 0x00000000 0x00000000 0x00000000 0x00000000\n\
+        r8 0x00000000 0x00000000 0x00000019 0x00000000\n\
+        r12 0x00000000 0x00000000 0x00000000 0x00000000\n\
+        r16 0xbfe00000 0xa0002000 0x80003000 0xbff00000\n\
+        r20 0x00000000 0x00000000 0x00000000 0x00000000\n\
+        r24 0x00000000 0x00000000 0x00000000 0x00000000\n\
+        r28 0x00000000 0x00000000 0x00000000 0x00000000\n\
+        pos 188690\n\
+        event 5\n\
+        writer 188682\n\
+        pc 0xbfc01038 next 0xbfc0103c hi 0x00000000 lo 0x00000000 delay 0 load none\n\
+        r0 0x00000000 0xbfe00000 0x00000020 0x00000000\n\
+        r4 0x00000000 0x00000000 0x00000000 0x00000000\n\
+        r8 0x00000000 0x00000000 0x00000019 0x00000000\n\
+        r12 0x00000000 0x00000000 0x00000000 0x00000000\n\
+        r16 0xbfe00000 0xa0002000 0x80003000 0xbff00000\n\
+        r20 0x00000000 0x00000000 0x00000000 0x00000000\n\
+        r24 0x00000000 0x00000000 0x00000000 0x00000000\n\
+        r28 0x00000000 0x00000000 0x00000000 0x00000000\n\
+        writer 188682\n\
+        writer 188682\n\
+        pos 188696\n\
+        pc 0xbfc01000 next 0xbfc01004 hi 0x00000000 lo 0x00000000 delay 0 load none\n\
+        r0 0x00000000 0xbfe00000 0x00000020 0x00000000\n\
+        r4 0x00000000 0x00000000 0x00000000 0x00000000\n\
+        r8 0x00000000 0x00000000 0x00000019 0x00000000\n\
+        r12 0x00000000 0x00000000 0x00000000 0x00000000\n\
+        r16 0xbfe00000 0xa0002000 0x80003000 0xbff00000\n\
+        r20 0x00000000 0x00000000 0x00000000 0x00000000\n\
+        r24 0x00000000 0x00000000 0x00000000 0x00000000\n\
+        r28 0x00000000 0x00000000 0x00000000 0x00000000\n\
+        pos 188690\n\
+        event 7\n\
+        writer 188682\n\
+        writer 50143\n\
+        writer image\n\
+        writer 188682\n\
+        error 3 Range\n\
+        pos 1099511627773\n\
+        pos 1099511627770\n\
+        pos 1099511627770\n\
+        pos 4294967297\n\
+        pos 4294967301\n\
+        pos 4294967301\n\
+        pos 188690\n\
+        pos 133251\n\
+        ok\n\
+        find 50142\n\
+        find 2910\n\
+        writer 133242\n\
+        log 8\n\
+        0 169 1 0x01 wire\n\
+        1 994 0 0x84\n\
+        2 1506 3 0x17\n\
+        3 1928 1 0x00 wire\n\
+        4 2890 2 0xb2\n\
+        5 4907 1 0xb9 framing\n\
+        6 50131 0 0xbc\n\
+        7 4294967297 2 0x00 wire\n\
+        pos 133264\n\
+        pc 0xbfc01030 next 0xbfc01034 hi 0x00000000 lo 0x00000000 delay 0 load none\n\
+        r0 0x00000000 0xbfe00000 0x00000020 0x00000000\n\
+        r4 0x00000000 0x00000000 0x00000000 0x00000000\n\
+        r8 0x00000000 0x00000000 0x00000019 0x00000000\n\
+        r12 0x00000000 0x00000000 0x00000000 0x00000000\n\
+        r16 0xbfe00000 0xa0002000 0x80003000 0xbff00000\n\
+        r20 0x00000000 0x00000000 0x00000000 0x00000000\n\
+        r24 0x00000000 0x00000000 0x00000000 0x00000000\n\
+        r28 0x00000000 0x00000000 0x00000000 0x00000000\n\
+        log 8\n\
+        pos 133264\n\
+        console 3 0 none\n\
+        writer 133258\n\
+        0x00002004 0x00000000\n\
+        0x00002008 0x00000000\n\
+        0x0000200c 0x00000000\n\
+        0x00002010 0x00000000\n\
+        event 6\n\
+        console 0 6 bc\n\
+        writer image\n\
+        find 2910\n\
+        writer 50143\n\
+        pos 133279\n\
+        pc 0xbfc0102c next 0xbfc01030 hi 0x00000000 lo 0x00000000 delay 0 load none\n\
+        r0 0x00000000 0xbfe00000 0x00000020 0x00000000\n\
+        r4 0x00000000 0x00000000 0x00000000 0x00000000\n\
+        r8 0x00000000 0x00000000 0x00000019 0x00000000\n\
+        r12 0x00000000 0x00000000 0x00000000 0x00000000\n\
+        r16 0xbfe00000 0xa0002000 0x80003000 0xbff00000\n\
+        r20 0x00000000 0x00000000 0x00000000 0x00000000\n\
+        r24 0x00000000 0x00000000 0x00000000 0x00000000\n\
+        r28 0x00000000 0x00000000 0x00000000 0x00000000\n\
+        error 3 Range\n\
+        pos 1099511627774\n\
+        error 7 TooFar\n\
+        pos 1099511627774\n\
+        pos 1099511627774\n\
+        pos 1099511627773\n\
+        pos 1099511627773\n\
+        pos 133279\n\
+        pos 157458\n\
+        log 8\n\
+        index 0x00000000 random 0x00001500 entrylo 0x00000000 context 0x00000000 badvaddr 0x00000000 entryhi 0x00000000 status 0x00400000 cause 0x00000000 epc 0x00000000 prid 0x00000220\n\
+        writer image\n\
+        0x00003014 0x00000000\n\
+        0x00002014 0x00000000\n\
+        0x00002018 0x00000000\n\
+        error 3 Range\n\
+        console 0 5 84b2b99abc\n\
+        writer 157450\n\
+        writer 157450\n\
+        writer 157450\n\
+        error 4 NoEvent\n\
+        log 8\n\
+        0 169 1 0x01 wire\n\
+        1 994 0 0x84\n\
+        2 1928 1 0x00 wire\n\
+        3 2890 2 0xb2\n\
+        4 4907 1 0xb9 framing\n\
+        5 11342 3 0x9a framing\n\
+        6 50131 0 0xbc\n\
+        7 4294967297 2 0x00 wire\n\
+        writer 50143\n\
+        0x00003014 0x00000000\n\
+        0x00003018 0x00000000\n\
+        0x1fc01040 0x36312000\n\
+        0x1fc01044 0x00000000\n\
+        0x1fc01048 0x1000ffed\n\
+        error 3 Range\n\
+        pos 4294967295\n\
+        pos 4294967295\n\
+        pos 4294967295\n\
+        pos 4294967292\n\
+        pos 4294967295\n\
+        pos 4294967295\n\
+        pos 157458\n\
+        pos 822\n\
+        event 1\n\
+        error 8 NotFound\n\
+        writer image\n\
+        error 8 NotFound\n\
+        console 0 1 f9\n\
+        pos 826\n\
+        pc 0xbfc01008 next 0xbfc0100c hi 0x00000000 lo 0x00000000 delay 0 load none\n\
+        r0 0x00000000 0xbfe00000 0x00000020 0x00000000\n\
+        r4 0x00000000 0x00000000 0x00000000 0x00000000\n\
+        r8 0x00000000 0x00000000 0x00000019 0x00000000\n\
+        r12 0x00000000 0x00000000 0x00000000 0x00000000\n\
+        r16 0xbfe00000 0xa0002000 0x80003000 0xbff00000\n\
+        r20 0x00000000 0x00000000 0x00000000 0x00000000\n\
+        r24 0x00000000 0x00000000 0x00000000 0x00000000\n\
+        r28 0x00000000 0x00000000 0x00000000 0x00000000\n\
+        pos 822\n\
+        error 3 Range\n\
+        console 0 1 none\n\
+        console 0 1 f9\n\
+        pc 0xbfc01048 next 0xbfc0104c hi 0x00000000 lo 0x00000000 delay 0 load none\n\
+        r0 0x00000000 0xbfe00000 0x00000020 0x00000000\n\
+        r4 0x00000000 0x00000000 0x00000000 0x00000000\n\
+        r8 0x00000000 0x00000000 0x00000019 0x00000000\n\
+        r12 0x00000000 0x00000000 0x00000000 0x00000000\n\
+        r16 0xbfe00000 0xa0002000 0x80003000 0xbff00000\n\
+        r20 0x00000000 0x00000000 0x00000000 0x00000000\n\
+        r24 0x00000000 0x00000000 0x00000000 0x00000000\n\
+        r28 0x00000000 0x00000000 0x00000000 0x00000000\n\
+        console 0 1 none\n\
+        ok\n\
+        console 0 1 f9\n\
+        writer 687\n\
+        writer never\n\
+        writer 810\n\
         error 3 Range\n",
     )?;
     Ok(())

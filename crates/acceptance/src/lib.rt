@@ -18,6 +18,8 @@ mod hostile;
 #[cfg(test)]
 mod images;
 #[cfg(test)]
+mod kinds;
+#[cfg(test)]
 mod logs;
 #[cfg(test)]
 mod programs;

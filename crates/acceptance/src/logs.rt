@@ -10,6 +10,11 @@ const ONE: [u8; 18] = [
     0x52, 0x33, 0x4b, 0x4c, 0x4f, 0x47, 0x31, 0x0a, 1, 0, 0, 0, 70, 0, 0, 0, 0, 0x41,
 ];
 
+// The same byte with a framing error, in version two.
+const FRAMING: [u8; 23] = [
+    0x52, 0x33, 0x4b, 0x4c, 0x4f, 0x47, 0x32, 0x0a, 1, 0, 0, 0, 70, 0, 0, 0, 0, 0, 0, 0, 1, 0, 0x41,
+];
+
 /// Runs a source, a log and a script, on a machine with 16 pages.
 pub fn run(alloc: Global, source: &str, log: &[u8], script: &str) -> Result<Served, Fail> {
     run_image::<16, 64>(
@@ -82,12 +87,24 @@ fn events_of_a_log(rt: HostRuntime) -> Result<(), Fail> {
     Ok(())
 }
 
+// A framing error of a log is echoed as a byte is, and RBUF has FERR as step 77 stores it.
+#[test]
+fn framing_error_of_a_log(rt: HostRuntime) -> Result<(), Fail> {
+    let script = "log 0 8\ngoto 78\nmem 0x100 1\ngoto 256\nwriter 0x104\nconsole 0 0 8\n";
+    let run = run(rt.alloc(), ECHO, &FRAMING, script)?;
+    let want =
+        "log 1\n0 70 0 0x41 framing\npos 78\n0x00000100 0x0000a041\npos 256\nwriter 81\nconsole 0 1 41\n";
+    same(&rt, &run.output.as_slice(), &want.as_bytes());
+    same(&rt, &run.status, &0);
+    Ok(())
+}
+
 // Input that ends within the log; each kind of fault; a bad source before a bad log, and a bad log before an image that does not
 // fit. Nothing is written.
 #[test]
 fn bad_logs(rt: HostRuntime) -> Result<(), Fail> {
     let mut magic = ONE;
-    magic[6] = 0x32;
+    magic[6] = 0x33;
     let mut time = ONE;
     time[12] = 0xff;
     time[13] = 0xff;
@@ -95,11 +112,18 @@ fn bad_logs(rt: HostRuntime) -> Result<(), Fail> {
     time[15] = 0xff;
     let mut line = ONE;
     line[16] = 4;
+    let mut kind = FRAMING;
+    kind[20] = 3;
+    let mut external_line = FRAMING;
+    external_line[20] = 2;
+    external_line[21] = 3;
+    let mut value = FRAMING;
+    value[20] = 2;
     let long = [
         0x52, 0x33, 0x4b, 0x4c, 0x4f, 0x47, 0x31, 0x0a, 1, 0, 0, 0, 70, 0, 0, 0, 0, 0x41, 0x0a,
     ];
     let past = ".org 0x10000\n.word 0\n";
-    let cases: [(&str, &[u8], &str); 7] = [
+    let cases: [(&str, &[u8], &str); 11] = [
         ("", &ONE[..17], "r3kwb: error 10 BadLog Short\n"),
         ("", &long, "r3kwb: error 10 BadLog Extra\n"),
         ("", &magic, "r3kwb: error 10 BadLog Magic\n"),
@@ -107,6 +131,10 @@ fn bad_logs(rt: HostRuntime) -> Result<(), Fail> {
         (past, &line, "r3kwb: error 10 BadLog Line\n"),
         ("nop\n", &line, "r3kwb: error 13 BadSource 1 Name\n"),
         (past, &ONE, "r3kwb: error 9 BadImage Pages\n"),
+        ("", &FRAMING[..22], "r3kwb: error 10 BadLog Short\n"),
+        ("", &kind, "r3kwb: error 10 BadLog Kind\n"),
+        ("", &external_line, "r3kwb: error 10 BadLog Line\n"),
+        ("", &value, "r3kwb: error 10 BadLog Value\n"),
     ];
     for (source, log, fault) in cases {
         let run = run(rt.alloc(), source, log, "pos\n")?;

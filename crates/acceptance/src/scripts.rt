@@ -12,9 +12,12 @@ fn always_out_of_memory(rt: HostRuntime) -> Result<(), Fail> {
         ("pos", "pos 0\n"),
         ("", ""),
         ("\n\n# a comment\n \t\n", ""),
-        ("goto 4294967295\npos\n", "pos 4294967295\npos 4294967295\n"),
         (
-            "goto 5\ngoto 4294967296\npos\n",
+            "goto 1099511627775\npos\n",
+            "pos 1099511627775\npos 1099511627775\n",
+        ),
+        (
+            "goto 5\ngoto 1099511627776\npos\n",
             "pos 5\nerror 7 TooFar\npos 5\n",
         ),
         ("goto 0x10\r\npos\r", "pos 16\npos 16\n"),

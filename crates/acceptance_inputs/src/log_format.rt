@@ -1,6 +1,6 @@
-//! The log format, and windows of a log.
+//! The versions of the log format, and windows of a log.
 use crate::same::{same, same_at};
-use input_log::{Cursor, Event, Log, LogFault, LogKind, read_log, write_log};
+use input_log::{Cursor, Event, Kind, Log, LogFault, LogKind, MAX_TIME, read_log, write_log};
 use std::test::Fail;
 
 // One event: in step 70 line 0 gets 0x41.
@@ -12,20 +12,64 @@ pub const THREE: [u8; 30] = *b"R3KLOG1\n\x03\0\0\0\
 \x05\0\0\0\0\x01\
 \x05\0\0\0\x01\x02";
 
+// The same event in version two, and as a framing error.
+const ONE_IN_TWO: [u8; 23] = *b"R3KLOG2\n\x01\0\0\0\x46\0\0\0\0\0\0\0\0\0\x41";
+
+const FRAMING: [u8; 23] = *b"R3KLOG2\n\x01\0\0\0\x46\0\0\0\0\0\0\0\x01\0\x41";
+
+/// In step 4 line 3 gets 0xff with a framing error; in step 5 external line 2 gets level 1, and then line 3 gets 2; in step
+/// 4,294,967,294 external line 0 gets level 0.
+pub const MIXED: [u8; 56] = *b"R3KLOG2\n\x04\0\0\0\
+\x04\0\0\0\0\0\0\0\x01\x03\xff\
+\x05\0\0\0\0\0\0\0\x02\x02\x01\
+\x05\0\0\0\0\0\0\0\0\x03\x02\
+\xfe\xff\xff\xff\0\0\0\0\x02\0\0";
+
+/// Its events.
+pub const MIXED_EVENTS: [Event; 4] = [
+    Event {
+        time: 4,
+        kind: Kind::Framing,
+        line: 3,
+        byte: 0xff,
+    },
+    Event {
+        time: 5,
+        kind: Kind::Wire,
+        line: 2,
+        byte: 1,
+    },
+    Event {
+        time: 5,
+        kind: Kind::Byte,
+        line: 3,
+        byte: 2,
+    },
+    Event {
+        time: 4_294_967_294,
+        kind: Kind::Wire,
+        line: 0,
+        byte: 0,
+    },
+];
+
 pub const FIRST: Event = Event {
     time: 4,
+    kind: Kind::Byte,
     line: 3,
     byte: 0xff,
 };
 
 pub const SECOND: Event = Event {
     time: 5,
+    kind: Kind::Byte,
     line: 0,
     byte: 1,
 };
 
 pub const THIRD: Event = Event {
     time: 5,
+    kind: Kind::Byte,
     line: 1,
     byte: 2,
 };
@@ -35,6 +79,7 @@ fn one_event(rt: HostRuntime) -> Result<(), Fail> {
     let log = read_log(rt.alloc(), &ONE)?;
     let event = Event {
         time: 70,
+        kind: Kind::Byte,
         line: 0,
         byte: 0x41,
     };
@@ -73,9 +118,102 @@ fn written_again(rt: HostRuntime) -> Result<(), Fail> {
     Ok(())
 }
 
+// Each kind of event is read, and written as it was.
+#[test]
+fn each_kind(rt: HostRuntime) -> Result<(), Fail> {
+    let log = read_log(rt.alloc(), &MIXED)?;
+    same(&rt, &log.events(), &MIXED_EVENTS.as_slice());
+    same(
+        &rt,
+        &write_log(rt.alloc(), &log)?.as_slice(),
+        &MIXED.as_slice(),
+    );
+    let log = read_log(rt.alloc(), &FRAMING)?;
+    let event = Event {
+        time: 70,
+        kind: Kind::Framing,
+        line: 0,
+        byte: 0x41,
+    };
+    same(&rt, &log.events(), &[event].as_slice());
+    same(
+        &rt,
+        &write_log(rt.alloc(), &log)?.as_slice(),
+        &FRAMING.as_slice(),
+    );
+    Ok(())
+}
+
+// A log of version two that version one has room for is written in version one.
+#[test]
+fn written_in_version_one(rt: HostRuntime) -> Result<(), Fail> {
+    let none = *b"R3KLOG1\n\0\0\0\0";
+    let last = *b"R3KLOG1\n\x01\0\0\0\xfe\xff\xff\xff\x03\0";
+    for (bytes, written) in [
+        (ONE_IN_TWO.as_slice(), ONE.as_slice()),
+        (b"R3KLOG2\n\0\0\0\0", &none),
+        (
+            b"R3KLOG2\n\x01\0\0\0\xfe\xff\xff\xff\0\0\0\0\0\x03\0",
+            &last,
+        ),
+    ] {
+        let log = read_log(rt.alloc(), bytes)?;
+        same(&rt, &write_log(rt.alloc(), &log)?.as_slice(), &written);
+    }
+    Ok(())
+}
+
+// A byte after the last time of version one is written in version two.
+#[test]
+fn late_byte(rt: HostRuntime) -> Result<(), Fail> {
+    let mut log = Log::new(rt.alloc());
+    log.add(4_294_967_295, 0, 1)?;
+    let late = *b"R3KLOG2\n\x01\0\0\0\xff\xff\xff\xff\0\0\0\0\0\0\x01";
+    same(
+        &rt,
+        &write_log(rt.alloc(), &log)?.as_slice(),
+        &late.as_slice(),
+    );
+    same(&rt, &read_log(rt.alloc(), &late)?.events(), &log.events());
+    Ok(())
+}
+
+// One event that is no byte is enough for version two, and without it version one is written again.
+#[test]
+fn version_of_an_edited_log(rt: HostRuntime) -> Result<(), Fail> {
+    let mut log = Log::new(rt.alloc());
+    log.ferr(70, 0, 0x41)?;
+    same(
+        &rt,
+        &write_log(rt.alloc(), &log)?.as_slice(),
+        &FRAMING.as_slice(),
+    );
+    log.add(70, 0, 0x41)?;
+    log.del(0)?;
+    same(
+        &rt,
+        &write_log(rt.alloc(), &log)?.as_slice(),
+        &ONE.as_slice(),
+    );
+    log.wire(71, 1, 1)?;
+    let both = *b"R3KLOG2\n\x02\0\0\0\x46\0\0\0\0\0\0\0\0\0\x41\
+\x47\0\0\0\0\0\0\0\x02\x01\x01";
+    same(
+        &rt,
+        &write_log(rt.alloc(), &log)?.as_slice(),
+        &both.as_slice(),
+    );
+    Ok(())
+}
+
 #[test]
 fn too_few_bytes_and_too_many(rt: HostRuntime) -> Result<(), Fail> {
-    for bytes in [ONE.as_slice(), THREE.as_slice()] {
+    for bytes in [
+        ONE.as_slice(),
+        THREE.as_slice(),
+        FRAMING.as_slice(),
+        MIXED.as_slice(),
+    ] {
         for end in 0..bytes.len() {
             let fault = read_log(rt.alloc(), &bytes[..end]).err();
             same_at(&rt, &end, &fault, &Some(LogFault::Bad(LogKind::Short)));
@@ -125,12 +263,116 @@ fn first_fault(rt: HostRuntime) -> Result<(), Fail> {
     Ok(())
 }
 
+// The same in version two: four events with one byte replaced, and cut short.
+#[test]
+fn first_fault_in_version_two(rt: HostRuntime) -> Result<(), Fail> {
+    for (place, byte, end, kind) in [
+        (6, b'3', 56, Some(LogKind::Magic)),
+        (6, b'3', 8, Some(LogKind::Magic)),
+        (6, b'3', 7, Some(LogKind::Short)),
+        // In version one byte 22 is the line of the second event.
+        (6, b'1', 56, Some(LogKind::Line)),
+        (10, 0x10, 56, Some(LogKind::Count)),
+        (10, 0x10, 12, Some(LogKind::Count)),
+        (10, 0x10, 11, Some(LogKind::Short)),
+        (8, 3, 56, Some(LogKind::Extra)),
+        (8, 5, 56, Some(LogKind::Short)),
+        (12, 5, 56, None),
+        (12, 6, 56, Some(LogKind::Time)),
+        (12, 6, 31, Some(LogKind::Time)),
+        (12, 6, 30, Some(LogKind::Short)),
+        (17, 1, 56, Some(LogKind::Time)),
+        (19, 1, 20, Some(LogKind::Time)),
+        (19, 1, 19, Some(LogKind::Short)),
+        (20, 3, 56, Some(LogKind::Kind)),
+        (20, 0xff, 56, Some(LogKind::Kind)),
+        (20, 3, 21, Some(LogKind::Kind)),
+        (20, 3, 20, Some(LogKind::Short)),
+        (20, 0, 56, None),
+        // An external line 3.
+        (20, 2, 56, Some(LogKind::Line)),
+        (20, 2, 22, Some(LogKind::Line)),
+        (20, 2, 21, Some(LogKind::Short)),
+        (21, 4, 56, Some(LogKind::Line)),
+        (32, 3, 56, Some(LogKind::Line)),
+        (32, 3, 33, Some(LogKind::Line)),
+        (32, 3, 32, Some(LogKind::Short)),
+        (32, 1, 56, None),
+        (33, 0, 56, None),
+        (33, 2, 56, Some(LogKind::Value)),
+        (33, 2, 34, Some(LogKind::Value)),
+        (33, 2, 33, Some(LogKind::Short)),
+        (31, 1, 56, None),
+        (43, 4, 56, Some(LogKind::Line)),
+        (55, 0xff, 56, Some(LogKind::Value)),
+    ] {
+        let mut bytes = MIXED;
+        *bytes.get_mut(place).ok_or("no byte there")? = byte;
+        let fault = read_log(rt.alloc(), &bytes[..end.min(bytes.len())]).err();
+        same_at(&rt, &(byte, place, end), &fault, &kind.map(LogFault::Bad));
+    }
+    Ok(())
+}
+
+// Of one event with several faults the time is judged first, then the kind, the line and the value.
+#[test]
+fn order_of_faults(rt: HostRuntime) {
+    for (bytes, kind) in [
+        (
+            b"R3KLOG2\n\x01\0\0\0\xff\xff\xff\xff\xff\xff\xff\xff\x03\x04\x02\0".as_slice(),
+            LogKind::Time,
+        ),
+        (
+            b"R3KLOG2\n\x01\0\0\0\xfe\xff\xff\xff\0\0\0\0\x03\x04\x02\0",
+            LogKind::Kind,
+        ),
+        (
+            b"R3KLOG2\n\x01\0\0\0\xfe\xff\xff\xff\0\0\0\0\x02\x03\x02\0",
+            LogKind::Line,
+        ),
+        (
+            b"R3KLOG2\n\x01\0\0\0\xfe\xff\xff\xff\0\0\0\0\x02\x02\x02\0",
+            LogKind::Value,
+        ),
+        (
+            b"R3KLOG2\n\x01\0\0\0\xfe\xff\xff\xff\0\0\0\0\x02\x02\x01\0",
+            LogKind::Extra,
+        ),
+    ] {
+        let fault = read_log(rt.alloc(), bytes).err();
+        same_at(&rt, &bytes, &fault, &Some(LogFault::Bad(kind)));
+    }
+}
+
+// The greatest time of version two is that of the last step, and each version has its own.
+#[test]
+fn last_time(rt: HostRuntime) -> Result<(), Fail> {
+    for (time, kind) in [
+        (0, None),
+        (4_294_967_294, None),
+        (4_294_967_295, None),
+        (MAX_TIME, None),
+        (MAX_TIME + 1, Some(LogKind::Time)),
+        (1 << 40, Some(LogKind::Time)),
+        (u64::MAX, Some(LogKind::Time)),
+    ] {
+        let mut bytes = b"R3KLOG2\n\x01\0\0\0".to_vec(rt.alloc())?;
+        bytes.extend_from_slice(&u64::to_le_bytes(time))?;
+        bytes.extend_from_slice(b"\0\0\x41")?;
+        let fault = read_log(rt.alloc(), &bytes).err();
+        same_at(&rt, &time, &fault, &kind.map(LogFault::Bad));
+    }
+    Ok(())
+}
+
 #[test]
 fn limits(rt: HostRuntime) {
     for (bytes, kind) in [
         // 1,048,577 events, and one less.
         (b"R3KLOG1\n\x01\0\x10\0".as_slice(), Some(LogKind::Count)),
         (b"R3KLOG1\n\0\0\x10\0", Some(LogKind::Short)),
+        (b"R3KLOG2\n\x01\0\x10\0", Some(LogKind::Count)),
+        (b"R3KLOG2\n\0\0\x10\0", Some(LogKind::Short)),
         // The time is judged before the line.
         (
             b"R3KLOG1\n\x01\0\0\0\xff\xff\xff\xff\x04\0",

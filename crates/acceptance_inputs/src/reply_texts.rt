@@ -1,7 +1,7 @@
 //! Texts of replies, by example.
 use crate::same::same;
 use arrayvec::ArrayVec;
-use input_log::Event;
+use input_log::{Event, Kind};
 use refusal::Fault;
 use std::process::Abort;
 use std::test::Fail;
@@ -199,11 +199,13 @@ fn bytes_of_a_line(rt: HostRuntime) -> Result<(), Fail> {
 fn events_of_the_log(rt: HostRuntime) {
     let event = Event {
         time: 70,
+        kind: Kind::Byte,
         line: 0,
         byte: 0x41,
     };
     let last = Event {
         time: 4_294_967_294,
+        kind: Kind::Byte,
         line: 3,
         byte: 0x0a,
     };
@@ -231,6 +233,44 @@ fn events_of_the_log(rt: HostRuntime) {
     assert!(rt; text.as_slice().starts_with(first_lines));
     let last_lines = b"\n14 4294967294 3 0x0a\n15 4294967294 3 0x0a\n";
     assert!(rt; text.as_slice().ends_with(last_lines));
+}
+
+// Only an event that is no byte has its kind at the end of its line.
+#[test]
+fn kinds_of_events(rt: HostRuntime) {
+    let byte = Event {
+        time: 70,
+        kind: Kind::Byte,
+        line: 0,
+        byte: 0x41,
+    };
+    let framing = Event {
+        kind: Kind::Framing,
+        ..byte
+    };
+    let up = Event {
+        time: 4_294_967_294,
+        kind: Kind::Wire,
+        line: 2,
+        byte: 1,
+    };
+    let down = Event { byte: 0, ..up };
+    let mut events = ArrayVec::new();
+    events.push(framing);
+    events.push(byte);
+    events.push(up);
+    events.push(down);
+    let four = Reply::Log {
+        total: 4,
+        first: 0,
+        events,
+    };
+    shows(
+        &rt,
+        &four,
+        b"log 4\n0 70 0 0x41 framing\n1 70 0 0x41\n2 4294967294 2 0x01 wire\n\
+3 4294967294 2 0x00 wire\n",
+    );
 }
 
 #[test]

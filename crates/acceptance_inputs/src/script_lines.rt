@@ -4,8 +4,8 @@ use refusal::Fault;
 use std::process::Abort;
 use std::test::Fail;
 use wb_text::{
-    Address, ByteCount, ByteValue, Command, EventCount, EventTime, LineNumber, RegisterNumber,
-    StepCount, WordCount, WordValue, parse_line,
+    Address, ByteCount, ByteValue, Command, EventCount, EventTime, Level, LineNumber,
+    RegisterNumber, StepCount, WireNumber, WordCount, WordValue, parse_line,
 };
 
 fn says(rt: &impl Abort, line: &[u8], wanted: Result<Option<Command>, Fault>) {
@@ -241,7 +241,7 @@ fn refusals_of_the_past(rt: HostRuntime) {
 #[test]
 fn edits_of_the_log(rt: HostRuntime) -> Result<(), Fail> {
     let time = EventTime::new(70).ok_or("70")?;
-    let last_time = EventTime::new(4_294_967_294).ok_or("last time")?;
+    let last_time = EventTime::new(1_099_511_627_774).ok_or("last time")?;
     let line = LineNumber::new(0).ok_or("0")?;
     let last_line = LineNumber::new(3).ok_or("3")?;
     let byte = ByteValue::new(0x41).ok_or("0x41")?;
@@ -253,7 +253,7 @@ fn edits_of_the_log(rt: HostRuntime) -> Result<(), Fail> {
             Command::Add { time, line, byte },
         ),
         (
-            b"add 0xfffffffe 3 255",
+            b"add 0xfffffffffe 3 255",
             Command::Add {
                 time: last_time,
                 line: last_line,
@@ -272,7 +272,7 @@ fn edits_of_the_log(rt: HostRuntime) -> Result<(), Fail> {
         ),
         (b"move 1 70", Command::Move { event: 1, time }),
         (
-            b"move 0xffffffffffffffff 4294967294",
+            b"move 0xffffffffffffffff 1099511627774",
             Command::Move {
                 event: most,
                 time: last_time,
@@ -285,13 +285,103 @@ fn edits_of_the_log(rt: HostRuntime) -> Result<(), Fail> {
 }
 
 #[test]
+fn events_of_other_kinds(rt: HostRuntime) -> Result<(), Fail> {
+    let time = EventTime::new(70).ok_or("70")?;
+    let last_time = EventTime::new(1_099_511_627_774).ok_or("last time")?;
+    let line = LineNumber::new(3).ok_or("3")?;
+    let byte = ByteValue::new(255).ok_or("255")?;
+    let wire = WireNumber::new(2).ok_or("2")?;
+    let first_wire = WireNumber::new(0).ok_or("0")?;
+    let up = Level::new(1).ok_or("1")?;
+    let down = Level::new(0).ok_or("0")?;
+    for (said, command) in [
+        (
+            b"ferr 70 3 255".as_slice(),
+            Command::Ferr { time, line, byte },
+        ),
+        (
+            b"\tferr 0xfffffffffe  3 0xff ",
+            Command::Ferr {
+                time: last_time,
+                line,
+                byte,
+            },
+        ),
+        (
+            b"wire 70 2 1",
+            Command::Wire {
+                time,
+                line: wire,
+                level: up,
+            },
+        ),
+        (
+            b"wire 1099511627774 0x0 0",
+            Command::Wire {
+                time: last_time,
+                line: first_wire,
+                level: down,
+            },
+        ),
+    ] {
+        says(&rt, said, Ok(Some(command)));
+    }
+    Ok(())
+}
+
+#[test]
+fn refusals_of_other_kinds(rt: HostRuntime) {
+    for (line, fault) in [
+        (b"ferr 1099511627775 0 1".as_slice(), Fault::Range),
+        (b"ferr 18446744073709551616 0 1", Fault::Range),
+        (b"ferr 0 4 1", Fault::Range),
+        (b"ferr 0 0 256", Fault::Range),
+        (b"ferr 0 4 x", Fault::Syntax),
+        (b"ferr 0 4", Fault::Syntax),
+        (b"ferr 0 0 1 1", Fault::Syntax),
+        (b"ferr", Fault::Syntax),
+        (b"wire 1099511627775 0 1", Fault::Range),
+        (b"wire 0 3 1", Fault::Range),
+        (b"wire 0 0 2", Fault::Range),
+        (b"wire 0 18446744073709551616 0", Fault::Range),
+        (b"wire 0 3 x", Fault::Syntax),
+        (b"wire 0 3", Fault::Syntax),
+        (b"wire 0 0 -1", Fault::Syntax),
+        (b"wire 0 0 1 1", Fault::Syntax),
+        (b"wires 0 0 1", Fault::Syntax),
+    ] {
+        says(&rt, line, Err(fault));
+    }
+}
+
+// Which bounds are positions is judged later.
+#[test]
+fn erasing(rt: HostRuntime) {
+    for (line, said) in [
+        (b"erase 70 131".as_slice(), Ok(Some((70, 131)))),
+        (b"erase 131 0x46", Ok(Some((131, 70)))),
+        (b"erase 0 18446744073709551615\r", Ok(Some((0, u64::MAX)))),
+        (b"erase 18446744073709551616 0", Err(Fault::Range)),
+        (b"erase 0 18446744073709551616", Err(Fault::Range)),
+        (b"erase 18446744073709551616 x", Err(Fault::Syntax)),
+        (b"erase 18446744073709551616", Err(Fault::Syntax)),
+        (b"erase 0 1 2", Err(Fault::Syntax)),
+        (b"erase -1 0", Err(Fault::Syntax)),
+        (b"erase", Err(Fault::Syntax)),
+    ] {
+        let wanted = said.map(|bounds| bounds.map(|(from, to)| Command::Erase { from, to }));
+        says(&rt, line, wanted);
+    }
+}
+
+#[test]
 fn refusals_of_edits_of_the_log(rt: HostRuntime) {
     for (line, fault) in [
-        (b"add 4294967295 0 1".as_slice(), Fault::Range),
+        (b"add 1099511627775 0 1".as_slice(), Fault::Range),
         (b"add 0 4 1", Fault::Range),
         (b"add 0 0 256", Fault::Range),
-        (b"add 4294967295 4", Fault::Syntax),
-        (b"add 4294967295 x 1", Fault::Syntax),
+        (b"add 1099511627775 4", Fault::Syntax),
+        (b"add 1099511627775 x 1", Fault::Syntax),
         (b"add 0 4 x", Fault::Syntax),
         (b"add x 0 256", Fault::Syntax),
         (b"add 0 0 1 1", Fault::Syntax),
@@ -306,10 +396,10 @@ fn refusals_of_edits_of_the_log(rt: HostRuntime) {
         (b"set 18446744073709551616 x", Fault::Syntax),
         (b"set x 256", Fault::Syntax),
         (b"set 0", Fault::Syntax),
-        (b"move 0 4294967295", Fault::Range),
+        (b"move 0 1099511627775", Fault::Range),
         (b"move 18446744073709551616 0", Fault::Range),
         (b"move 1", Fault::Syntax),
-        (b"move x 4294967295", Fault::Syntax),
+        (b"move x 1099511627775", Fault::Syntax),
         (b"move 18446744073709551616 x", Fault::Syntax),
         (b"move 0 0 0", Fault::Syntax),
     ] {

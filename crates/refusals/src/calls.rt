@@ -19,6 +19,8 @@ enum Call {
     WriteImage,
     ReadLog,
     WriteLog,
+    ReadKinds,
+    WriteKinds,
     Assemble,
     Timeline,
     Session,
@@ -29,12 +31,14 @@ enum Call {
     Record,
 }
 
-const CALLS: [(Call, &[u8]); 13] = [
+const CALLS: [(Call, &[u8]); 15] = [
     (Call::ReadImage, b"read_image"),
     (Call::RawRom, b"raw_rom"),
     (Call::WriteImage, b"write_image"),
     (Call::ReadLog, b"read_log"),
     (Call::WriteLog, b"write_log"),
+    (Call::ReadKinds, b"read_kinds"),
+    (Call::WriteKinds, b"write_kinds"),
     (Call::Assemble, b"assemble"),
     (Call::Timeline, b"Timeline::new"),
     (Call::Session, b"Session::new"),
@@ -47,6 +51,10 @@ const CALLS: [(Call, &[u8]); 13] = [
 
 // One event: byte 0x41 at line 0 in step 70.
 const LOG: &[u8] = b"R3KLOG1\n\x01\0\0\0\x46\0\0\0\0\x41";
+
+// In version two: the same byte with a framing error, and level 1 of external line 2 in step 71.
+const KINDS: &[u8] = b"R3KLOG2\n\x02\0\0\0\x46\0\0\0\0\0\0\0\x01\0\x41\
+\x47\0\0\0\0\0\0\0\x02\x02\x01";
 
 /// Makes each call, and once more where it lacked memory.
 pub fn play<const PAGES: u32, const SPAN: u32, W: Sink>(alloc: Global, show: &mut Show<W>)
@@ -103,7 +111,9 @@ fn made<const PAGES: u32, const SPAN: u32, W: Sink>(
         Call::RawRom => show_words(name, raw_rom(alloc, &LOAD_SLOT), show),
         Call::WriteImage => show_written_image(alloc, name, show),
         Call::ReadLog => show_log(name, read_log(alloc, LOG), show),
-        Call::WriteLog => show_written_log(alloc, name, show),
+        Call::WriteLog => show_written_log(alloc, name, LOG, show),
+        Call::ReadKinds => show_log(name, read_log(alloc, KINDS), show),
+        Call::WriteKinds => show_written_log(alloc, name, KINDS, show),
         Call::Assemble => show_assembled(alloc, name, show),
         Call::Timeline => show_timeline::<PAGES, SPAN, W>(alloc, name, show),
         Call::Session => show_session::<PAGES, SPAN, W>(alloc, name, show),
@@ -148,9 +158,10 @@ fn show_log<W: Sink>(
 fn show_written_log<W: Sink>(
     alloc: Global,
     name: &[u8],
+    log: &[u8],
     show: &mut Show<W>,
 ) -> Result<(), RunFault> {
-    let log = read_log(alloc, LOG)?;
+    let log = read_log(alloc, log)?;
     let bytes = write_log(alloc, &log)?;
     show.bytes(name, bytes.as_slice());
     Ok(())

@@ -13,11 +13,12 @@ use r3k_disasm::text;
 use r3k_machine::{Core, Where};
 use samples::ECHO;
 use std::alloc::{AllocError, Global};
+use wb_text::Command;
 use workbench::{RunFault, Session, Sink};
 use write_index::{Asked, WriteIndex};
 
 // The lines of a session that take no memory, the last ones refused.
-const LINES: [&[u8]; 22] = [
+const LINES: [&[u8]; 27] = [
     b"pos",
     b"goto 300",
     b"step 5",
@@ -29,11 +30,16 @@ const LINES: [&[u8]; 22] = [
     b"log 0 32",
     b"del 1",
     b"log 1 1",
+    b"erase 81 100",
+    b"erase 80 100",
+    b"log 0 32",
+    b"erase 131 70",
+    b"erase 0 4294967295",
     b"quit",
     b"# nothing",
     b"foo",
     b"reg 32",
-    b"goto 4294967296",
+    b"goto 18446744073709551615",
     b"back 299",
     b"del 7",
     b"set 7 1",
@@ -174,17 +180,21 @@ fn log_of(alloc: Global) -> Result<Log, RunFault> {
     }
 }
 
-// The session of the echo program with three bytes.
+// The session of the echo program with three bytes. What an edit forgets is there: records of spans, and the state of a position.
 fn session_of<const PAGES: u32, const SPAN: u32>(
     alloc: Global,
 ) -> Result<Session<PAGES, SPAN>, RunFault>
     requires sizes { AreSizes PAGES SPAN }
 {
-    begun::<PAGES, SPAN>(
+    let mut session = begun::<PAGES, SPAN>(
         alloc,
         ECHO.as_bytes(),
         b"R3KLOG1\n\x03\0\0\0\x46\0\0\0\0\x41\x50\0\0\0\0\x42\x64\0\0\0\x01\x44",
-    )
+    )?;
+    for command in [Command::Goto(300), Command::Regs, Command::Goto(0)] {
+        let _ = session.apply(command);
+    }
+    Ok(session)
 }
 
 // Runs the first span from reset, with the byte: turn 1 of the loop begins at step 20 and reads it, stores 0 in step 26 and sends the

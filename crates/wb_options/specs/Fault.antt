@@ -8,7 +8,7 @@ use Rattle.r3k_image.specs.declared.fault.ImageKind.TheVariants.{RawSize, Pages}
 use Rattle.r3k_image.specs.declared.fault.ImageFault.{ImageFault}
 use Rattle.r3k_image.specs.declared.fault.ImageFault.TheVariants.{Memory as ImageMemory, Bad}
 use Rattle.input_log.specs.declared.fault.LogKind.{LogKind}
-use Rattle.input_log.specs.declared.fault.LogKind.TheVariants.{Magic as LogMagic, Count, Time, Line, Short as LogShort, Extra as LogExtra}
+use Rattle.input_log.specs.declared.fault.LogKind.TheVariants.{Magic as LogMagic, Count, Time, Kind as EventKind, Line, Value, Short as LogShort, Extra as LogExtra}
 use Rattle.input_log.specs.declared.fault.LogFault.{LogFault}
 use Rattle.input_log.specs.declared.fault.LogFault.TheVariants.{Memory as LogMemory, Bad as BadBytes}
 use Rattle.asm_line.specs.declared.kind.AsmKind.{AsmKind}
@@ -36,7 +36,9 @@ abbrev pub log_kind_name : LogKind → List ℕ
 log_kind_name LogMagic = codes "Magic"
 log_kind_name Count = codes "Count"
 log_kind_name Time = codes "Time"
+log_kind_name EventKind = codes "Kind"
 log_kind_name Line = codes "Line"
+log_kind_name Value = codes "Value"
 log_kind_name LogShort = codes "Short"
 log_kind_name LogExtra = codes "Extra"
 
@@ -91,7 +93,7 @@ line_of fault = codes "r3kwb: error " ++ fault_name fault ++ 10 ∷ []
 abbrev pub fault_status : RunFault → ℕ
 fault_status (Help text) = 0
 fault_status (BadImage kind) = 1
-fault_status (BadLog kind) = 1
+fault_status (BadLog _) = 1
 fault_status (BadSource line kind) = 1
 fault_status (Usage text) = 2
 fault_status ReadFault = 3

@@ -170,7 +170,9 @@ fn log_name_of(kind: LogKind) -> &'static [u8]
         LogKind::Magic => b"Magic",
         LogKind::Count => b"Count",
         LogKind::Time => b"Time",
+        LogKind::Kind => b"Kind",
         LogKind::Line => b"Line",
+        LogKind::Value => b"Value",
         LogKind::Short => b"Short",
         LogKind::Extra => b"Extra",
     }

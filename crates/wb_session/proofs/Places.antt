@@ -8,7 +8,8 @@ use Rattle.r3k_machine.specs.Run.{state_at}
 use Rattle.refusal.specs.Given.{GivesFault}
 use Rattle.refusal.specs.declared.fault.Fault.{Fault}
 use Rattle.refusal.specs.declared.fault.Fault.TheVariants.{Memory, NotMemory, Unaligned}
-use Rattle.timeline.specs.History.{History, max_position}
+use Rattle.input_log.specs.Limits.{max_position}
+use Rattle.timeline.specs.History.{History}
 use Rattle.timeline.proofs.Plain.{word_given}
 use Rattle.timeline.specs.Query.{word_at}
 use Rattle.wb_session.specs.Memory.{places_from, place_behind, places_of}

@@ -3,7 +3,7 @@ use Rattle.std.specs.Prelude.{◌≡◌, ℕ, ◌-◌, ◌*◌, ◌%◌, [], Con
 use Rattle.timeline.specs.Landed.{Asks, Lands}
 use Rattle.refusal.specs.declared.fault.Fault.{Fault}
 use Rattle.wb_text.specs.declared.command.Command.{Command}
-use Rattle.wb_text.specs.declared.command.Command.TheVariants.{Pos, Goto, Step, Back, Visit, Regs, Reg, Cp0, Tlb, Where, Mem, Dis, Console, Find, Writer, Log, Add, Del, Set, Move, Patch, Quit}
+use Rattle.wb_text.specs.declared.command.Command.TheVariants.{Pos, Goto, Step, Back, Visit, Regs, Reg, Cp0, Tlb, Where, Mem, Dis, Console, Find, Writer, Log, Add, Ferr, Wire, Del, Set, Move, Erase, Patch, Quit}
 use Rattle.wb_text.specs.declared.reply.Reply.{Reply}
 use Rattle.wb_text.specs.declared.reply.Reply.TheVariants.{Fault as Refused}
 use Rattle.wb_session.specs.Session.{Held}
@@ -58,8 +58,11 @@ Costs pages span (Find line place) old new reply = AsksSteps pages span 0 old ne
 Costs pages span (Writer address) old new reply = AsksSteps pages span 0 old new reply
 Costs pages span (Log from count) old new reply = AsksNothing old new
 Costs pages span (Add time line byte) old new reply = Edits old new reply
+Costs pages span (Ferr time line byte) old new reply = Edits old new reply
+Costs pages span (Wire time line level) old new reply = Edits old new reply
 Costs pages span (Del place) old new reply = Edits old new reply
 Costs pages span (Set place byte) old new reply = Edits old new reply
 Costs pages span (Move place time) old new reply = Edits old new reply
+Costs pages span (Erase from to) old new reply = Edits old new reply
 Costs pages span (Patch address word) old new reply = Edits old new reply
 Costs pages span Quit old new reply = AsksNothing old new

@@ -1,8 +1,9 @@
 -- A session (own): an image, a log and a position, and the answer to each command.
 use Rattle.std.specs.Prelude.{◌≡◌, ◌⊎◌, ℕ, ◌+◌, ◌-◌, ◌≤◌, Bool, true, false, List, [], length, map, Option, Some, None, Result, Ok, Err, if◌then◌else◌, nat_le, slice_index, slice_index_or}
 use Rattle.cop0.specs.Registers.{Registers as ControlState, register_of}
-use Rattle.input_log.specs.Edits.{adding, deleting, moving, setting, up_to, without}
-use Rattle.input_log.specs.Event.{TimedByte}
+use Rattle.input_log.specs.declared.event.Kind.TheVariants.{Byte, Framing, Wire as WireKind}
+use Rattle.input_log.specs.Edits.{adding, deleting, erasing, moving, setting, up_to, without}
+use Rattle.input_log.specs.Event.{LogEvent}
 use Rattle.r3k_image.specs.Boot.{Boot, FitsRam}
 use Rattle.r3k_image.specs.Patch.{patching}
 use Rattle.r3k_image.specs.declared.fault.ImageKind.TheVariants.{Pages}
@@ -15,7 +16,8 @@ use Rattle.r3k_machine.specs.Run.{state_at}
 use Rattle.tlb64.specs.Entries.{empty_entry}
 use Rattle.tlb64.specs.declared.entry.Entry.{Entry}
 use Rattle.timeline.specs.Console.{part_of}
-use Rattle.timeline.specs.History.{History, max_position}
+use Rattle.input_log.specs.Limits.{max_position}
+use Rattle.timeline.specs.History.{History}
 use Rattle.timeline.specs.Landed.{Landed}
 use Rattle.timeline.specs.Query.{console_at, core_at, next_pc, sent_at, writer_at}
 use Rattle.timeline.specs.Sizes.{AreSizes}
@@ -24,7 +26,7 @@ use Rattle.timeline.specs.declared.writer.Writer.TheVariants as last
 use Rattle.wb_options.specs.declared.fault.RunFault.{RunFault}
 use Rattle.wb_options.specs.declared.fault.RunFault.TheVariants.{Memory as OutOfMemory, BadImage}
 use Rattle.wb_text.specs.declared.command.Command.{Command}
-use Rattle.wb_text.specs.declared.command.Command.TheVariants.{Pos, Goto, Step, Back, Visit, Regs, Reg, Cp0, Tlb, Where as WhereIs, Mem, Dis, Console, Find, Writer as WriterOf, Log, Add, Del, Set, Move, Patch, Quit}
+use Rattle.wb_text.specs.declared.command.Command.TheVariants.{Pos, Goto, Step, Back, Visit, Regs, Reg, Cp0, Tlb, Where as WhereIs, Mem, Dis, Console, Find, Writer as WriterOf, Log, Add, Ferr, Wire, Del, Set, Move, Erase, Patch, Quit}
 use Rattle.refusal.specs.declared.fault.Fault.{Fault}
 use Rattle.refusal.specs.declared.fault.Fault.TheVariants.{Memory, NotFound, TooFar}
 use Rattle.wb_text.specs.declared.memory.Words.{Words}
@@ -42,7 +44,7 @@ use Rattle.wb_session.specs.Memory.{places_of}
 -- what a session is
 pub record Triple : Type 0 where
   pub image : Boot
-  pub log : List TimedByte
+  pub log : List LogEvent
   pub position : ℕ
 
 -- What a session holds: what its timeline holds, its history among it, and a position. To who asks it, it is a triple of image, log
@@ -55,7 +57,7 @@ abbrev pub triple_of : Held → Triple
 triple_of s = record { image = s.timeline.history.image; log = s.timeline.history.log; position = s.position }
 
 -- a session as it begins: at position 0, with nothing kept
-abbrev pub begun : Boot → List TimedByte → Held
+abbrev pub begun : Boot → List LogEvent → Held
 begun image log = record { timeline = record { history = record { image = image; log = log }; spans = []; steps = 0; landings = [] }; position = 0 }
 
 -- the history of a session
@@ -156,7 +158,7 @@ shown_writer last.Never = writer.Never
 abbrev pub console_shown : (line : ℕ) → ℕ × List ℕ → Reply
 console_shown line shown = ConsoleReply line shown.0 (record { items = shown.1 })
 
-abbrev pub log_shown : (from count : ℕ) → List TimedByte → Reply
+abbrev pub log_shown : (from count : ℕ) → List LogEvent → Reply
 log_shown from count log = LogReply (length log) from (record { items = part_of from count log })
 
 -- The answers by what a query, a search for a position, an edit of the log, and a patch give. A refusal keeps the session.
@@ -168,7 +170,7 @@ abbrev pub visits : Triple → Result ℕ Fault → Answer
 visits s (Ok position) = answer (record { image = s.image; log = s.log; position = position }) (Position position)
 visits s (Err fault) = refusal s fault
 
-abbrev pub edits : Triple → (List TimedByte → Reply) → Result (List TimedByte) Fault → Answer
+abbrev pub edits : Triple → (List LogEvent → Reply) → Result (List LogEvent) Fault → Answer
 edits s tell (Ok log) = answer (record { image = s.image; log = log; position = s.position }) (tell log)
 edits s tell (Err fault) = refusal s fault
 
@@ -198,10 +200,13 @@ plain pages s (Console line from count) = shows s (console_shown line) (console_
 plain pages s (Find line place) = shows s (λ step. Found step) (sent_at pages (history_of s) s.position line place)
 plain pages s (WriterOf address) = shows s (λ last. WriterReply (shown_writer last)) (writer_at pages (history_of s) s.position address)
 plain pages s (Log from count) = answer s (log_shown from count s.log)
-plain pages s (Add time line byte) = edits s (λ _. Event (length (up_to time s.log))) (adding (record { time = time; line = line; byte = byte }) s.log)
+plain pages s (Add time line byte) = edits s (λ _. Event (length (up_to time s.log))) (adding (record { time = time; kind = Byte; line = line; byte = byte }) s.log)
+plain pages s (Ferr time line byte) = edits s (λ _. Event (length (up_to time s.log))) (adding (record { time = time; kind = Framing; line = line; byte = byte }) s.log)
+plain pages s (Wire time line level) = edits s (λ _. Event (length (up_to time s.log))) (adding (record { time = time; kind = WireKind; line = line; byte = level }) s.log)
 plain pages s (Del place) = edits s (λ log. Left (length log)) (deleting place s.log)
 plain pages s (Set place byte) = edits s (λ _. Event place) (setting place byte s.log)
 plain pages s (Move place time) = edits s (λ _. Event (length (up_to time (without place s.log)))) (moving place time s.log)
+plain pages s (Erase from to) = edits s (λ log. Left (length log)) (erasing from to s.log)
 plain pages s (Patch address word) = patches s (patching pages address word s.image)
 plain pages s Quit = answer s Nothing
 
@@ -224,9 +229,12 @@ takes_memory (Find line place) = true
 takes_memory (WriterOf address) = true
 takes_memory (Log from count) = false
 takes_memory (Add time line byte) = true
+takes_memory (Ferr time line byte) = true
+takes_memory (Wire time line level) = true
 takes_memory (Del place) = false
 takes_memory (Set place byte) = false
 takes_memory (Move place time) = false
+takes_memory (Erase from to) = false
 takes_memory (Patch address word) = true
 takes_memory Quit = false
 

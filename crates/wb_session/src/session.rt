@@ -18,8 +18,8 @@ use std::marker::Model;
 use timeline::{MAX_POSITION, Timeline};
 use wb_options::RunFault;
 use wb_text::{
-    Address, ByteCount, ByteValue, Command, EntryNumber, EventCount, EventTime, LineNumber,
-    RegisterNumber, Reply, StepCount, WordValue,
+    Address, ByteCount, ByteValue, Command, EntryNumber, EventCount, EventTime, Level, LineNumber,
+    RegisterNumber, Reply, StepCount, WireNumber, WordValue,
 };
 
 /// A session on a machine with `PAGES` pages of RAM. Runs are kept in spans of `SPAN` steps.
@@ -94,9 +94,12 @@ impl<const PAGES: u32, const SPAN: u32> Session<PAGES, SPAN> {
             Command::Writer(address) => self.writer(address),
             Command::Log { from, count } => self.events(from, count),
             Command::Add { time, line, byte } => self.add(time, line, byte),
+            Command::Ferr { time, line, byte } => self.ferr(time, line, byte),
+            Command::Wire { time, line, level } => self.wire(time, line, level),
             Command::Del(event) => self.del(event),
             Command::Set { event, byte } => self.set(event, byte),
             Command::Move { event, time } => self.move_to(event, time),
+            Command::Erase { from, to } => self.erase(from, to),
             Command::Patch { address, word } => self.patch(address, word),
             Command::Quit => Reply::Nothing,
         }
@@ -263,7 +266,7 @@ impl<const PAGES: u32, const SPAN: u32> Session<PAGES, SPAN> {
         }
     }
 
-    // Adds an event.
+    // Adds the arrival of a byte.
     fn add(&mut self, time: EventTime, line: LineNumber, byte: ByteValue) -> Reply
         ensures answers { Answers PAGES (triple_of self.old) (command.Add time line byte) (triple_of self.new) result }
         ensures costs { Costs PAGES SPAN (command.Add time line byte) self.old self.new result }
@@ -271,6 +274,34 @@ impl<const PAGES: u32, const SPAN: u32> Session<PAGES, SPAN> {
         match self
             .timeline
             .add(time.get(), line.get() as u8, byte.get() as u8)
+        {
+            Ok(event) => Reply::Event(event as u64),
+            Err(fault) => Reply::Fault(fault),
+        }
+    }
+
+    // Adds the arrival of a byte with a framing error.
+    fn ferr(&mut self, time: EventTime, line: LineNumber, byte: ByteValue) -> Reply
+        ensures answers { Answers PAGES (triple_of self.old) (command.Ferr time line byte) (triple_of self.new) result }
+        ensures costs { Costs PAGES SPAN (command.Ferr time line byte) self.old self.new result }
+    {
+        match self
+            .timeline
+            .ferr(time.get(), line.get() as u8, byte.get() as u8)
+        {
+            Ok(event) => Reply::Event(event as u64),
+            Err(fault) => Reply::Fault(fault),
+        }
+    }
+
+    // Adds a level of an external line.
+    fn wire(&mut self, time: EventTime, line: WireNumber, level: Level) -> Reply
+        ensures answers { Answers PAGES (triple_of self.old) (command.Wire time line level) (triple_of self.new) result }
+        ensures costs { Costs PAGES SPAN (command.Wire time line level) self.old self.new result }
+    {
+        match self
+            .timeline
+            .wire(time.get(), line.get() as u8, level.get() as u8)
         {
             Ok(event) => Reply::Event(event as u64),
             Err(fault) => Reply::Fault(fault),
@@ -306,6 +337,17 @@ impl<const PAGES: u32, const SPAN: u32> Session<PAGES, SPAN> {
     {
         match self.timeline.move_to(event, time.get()) {
             Ok(event) => Reply::Event(event as u64),
+            Err(fault) => Reply::Fault(fault),
+        }
+    }
+
+    // Takes the events of a range of times out of the log.
+    fn erase(&mut self, from: u64, to: u64) -> Reply
+        ensures answers { Answers PAGES (triple_of self.old) (command.Erase from to) (triple_of self.new) result }
+        ensures costs { Costs PAGES SPAN (command.Erase from to) self.old self.new result }
+    {
+        match self.timeline.erase(from, to) {
+            Ok(()) => Reply::Left(self.timeline.log().events().len() as u64),
             Err(fault) => Reply::Fault(fault),
         }
     }

@@ -1,7 +1,7 @@
 -- Replies end with a line feed.
 use Rattle.std.proofs.Common.{ℕ, zero, suc, ◌+◌, ◌*◌, ◌%◌, ◌^◌, ◌<◌, Bool, true, false, length, slice_index, arith, List, [], ◌∷◌, ◌++◌, refl, subst, sym, ap, ◌∙◌, append_assoc, append-nil, codes}
 use Rattle.std.specs.Fmt.{decimal}
-use Rattle.input_log.specs.Event.{TimedByte}
+use Rattle.input_log.specs.Event.{LogEvent}
 use Rattle.wb_text.specs.Text.{line}
 use Rattle.wb_text.specs.Reply.{EndsWithLineFeed, HasText, text_of, state_text, row_text, rows_text, refusal_text, value_text, control_text, entry_text, where_text, memory_text, words_text, console_text, writer_text, event_text, events_text}
 use Rattle.wb_text.specs.declared.reply.Reply.{Reply}
@@ -25,7 +25,7 @@ words_end instruction address words (suc place) some =
     behind (words_text instruction address words place) (line last) (last, refl)
 
 -- behind a line, events end with a line feed, or there are none
-log_ends : (front : List ℕ) (number : ℕ) (events : List TimedByte) → EndsWithLineFeed (line front ++ events_text number events)
+log_ends : (front : List ℕ) (number : ℕ) (events : List LogEvent) → EndsWithLineFeed (line front ++ events_text number events)
 unfolding events_text
 log_ends front number [] = (front, append-nil (line front))
 log_ends front number (event ∷ events) =

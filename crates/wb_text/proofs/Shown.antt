@@ -2,7 +2,7 @@
 use Rattle.std.proofs.Common.{◌≡◌, ℕ, zero, suc, ◌+◌, ◌%◌, ◌^◌, ◌<◌, ◌≤◌, List, [], ◌∷◌, ◌++◌, length, get_or, drop, refl, ap, sym, ◌∙◌, arith, codes}
 use Rattle.std.specs.Prelude.{flat_map}
 use Rattle.std.proofs.lemmas.List.{drop_more}
-use Rattle.input_log.specs.Event.{TimedByte}
+use Rattle.input_log.specs.Event.{LogEvent}
 use Rattle.wb_text.specs.Text.{line, byte_text}
 use Rattle.wb_text.specs.Reply.{bytes_text, event_text, events_text}
 
@@ -16,19 +16,19 @@ unfolding bytes_text
 bytes_text-some [] some = absurd (omega (arith, some))
 bytes_text-some (byte ∷ bytes) some = refl
 
-pub events_text-end : (number : ℕ) (events : List TimedByte) (i : ℕ) → length events ≤ i → events_text number (drop i events) ≡ []
+pub events_text-end : (number : ℕ) (events : List LogEvent) (i : ℕ) → length events ≤ i → events_text number (drop i events) ≡ []
 unfolding events_text
 events_text-end number [] zero past = refl
 events_text-end number [] (suc i) past = refl
 events_text-end number (event ∷ events) zero past = absurd (omega (arith, past))
 events_text-end number (event ∷ events) (suc i) past = events_text-end number events i (omega (arith, past))
 
-events_text-cons : (number : ℕ) (event : TimedByte) (events : List TimedByte)
+events_text-cons : (number : ℕ) (event : LogEvent) (events : List LogEvent)
     → events_text number (event ∷ events) ≡ line (event_text number event) ++ events_text ((number + 1) % 2 ^ 64) events
 unfolding events_text
 events_text-cons number event events = refl
 
-pub events_text-more : (number : ℕ) (events : List TimedByte) (i : ℕ) (event : TimedByte) → i < length events → event ≡ get_or events i event
+pub events_text-more : (number : ℕ) (events : List LogEvent) (i : ℕ) (event : LogEvent) → i < length events → event ≡ get_or events i event
     → events_text number (drop i events) ≡ line (event_text number event) ++ events_text ((number + 1) % 2 ^ 64) (drop (i + 1) events)
 events_text-more number events i event inside is =
     let later = drop (i + 1) events in

@@ -2,10 +2,11 @@
 use Rattle.std.specs.Prelude.{ℕ, ◌∷◌, [], List, ◌-◌, ◌^◌, Option, Some, None, Result, Ok, Err, if◌then◌else◌, nat_lt, length, codes, slice_index}
 use Rattle.std.specs.Str.{bytes_eq}
 use Rattle.std.specs.Str.Lines.{strip_carriage_return}
+use Rattle.input_log.specs.Limits.{max_time}
 use Rattle.wb_text.specs.Number.{number_of, number_within}
 use Rattle.wb_text.specs.Words.{words_of, begins_comment}
 use Rattle.wb_text.specs.declared.command.Command.{Command}
-use Rattle.wb_text.specs.declared.command.Command.TheVariants.{Pos, Goto, Step, Back, Visit, Regs, Reg, Cp0, Tlb, Where, Mem, Dis, Console, Find, Writer, Log, Add, Del, Set, Move, Patch, Quit}
+use Rattle.wb_text.specs.declared.command.Command.TheVariants.{Pos, Goto, Step, Back, Visit, Regs, Reg, Cp0, Tlb, Where, Mem, Dis, Console, Find, Writer, Log, Add, Ferr, Wire, Del, Set, Move, Erase, Patch, Quit}
 use Rattle.refusal.specs.declared.fault.Fault.{Fault}
 use Rattle.refusal.specs.declared.fault.Fault.TheVariants.{Syntax}
 
@@ -35,7 +36,8 @@ numbers_of (range ∷ ranges) (word ∷ words) =
     in_front (both_of (number_within range.0 range.1 (number_of word)) (numbers_of ranges words))
 
 -- the ranges of numbers: of any, of a register, of a translation entry, of an address, of a word, of a line of the serial
--- part, of a byte, of an event's time, of how many words, bytes and events a reply shows, and of how many steps are searched
+-- part, of a byte, of an external line, of its level, of an event's time, of how many words, bytes and events a reply shows,
+-- and of how many steps are searched
 abbrev pub any_number : ℕ × ℕ
 any_number = (0, 2 ^ 64 - 1)
 
@@ -57,8 +59,14 @@ line_number = (0, 3)
 abbrev pub byte_value : ℕ × ℕ
 byte_value = (0, 255)
 
+abbrev pub wire_number : ℕ × ℕ
+wire_number = (0, 2)
+
+abbrev pub level : ℕ × ℕ
+level = (0, 1)
+
 abbrev pub event_time : ℕ × ℕ
-event_time = (0, 2 ^ 32 - 2)
+event_time = (0, max_time)
 
 abbrev pub word_count : ℕ × ℕ
 word_count = (1, 32)
@@ -77,13 +85,10 @@ abbrev pub made_by : (List ℕ → Command) → Result (List ℕ) Fault → Resu
 made_by make (Ok numbers) = Ok (make numbers)
 made_by make (Err fault) = Err fault
 
--- the edits of the log and the image
+-- the edits of the log and the image that put no event into the log
 abbrev pub edit_named : List ℕ → List (List ℕ) → Result Command Fault
 edit_named name words =
-    if bytes_eq name (codes "add") then
-    made_by (λ numbers. Add (slice_index numbers 0) (slice_index numbers 1) (slice_index numbers 2))
-    (numbers_of (event_time ∷ line_number ∷ byte_value ∷ []) words)
-    else (if bytes_eq name (codes "del") then
+    if bytes_eq name (codes "del") then
     made_by (λ numbers. Del (slice_index numbers 0)) (numbers_of (any_number ∷ []) words)
     else (if bytes_eq name (codes "set") then
     made_by (λ numbers. Set (slice_index numbers 0) (slice_index numbers 1))
@@ -91,10 +96,27 @@ edit_named name words =
     else (if bytes_eq name (codes "move") then
     made_by (λ numbers. Move (slice_index numbers 0) (slice_index numbers 1))
     (numbers_of (any_number ∷ event_time ∷ []) words)
+    else (if bytes_eq name (codes "erase") then
+    made_by (λ numbers. Erase (slice_index numbers 0) (slice_index numbers 1))
+    (numbers_of (any_number ∷ any_number ∷ []) words)
     else (if bytes_eq name (codes "patch") then
     made_by (λ numbers. Patch (slice_index numbers 0) (slice_index numbers 1))
     (numbers_of (address ∷ word_value ∷ []) words)
     else Err Syntax))))
+
+-- the events that are put into the log
+abbrev pub event_named : List ℕ → List (List ℕ) → Result Command Fault
+event_named name words =
+    if bytes_eq name (codes "add") then
+    made_by (λ numbers. Add (slice_index numbers 0) (slice_index numbers 1) (slice_index numbers 2))
+    (numbers_of (event_time ∷ line_number ∷ byte_value ∷ []) words)
+    else (if bytes_eq name (codes "ferr") then
+    made_by (λ numbers. Ferr (slice_index numbers 0) (slice_index numbers 1) (slice_index numbers 2))
+    (numbers_of (event_time ∷ line_number ∷ byte_value ∷ []) words)
+    else (if bytes_eq name (codes "wire") then
+    made_by (λ numbers. Wire (slice_index numbers 0) (slice_index numbers 1) (slice_index numbers 2))
+    (numbers_of (event_time ∷ wire_number ∷ level ∷ []) words)
+    else edit_named name words))
 
 -- the queries of the steps before the position, and of the log
 abbrev pub history_query_named : List ℕ → List (List ℕ) → Result Command Fault
@@ -110,7 +132,7 @@ history_query_named name words =
     else (if bytes_eq name (codes "log") then
     made_by (λ numbers. Log (slice_index numbers 0) (slice_index numbers 1))
     (numbers_of (any_number ∷ event_count ∷ []) words)
-    else edit_named name words)))
+    else event_named name words)))
 
 -- the queries of the state
 abbrev pub state_query_named : List ℕ → List (List ℕ) → Result Command Fault

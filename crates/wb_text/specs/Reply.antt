@@ -2,7 +2,9 @@
 use Rattle.std.specs.Prelude.{◌≡◌, ℕ, zero, suc, ◌+◌, ◌*◌, ◌%◌, ◌^◌, ◌<◌, List, [], ◌∷◌, ◌++◌, length, flat_map, Bool, true, false, Option, Some, None, codes, slice_index}
 use Rattle.std.specs.Fmt.{decimal}
 use Rattle.r3k_disasm.specs.Instruction.{text_of as instruction_text}
-use Rattle.input_log.specs.Event.{TimedByte}
+use Rattle.input_log.specs.declared.event.Kind.{Kind}
+use Rattle.input_log.specs.declared.event.Kind.TheVariants.{Byte, Framing, Wire}
+use Rattle.input_log.specs.Event.{LogEvent}
 use Rattle.wb_text.specs.Text.{word_text, byte_text, register_text, line}
 use Rattle.wb_text.specs.declared.reply.ControlRegisters.{ControlRegisters}
 use Rattle.refusal.specs.declared.fault.Fault.{Fault}
@@ -115,18 +117,24 @@ writer_text (Step step) = codes "writer " ++ decimal step
 writer_text Image = codes "writer image"
 writer_text Never = codes "writer never"
 
--- what the line of an event says: its number, its time, its line and its byte
-unfoldable pub event_text : ℕ → TimedByte → List ℕ
+-- what is said of a kind: nothing of the arrival of a byte
+abbrev pub kind_text : Kind → List ℕ
+kind_text Byte = []
+kind_text Framing = codes " framing"
+kind_text Wire = codes " wire"
+
+-- what the line of an event says: its number, its time, its line, its byte and its kind
+unfoldable pub event_text : ℕ → LogEvent → List ℕ
 event_text number event =
-    decimal number ++ codes " " ++ decimal event.time ++ codes " " ++ decimal event.line ++ codes " 0x" ++ byte_text event.byte
+    decimal number ++ codes " " ++ decimal event.time ++ codes " " ++ decimal event.line ++ codes " 0x" ++ byte_text event.byte ++ kind_text event.kind
 
 -- the lines of events, whose numbers go on from one
-unfoldable pub events_text : ℕ → List TimedByte → List ℕ
+unfoldable pub events_text : ℕ → List LogEvent → List ℕ
 events_text number [] = []
 events_text number (event ∷ events) = line (event_text number event) ++ events_text ((number + 1) % 2 ^ 64) events
 
 -- how many events the log has, and those that are shown
-abbrev pub log_text : (total first : ℕ) → List TimedByte → List ℕ
+abbrev pub log_text : (total first : ℕ) → List LogEvent → List ℕ
 log_text total first events = line (codes "log " ++ decimal total) ++ events_text first events
 
 -- the text of a reply

@@ -1,5 +1,6 @@
 //! Numbers in the range that a command allows.
 
+use input_log::MAX_TIME;
 use std::marker::Model;
 
 /// A number from `LEAST` to `MOST`.
@@ -26,8 +27,14 @@ pub type LineNumber = Bounded<0, 3>;
 /// A byte that arrives at a line.
 pub type ByteValue = Bounded<0, 255>;
 
+/// The number of an external line.
+pub type WireNumber = Bounded<0, 2>;
+
+/// The level of an external line.
+pub type Level = Bounded<0, 1>;
+
 /// The step of an event of the log: one that begins at a position below the greatest.
-pub type EventTime = Bounded<0, 4_294_967_294>;
+pub type EventTime = Bounded<0, { MAX_TIME }>;
 
 /// How many words a reply shows.
 pub type WordCount = Bounded<1, 32>;

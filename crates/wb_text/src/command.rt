@@ -4,11 +4,11 @@ ghost use Rattle.std.specs.Prelude.{◌≡◌, ◌<◌, MatchResult, Ok, Err, �
 ghost use Rattle.wb_text.specs.Words.{words_of};
 ghost use Rattle.wb_text.specs.Number.{number_of, number_within};
 ghost use Rattle.wb_text.specs.Command.{command_of, command_of_words, first_of, both_of, numbers_of};
-ghost use Rattle.wb_text.specs.Command.{command_named, state_query_named, history_query_named, edit_named};
+ghost use Rattle.wb_text.specs.Command.{command_named, state_query_named, history_query_named, event_named, edit_named};
 
 use crate::bounded::{
-    Address, AnyNumber, Bounded, ByteCount, ByteValue, EntryNumber, EventCount, EventTime,
-    LineNumber, RegisterNumber, StepCount, WordCount, WordValue,
+    Address, AnyNumber, Bounded, ByteCount, ByteValue, EntryNumber, EventCount, EventTime, Level,
+    LineNumber, RegisterNumber, StepCount, WireNumber, WordCount, WordValue,
 };
 use crate::number::number;
 use crate::words::first_word;
@@ -69,11 +69,23 @@ pub enum Command {
         from: u64,
         count: EventCount,
     },
-    /// Puts an event into the log.
+    /// Puts the arrival of a byte into the log.
     Add {
         time: EventTime,
         line: LineNumber,
         byte: ByteValue,
+    },
+    /// Puts the arrival of a byte with a framing error into the log.
+    Ferr {
+        time: EventTime,
+        line: LineNumber,
+        byte: ByteValue,
+    },
+    /// Puts a level of an external line into the log.
+    Wire {
+        time: EventTime,
+        line: WireNumber,
+        level: Level,
     },
     /// Takes an event out of the log.
     Del(u64),
@@ -86,6 +98,11 @@ pub enum Command {
     Move {
         event: u64,
         time: EventTime,
+    },
+    /// Takes the events of the times from one position up to another out of the log.
+    Erase {
+        from: u64,
+        to: u64,
     },
     /// Sets a word of the image.
     Patch {
@@ -206,18 +223,33 @@ fn history_query_by_name(name: &[u8], rest: &[u8]) -> Result<Command, Fault>
             count,
         })
     } else {
-        edit_by_name(name, rest)
+        event_by_name(name, rest)
     }
 }
 
 // The same of a name that asks for nothing.
-fn edit_by_name(name: &[u8], rest: &[u8]) -> Result<Command, Fault>
-    ensures { result ≡ edit_named name.now (words_of rest.now) }
+fn event_by_name(name: &[u8], rest: &[u8]) -> Result<Command, Fault>
+    ensures { result ≡ event_named name.now (words_of rest.now) }
 {
     if name == b"add".as_slice() {
         let (time, line, byte) = three_numbers(rest)?;
         Ok(Command::Add { time, line, byte })
-    } else if name == b"del".as_slice() {
+    } else if name == b"ferr".as_slice() {
+        let (time, line, byte) = three_numbers(rest)?;
+        Ok(Command::Ferr { time, line, byte })
+    } else if name == b"wire".as_slice() {
+        let (time, line, level) = three_numbers(rest)?;
+        Ok(Command::Wire { time, line, level })
+    } else {
+        edit_by_name(name, rest)
+    }
+}
+
+// The same of a name that puts no event into the log.
+fn edit_by_name(name: &[u8], rest: &[u8]) -> Result<Command, Fault>
+    ensures { result ≡ edit_named name.now (words_of rest.now) }
+{
+    if name == b"del".as_slice() {
         let event: AnyNumber = one_number(rest)?;
         Ok(Command::Del(event.get()))
     } else if name == b"set".as_slice() {
@@ -231,6 +263,12 @@ fn edit_by_name(name: &[u8], rest: &[u8]) -> Result<Command, Fault>
         Ok(Command::Move {
             event: event.get(),
             time,
+        })
+    } else if name == b"erase".as_slice() {
+        let (from, to): (AnyNumber, AnyNumber) = two_numbers(rest)?;
+        Ok(Command::Erase {
+            from: from.get(),
+            to: to.get(),
         })
     } else if name == b"patch".as_slice() {
         let (address, word) = two_numbers(rest)?;

@@ -10,8 +10,8 @@ mod text;
 mod words;
 
 pub use bounded::{
-    Address, Bounded, ByteCount, ByteValue, EntryNumber, EventCount, EventTime, LineNumber,
-    RegisterNumber, StepCount, WordCount, WordValue,
+    Address, Bounded, ByteCount, ByteValue, EntryNumber, EventCount, EventTime, Level, LineNumber,
+    RegisterNumber, StepCount, WireNumber, WordCount, WordValue,
 };
 pub use command::{Command, parse_line};
 pub use memory::Words;

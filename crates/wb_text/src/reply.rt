@@ -6,13 +6,13 @@ ghost use Rattle.std.specs.Fmt.{decimal};
 ghost use Rattle.wb_text.specs.Text.{line, word_text};
 ghost use Rattle.wb_text.specs.Reply.{text_of, EndsWithLineFeed, HasText, refusal_text, flag_text, value_text, load_text};
 ghost use Rattle.wb_text.specs.Reply.{state_text, row_text, rows_text, control_text, entry_text, where_text, memory_text, all_words_text};
-ghost use Rattle.wb_text.specs.Reply.{bytes_text, console_text, writer_text, event_text, events_text, log_text};
+ghost use Rattle.wb_text.specs.Reply.{bytes_text, console_text, writer_text, kind_text, event_text, events_text, log_text};
 
 use crate::bounded::{EntryNumber, LineNumber, RegisterNumber};
 use crate::memory::Words;
 use crate::text::{Text, push_byte, push_decimal, push_text, push_word};
 use arrayvec::ArrayVec;
-use input_log::Event;
+use input_log::{Event, Kind};
 use refusal::Fault;
 
 /// A load that has not landed: its register and the value.
@@ -120,9 +120,9 @@ pub enum Reply {
         first: u64,
         events: ArrayVec<Event, 32>,
     },
-    /// The number that an event has now, of `add`, `set` and `move`.
+    /// The number that an event has now, of `add`, `ferr`, `wire`, `set` and `move`.
     Event(u64),
-    /// How many events the log has left, of `del`.
+    /// How many events the log has left, of `del` and `erase`.
     Left(u64),
     /// That a word was set, of `patch`.
     Patched,
@@ -433,7 +433,7 @@ fn push_log(text: &mut Text, total: u64, first: u64, events: &[Event])
 fn push_event(text: &mut Text, number: u64, event: Event)
     requires { array_vec_len text.old ≤ 4000 }
     ensures items { text.new.items ≡ text.old.items ++ line (event_text number event) }
-    ensures room { array_vec_len text.new ≤ array_vec_len text.old + 68 }
+    ensures room { array_vec_len text.new ≤ array_vec_len text.old + 76 }
 {
     push_decimal(text, number);
     push_text(text, b" ");
@@ -442,7 +442,20 @@ fn push_event(text: &mut Text, number: u64, event: Event)
     push_decimal(text, u64::from(event.line));
     push_text(text, b" 0x");
     push_byte(text, event.byte);
+    push_text(text, kind_text(event.kind));
     push_text(text, b"\n");
+}
+
+// What is said of a kind.
+fn kind_text(kind: Kind) -> &'static [u8]
+    ensures text { result.now ≡ kind_text kind }
+    ensures short { length result.now ≤ 8 }
+{
+    match kind {
+        Kind::Byte => b"",
+        Kind::Framing => b" framing",
+        Kind::Wire => b" wire",
+    }
 }
 
 /// Every reply has a text that ends with a line feed, but for that of `quit` and one that shows no word.

@@ -2,7 +2,7 @@
 use Rattle.std.proofs.Common.{◌≡◌, inl, inr, ℕ, ◌-◌, List, [], ◌++◌, length, Result, Ok, Err, refl, sym, ap, subst, ◌∙◌}
 use Rattle.std.proofs.lemmas.List.{append-nil}
 use Rattle.wb_io.specs.Calls.{Call, bytes_moved}
-use Rattle.input_log.specs.Event.{TimedByte}
+use Rattle.input_log.specs.Event.{LogEvent}
 use Rattle.r3k_image.specs.Boot.{Boot, FitsRam}
 use Rattle.wb_options.specs.declared.fault.RunFault.{RunFault}
 use Rattle.wb_options.specs.declared.fault.RunFault.TheVariants.{Memory, BadImage, BadLog, BadSource, ReadFault, WriteFault, Usage, Help}
@@ -11,7 +11,7 @@ use Rattle.workbench.specs.Serve.{AsksFor, Layout, IsFrontFault, IsJudgement, Ma
 use Rattle.wb_session.specs.Session.{IsNewFault, Triple}
 
 -- a session that there is not
-pub no_session : (T : Type 0) (pages most : ℕ) (image : Boot) (log : List TimedByte) (fault : RunFault) → IsNewFault pages image fault → RunsScript {T = T} pages most image log (Err fault) [] []
+pub no_session : (T : Type 0) (pages most : ℕ) (image : Boot) (log : List LogEvent) (fault : RunFault) → IsNewFault pages image fault → RunsScript {T = T} pages most image log (Err fault) [] []
 no_session T pages most image log Memory h = (h, (refl, refl))
 no_session T pages most image log (BadImage kind) h = (h.0, h.1, (refl, refl))
 no_session T pages most image log (BadSource line kind) h = absurd h
@@ -22,7 +22,7 @@ no_session T pages most image log (Usage text) h = absurd h
 no_session T pages most image log (Help text) h = absurd h
 
 -- a session's script
-pub session_runs : {T : Type 0} (pages most : ℕ) (image : Boot) (log : List TimedByte) (s : Triple) (r : Result T RunFault) (reads writes : List Call) → FitsRam pages image → s ≡ record { image = image; log = log; position = 0 } → ScriptRuns pages most s r reads writes → RunsScript pages most image log r reads writes
+pub session_runs : {T : Type 0} (pages most : ℕ) (image : Boot) (log : List LogEvent) (s : Triple) (r : Result T RunFault) (reads writes : List Call) → FitsRam pages image → s ≡ record { image = image; log = log; position = 0 } → ScriptRuns pages most s r reads writes → RunsScript pages most image log r reads writes
 session_runs pages most image log s (Ok done) reads writes f e h = (f, subst (λ (t : Triple). ScriptRuns {T = Unit {0}} pages most t (Ok tt) reads writes) e h)
 session_runs pages most image log s (Err ReadFault) reads writes f e h = (f, subst (λ (t : Triple). ScriptRuns {T = Unit {0}} pages most t (Err ReadFault) reads writes) e h)
 session_runs pages most image log s (Err WriteFault) reads writes f e h = (f, subst (λ (t : Triple). ScriptRuns {T = Unit {0}} pages most t (Err WriteFault) reads writes) e h)
@@ -59,7 +59,7 @@ no_image_serves T pages layout (Help text) reads all j h = absurd j
 -- a log that could not be made, behind an image
 pub no_log_serves : (T : Type 0) (pages : ℕ) (layout : Layout) (fault : RunFault) (reads : List Call) → ReadsAll (size_of layout) reads → IsJudgement fault
     → (image : Boot) → image_in layout (bytes_moved reads) ≡ Ok image
-    → Makes {A = List TimedByte} (Err fault) (log_in layout (bytes_moved reads)) → Serves {T = T} pages layout (Err fault) reads []
+    → Makes {A = List LogEvent} (Err fault) (log_in layout (bytes_moved reads)) → Serves {T = T} pages layout (Err fault) reads []
 no_log_serves T pages layout Memory reads all j image made h = (all.0, refl)
 no_log_serves T pages layout (BadImage why) reads all j image made h = (all, inr (inl (image, made, h)), refl)
 no_log_serves T pages layout (BadLog why) reads all j image made h = (all, inr (inl (image, made, h)), refl)
@@ -70,7 +70,7 @@ no_log_serves T pages layout (Usage text) reads all j image made h = absurd j
 no_log_serves T pages layout (Help text) reads all j image made h = absurd j
 
 -- a run behind the bytes of an image and a log
-pub run_serves : {T : Type 0} (pages most : ℕ) (layout : Layout) (image : Boot) (log : List TimedByte) (r : Result T RunFault) (before reads writes : List Call) → ReadsAll (size_of layout) before → image_in layout (bytes_moved before) ≡ Ok image → log_in layout (bytes_moved before) ≡ Ok log → most ≡ max_reads - length before → RunsScript pages most image log r reads writes → Serves pages layout r (before ++ reads) writes
+pub run_serves : {T : Type 0} (pages most : ℕ) (layout : Layout) (image : Boot) (log : List LogEvent) (r : Result T RunFault) (before reads writes : List Call) → ReadsAll (size_of layout) before → image_in layout (bytes_moved before) ≡ Ok image → log_in layout (bytes_moved before) ≡ Ok log → most ≡ max_reads - length before → RunsScript pages most image log r reads writes → Serves pages layout r (before ++ reads) writes
 run_serves pages most layout image log r before reads writes f m l e h = by_result r h
   where
     script : {U : Type 0} (r : Result U RunFault) → FitsRam pages image → ScriptRuns pages most (record { image = image; log = log; position = 0 }) r reads writes → ServesScript pages layout r (before ++ reads) writes

@@ -1,7 +1,7 @@
 -- How a run goes (own): which calls its reader and its writer get, by its result.
 use Rattle.std.specs.Prelude.{◌≡◌, ◌⊎◌, ℕ, List, [], ◌∷◌, ◌++◌, Result, Ok, Err, length}
 use Rattle.wb_io.specs.Calls.{Call, Each, Fails, MovesNone, MovesSome, TakesAll, TakesFront, bytes_moved}
-use Rattle.input_log.specs.Event.{TimedByte}
+use Rattle.input_log.specs.Event.{LogEvent}
 use Rattle.r3k_image.specs.Boot.{Boot, FitsRam}
 use Rattle.r3k_image.specs.declared.fault.ImageKind.TheVariants.{Pages}
 use Rattle.wb_options.specs.declared.fault.RunFault.{RunFault}
@@ -77,7 +77,7 @@ Untouched reads writes = (reads ≡ []) × (writes ≡ [])
 
 -- The same of a run of an image and a log on a machine with so many pages of RAM: an image that does not fit, and want of
 -- memory for one that does, are refused before anything is read or written.
-abbrev pub RunsScript : {T : Type 0} → (pages most : ℕ) → Boot → List TimedByte → Result T RunFault → (reads writes : List Call) → Type 0
+abbrev pub RunsScript : {T : Type 0} → (pages most : ℕ) → Boot → List LogEvent → Result T RunFault → (reads writes : List Call) → Type 0
 RunsScript pages most image log (Err Memory) reads writes = FitsRam pages image × Untouched reads writes
 RunsScript pages most image log (Err (BadImage kind)) reads writes = (kind ≡ Pages) × ¬ FitsRam pages image × Untouched reads writes
 RunsScript pages most image log result reads writes =

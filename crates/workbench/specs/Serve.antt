@@ -1,6 +1,6 @@
 -- The program's run on its input (own): the bytes of an image and of a log, and then a script.
 use Rattle.std.specs.Prelude.{◌≡◌, ◌⊎◌, ℕ, ◌+◌, ◌-◌, ◌<◌, min, List, [], ◌∷◌, ◌++◌, length, take, drop, Result, Ok, Err}
-use Rattle.input_log.specs.Event.{TimedByte}
+use Rattle.input_log.specs.Event.{LogEvent}
 use Rattle.input_log.specs.Reading.{log_at}
 use Rattle.wb_io.specs.Calls.{Call, Fails, MovesNone, MovesSome, bytes_moved, bytes_of}
 use Rattle.r3k_image.specs.Boot.{Boot, FitsRam}
@@ -26,7 +26,7 @@ image_of Image bytes = with_fault (λ kind. BadImage kind) (image_at bytes)
 image_of Source bytes = with_fault run_fault_of_source (source_image bytes)
 
 -- the log that bytes spell, or why they spell none; no byte at all is the empty log
-abbrev pub log_of : List ℕ → Result (List TimedByte) RunFault
+abbrev pub log_of : List ℕ → Result (List LogEvent) RunFault
 log_of [] = Ok []
 log_of (byte ∷ bytes) = with_fault (λ kind. BadLog kind) (log_at (byte ∷ bytes))
 
@@ -48,11 +48,11 @@ size_of layout = layout.size + layout.log_size
 abbrev pub image_in : Layout → List ℕ → Result Boot RunFault
 image_in layout bytes = image_of layout.kind (take layout.size bytes)
 
-abbrev pub log_in : Layout → List ℕ → Result (List TimedByte) RunFault
+abbrev pub log_in : Layout → List ℕ → Result (List LogEvent) RunFault
 log_in layout bytes = log_of (drop layout.size bytes)
 
 -- these bytes make this image and this log, and the image fits a machine with so many pages of RAM
-pub record IsGood (pages : ℕ) (layout : Layout) (bytes : List ℕ) (image : Boot) (log : List TimedByte) : Type 0 where
+pub record IsGood (pages : ℕ) (layout : Layout) (bytes : List ℕ) (image : Boot) (log : List LogEvent) : Type 0 where
   pub image_is : image_in layout bytes ≡ Ok image
   pub log_is : log_in layout bytes ≡ Ok log
   pub fits : FitsRam pages image
@@ -62,7 +62,7 @@ abbrev pub IsBad : ℕ → Layout → List ℕ → RunFault → Type 0
 IsBad pages layout bytes fault =
     (image_in layout bytes ≡ Err fault)
     ⊎ (((image : Boot) × (image_in layout bytes ≡ Ok image) × (log_in layout bytes ≡ Err fault))
-    ⊎ ((image : Boot) × (log : List TimedByte) × (image_in layout bytes ≡ Ok image) × (log_in layout bytes ≡ Ok log) × ¬ FitsRam pages image × (fault ≡ BadImage Pages)))
+    ⊎ ((image : Boot) × (log : List LogEvent) × (image_in layout bytes ≡ Ok image) × (log_in layout bytes ≡ Ok log) × ¬ FitsRam pages image × (fault ≡ BadImage Pages)))
 
 -- reads of so many bytes: each asked for what was missing, or for a piece of 4096, and gave some
 abbrev pub AsksFor : ℕ → List Call → Type 0
@@ -94,7 +94,7 @@ pub record ServesScript {T : Type 0} (pages : ℕ) (layout : Layout) (result : R
   pub before : List Call
   pub script : List Call
   pub image : Boot
-  pub log : List TimedByte
+  pub log : List LogEvent
   pub reads_are : reads ≡ before ++ script
   pub read : ReadsAll (size_of layout) before
   pub good : IsGood pages layout (bytes_moved before) image log

@@ -21,6 +21,6 @@ returns-else-eq-4 c =
       named name c.as_slice-else-eq.result.now _ _ c.if-eq-2.ensures c.as_slice-else-eq.ensures,
       named name c.as_slice-else-eq-2.result.now _ _ c.if-eq-3.ensures c.as_slice-else-eq-2.ensures,
       named name c.as_slice-else-eq-3.result.now _ _ c.if-eq-4.ensures c.as_slice-else-eq-3.ensures,
-      c.edit_by_name.ensures,
+      c.event_by_name.ensures,
     )
     refl

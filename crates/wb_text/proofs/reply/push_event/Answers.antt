@@ -7,7 +7,9 @@ pub returns-clause-items : goal.returns-clause-items
 unfolding event_text
 returns-clause-items c =
     rw (
+      c.push_text-5.ensures.items,
       c.push_text-4.ensures.items,
+      c.kind_text.ensures.text,
       c.push_byte.ensures.items,
       c.push_text-3.ensures.items,
       c.push_decimal-3.ensures.items,

@@ -6,5 +6,5 @@ use Rattle.wb_text.proofs.reply.push_log.Given as goal
 abbrev pub invariant-loop-event : goal.invariant-loop-event
 invariant-loop-event l = record {
   items : l.text.items ++ events_text l.number (drop l.event-index l.events) ≡ l.fn.text.items ++ log_text l.total l.first l.events;
-  room : array_vec_len l.text ≤ array_vec_len l.fn.text + 30 + 68 * l.event-index;
+  room : array_vec_len l.text ≤ array_vec_len l.fn.text + 30 + 76 * l.event-index;
 }

@@ -1,6 +1,6 @@
 use Rattle.std.proofs.Common.{◌≡◌, ℕ, List, [], ◌∷◌, length, Ok, refl, sym, ap, ◌∙◌, arith}
 use Rattle.std.proofs.lemmas.Bool.{eqb-true, eqb-false}
-use Rattle.input_log.specs.Event.{TimedByte}
+use Rattle.input_log.specs.Event.{LogEvent}
 use Rattle.input_log.specs.Reading.{log_at}
 use Rattle.wb_options.specs.declared.fault.RunFault.TheVariants.{BadLog}
 use Rattle.workbench.specs.Serve.{log_of, with_fault}
@@ -17,7 +17,7 @@ log_of-some (byte ∷ bytes) some = refl
 pub returns-then-is_empty-clause-made : goal.returns-then-is_empty-clause-made
 returns-then-is_empty-clause-made c =
     log_of-none c.args.bytes.now (eqb-true (length c.args.bytes.now) 0 (sym c.is_empty.ensures ∙ c.if-is_empty.true))
-    ∙ ap (λ (log : List TimedByte). Ok log) (sym c.new.ensures)
+    ∙ ap (λ (log : List LogEvent). Ok log) (sym c.new.ensures)
 
 pub returns-clause-made : goal.returns-clause-made
 returns-clause-made c =

@@ -1,6 +1,6 @@
 use Rattle.std.proofs.Common.{[], ◌++◌, ◌≡◌, List, ℕ, Ok, Err, take, drop, ap, subst, arith, length-append, ◌∙◌}
 use Rattle.r3k_image.specs.Boot.{Boot}
-use Rattle.input_log.specs.Event.{TimedByte}
+use Rattle.input_log.specs.Event.{LogEvent}
 use Rattle.wb_io.proofs.CallLemmas.{Reads-trans, Writes-nil}
 use Rattle.workbench.specs.Serve.{Layout, Makes, image_of, log_of}
 use Rattle.workbench.proofs.Outcomes.{front_fault_serves, no_image_serves, no_log_serves, run_serves}
@@ -46,7 +46,7 @@ returns-in-Err-log_of g c =
       f.2,
       no_log_serves (Unit {0}) g.row.PAGES layout fault f.0 f.3.0 none.judged image
           (subst (λ (z : List ℕ). image_of c.args.options.kind z ≡ Ok image) bytes made.made)
-          (subst (λ (z : List ℕ). Makes {A = List TimedByte} (Err fault) (log_of z)) rest none.made),
+          (subst (λ (z : List ℕ). Makes {A = List LogEvent} (Err fault) (log_of z)) rest none.made),
     )
 
 pub returns : goal.returns

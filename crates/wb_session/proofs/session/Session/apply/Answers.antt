@@ -50,6 +50,12 @@ returns-in-Log g c = rw c.in-Log.is (record { answers = inl (ap (answer (triple_
 pub returns-in-Add : goal.returns-in-Add
 returns-in-Add g c = rw c.in-Add.is c.add.ensures
 
+pub returns-in-Ferr : goal.returns-in-Ferr
+returns-in-Ferr g c = rw c.in-Ferr.is c.ferr.ensures
+
+pub returns-in-Wire : goal.returns-in-Wire
+returns-in-Wire g c = rw c.in-Wire.is c.wire.ensures
+
 pub returns-in-Del : goal.returns-in-Del
 returns-in-Del g c = rw c.in-Del.is c.del.ensures
 
@@ -58,6 +64,9 @@ returns-in-Set g c = rw c.in-Set.is c.set.ensures
 
 pub returns-in-Move : goal.returns-in-Move
 returns-in-Move g c = rw c.in-Move.is c.move_to.ensures
+
+pub returns-in-Erase : goal.returns-in-Erase
+returns-in-Erase g c = rw c.in-Erase.is c.erase.ensures
 
 pub returns-in-Patch : goal.returns-in-Patch
 returns-in-Patch g c = rw c.in-Patch.is c.patch.ensures

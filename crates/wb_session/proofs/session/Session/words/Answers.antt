@@ -6,6 +6,7 @@ use Rattle.std.specs.Result.{is_ok}
 use Rattle.refusal.specs.Given.{GivesFault}
 use Rattle.refusal.specs.declared.fault.Fault.{Fault}
 use Rattle.refusal.specs.declared.fault.Fault.TheVariants.{Memory}
+use Rattle.input_log.specs.Limits.{max_position}
 use Rattle.timeline.specs.Landed.{AsksFault}
 use Rattle.r3k_machine.specs.Run.{state_at}
 use Rattle.timeline.specs.History.{History}
@@ -42,7 +43,7 @@ loop-word-preserved g c =
     let given = ap₂ (λ (h : History) (n : ℕ). word_at pages h n (c.args.address + 4 * word)) (sym c.loop-word.invariant.same) (sym position)
     ∙ (ap (λ (a : ℕ). word_at pages before.history c.self.inside.position (a + 4 * word)) (sym c.get.ensures.value) ∙ c.in-Ok.ensures.word) in
     let value = value_is pages history now.position (c.args.address + 4 * word) placed.0 c.in-Ok.value
-    (subst (λ (s : Held). s.position ≤ 4294967295) c.self.view_is c.self.invariant.position) (omega (arith, even)) placed.1 given in
+    (subst (λ (s : Held). s.position ≤ max_position) c.self.view_is c.self.invariant.position) (omega (arith, even)) placed.1 given in
     let words = slice_index (state_at pages history.image history.log now.position).words in
     let so_far = c.loop-word.invariant.so_far in
     let asked = subst (λ (n : ℕ). AskedSo pages span n word now.timeline before) (sym position) c.loop-word.invariant.asked in record {
@@ -74,7 +75,7 @@ returns-in-Err g c =
     ∙ ap (λ (a : ℕ). word_at pages c.loop-word.self-inside.timeline.history c.self.inside.position (a + 4 * word)) (sym c.get.ensures.value) in
     let given = subst (λ (q : Result ℕ Fault). GivesFault q c.in-Err.fault) (sym asked) c.in-Err.ensures.word in
     let memory = only_memory pages history now.position (c.args.address + 4 * word) placed.0 c.in-Err.fault
-    (subst (λ (s : Held). s.position ≤ 4294967295) c.self.view_is c.self.invariant.position) (omega (arith, even)) placed.1 given in
+    (subst (λ (s : Held). s.position ≤ max_position) c.self.view_is c.self.invariant.position) (omega (arith, even)) placed.1 given in
     let before = c.loop-word.self-inside.timeline in
     let after = c.word_at.new.self in
     let so = subst (λ (n : ℕ). AskedSo pages span n word now.timeline before) (sym position) c.loop-word.invariant.asked in
