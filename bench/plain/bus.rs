@@ -1,7 +1,8 @@
-//! The board behind memory: serial part, clock, and the register that enables interrupt lines.
+//! The board beside memory: serial part, clock, external lines, and the register that enables interrupt lines.
 
 use crate::clock::Clock;
 use crate::image::Image;
+use crate::log::{Event, Kind};
 use crate::serial::{Sent, Serial};
 
 const SERIAL: u32 = 0x1FE0_0000;
@@ -20,11 +21,23 @@ pub struct Bus {
     pub clock: Clock,
     /// A bit for each of the board's eight lines.
     enables: u32,
+    /// The levels of the external lines, which are the board's lines 0 to 2.
+    levels: u32,
 }
 
 impl Bus {
     pub fn new(image: &Image) -> Bus {
-        Bus { serial: Serial::new(image.byte_time), clock: Clock::new(image.clock, image.unit), enables: 0 }
+        let serial = Serial::new(image.byte_time);
+        Bus { serial, clock: Clock::new(image.clock, image.unit), enables: 0, levels: 0 }
+    }
+
+    /// An event takes effect.
+    pub fn take(&mut self, event: Event) {
+        match event.kind {
+            Kind::Byte => self.serial.receive(event.line, event.byte, false),
+            Kind::Framing => self.serial.receive(event.line, event.byte, true),
+            Kind::Wire => self.levels = self.levels & !(1 << event.line) | u32::from(event.byte) << event.line,
+        }
     }
 
     #[inline]
@@ -34,7 +47,7 @@ impl Bus {
     }
 
     fn lines(&self) -> u32 {
-        if self.serial.line() { SERIAL_LINE } else { 0 }
+        self.levels | if self.serial.line() { SERIAL_LINE } else { 0 }
     }
 
     /// Whether the board and whether the clock asks for an interrupt.

@@ -34,7 +34,7 @@ const AFTERNOON: u8 = 1 << 7;
 pub struct Clock {
     unit: u32,
     divider: u32,
-    /// Time, alarms, A, B, and behind D the RAM; C holds its flags alone, D nothing.
+    /// Time, alarms, A, B, and after D the RAM; C holds its flags alone, D nothing.
     registers: [u8; 64],
 }
 

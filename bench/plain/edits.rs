@@ -1,16 +1,17 @@
 //! Random scripts of edits, with questions about what they change.
 //!
 //! A script is made beside a session that runs it: it asks about words that are stored into, about addresses that the code
-//! comes to and about bytes that are sent, and it edits before and behind where it looks.
+//! comes to and about bytes that are sent, and it edits before and after where it looks.
 
 use std::collections::BTreeSet;
 
 use crate::image::{Image, ROM};
+use crate::log::{Event, GREATEST, Kind};
 use crate::machine::{KSEG0, KSEG2};
-use crate::random::{Code, DATA, NOP, ROM_BODY, Random};
+use crate::random::{self, Code, DATA, NOP, ROM_BODY, Random};
 use crate::session::Session;
 
-/// The proved program keeps a record of each so many steps, so positions and times stand near their ends, too.
+/// The proved program keeps a record of every span of this many steps, so positions and times stand near their ends, too.
 const SPAN: u32 = 65_536;
 const LAST: u32 = 4 * SPAN + 4000;
 
@@ -19,26 +20,43 @@ const UNSET: [u32; 4] = [0x3000, 0x0010_0000, 0x007F_FFFC, ROM + 0x2_0000];
 /// What `patch` and `writer` refuse, or nearly so.
 const WRONG: [u32; 4] = [0x0000_2002, 0x1FE0_0000, 0x0080_0000, 0x1FC4_0000];
 
-/// Lines that are mostly refused, whatever the session.
-const REFUSED: [&str; 12] = [
-    "add 4294967295 0 1",
+/// Lines that are mostly refused, whatever the session. GREATEST stands for the greatest position, and PAST for the
+/// number after it.
+const REFUSED: [&str; 16] = [
+    "goto PAST",
+    "erase 0 PAST",
+    "erase PAST PAST",
+    "erase 5 4",
+    "add GREATEST 0 1",
     "add 1 4 1",
     "add 1 0 256",
     "set 1000000 256",
     "set 1000000 255",
     "del 18446744073709551615",
-    "move 0 4294967295",
+    "move 0 GREATEST",
     "patch 0x100000000 0",
     "patch 0x101 0x100000000",
     "visit 0x2 1048576",
     "visit 0 0",
     "find 0 18446744073709551615",
 ];
+/// The same of framing errors and external lines.
+const REFUSED_KINDS: [&str; 8] = [
+    "ferr GREATEST 0 1",
+    "ferr 1 4 1",
+    "ferr 1 0 256",
+    "wire GREATEST 0 1",
+    "wire 1 3 1",
+    "wire 1 0 2",
+    "set 0 2",
+    "set 1 255",
+];
 
-// Registers of the reading loop: the serial part, the page of each turn, and the page of the bytes.
+// Registers of the reading loop: the serial part, the page of each turn, the page of the bytes, and the board.
 const SERIAL: u32 = 16;
 const TURNS: u32 = 17;
 const BYTES: u32 = 18;
+const BOARD: u32 = 19;
 /// What RBUF gave.
 const BYTE: u32 = 6;
 /// addu r9, r0, r0
@@ -91,9 +109,13 @@ impl Code<'_> {
         if self.random.one_in(4) {
             self.words.extend([load(BYTES, 9, offset), NOP]);
         }
+        if self.random.one_in(4) {
+            let offset = self.offset();
+            self.words.extend([load(BOARD, 9, 0), NOP, store(TURNS, 9, offset), CLEAR_9]);
+        }
         let taken = self.take();
         let count = taken.len() as u32;
-        // Bit 15 tells of a byte. Without one there are mostly as many steps.
+        // Bit 15 says that a byte is there. Without one there are mostly as many steps.
         self.words.extend([0x0000_0400 | BYTE << 16 | 7 << 11, 0x0401_0000 | 7 << 21 | count + 3, NOP]);
         self.words.extend(taken);
         let waits = if self.random.one_in(4) { 0 } else { count + 2 };
@@ -125,6 +147,7 @@ pub fn reader(seed: u64) -> Image {
     code.set(TURNS, 0xA000_0000 + DATA);
     let bytes = code.random.pick(&[DATA, DATA + 0x1000, DATA + 0x1000]);
     code.set(BYTES, 0x8000_0000 + bytes);
+    code.set(BOARD, 0xBFF0_0000);
     code.words.extend([0x0800_0000 | ROM_BODY >> 2 & 0x03FF_FFFF, NOP]);
     image.words.extend((ROM..).step_by(4).zip(code.words));
     let mut code = Code { random: &mut random, words: Vec::new() };
@@ -133,7 +156,7 @@ pub fn reader(seed: u64) -> Image {
     image
 }
 
-/// What a run does up to a position, and soon behind it.
+/// What a run does up to a position, and soon after it.
 #[derive(Default)]
 struct Seen {
     stored: BTreeSet<u32>,
@@ -183,7 +206,7 @@ impl Script {
         self.tell(line);
     }
 
-    /// A position soon behind reset, near the end of a span, or any.
+    /// A position soon after reset, near the end of a span, or any.
     fn position(&mut self) -> u64 {
         let near_end = SPAN * (1 + self.random.below(4)) - 20 + self.random.below(40);
         let any = self.random.below(LAST);
@@ -197,8 +220,18 @@ impl Script {
         match self.random.below(8) {
             0..=3 => self.random.below(position as u32 + 1).into(),
             4 | 5 => position.saturating_sub(20) + u64::from(self.random.below(40)),
+            6 if self.random.one_in(3) => random::near_limit(&mut self.random),
             _ => self.position(),
         }
+    }
+
+    /// A range of times, mostly a short one.
+    fn range(&mut self) -> (u64, u64) {
+        let from = self.time();
+        let longest = self.random.pick(&[2, 40, 1000, SPAN]);
+        let near = from + u64::from(self.random.below(longest));
+        let far = random::near_limit(&mut self.random);
+        (from, self.random.pick(&[near, near, near, near, far]))
     }
 
     fn any_of(&mut self, words: &BTreeSet<u32>) -> Option<u32> {
@@ -227,15 +260,30 @@ impl Script {
         format!("patch {address:#x} {:#x}", self.random.pick(&[same, any, NOP, other.unwrap_or(1)]))
     }
 
+    fn add(&mut self, time: u64) -> String {
+        let Event { kind, line, byte, .. } = random::event(&mut self.random, time, self.session.parts);
+        let name = match kind {
+            Kind::Byte => "add",
+            Kind::Framing => "ferr",
+            Kind::Wire => "wire",
+        };
+        format!("{name} {time} {line} {byte}")
+    }
+
     fn edit(&mut self) {
         let seen = Seen::of(&self.session);
         let event = self.random.below(self.session.log.events.len() as u32 + 1);
-        let (time, byte) = (self.time(), self.random.below(256));
-        let line = match self.random.below(8) {
-            0..=2 => format!("add {time} {} {byte}", self.random.below(4)),
+        let (time, any) = (self.time(), self.random.below(256));
+        let byte = self.random.pick(&[any, any, 0, 1]);
+        let line = match self.random.below(9) {
+            0..=2 => self.add(time),
             3 => format!("del {event}"),
             4 => format!("set {event} {byte}"),
             5 => format!("move {event} {time}"),
+            6 => {
+                let (from, to) = self.range();
+                format!("erase {from} {to}")
+            }
             _ => self.patch(&seen),
         };
         self.run(&line);
@@ -256,6 +304,20 @@ impl Script {
             _ => self.random.pick(&["regs", "cp0", "log 0 32", "pos"]).into(),
         };
         self.tell(&question);
+    }
+
+    /// Goes near the limits and back, and asks for nothing there that the machine must run for.
+    fn go_far(&mut self) {
+        let position = self.session.position;
+        for _ in 0..2 {
+            let far = random::near_limit(&mut self.random);
+            self.run(&format!("goto {far}"));
+            let count = self.random.below(6);
+            let way = self.random.pick(&["step", "back"]);
+            self.run(&format!("{way} {count}"));
+            self.tell("pos");
+        }
+        self.run(&format!("goto {position}"));
     }
 
     /// Goes to where an address is met, and mostly back.
@@ -287,8 +349,12 @@ pub fn script(seed: u64, session: Session) -> String {
                 script.visit(&seen);
             }
         }
-        let refused = script.random.pick(&REFUSED);
-        script.run(refused);
+        let is_other = script.session.parts.kinds && script.random.one_in(3);
+        let refused = if is_other { script.random.pick(&REFUSED_KINDS) } else { script.random.pick(&REFUSED) };
+        script.run(&refused.replace("GREATEST", &GREATEST.to_string()).replace("PAST", &(GREATEST + 1).to_string()));
+        if script.random.one_in(3) {
+            script.go_far();
+        }
     }
     script.text
 }

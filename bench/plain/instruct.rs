@@ -56,7 +56,7 @@ impl Machine {
         self.registers[0] = 0;
     }
 
-    /// Goes to a target behind the delay slot, if a branch is taken.
+    /// Goes to a target after the delay slot, if a branch is taken.
     #[inline]
     fn go(&mut self, taken: bool, target: u32) {
         self.delay = true;
@@ -77,7 +77,7 @@ impl Machine {
         let (s, t) = (self.registers[w.rs()], self.registers[w.rt()]);
         let (signed_s, signed_t) = (s as i32, t as i32);
 
-        // Where control goes: behind the delay slot, or to the target of a branch or a jump.
+        // Where control goes: after the delay slot, or to the target of a branch or a jump.
         self.pc = self.next_pc;
         self.next_pc = self.pc.wrapping_add(4);
         self.delay = false;

@@ -25,6 +25,8 @@ pub struct Parts {
     pub caches: bool,
     /// Serial part, clock, board and events. Without them their addresses are unassigned.
     pub devices: bool,
+    /// Framing errors and external lines. Without them the random logs and scripts have sound bytes alone.
+    pub kinds: bool,
 }
 
 impl Parts {
@@ -39,7 +41,7 @@ impl Parts {
     }
 
     /// The program's machine.
-    pub const ALL: Parts = Parts { pages: 2048, translation: true, caches: true, devices: true };
+    pub const ALL: Parts = Parts { pages: 2048, translation: true, caches: true, devices: true, kinds: true };
 }
 
 /// What a step told: the byte that it sent, and the address of the word of RAM that it stored into.
@@ -131,12 +133,12 @@ impl Machine {
         place(self.parts.ram_words(), physical)
     }
 
-    /// One step, in which these events arrive.
+    /// One step, in which these events take effect first.
     #[inline]
     pub fn step(&mut self, events: &[Event]) -> Done {
         if self.parts.devices {
-            for event in events {
-                self.bus.serial.receive(event.line, event.byte);
+            for &event in events {
+                self.bus.take(event);
             }
             self.bus.tick();
             let (board, clock) = self.bus.interrupts();

@@ -1,8 +1,8 @@
 //! A plain workbench in ordinary Rust, apart from the definitions in `crates/*/specs`, to compare the proved program with.
 //!
 //! `plain [--kind rom|image|source] [--size N] [--log N] [--pages N] [--without PART,..]` reads what the proved program reads,
-//! and writes what it writes. The parts are `translation`, `caches` and `devices`. Each query runs from reset, by the
-//! simplest means.
+//! and writes what it writes. The parts are `translation`, `caches`, `devices` and `kinds`, of which the last are the events
+//! other than sound bytes. Each query runs from reset, by the simplest means.
 //! `plain --random image|reader|log|script --seed N [--without PART,..] [--asks COMMAND,..]` writes a random one instead:
 //! an image of many instructions, one that reads what arrives, a log, or a script of these commands. `plain --random edits
 //! --seed N`, with the words and the input of a run, writes a script of edits for it.
@@ -90,6 +90,7 @@ fn without(parts: &mut Parts, names: &str) -> Result<(), String> {
             "translation" => parts.translation = false,
             "caches" => parts.caches = false,
             "devices" => parts.devices = false,
+            "kinds" => parts.kinds = false,
             _ => return Err(format!("{name} is no part")),
         }
     }
@@ -99,7 +100,7 @@ fn without(parts: &mut Parts, names: &str) -> Result<(), String> {
 /// Why a run ends: the number of the fault, with its name and kind.
 struct Fault(u32, String);
 
-/// The session that the beginning of the input makes, and the script behind it.
+/// The session that the beginning of the input makes, and the script after it.
 fn begin<'a>(options: &Options, input: &'a [u8]) -> Result<(Session, &'a [u8]), Fault> {
     let bad_image = |kind: ImageFault| Fault(9, format!("BadImage {kind:?}"));
     let bad_log = |kind: log::LogFault| Fault(10, format!("BadLog {kind:?}"));
@@ -146,7 +147,7 @@ fn main() -> io::Result<ExitCode> {
         let made = match kind {
             "image" => random::image(options.seed, options.parts).write(),
             "reader" => edits::reader(options.seed).write(),
-            "log" => random::log(options.seed).write(),
+            "log" => random::log(options.seed, options.parts).write(),
             _ => random::script(options.seed, &commands).into_bytes(),
         };
         io::stdout().write_all(&made)?;

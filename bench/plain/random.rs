@@ -1,10 +1,10 @@
 //! Random boot images, logs and scripts. A seed always makes the same.
 //!
 //! An image's code sets up registers, translation entries and devices, and then runs words that are mostly
-//! instructions, with handlers that go on behind what they are called for, or elsewhere, so that runs seldom come to rest.
+//! instructions, with handlers that go on after what they are called for, or elsewhere, so that runs seldom come to rest.
 
 use crate::image::{Image, ROM};
-use crate::log::{Event, Log};
+use crate::log::{Event, FORMAT_1_END, GREATEST, Kind, Log};
 use crate::machine::Parts;
 use crate::table::{ROWS, Shape};
 
@@ -24,7 +24,7 @@ impl Random {
         self.next() % bound
     }
 
-    /// True one time in so many.
+    /// True one time in `count`.
     pub fn one_in(&mut self, count: u32) -> bool {
         self.below(count) == 0
     }
@@ -152,7 +152,8 @@ impl Code<'_> {
             };
             self.store(0xBFE8_0000 + 4 * register, value);
         }
-        let enables = self.random.pick(&[0, 0, 0x80_0000, 0xFF_0000]);
+        let external = self.random.below(8) << 16;
+        let enables = self.random.pick(&[0, 0x80_0000, 0xFF_0000, external, 0x80_0000 | external]);
         self.store(0xBFF0_0000, enables);
     }
 
@@ -249,8 +250,8 @@ impl Code<'_> {
             self.words.extend([NOP, 0xAC00_0018 | first << 21 | second << 16]);
             self.words.extend([lui(first, 0xBFE8_0000), 0x8C00_0030 | first << 21 | second << 16]);
         }
-        // AdEL and IBE differ in one bit: behind them the code goes on anywhere in a body with its first Status, else
-        // behind the instruction.
+        // AdEL and IBE differ in one bit: after them the code goes on anywhere in a body with its first Status, else
+        // after the instruction.
         let code = [0x3000_0074 | first << 21 | first << 16, 0x3800_0010 | first << 21 | first << 16];
         self.words.extend([mfc0(second, EPC), mfc0(first, CAUSE), 0x2400_0004 | second << 21 | second << 16]);
         self.words.extend([code[0], code[1], 0x1000_0003 | first << 21, NOP, jr(second), RFE]);
@@ -362,13 +363,32 @@ pub fn image(seed: u64, parts: Parts) -> Image {
     image
 }
 
-/// A log of this seed.
-pub fn log(seed: u64) -> Log {
+/// An event of any kind that these parts have, at a time.
+pub fn event(random: &mut Random, time: u64, parts: Parts) -> Event {
+    let kind = if parts.kinds { random.pick(&[Kind::Byte, Kind::Byte, Kind::Framing, Kind::Wire]) } else { Kind::Byte };
+    let (line, byte) = kind.greatest();
+    let below = |random: &mut Random, greatest: u8| random.below(u32::from(greatest) + 1) as u8;
+    Event { time, kind, line: below(random, line), byte: below(random, byte) }
+}
+
+/// A number near the end of the times of format 1, or near the greatest position, on either side of it.
+pub fn near_limit(random: &mut Random) -> u64 {
+    random.pick(&[FORMAT_1_END, GREATEST]) - 3 + u64::from(random.below(6))
+}
+
+/// A log of this seed. One in four has sound bytes alone. One in four has times near the end of format 1, none past it, and
+/// one in four times near both limits.
+pub fn log(seed: u64, mut parts: Parts) -> Log {
     let mut random = Random(!seed);
     let mut log = Log::default();
+    parts.kinds &= !random.one_in(4);
+    let last = random.pick(&[None, None, Some(FORMAT_1_END - 1), Some(GREATEST - 1)]);
     for _ in 0..random.below(40) {
-        let event = Event { time: random.below(3000).into(), line: random.below(4) as u8, byte: random.next() as u8 };
-        log.add(event).expect("room in the log");
+        let time = match last {
+            Some(last) if random.one_in(8) => near_limit(&mut random).min(last),
+            _ => random.below(3000).into(),
+        };
+        log.add(event(&mut random, time, parts)).expect("room in the log");
     }
     log
 }

@@ -1,6 +1,6 @@
 //! Script lines: commands, and why one is refused.
 
-use crate::log::GREATEST;
+use crate::log::{Event, GREATEST, Kind};
 
 /// The refusals of a command, in the order in which they are judged, but for `Memory`, which is never met here.
 #[derive(Clone, Copy, Debug, PartialEq)]
@@ -46,8 +46,9 @@ pub enum Command {
     Visit { address: u32, limit: u64 },
     Find { line: u8, place: u64 },
     Log { from: u64, count: usize },
-    Add { time: u64, line: u8, byte: u8 },
+    Add(Event),
     Del(u64),
+    Erase { from: u64, to: u64 },
     Set { event: u64, byte: u8 },
     Move { event: u64, time: u64 },
     Patch { address: u32, word: u32 },
@@ -59,7 +60,7 @@ const ANY: u64 = u64::MAX;
 const WORD: u64 = 0xFFFF_FFFF;
 
 /// The name of each command, with the least and the greatest of each of its numbers.
-const COMMANDS: [(&str, &[(u64, u64)]); 22] = [
+const COMMANDS: [(&str, &[(u64, u64)]); 25] = [
     ("pos", &[]),
     ("goto", &[(0, ANY)]),
     ("step", &[(0, ANY)]),
@@ -77,7 +78,10 @@ const COMMANDS: [(&str, &[(u64, u64)]); 22] = [
     ("find", &[(0, 3), (0, ANY)]),
     ("log", &[(0, ANY), (1, 32)]),
     ("add", &[(0, GREATEST - 1), (0, 3), (0, 255)]),
+    ("ferr", &[(0, GREATEST - 1), (0, 3), (0, 255)]),
+    ("wire", &[(0, GREATEST - 1), (0, 2), (0, 1)]),
     ("del", &[(0, ANY)]),
+    ("erase", &[(0, GREATEST), (0, GREATEST)]),
     ("set", &[(0, ANY), (0, 255)]),
     ("move", &[(0, ANY), (0, GREATEST - 1)]),
     ("patch", &[(0, WORD), (0, WORD)]),
@@ -123,8 +127,11 @@ fn command(name: &str, n: &[u64]) -> Command {
         "visit" => Command::Visit { address: n[0] as u32, limit: n[1] },
         "find" => Command::Find { line: n[0] as u8, place: n[1] },
         "log" => Command::Log { from: n[0], count: n[1] as usize },
-        "add" => Command::Add { time: n[0], line: n[1] as u8, byte: n[2] as u8 },
+        "add" => added(Kind::Byte, n),
+        "ferr" => added(Kind::Framing, n),
+        "wire" => added(Kind::Wire, n),
         "del" => Command::Del(n[0]),
+        "erase" => Command::Erase { from: n[0], to: n[1] },
         "set" => Command::Set { event: n[0], byte: n[1] as u8 },
         "move" => Command::Move { event: n[0], time: n[1] },
         "patch" => Command::Patch { address: n[0] as u32, word: n[1] as u32 },
@@ -133,7 +140,11 @@ fn command(name: &str, n: &[u64]) -> Command {
     }
 }
 
-/// The number that a word is, in decimal, or in hexadecimal behind 0x; none where it is above 2^64 - 1.
+fn added(kind: Kind, n: &[u64]) -> Command {
+    Command::Add(Event { time: n[0], kind, line: n[1] as u8, byte: n[2] as u8 })
+}
+
+/// The number that a word is, in decimal, or in hexadecimal after 0x; none where it is above 2^64 - 1.
 fn number(word: &[u8]) -> Result<Option<u64>, Refusal> {
     let (digits, base) = match word.strip_prefix(b"0x") {
         Some(digits) => (digits, 16),

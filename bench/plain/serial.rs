@@ -14,6 +14,7 @@ const MAINT: u32 = 1 << 3;
 // RBUF and LPR.
 const DVAL: u32 = 1 << 15;
 const OERR: u32 = 1 << 14;
+const FERR: u32 = 1 << 13;
 const RECEIVER: u32 = 1 << 12;
 
 const SILO: usize = 64;
@@ -25,12 +26,21 @@ pub struct Sent {
     pub byte: u8,
 }
 
-/// A received character, and whether bytes of its line were lost before it.
+/// A received character, whether it came with a framing error, and whether characters of its line were lost before it.
 #[derive(Clone, Copy, Debug, PartialEq)]
 struct Character {
     line: u8,
     byte: u8,
+    framing: bool,
     lost: bool,
+}
+
+impl Character {
+    /// What RBUF gives.
+    fn word(self) -> u32 {
+        let flag = |is: bool, bit: u32| if is { bit } else { 0 };
+        DVAL | flag(self.lost, OERR) | flag(self.framing, FERR) | u32::from(self.line) << 8 | u32::from(self.byte)
+    }
 }
 
 #[derive(Clone, Copy, Debug, Default, PartialEq)]
@@ -69,7 +79,8 @@ impl Serial {
         }
     }
 
-    pub fn receive(&mut self, line: u8, byte: u8) {
+    /// A character arrives, `framing` with a framing error.
+    pub fn receive(&mut self, line: u8, byte: u8, framing: bool) {
         let at = &mut self.lines[usize::from(line)];
         if self.control & MSE == 0 || !at.receives {
             return;
@@ -77,7 +88,7 @@ impl Serial {
         if self.silo.len() == SILO {
             at.lost = true;
         } else {
-            self.silo.push_back(Character { line, byte, lost: at.lost });
+            self.silo.push_back(Character { line, byte, framing, lost: at.lost });
             at.lost = false;
         }
     }
@@ -118,10 +129,7 @@ impl Serial {
                 let done = if self.silo.is_empty() { 0 } else { RDONE };
                 ready | done | (self.ready_line as u32) << 8 | self.control
             }
-            8 => self
-                .silo
-                .pop_front()
-                .map_or(0, |it| DVAL | if it.lost { OERR } else { 0 } | u32::from(it.line) << 8 | u32::from(it.byte)),
+            8 => self.silo.pop_front().map_or(0, Character::word),
             16 => (0..4).map(|line| u32::from(self.lines[line].sends) << line).sum(),
             _ => 0,
         }

@@ -4,7 +4,7 @@ use std::fmt::Write;
 
 use crate::control::{Control, Exception};
 use crate::image::Image;
-use crate::log::{Event, GREATEST, Log};
+use crate::log::{GREATEST, Kind, Log};
 use crate::machine::{Done, Machine, Parts};
 use crate::script::{Command, Refusal};
 use crate::table;
@@ -21,7 +21,7 @@ impl Session {
         Session { image, log, position: 0, parts }
     }
 
-    /// The machine at a position. `watch` is told the number of each step on the way, what it told, and the machine behind it.
+    /// The machine at a position. `watch` gets the number of each step on the way, what it told, and the machine after it.
     pub fn run(&self, position: u64, mut watch: impl FnMut(u64, Done, &Machine)) -> Machine {
         let mut machine = Machine::new(&self.image, self.parts);
         let mut events = &self.log.events[..];
@@ -56,8 +56,15 @@ impl Session {
             Command::Step(count) => self.move_to(self.position.checked_add(count)),
             Command::Back(count) => self.move_to(self.position.checked_sub(count)),
             Command::Visit { address, limit } => self.visit(address, limit),
-            Command::Add { time, line, byte } => event(self.log.add(Event { time, line, byte })?),
-            Command::Del(number) => self.log.delete(number).map(|()| format!("log {}\n", self.log.events.len())),
+            Command::Add(added) => event(self.log.add(added)?),
+            Command::Del(number) => {
+                self.log.delete(number)?;
+                Ok(self.left())
+            }
+            Command::Erase { from, to } => {
+                self.log.erase(from, to)?;
+                Ok(self.left())
+            }
             Command::Set { event: number, byte } => event(self.log.set(number, byte)?),
             Command::Move { event: number, time } => event(self.log.move_to(number, time)?),
             Command::Patch { address, word } => {
@@ -154,11 +161,21 @@ impl Session {
         }
     }
 
+    /// How many events the log has.
+    fn left(&self) -> String {
+        format!("log {}\n", self.log.events.len())
+    }
+
     fn events(&self, from: u64, count: usize) -> String {
-        let mut text = format!("log {}\n", self.log.events.len());
+        let mut text = self.left();
         let from = usize::try_from(from).unwrap_or(usize::MAX);
         for (number, event) in self.log.events.iter().enumerate().skip(from).take(count) {
-            writeln!(text, "{number} {} {} {:#04x}", event.time, event.line, event.byte).unwrap();
+            let kind = match event.kind {
+                Kind::Byte => "",
+                Kind::Framing => " framing",
+                Kind::Wire => " wire",
+            };
+            writeln!(text, "{number} {} {} {:#04x}{kind}", event.time, event.line, event.byte).unwrap();
         }
         text
     }
@@ -208,10 +225,10 @@ fn control(control: &Control) -> String {
 }
 
 /// Lines of words of memory, each with what follows it.
-fn words(machine: &Machine, address: u32, count: u32, behind: impl Fn(u32, u32) -> String) -> String {
+fn words(machine: &Machine, address: u32, count: u32, after: impl Fn(u32, u32) -> String) -> String {
     let line = |address| {
         let word = machine.word(address);
-        format!("{address:#010x} {word:#010x}{}\n", behind(address, word))
+        format!("{address:#010x} {word:#010x}{}\n", after(address, word))
     };
     (0..count).map(|place| line(address + 4 * place)).collect()
 }

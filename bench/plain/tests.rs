@@ -4,7 +4,7 @@ use crate::caches::Caches;
 use crate::clock::Clock;
 use crate::control::{Control, Exception};
 use crate::image::{Image, ImageFault, ROM};
-use crate::log::{Event, Log, LogFault};
+use crate::log::{Event, FORMAT_1_END, GREATEST, Kind, Log, LogFault};
 use crate::machine::{Machine, Parts};
 use crate::serial::Serial;
 use crate::session::Session;
@@ -181,11 +181,11 @@ fn full_silo() {
     serial.write(8, 0x1000, 15);
     serial.write(0, 0x20, 15);
     for byte in 0..65 {
-        serial.receive(0, byte);
+        serial.receive(0, byte, false);
     }
     assert_eq!(serial.read(0), 0x00A0);
     assert_eq!(serial.read(8), 0x8000);
-    serial.receive(0, 0x41);
+    serial.receive(0, 0x41, false);
     let last = (0..63).map(|_| serial.read(8)).last();
     assert_eq!(last, Some(0x803F));
     assert_eq!(serial.read(8), 0xC041);
@@ -193,18 +193,91 @@ fn full_silo() {
 }
 
 #[test]
+fn framing_errors() {
+    let mut serial = Serial::new(16);
+    serial.write(8, 0x1000, 15);
+    // The scanner is off, then the receiver of line 1 is.
+    serial.receive(0, 1, true);
+    serial.write(0, 0x20, 15);
+    serial.receive(1, 2, true);
+    assert_eq!(serial.read(8), 0);
+    for byte in 0..65 {
+        serial.receive(0, byte, false);
+    }
+    assert_eq!(serial.read(8), 0x8000);
+    serial.receive(0, 0x41, true);
+    let last = (0..63).map(|_| serial.read(8)).last();
+    assert_eq!(last, Some(0x803F));
+    assert_eq!(serial.read(8), 0xE041);
+    // One that finds the silo full is lost, and the next character has the mark of it.
+    for byte in 0..64 {
+        serial.receive(0, byte, true);
+    }
+    serial.receive(0, 0x42, true);
+    assert_eq!(serial.read(8), 0xA000);
+    serial.receive(0, 0x43, false);
+    let last = (0..63).map(|_| serial.read(8)).last();
+    assert_eq!(last, Some(0xA03F));
+    assert_eq!(serial.read(8), 0xC043);
+}
+
+fn cause(session: &mut Session, position: u32) -> String {
+    let control = answers(session, &format!("goto {position}; cp0"));
+    control.split(" cause ").nth(1).unwrap()[..10].to_string()
+}
+
+#[test]
 fn serial_interrupt() {
     let code = [0x3C01_BFE0, 0x3C02_BFF0, 0x3C03_0080, 0xAC43_0000, 0x2404_1000, 0xAC24_0008, 0x2405_0060, 0xAC25_0000];
     let mut session = session_of(&code);
     assert_eq!(answers(&mut session, "add 10 0 0x41"), "event 0");
-    let cause = |session: &mut Session, position: u32| {
-        let control = answers(session, &format!("goto {position}; cp0"));
-        control.split(" cause ").nth(1).unwrap()[..10].to_string()
-    };
     assert_eq!(cause(&mut session, 10), "0x00000000");
     assert_eq!(cause(&mut session, 11), "0x00000400");
     assert_eq!(answers(&mut session, "move 0 11"), "event 0");
     assert_eq!(cause(&mut session, 11), "0x00000000");
+}
+
+#[test]
+fn external_lines() {
+    let mut session = session_of(&[0x3C02_BFF0, 0x3C03_0001, 0xAC43_0000]);
+    let want = "event 0; event 1; log 2; 0 10 0 0x01 wire; 1 20 0 0x00 wire";
+    assert_eq!(answers(&mut session, "wire 10 0 1; wire 20 0 0; log 0 2"), want);
+    for (position, want) in [(10, "0x00000000"), (11, "0x00000400"), (20, "0x00000400"), (21, "0x00000000")] {
+        assert_eq!(cause(&mut session, position), want, "at {position}");
+    }
+    let script = "set 0 2; wire 5 3 1; set 0 0";
+    assert_eq!(answers(&mut session, script), "error 3 Range; error 3 Range; event 0");
+    assert_eq!(cause(&mut session, 11), "0x00000000");
+    // A byte above 255 is judged first, then whether there is such an event, then its kind.
+    let script = "set 2 2; set 2 256; set 1 256; set 1 255; move 1 7; log 0 8; add 5 0 1; set 0 255; log 0 1";
+    let want = "error 4 NoEvent; error 3 Range; error 3 Range; error 3 Range; event 0; log 2; 0 7 0 0x00 wire; \
+                1 10 0 0x00 wire; event 0; event 0; log 3; 0 5 0 0xff";
+    assert_eq!(answers(&mut session, script), want);
+}
+
+#[test]
+fn external_lines_in_the_register() {
+    // lui r2, 0xbff0; lui r3, 7; sw r3, 0(r2); lw r4, 0(r2); nop
+    let mut session = session_of(&[0x3C02_BFF0, 0x3C03_0007, 0xAC43_0000, 0x8C44_0000, 0]);
+    // In the step of the load line 0 rises, line 1 rises and falls, and line 2 gets the level that it has.
+    let script = "wire 3 0 1; wire 3 1 1; wire 3 1 0; wire 1 2 1; wire 3 2 1; goto 5; reg 4";
+    let want = "event 0; event 1; event 2; event 0; event 4; pos 5; r4 0x00070005";
+    assert_eq!(answers(&mut session, script), want);
+    // lui r1, 0xbfe0; addiu r5, r0, 0x10; lui r2, 0xbff0; sw r5, 0(r1), which clears the serial part; lw r4, 0(r2)
+    let mut session = session_of(&[0x3C01_BFE0, 0x2405_0010, 0x3C02_BFF0, 0xAC25_0000, 0x8C44_0000, 0]);
+    assert_eq!(answers(&mut session, "wire 0 1 1; goto 6; reg 4"), "event 0; pos 6; r4 0x00000002");
+}
+
+#[test]
+fn external_interrupt() {
+    // lui r2, 0xbff0; lui r3, 4; sw r3, 0(r2); lui r1, 0x40; ori r1, r1, 0x401; mtc0 r1, c12
+    let code = [0x3C02_BFF0, 0x3C03_0004, 0xAC43_0000, 0x3C01_0040, 0x3421_0401, 0x4081_6000];
+    let mut session = session_of(&code);
+    // Line 0 is not enabled. Line 2 interrupts in the step in which it rises.
+    let got = answers(&mut session, "wire 6 0 1; wire 8 2 1; goto 8; regs; step 1; regs; cp0");
+    let state = "event 0; event 1; pos 8; pc 0xbfc00020 ";
+    assert!(got.starts_with(state) && got.contains("; pos 9; pc 0xbfc00180 "), "{got}");
+    assert!(got.contains(" status 0x00400404 cause 0x00000400 epc 0xbfc00020 "), "{got}");
 }
 
 #[test]
@@ -244,12 +317,47 @@ fn edited_echo() {
 }
 
 #[test]
+fn framing_error_in_the_echo() {
+    let mut session = echo();
+    answers(&mut session, "goto 256; add 70 0 0x41");
+    let script = "del 0; ferr 70 0 0x41; log 0 1; writer 0x104; console 0 0 8; goto 78; mem 0x100 1";
+    let want = "log 0; event 0; log 1; 0 70 0 0x41 framing; writer 81; console 0 1 41; pos 78; 0x00000100 0x0000a041";
+    assert_eq!(answers(&mut session, script), want);
+    let bytes = hex("52334b4c4f47320a 01000000 4600000000000000 01 00 41");
+    assert_eq!(session.log.write(), bytes);
+    assert_eq!(Log::read(&bytes).unwrap(), session.log);
+    assert_eq!(Log::read(&[&bytes[..20], &[3, 0, 0x41]].concat()), Err(LogFault::Kind));
+}
+
+#[test]
 fn two_edits() {
     let script = "goto 256; writer 0x100; writer 0x104; console 0 0 8; add 70 0 0x41; add 200 0 0x42; writer 0x104; \
                   console 0 0 8; find 0 0; find 0 1; writer 0x100; del 1; writer 0x104";
     let want = "pos 256; writer 253; writer never; console 0 0 none; event 0; event 1; writer 213; console 0 2 4142; \
                 find 83; find 215; writer 253; log 1; writer 81";
     assert_eq!(answers(&mut echo(), script), want);
+}
+
+#[test]
+fn erased_ranges() {
+    let script = "goto 256; writer 0x104; add 70 0 0x41; add 130 0 0x43; add 200 0 0x42; writer 0x104; console 0 0 8; \
+                  erase 131 70; erase 70 131; log 0 8; writer 0x104; console 0 0 8; find 0 0; erase 0 0";
+    let want = "pos 256; writer never; event 0; event 1; event 2; writer 213; console 0 3 414342; error 3 Range; log 1; \
+                log 1; 0 200 0 0x42; writer 213; console 0 1 42; find 215; log 1";
+    assert_eq!(answers(&mut echo(), script), want);
+    // The first time of a range is erased and the last is not, with events of every kind. Equal times are no range.
+    let mut session = session_of(&[]);
+    answers(&mut session, "add 4 0 1; ferr 5 1 2; wire 5 2 1; add 6 0 3; add 7 0 4; add 1099511627774 0 5");
+    let script = "erase 5 5; erase 8 1099511627774; erase 5 7; log 0 8; erase 7 1099511627775; \
+                  erase 0 1099511627775; log 0 1";
+    let want = "log 6; log 6; log 3; log 3; 0 4 0 0x01; 1 7 0 0x04; 2 1099511627774 0 0x05; log 1; log 0; log 0";
+    assert_eq!(answers(&mut session, script), want);
+    answers(&mut session, "add 4 0 1");
+    let script = "erase 0 1099511627776; erase 1099511627776 1099511627776; erase 5 4; erase 1099511627775 0; erase 0; \
+                  erase 0 5 1; erase 0 x; log 0 1";
+    let want = "error 3 Range; error 3 Range; error 3 Range; error 3 Range; error 2 Syntax; error 2 Syntax; \
+                error 2 Syntax; log 1; 0 4 0 0x01";
+    assert_eq!(answers(&mut session, script), want);
 }
 
 #[test]
@@ -270,9 +378,19 @@ fn patches() {
 fn last_writer_and_limits() {
     let script = "goto 2; writer 0x40; writer 0x200; writer 0x1fc00000; goto 4294967295; step 1; goto 4294967296; pos; \
                   goto 0; back 1; add 4294967295 0 1";
-    let want = "pos 2; writer 1; writer never; writer image; pos 4294967295; error 7 TooFar; error 7 TooFar; \
-                pos 4294967295; pos 0; error 7 TooFar; error 3 Range";
-    assert_eq!(answers(&mut session_of(&[0x3C01_A000, 0xA020_0043]), script), want);
+    let want = "pos 2; writer 1; writer never; writer image; pos 4294967295; pos 4294967296; pos 4294967296; \
+                pos 4294967296; pos 0; error 7 TooFar; event 0";
+    let mut session = session_of(&[0x3C01_A000, 0xA020_0043]);
+    assert_eq!(answers(&mut session, script), want);
+    assert_eq!(session.log.write(), hex("52334b4c4f47320a 01000000 ffffffff00000000 00 00 01"));
+    let script = "goto 1099511627775; step 1; goto 1099511627776; pos; add 1099511627775 0 1";
+    let want = "pos 1099511627775; error 7 TooFar; error 7 TooFar; pos 1099511627775; error 3 Range";
+    assert_eq!(answers(&mut session, script), want);
+    let script = "visit 0xbfc00000 1; add 1099511627774 0 1; move 0 1099511627775; ferr 1099511627775 0 1; \
+                  wire 1099511627775 0 1; log 0 8";
+    let want = "error 7 TooFar; event 1; error 3 Range; error 3 Range; error 3 Range; log 2; 0 4294967295 0 0x01; \
+                1 1099511627774 0 0x01";
+    assert_eq!(answers(&mut session, script), want);
 }
 
 #[test]
@@ -289,7 +407,7 @@ fn log_commands() {
 fn log_format() {
     let bytes = hex("52334b4c4f47310a 01000000 46000000 00 41");
     let log = Log::read(&bytes).unwrap();
-    assert_eq!(log.events, [Event { time: 70, line: 0, byte: 0x41 }]);
+    assert_eq!(log.events, [Event { time: 70, kind: Kind::Byte, line: 0, byte: 0x41 }]);
     assert_eq!(log.write(), bytes);
     assert_eq!(Log::read(&bytes[..17]), Err(LogFault::Short));
     assert_eq!(Log::read(&[&bytes[..], &[0]].concat()), Err(LogFault::Extra));
@@ -297,6 +415,56 @@ fn log_format() {
     assert_eq!(Log::read(&hex("52334b4c4f47310a 00001000")), Err(LogFault::Short));
     assert_eq!(Log::read(&hex("52334b4c4f47310a 02000000 05000000 00 00 04000000 00 00")), Err(LogFault::Time));
     assert_eq!(Log::read(&hex("52334b4c4f47310a 01000000 05000000 04 00")), Err(LogFault::Line));
+    assert_eq!(Log::read(&hex("52334b4c4f47310a 01000000 ffffffff 04 00")), Err(LogFault::Time));
+    assert_eq!(Log::read(&hex("52334b4c4f47300a 01000000 05000000 04 00")), Err(LogFault::Magic));
+    assert_eq!(Log::read(&hex("52334b4c4f4732")), Err(LogFault::Short));
+}
+
+#[test]
+fn second_log_format() {
+    // A byte and a framing error of equal time, and a line of the board.
+    let two = "52334b4c4f47320a 03000000 4600000000000000 00 03 ff 4600000000000000 01 01 00";
+    let with = |time: &str, rest: &str| hex(&[two, time, rest].concat());
+    let bytes = with("4700000000000000", "02 02 01");
+    let log = Log::read(&bytes).unwrap();
+    let event = |time, kind, line, byte| Event { time, kind, line, byte };
+    let want = [event(70, Kind::Byte, 3, 255), event(70, Kind::Framing, 1, 0), event(71, Kind::Wire, 2, 1)];
+    assert_eq!(log.events, want);
+    assert_eq!(log.write(), bytes);
+    assert!((0..bytes.len()).all(|end| Log::read(&bytes[..end]) == Err(LogFault::Short)));
+    assert_eq!(Log::read(&[&bytes[..], &[0]].concat()), Err(LogFault::Extra));
+    assert_eq!(Log::read(&hex("52334b4c4f47320a 01001000")), Err(LogFault::Count));
+    // Of several faults the first in reading order is answered.
+    let fault = |time, rest| Log::read(&with(time, rest)).unwrap_err();
+    assert_eq!(fault("4500000000000000", "03 04 02"), LogFault::Time);
+    assert_eq!(fault("47000000ffffffff", "03 04 02"), LogFault::Time);
+    // The greatest time is one below the greatest position, 2^40 - 1, and that of format 1 is 2^32 - 2.
+    assert_eq!(fault("ffffffffff000000", "00 00 00"), LogFault::Time);
+    assert_eq!(Log::read(&with("feffffffff000000", "00 00 00")).unwrap().events[2].time, 1_099_511_627_774);
+    assert_eq!(Log::read(&hex("52334b4c4f47310a 01000000 feffffff 00 00")).unwrap().events[0].time, 4_294_967_294);
+    assert_eq!(fault("4700000000000000", "03 04 02"), LogFault::Kind);
+    assert_eq!(fault("4700000000000000", "02 03 02"), LogFault::Line);
+    assert_eq!(fault("4700000000000000", "01 04 02"), LogFault::Line);
+    assert_eq!(fault("4700000000000000", "02 02 02"), LogFault::Value);
+    // A log of sound bytes may stand in format 2, and is written in format 1.
+    let log = Log::read(&hex("52334b4c4f47320a 01000000 4600000000000000 00 00 41")).unwrap();
+    assert_eq!(log.write(), hex("52334b4c4f47310a 01000000 46000000 00 41"));
+}
+
+#[test]
+fn random_logs_have_all_kinds() {
+    let logs: Vec<Log> = (0..200).map(|seed| random::log(seed, Parts::ALL)).collect();
+    for kind in [Kind::Byte, Kind::Framing, Kind::Wire] {
+        assert!(logs.iter().flat_map(|log| &log.events).filter(|event| event.kind == kind).count() > 100);
+    }
+    assert!(logs.iter().all(|log| Log::read(&log.write()).as_ref() == Ok(log)));
+    let (first, second): (Vec<&Log>, Vec<&Log>) = logs.iter().partition(|log| log.write()[6] == b'1');
+    assert!(first.len() > 20);
+    let far = |logs: &[&Log], end| logs.iter().filter(|log| log.events.last().is_some_and(|it| it.time >= end)).count();
+    assert!(far(&first, FORMAT_1_END - 3) > 4 && far(&second, GREATEST - 3) > 20);
+    let sound = Parts { kinds: false, ..Parts::ALL };
+    let is_sound = |seed| random::log(seed, sound).events.iter().all(|event| event.kind == Kind::Byte);
+    assert!((0..40).all(is_sound));
 }
 
 #[test]
@@ -400,7 +568,7 @@ fn random_images_run() {
         let mut places = std::collections::BTreeSet::new();
         for seed in 0..100 {
             let mut machine = Machine::new(&random::image(seed, parts), parts);
-            let log = random::log(seed);
+            let log = random::log(seed, parts);
             for time in 0..4000 {
                 let now: Vec<Event> = log.events.iter().copied().filter(|event| event.time == time).collect();
                 let pc = machine.pc;
@@ -422,14 +590,14 @@ fn random_images_run() {
     }
 }
 
-/// Behind an added byte the reading loops mostly come back to the state that they had without it, some but for memory.
+/// After an added byte the reading loops mostly come back to the state that they had without it, some but for memory.
 #[test]
 fn edited_readers_meet() {
     let (mut meet, mut nearly) = (0, 0);
     for seed in 0..40 {
-        let mut session = Session::new(edits::reader(seed), random::log(seed), Parts::ALL);
+        let mut session = Session::new(edits::reader(seed), random::log(seed, Parts::ALL), Parts::ALL);
         let before = session.run(65_536, |_, _, _| {});
-        session.log.add(Event { time: 5000, line: 0, byte: 0x41 }).unwrap();
+        session.log.add(Event { time: 5000, kind: Kind::Byte, line: 0, byte: 0x41 }).unwrap();
         let after = session.run(65_536, |_, _, _| {});
         meet += u32::from(before == after);
         nearly += u32::from(before != after && before == after.with_words_of(&before));
