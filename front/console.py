@@ -16,6 +16,7 @@ from .arguments import parse
 from .driver import Driver
 from .errors import Problem
 from .limits import GREATEST_POSITION, LINES
+from .log import Event, Kind
 from .saving import save
 from .shell_edits import gap_of
 
@@ -26,6 +27,8 @@ OPTIONS = {"--log": "a file", "--kind": "a kind", "--line": "a line", "--speed":
 KEYS = """\
 Ctrl-] and then:
   b  goes back by a second of time at its speed, and drops what arrives later at the line
+  f  sends a break: a byte 0 arrives with a framing error
+  0 1 2  turns an external line up, or down where it is up
   p  stops time, and lets it go on
   + -  doubles and halves the speed
   s  saves the log    q  leaves    ?  shows these keys    Ctrl-]  types Ctrl-]
@@ -36,7 +39,7 @@ HELP = f"""\
 
 A terminal on a serial line: what the line sends is shown, and what is typed arrives there and becomes part of the log.
 
-  --log FILE    bytes that arrive besides
+  --log FILE    what happens at the lines besides
   --kind KIND   what the image is, where it can't be seen: elf, image, rom or source
   --line L      the serial line, 0 to 3; without it 0
   --speed N     steps a second; without it 1,000,000
@@ -128,16 +131,28 @@ class Console:
         else:
             self._type(key)
 
-    def _type(self, byte: int) -> None:
+    def _type(self, byte: int, kind: Kind = Kind.BYTE) -> None:
         at = max(self._driver.position, self._next)
-        self._driver.add(at, self._line, byte)
+        self._driver.add(at, self._line, byte, kind)
         self._next = at + self._gap
+
+    def _turn(self, line: int) -> None:
+        """Turns an external line over."""
+        here = self._driver.position
+        levels = [it.byte for it in self._driver.log if it.kind == Kind.WIRE and it.line == line and it.time <= here]
+        level = 1 - (levels[-1] if levels else 0)
+        self._driver.add(here, line, level, Kind.WIRE)
+        self._tell(f"external line {line} is {'up' if level else 'down'} from step {here:,} on")
 
     def _command(self, key: str) -> None:
         if key == chr(_ESCAPE):
             self._type(_ESCAPE)
         elif key == "b":
             self._go_back()
+        elif key == "f":
+            self._type(0, Kind.FRAMING)
+        elif key in "012":
+            self._turn(int(key))
         elif key == "p":
             self._stopped = not self._stopped
             self._tell(f"step {self._driver.position:,}: time {'stands' if self._stopped else 'goes on'}")
@@ -155,13 +170,17 @@ class Console:
         """A second back, without what arrives at the line later."""
         driver = self._driver
         driver.goto(max(0, driver.position - self._speed))
-        driver.revert([it for it in driver.log if it.line != self._line or it.time < driver.position], driver.patches)
+        driver.revert([it for it in driver.log if not self._is_here(it) or it.time < driver.position], driver.patches)
         self._next = driver.position
         sent = driver.console(self._line)
         self._shown = len(sent)
         _write(b"\x1b[2J\x1b[H")
         self._tell(f"back at step {driver.position:,}; what arrived later is gone")
         _write(sent[-_SHOWN_AGAIN:])
+
+    def _is_here(self, event: Event) -> bool:
+        """Whether an event is of the terminal's line."""
+        return event.kind != Kind.WIRE and event.line == self._line
 
     def _leave(self) -> None:
         if self._driver.log != self._saved:

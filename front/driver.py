@@ -17,7 +17,7 @@ from .boot import Boot, boot_of
 from .errors import Ended, Interrupted, Problem, Refused
 from .image import Image
 from .limits import CONSOLE_BYTES, GREATEST_POSITION, READS, SPAN, WORDS
-from .log import Event, changes
+from .log import ADDS, EDITS, Event, Kind, changes
 from .log import write as write_log
 from .progress import TerminalProgress
 from .program import Program, reads_of
@@ -153,11 +153,15 @@ class Driver:
 
     # Edits
 
-    def add(self, time: int, line: int, byte: int) -> int:
-        return replies.last_number(self.value(f"add {time} {line} {byte}"))
+    def add(self, time: int, line: int, byte: int, kind: Kind = Kind.BYTE) -> int:
+        return replies.last_number(self.value(Event(time, line, byte, kind).command))
 
     def delete(self, index: int) -> None:
         self.value(f"del {index}")
+
+    def erase(self, first: int, end: int) -> int:
+        """Takes out the events of the steps from one on and before another, and says how many are left."""
+        return replies.last_number(self.value(f"erase {first} {end}"))
 
     def set_byte(self, index: int, byte: int) -> int:
         return replies.last_number(self.value(f"set {index} {byte}"))
@@ -259,7 +263,11 @@ class Driver:
         name, numbers = words[0], [number_of(word) or 0 for word in words[1:]]
         if name in _MOVES:
             self.position = program.position
-        elif name in ("add", "del", "set", "move"):
+        elif name == "erase":
+            erased = range(*numbers)
+            self.made = min([self.made, *(it.time for it in self.log if it.time in erased)])
+            self.log[:] = [it for it in self.log if it.time not in erased]
+        elif name in EDITS:
             self._mirror_edit(name, numbers, replies.last_number(reply))
         elif name == "patch":
             self.patches.append((numbers[0], numbers[1]))
@@ -267,8 +275,9 @@ class Driver:
             self.boot().patch(numbers[0], numbers[1])
 
     def _mirror_edit(self, name: str, numbers: list[int], told: int) -> None:
-        if name == "add":
-            changed = Event(*numbers)
+        if name in ADDS:
+            time, line, byte = numbers
+            changed = Event(time, line, byte, ADDS[name])
             self.log.insert(told, changed)
         elif name == "set":
             changed = self.log[told]

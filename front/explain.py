@@ -3,19 +3,24 @@ from __future__ import annotations
 
 from .driver import Driver
 from .errors import Refused
-from .limits import CONSOLE_BYTES, GREATEST_POSITION, GREATEST_TIME, LINES, MOST_EVENTS, VISIT_STEPS
+from .limits import CONSOLE_BYTES, EXTERNAL_LINES, GREATEST_POSITION, GREATEST_TIME, LINES, MOST_EVENTS, VISIT_STEPS
 from .replies import number_of, words_of
 
 _LINE = f"a line is 0 to {LINES - 1}"
+_TIME = f"a step is 0 to {GREATEST_TIME:,}"
+_MOST = f"and a log has at most {MOST_EVENTS:,} events"
 _RANGES = {
     "reg": "a register is 0 to 31",
     "tlb": "a translation entry is 0 to 63",
     "console": f"{_LINE}, and 1 to {CONSOLE_BYTES} bytes are shown",
     "find": _LINE,
     "visit": f"an address is below 0x100000000, and at most {VISIT_STEPS:,} steps are looked at",
-    "add": f"a step is 0 to {GREATEST_TIME:,}, {_LINE}, a byte is 0 to 255; and a log has at most {MOST_EVENTS:,} events",
-    "set": "a byte is 0 to 255",
-    "move": f"a step is 0 to {GREATEST_TIME:,}",
+    "add": f"{_TIME}, {_LINE}, a byte is 0 to 255; {_MOST}",
+    "ferr": f"{_TIME}, {_LINE}, a byte is 0 to 255; {_MOST}",
+    "wire": f"{_TIME}, an external line is 0 to {EXTERNAL_LINES - 1}, a level is 0 or 1; {_MOST}",
+    "erase": f"both steps are 0 to {GREATEST_POSITION:,}, and the first is not above the second",
+    "set": "a byte is 0 to 255, and the level of an external line 0 or 1",
+    "move": _TIME,
     "log": "1 to 32 events are shown",
     "mem": "an address is below 0x100000000, and 1 to 32 words are shown",
     "dis": "an address is below 0x100000000, and 1 to 32 words are shown",

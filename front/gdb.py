@@ -30,7 +30,7 @@ HELP = f"""\
 gdb on the run of an image, forward and back. What stands after the image is gdb's own. In gdb `wb LINE` asks the
 workbench, and `wb help` says what; docs/DEBUGGING.md describes the rest.
 
-  --log FILE    the bytes that arrive at the serial lines
+  --log FILE    what happens at the serial and external lines
   --kind KIND   what the image is, where it can't be seen: elf, image, rom or source
   --through     single steps run exceptions whole, with their handlers
   --help        this text

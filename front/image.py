@@ -6,7 +6,7 @@ from dataclasses import dataclass
 from typing import Optional
 
 from .errors import Problem
-from .log import MAGIC as LOG_MAGIC
+from .log import is_log
 
 MAGIC = b"R3KIMG1\n"
 ELF_MAGIC = b"\x7fELF"
@@ -33,7 +33,7 @@ def kind_of(name: str, content: bytes) -> str:
         return "elf"
     if content.startswith(MAGIC):
         return "image"
-    if content.startswith(LOG_MAGIC):
+    if is_log(content):
         raise Problem(f"{name} is a log, no image: bin/wb --log {name} IMAGE")
     if not content:
         raise Problem(f"{name} is empty; a ROM of zeros alone is booted with --kind rom")

@@ -5,7 +5,8 @@ import re
 
 import gdb
 
-MOVES_OR_EDITS = ("goto", "step", "back", "visit", "run", "starti", "add", "del", "set", "move", "patch")
+MOVES_OR_EDITS = ("goto", "step", "back", "visit", "run", "starti", "add", "ferr", "wire", "del", "erase", "set", "move", "patch")
+BY_ADDRESS = ("where", "mem", "dis", "writer", "visit", "patch")  # their first number is an address
 
 
 def flush() -> None:
@@ -19,11 +20,12 @@ def flush() -> None:
             watch.enabled = True
 
 
-def as_number(word: str) -> str:
-    """A word of a command: a number stays, and anything else is an expression of gdb's, without blanks."""
+def as_number(word: str, bits: int) -> str:
+    """A word of a command: a number stays, and anything else is an expression of gdb's, without blanks. gdb extends addresses by
+    their sign."""
     if re.fullmatch(r"\d\w*", word):
         return word
-    return str(int(gdb.parse_and_eval(word)) & 0xFFFF_FFFF)
+    return str(int(gdb.parse_and_eval(word)) & (1 << bits) - 1)
 
 
 class Workbench(gdb.Command):
@@ -35,7 +37,8 @@ Numbers may be expressions without blanks: wb writer &session.length, wb goto $p
 
     def invoke(self, line: str, from_terminal: bool) -> None:
         name, *words = line.split() or ["help"]
-        numbers = words if name.startswith("save-") else [as_number(word) for word in words]
+        bits = 32 if name in BY_ADDRESS else 64
+        numbers = words if name.startswith("save-") else [as_number(word, bits) for word in words]
         gdb.execute(" ".join(["monitor", name, *numbers]))
         if name in MOVES_OR_EDITS:
             flush()

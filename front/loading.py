@@ -74,7 +74,7 @@ def what_is_wrong(image: Image, log: Optional[str], log_content: bytes) -> Itera
         yield f"it looks like source for GNU as. {HOW_TO_LINK}"
     if log_content.startswith(IMAGE_MAGIC):
         yield f"{log} is an image, no log"
-    elif log_content and not log_content.startswith(logs.MAGIC):
+    elif log_content and not logs.is_log(log_content):
         yield f"{log} is no log; one is made of text by: bin/wb log make TEXT OUT"
 
 

@@ -24,6 +24,7 @@ Example:
 
   bin/wb log show examples/driver/log
   echo "150000 0 'help\\r' 500" | bin/wb log make - typed.log
+  echo "20000 0 1 wire" | bin/wb log make - raised.log
 """
 
 
@@ -46,6 +47,6 @@ def _events(name: str) -> list[logs.Event]:
     """The events of a file, be it a log or the text of one."""
     content = sys.stdin.buffer.read() if name == "-" else content_of(name)
     name = "standard input" if name == "-" else name
-    if not content or content.startswith(logs.MAGIC):
+    if not content or logs.is_log(content):
         return logs.read(content, name)
     return logs.make(content.decode("utf-8", "surrogateescape").splitlines(), name)

@@ -48,8 +48,8 @@ def _writable(driver: Driver, virtual: int) -> int:
     if place is None or not (place in RAM or place in ROM):
         raise Problem(f"no RAM or ROM stands at 0x{virtual:08x} here")
     if place in RAM and driver.position:
-        raise Problem(f"RAM can't be written at position {driver.position:,}: it follows from the image and the bytes that "
-                      "arrive, which can be edited. At position 0 a write changes the image, as "
+        raise Problem(f"RAM can't be written at position {driver.position:,}: it follows from the image and the log, "
+                      "which can be edited. At position 0 a write changes the image, as "
                       f"`patch 0x{place & ~3:08x} WORD` does anywhere")
     return place
 

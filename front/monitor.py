@@ -16,7 +16,8 @@ HELP = """\
 pos  goto N  step N  back N  visit A K
 regs  reg K  cp0  tlb I  where A  mem A C  dis A C
 console L F C  find L P  writer A
-log F C  add T L B  del I  set I B  move I T  patch A W
+log F C  add T L B  ferr T L B  wire T K V  del I  erase F T  set I B  move I T
+patch A W
 run N, starti N                    go to position N, as goto N does
 save-log FILE, save-image FILE     save the log and the image as they now stand
 docs/USING.md describes the commands. Addresses of mem, dis, writer and patch are physical, or virtual from 0x80000000

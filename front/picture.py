@@ -49,7 +49,7 @@ class Lane:
 
 @dataclass(frozen=True)
 class Stores:
-    """Stores into a word, each with what the word holds after it."""
+    """Stores into a word, each with what the word holds after it; or the levels that an external line got."""
 
     name: str
     steps: list[tuple[int, int]]
@@ -72,7 +72,7 @@ class Picture:
     end: int
     edits: list[Mark]
     lanes: list[Lane]
-    words: list[Stores]
+    stores: list[Stores]
     functions: list[Function]
     exact: bool
 
@@ -86,7 +86,7 @@ class _Drawing:
     def __init__(self, picture: Picture) -> None:
         self._picture = picture
         self._top = HEAD + (ROW if picture.edits else 0)
-        rows = len(picture.lanes) + len(picture.words) + len(picture.functions)
+        rows = len(picture.lanes) + len(picture.stores) + len(picture.functions)
         self._bottom = self._top + ROW * rows
 
     def lines(self, background: Optional[str]) -> Iterator[str]:
@@ -101,8 +101,8 @@ class _Drawing:
         for lane in self._picture.lanes:
             yield from self._lane(row, lane)
             row += ROW
-        for word in self._picture.words:
-            yield from self._stores(row, word)
+        for stores in self._picture.stores:
+            yield from self._stores(row, stores)
             row += ROW
         for function in self._picture.functions:
             yield from self._function(row, function)

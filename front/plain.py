@@ -25,7 +25,7 @@ usage: bin/wb [OPTIONS] IMAGE [SCRIPT]
 Boots an image and answers the commands of a script, or without one those that are typed.
 An IMAGE is an ELF, an image of this project, a raw ROM, or this project's source (.s).
 
-  --log FILE    the bytes that arrive at the serial lines
+  --log FILE    what happens at the serial and external lines
   --kind KIND   what the image is: elf, image, rom or source
   --strict      end with status 5 at the first command that is refused
   --echo        show each command before its reply

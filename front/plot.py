@@ -11,7 +11,8 @@ from .arguments import parse
 from .driver import Driver
 from .errors import Problem
 from .limits import GREATEST_POSITION, LINES, RAM, ROM
-from .log import Event
+from .log import EDITS as LOG_EDITS
+from .log import Event, Kind
 from .picture import BACKGROUNDS, COLUMNS, Function, Lane, Mark, Picture, Stores, draw
 from .progress import on_terminal
 from .states import registers_at
@@ -25,13 +26,13 @@ OPTIONS = {"--to": "a position", "--log": "a file", "--words": "names or address
 HELP = f"""\
 {USAGE}
 
-One picture of a run, as SVG, in OUT or on standard output: the bytes at each serial line, the stores into the words
-that are named, which functions ran, and where edits met the run.
+One picture of a run, as SVG, in OUT or on standard output: the bytes at each serial line, the levels of external
+lines, the stores into the words that are named, which functions ran, and where edits met the run.
 
   --to N              the run's end
-  --log FILE          the bytes that arrive at the serial lines
+  --log FILE          what happens at the serial and external lines
   --words NAME,..     words of memory: symbols, also with a number of bytes after them, or addresses
-  --edits 'LINE; ..'  edits that are made first: add, del, set, move, patch
+  --edits 'LINE; ..'  edits that are made first: add, ferr, wire, del, erase, set, move, patch
   --background NAME   light or dark; without it the picture follows the page that it is on
   --kind KIND         what the image is, where it can't be seen: elf, image, rom or source
   --help              this text
@@ -40,7 +41,7 @@ Example:
 
   bin/wb plot --to 130000 --log examples/login/log --words session+32 examples/login/login.elf login.svg
 """
-EDITS = ("add", "del", "set", "move", "patch")
+EDITS = (*LOG_EDITS, "patch")
 MOST_STEPS = 4096  # of the bytes that a line sent
 SAMPLES = 2 * COLUMNS  # of the PC, in a run that has more steps
 FUNCTIONS = 12  # those with the greatest shares have a row
@@ -93,7 +94,8 @@ class _Plot:
 
     def picture(self, name: str, edits: list[Mark], words: list[_Word]) -> Picture:
         lanes = [lane for number in range(LINES) for lane in (self._received(number), self._sent(number)) if lane]
-        return Picture(name, self._end, edits, lanes, [self._stores(word) for word in words], *self._functions())
+        stores = [self._stores(word) for word in words]
+        return Picture(name, self._end, edits, lanes, self._levels() + stores, *self._functions())
 
     # Edits
 
@@ -113,8 +115,17 @@ class _Plot:
     # Lines
 
     def _received(self, number: int) -> Optional[Lane]:
-        events = [event for event in self._driver.log if event.line == number and event.time < self._end]
+        events = [it for it in self._events() if it.kind != Kind.WIRE and it.line == number]
         return Lane(number, True, [(event.time, event.byte) for event in events]) if events else None
+
+    def _levels(self) -> list[Stores]:
+        """The levels that external lines got."""
+        wires = [it for it in self._events() if it.kind == Kind.WIRE]
+        return [Stores(f"external line {number}", [(it.time, it.byte) for it in wires if it.line == number])
+                for number in sorted({it.line for it in wires})]
+
+    def _events(self) -> list[Event]:
+        return [it for it in self._driver.log if it.time < self._end]
 
     def _sent(self, number: int) -> Optional[Lane]:
         """The bytes that a line sent. Of very many, some have their steps, and the others stand with the one before."""

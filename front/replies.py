@@ -8,6 +8,7 @@ from typing import Any, Optional, Sequence, Union
 
 from .errors import Refused
 from .limits import COMMAND_BYTES
+from .log import EDITS
 
 CONTROL_NAMES = ("index", "random", "entrylo", "context", "badvaddr", "entryhi", "status", "cause", "epc", "prid")
 
@@ -146,7 +147,7 @@ def value(command: str, lines: Sequence[str]) -> Value:
     """What a reply says, as a value of JSON: words are numbers, and what has several parts is an object."""
     name = words_of(command)[0]
     words = lines[0].split()
-    if name in ("pos", "goto", "step", "back", "visit", "find", "add", "set", "move", "del"):
+    if name in ("pos", "goto", "step", "back", "visit", "find", *EDITS):
         return last_number(lines)
     if name == "regs":
         return dict(vars(registers(lines)))
@@ -175,6 +176,6 @@ def _listed(line: str) -> dict[str, Any]:
     return {"address": int(address, 16), "word": int(word, 16)}
 
 
-def _event(line: str) -> dict[str, int]:
-    number, time, serial, byte = line.split()
-    return {"event": int(number), "time": int(time), "line": int(serial), "byte": int(byte, 16)}
+def _event(line: str) -> dict[str, Any]:
+    number, time, place, byte, *kind = line.split()
+    return {"event": int(number), "time": int(time), "line": int(place), "byte": int(byte, 16), "kind": kind[0] if kind else "byte"}

@@ -26,7 +26,7 @@ HELP = f"""\
 A debugger on the run of an image: with line editing, history and completion on a terminal, or with the lines of a
 script. Addresses are virtual. An ELF gives names of addresses, and so do the labels of a source.
 
-  --log FILE    the bytes that arrive at the serial lines
+  --log FILE    what happens at the serial and external lines
   --kind KIND   what the image is, where it can't be seen: elf, image, rom or source
   --echo        show each line of a script before what it shows
   --help        this text

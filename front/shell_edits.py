@@ -8,12 +8,12 @@ from .commands import FILES, PAST, SERIAL, SHELL, command
 from .errors import Problem
 from .image_command import content_for
 from .limits import GREATEST_POSITION, GREATEST_TIME, LINES
-from .log import quoted, unquoted
+from .log import Kind, quoted, unquoted
 from .saving import save
 from .session import Session, counted
 from .standstill import standstill
 
-# Bytes that are typed are at least so many steps apart, and twice the time that the serial part takes to send one: a program
+# Bytes that are typed are at least this many steps apart, and twice the time that the serial part takes to send one: a program
 # that asks for them in its loop, or is interrupted, has taken each, and sent it back, before the next one comes.
 _LEAST_GAP = 1000
 
@@ -29,13 +29,31 @@ def add(session: Session, words: list[str]) -> None:
     session.tell(f"event {session.driver.add(time, line, byte)}")
 
 
+@command("ferr T L B", "lets byte B arrive at line L in step T with a framing error", PAST, edits=True)
+def ferr(session: Session, words: list[str]) -> None:
+    time, line, byte = map(session.number, words)
+    session.tell(f"event {session.driver.add(time, line, byte, Kind.FRAMING)}")
+
+
+@command("wire T K V", "gives external line K the level V in step T", PAST, edits=True)
+def wire(session: Session, words: list[str]) -> None:
+    time, line, level = map(session.number, words)
+    session.tell(f"event {session.driver.add(time, line, level, Kind.WIRE)}")
+
+
 @command("del I", "takes event I out of the log", PAST, edits=True)
 def del_(session: Session, words: list[str]) -> None:
     session.driver.delete(session.number(words[0]))
     session.tell(f"{counted(len(session.driver.log), 'event')} left")
 
 
-@command("set I B", "changes the byte of event I to B", PAST, edits=True)
+@command("erase F T", "takes all events from step F on and before step T out of the log", PAST, edits=True)
+def erase(session: Session, words: list[str]) -> None:
+    session.driver.erase(*map(session.number, words))
+    session.tell(f"{counted(len(session.driver.log), 'event')} left")
+
+
+@command("set I B", "changes the byte or the level of event I to B", PAST, edits=True)
 def set_(session: Session, words: list[str]) -> None:
     session.tell(f"event {session.driver.set_byte(*map(session.number, words))}")
 

@@ -6,6 +6,7 @@ from .commands import BEFORE, HOLDS, SERIAL, command
 from .errors import Problem
 from .expressions import REGISTERS, register_number
 from .limits import LINES, WORDS
+from .log import Event, Kind
 from .session import UNMAPPED, Session, counted, distance
 
 _CODES = {0: "interrupt", 1: "store to a page that is not dirty", 2: "no entry for a load or fetch", 3: "no entry for a store",
@@ -181,5 +182,12 @@ def log(session: Session, words: list[str]) -> None:
     first = session.number(words[0]) if words else max(0, min(next_one - count // 2, len(events) - count))
     session.tell(f"{counted(len(events), 'event')}, {next_one:,} before this position")
     for number, it in enumerate(events[first:first + count], first):
-        character = f" {chr(it.byte)!r}" if 32 <= it.byte < 127 else ""
-        session.tell(f"{number:6}: step {it.time:,}, line {it.line}, {it.byte:#04x}{character}, {distance(it.time, here)}")
+        session.tell(f"{number:6}: step {it.time:,}, {_what(it)}, {distance(it.time, here)}")
+
+
+def _what(event: Event) -> str:
+    """`line 0, 0x41 'A'`, `external line 0 gets 1`."""
+    if event.kind == Kind.WIRE:
+        return f"external line {event.line} gets {event.byte}"
+    character = f" {chr(event.byte)!r}" if 32 <= event.byte < 127 else ""
+    return f"line {event.line}, {event.byte:#04x}{character}" + (" with a framing error" if event.kind == Kind.FRAMING else "")

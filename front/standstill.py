@@ -14,6 +14,7 @@ from typing import Optional
 from . import instruction
 from .driver import Driver
 from .limits import GREATEST_POSITION, RAM, ROM
+from .log import Kind
 from .replies import Registers
 from .states import registers_at, replies_at
 
@@ -86,7 +87,9 @@ class _Loop:
             return Quiet(GREATEST_POSITION, waits=False)
         if self._unready and not self._stays(turn, self._driver.boot().byte_time + 1):
             return None
-        end = next((event.time for event in self._driver.log if event.time >= self._start), GREATEST_POSITION)
+        # No loop that stands still sees an external line.
+        arrives = (event.time for event in self._driver.log if event.time >= self._start and event.kind != Kind.WIRE)
+        end = next(arrives, GREATEST_POSITION)
         # A step that was looked at and met a byte says nothing of those before it.
         return Quiet(end, waits=True) if self._start + len(self._states) - 1 <= end else None
 

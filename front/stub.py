@@ -23,7 +23,7 @@ HELP = f"""\
 Serves a debugger by gdb's remote serial protocol, on standard input and output. `bin/wb gdb` starts gdb on it;
 docs/DEBUGGING.md says what another debugger needs.
 
-  --log FILE    the bytes that arrive at the serial lines
+  --log FILE    what happens at the serial and external lines
   --kind KIND   what the image is, where it can't be seen: elf, image, rom or source
   --through     single steps run exceptions whole, with their handlers
   --help        this text
@@ -40,7 +40,7 @@ CODE, CODE_IN_HARDWARE, WRITE, READ, ACCESS = range(5)  # the kinds of breakpoin
 
 WATCHED = 256  # bytes of a watch at most
 
-NOT_WRITTEN = ("registers can't be written: they follow from the image and the bytes that arrive, which can be edited. "
+NOT_WRITTEN = ("registers can't be written: they follow from the image and the log, which can be edited. "
                "To run other code, patch it; to call a function, let the program call it")
 
 

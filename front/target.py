@@ -22,6 +22,7 @@ FEATURES = {
 }
 POINTERS = {"pc": "code_ptr", "nextpc": "code_ptr", "epc": "code_ptr"}
 UNSIGNED = {"position", "delay", "loadreg"}
+BITS = {"position": 64}  # all others have 32
 
 
 def description() -> bytes:
@@ -36,9 +37,10 @@ def description() -> bytes:
 
 
 def _register(name: str) -> str:
-    kind = POINTERS.get(name, "uint32" if name in UNSIGNED else "int")
+    bits = BITS.get(name, 32)
+    kind = POINTERS.get(name, f"uint{bits}" if name in UNSIGNED else "int")
     group = ' group="float"' if name in FLOATING else ""
-    return f'<reg name="{name}" bitsize="32" type="{kind}" regnum="{NUMBERS[name]}"{group}/>'
+    return f'<reg name="{name}" bitsize="{bits}" type="{kind}" regnum="{NUMBERS[name]}"{group}/>'
 
 
 def values(driver: Driver) -> dict[str, int]:
@@ -54,8 +56,9 @@ def values(driver: Driver) -> dict[str, int]:
 
 def text(registers: dict[str, int], number: int) -> bytes:
     """The hexadecimal digits of a register, low byte first, or `x` where it has no value."""
-    value = registers.get(NAMES[number])
-    return b"xxxxxxxx" if value is None else value.to_bytes(4, "little").hex().encode()
+    name = NAMES[number]
+    size, value = BITS.get(name, 32) // 8, registers.get(name)
+    return b"xx" * size if value is None else value.to_bytes(size, "little").hex().encode()
 
 
 def all_text(registers: dict[str, int]) -> bytes:

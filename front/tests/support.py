@@ -2,14 +2,15 @@
 from __future__ import annotations
 
 import random
+import unittest
 from pathlib import Path
 from typing import Optional, Sequence
 
 from front.driver import Driver
 from front.image import Image
-from front.limits import READS
+from front.limits import GREATEST_POSITION, READS
 from front.log import Event
-from front.replies import Registers, registers
+from front.replies import Registers, is_refusal, registers
 
 ROOT = Path(__file__).resolve().parents[2]
 
@@ -31,6 +32,25 @@ def rom(words: Sequence[int]) -> Image:
 
 def start(image: Image, log: Sequence[Event] = (), most_reads: int = READS) -> Driver:
     return Driver.start(image, log, most_reads=most_reads)
+
+
+def needs_kinds(test: unittest.TestCase) -> None:
+    """Skips a test where the program that is started has neither framing errors nor external lines."""
+    _needs(test, "framing errors and external lines", "wire 0 0 0")
+
+
+def needs_erase(test: unittest.TestCase) -> None:
+    """Skips a test where the program that is started does not erase ranges of the log, or does not go as far as this one."""
+    _needs(test, "erased ranges and long runs", "erase 0 0", f"goto {GREATEST_POSITION}")
+
+
+def _needs(test: unittest.TestCase, what: str, *commands: str) -> None:
+    driver = start(rom([]))
+    try:
+        if any(is_refusal(lines[0]) for lines in driver.ask_all(commands)):
+            test.skipTest(f"the program has no {what}")
+    finally:
+        driver.close()
 
 
 def random_rom(source: random.Random) -> list[int]:

@@ -10,7 +10,8 @@ from pathlib import Path
 
 from front import loading
 from front import log as logs
-from front.tests.support import ROOT
+from front.log import Event, Kind
+from front.tests.support import ROOT, needs_kinds
 from front.tests.terminal import Terminal
 
 LOGIN = "examples/login/login.elf"
@@ -66,6 +67,25 @@ class Console(unittest.TestCase):
         self.assertEqual(terminal.end(), 0)
         self.assertEqual(bytes(it.byte for it in logs.read(Path(self.log).read_bytes(), self.log)), b"sesame\r")
 
+    def test_going_back_keeps_external_lines(self) -> None:
+        needs_kinds(self)
+        later = Event(1 << 31, 0, 1, Kind.WIRE)
+        Path(self.log).write_bytes(logs.write([later]))
+        terminal = Terminal("console", "--log", self.log, "--speed", "100000", LOGIN)
+        terminal.until(b"password: ")
+        terminal.type(b"wrong\r")
+        terminal.until(b"Sorry, operator.")
+        for _ in range(40):
+            terminal.type(BACK)
+        terminal.until(b"back at step 0")
+        terminal.type(SAVE)
+        terminal.until(b"save the log")
+        terminal.type(self.log.encode() + b"\r")
+        terminal.until(b"\n")
+        terminal.type(QUIT)
+        self.assertEqual(terminal.end(), 0)
+        self.assertEqual(logs.read(Path(self.log).read_bytes(), self.log), [later])
+
     def test_keys(self) -> None:
         terminal = Terminal("console", LOGIN)
         terminal.until(b"password: ")
@@ -79,6 +99,22 @@ class Console(unittest.TestCase):
         terminal.type(b"\r")
         self.assertEqual(terminal.end(), 0)
 
+
+    def test_break_and_external_lines(self) -> None:
+        needs_kinds(self)
+        terminal = Terminal("console", LOGIN)
+        terminal.until(b"password: ")
+        for key, shown in ((b"\x1d1", b"external line 1 is up from step"), (b"\x1d1", b"external line 1 is down from step"),
+                           (b"\x1d2", b"external line 2 is up from step"), (b"\x1df\x1dp", b"time stands")):
+            terminal.type(key)
+            terminal.until(shown)
+        terminal.type(QUIT)
+        terminal.until(b"4 events; save the log")
+        terminal.type(self.log.encode() + b"\r")
+        self.assertEqual(terminal.end(), 0)
+        events = logs.read(Path(self.log).read_bytes(), self.log)
+        self.assertEqual([(it.kind, it.line, it.byte) for it in events],
+                         [(Kind.WIRE, 1, 1), (Kind.WIRE, 1, 0), (Kind.WIRE, 2, 1), (Kind.FRAMING, 0, 0)])
 
     def test_killed_program(self) -> None:
         """What was typed is there after the program died."""

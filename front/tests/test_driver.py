@@ -14,9 +14,9 @@ from front import loading
 from front.driver import Driver
 from front.errors import Ended, Interrupted, Refused
 from front.image import Image
-from front.log import Event
+from front.log import Event, Kind
 from front.replies import Where, Writer
-from front.tests.support import ROOT, random_rom, rom, start
+from front.tests.support import ROOT, needs_erase, needs_kinds, random_rom, rom, start
 
 ECHO = ROOT / "examples/echo"
 
@@ -28,9 +28,15 @@ def echo() -> Driver:
     return loading.start(loading.image(str(ECHO / "boot.s")), str(ECHO / "log"))
 
 
-def random_command(source: random.Random, events: int) -> str:
+def random_command(source: random.Random, events: int, kinds: bool = False, erase: bool = False) -> str:
     """A command that moves, edits or asks, mostly one that is not refused."""
     step = source.randrange(600)
+    if erase and source.randrange(10) == 0:
+        return f"erase {step} {step + source.randrange(-20, 200)}"
+    if kinds and source.randrange(5) == 0:
+        return source.choice((
+            f"ferr {step} {source.randrange(5)} {source.randrange(256)}", f"wire {step} {source.randrange(4)} {source.randrange(3)}",
+            f"set {source.randrange(events + 1)} {source.randrange(3)}"))
     return source.choice((
         f"goto {step}", f"step {step // 50}", f"back {step // 50}", "pos", "regs", f"reg {source.randrange(34)}", "cp0",
         f"mem {source.choice((0x100, 0x104, 0x1FC0_0000, 0x102))} {source.randrange(1, 6)}", "dis 0x1fc00000 3",
@@ -70,7 +76,7 @@ class Values(unittest.TestCase):
             self.driver.words(0x1FE0_0000, 1)
         self.assertEqual((caught.exception.number, caught.exception.name), (6, "NotMemory"))
         with self.assertRaises(Refused):
-            self.driver.goto(1 << 32)
+            self.driver.goto(1 << 40)
         self.assertEqual(self.driver.ask("back 1"), ["error 7 TooFar"])
         self.assertEqual((self.driver.ask("#"), self.driver.ask("?")), ([], ["error 2 Syntax"]))
 
@@ -86,6 +92,68 @@ class Values(unittest.TestCase):
         driver.revert(log, [])
         self.assertEqual((driver.log, driver.patches, driver.console(0)), (log, [], b"AB"))
 
+    def test_a_range_is_erased(self) -> None:
+        needs_erase(self)
+        driver = self.driver
+        before = list(driver.log)
+        driver.goto(256)
+        self.assertEqual((driver.add(130, 0, 0x43), driver.console(0)), (1, b"ACB"))
+        with self.assertRaises(Refused) as caught:
+            driver.erase(131, 70)
+        self.assertEqual((caught.exception.number, driver.erase(0, 0), len(driver.log)), (3, 3, 3))
+        self.assertEqual((driver.erase(70, 131), driver.log), (1, [Event(200, 0, 0x42)]))
+        self.assertEqual((driver.writer(0x104).step, driver.console(0), driver.find(0, 0)), (213, b"B", 215))
+        driver.close()  # It is started anew with this log.
+        self.assertEqual((driver.ask("log 0 8"), driver.console(0)), (["log 1", "0 200 0 0x42"], b"B"))
+        driver.revert(before, [])
+        self.assertEqual((driver.erase(200, 201), driver.log, driver.console(0)), (1, before[:1], b"A"))
+
+    def test_times_and_positions_near_the_greatest(self) -> None:
+        needs_erase(self)
+        driver = self.driver
+        last = (1 << 40) - 1
+        self.assertEqual(driver.ask_all([f"goto {last}", "step 1", f"goto {last + 1}", "pos", f"add {last} 0 1"]),
+                         [[f"pos {last}"], ["error 7 TooFar"], ["error 7 TooFar"], [f"pos {last}"], ["error 3 Range"]])
+        self.assertEqual((driver.add(last - 1, 0, 1), driver.add(0xFFFF_FFFF, 0, 2), driver.position), (2, 2, last))
+        far = [Event(0xFFFF_FFFF, 0, 2), Event(last - 1, 0, 1)]
+        driver.close()
+        self.assertEqual(driver.ask("log 2 8"), ["log 4", "2 4294967295 0 0x02", f"3 {last - 1} 0 0x01"])
+        self.assertEqual((driver.log[2:], driver.erase(201, last), len(driver.log)), (far, 2, 2))
+
+    def test_a_framing_error(self) -> None:
+        needs_kinds(self)
+        driver = self.driver
+        before = list(driver.log)
+        driver.delete(1)
+        driver.delete(0)
+        self.assertEqual(driver.add(70, 0, 0x41, Kind.FRAMING), 0)
+        self.assertEqual(driver.log, [Event(70, 0, 0x41, Kind.FRAMING)])
+        self.assertEqual(driver.ask("log 0 1"), ["log 1", "0 70 0 0x41 framing"])
+        driver.goto(256)
+        self.assertEqual((driver.writer(0x104).step, driver.console(0)), (81, b"A"))
+        driver.goto(78)
+        self.assertEqual(driver.words(0x100, 1), [0xA041])
+        driver.close()  # It is started anew with this log.
+        self.assertEqual((driver.words(0x100, 1), driver.ask("log 0 1")[1]), ([0xA041], "0 70 0 0x41 framing"))
+        driver.revert(before, [])
+        self.assertEqual((driver.log, driver.words(0x100, 1)), (before, [0x8041]))
+
+    def test_an_external_line(self) -> None:
+        """lui r2, 0xbff0; lui r3, 1; sw r3, 0(r2) enables line 0."""
+        needs_kinds(self)
+        driver = start(rom([0x3C02BFF0, 0x3C030001, 0xAC430000]))
+        self.addCleanup(driver.close)
+        self.assertEqual((driver.add(10, 0, 1, Kind.WIRE), driver.add(20, 0, 0, Kind.WIRE)), (0, 1))
+        causes = []
+        for position in (10, 11, 20, 21):
+            driver.goto(position)
+            causes.append(driver.control()["cause"])
+        self.assertEqual(causes, [0, 0x400, 0x400, 0])
+        self.assertEqual(driver.ask_all(["set 0 2", "wire 5 3 1", "set 0 0"]), [["error 3 Range"], ["error 3 Range"], ["event 0"]])
+        self.assertEqual(driver.log, [Event(10, 0, 0, Kind.WIRE), Event(20, 0, 0, Kind.WIRE)])
+        driver.goto(11)
+        self.assertEqual(driver.control()["cause"], 0)
+
     def test_a_patch_of_an_unset_word_is_taken_back(self) -> None:
         self.driver.goto(5)
         self.driver.patch(0x300, 7)
@@ -99,11 +167,22 @@ class Values(unittest.TestCase):
 class Mirrors(unittest.TestCase):
     def test_random_commands(self) -> None:
         """Each reply is the program's own, with as few reads as a program may have that is started anew again and again."""
+        self.mirrors()
+
+    def test_random_commands_of_all_kinds(self) -> None:
+        needs_kinds(self)
+        self.mirrors(kinds=True)
+
+    def test_random_commands_that_erase(self) -> None:
+        needs_erase(self)
+        self.mirrors(kinds=True, erase=True)
+
+    def mirrors(self, kinds: bool = False, erase: bool = False) -> None:
         for seed in range(12):
             source = random.Random(seed)
             image = rom(random_rom(source))
             log = sorted((Event(source.randrange(400), 0, source.randrange(256)) for _ in range(3)), key=lambda it: it.time)
-            commands = [random_command(source, 6) for _ in range(150)]
+            commands = [random_command(source, 6, kinds, erase) for _ in range(150)]
             plain, anew = start(image, log), start(image, log, most_reads=12)
             with self.subTest(seed=seed):
                 self.assertEqual(anew.ask_all(commands), plain.ask_all(commands))
@@ -115,19 +194,26 @@ class Mirrors(unittest.TestCase):
 
     def test_reverting(self) -> None:
         """Any log becomes any other one, also among events of one time."""
+        self.reverts([Kind.BYTE])
+
+    def test_reverting_all_kinds(self) -> None:
+        needs_kinds(self)
+        self.reverts(list(Kind))
+
+    def reverts(self, kinds: list[Kind]) -> None:
         source = random.Random(7)
         driver = start(rom([]))
         self.addCleanup(driver.close)
         for _ in range(60):
-            wanted = sorted((Event(source.randrange(4), 0, source.randrange(3)) for _ in range(source.randrange(9))),
-                            key=lambda it: it.time)
+            wanted = sorted((Event(source.randrange(4), 0, source.randrange(2), source.choice(kinds))
+                             for _ in range(source.randrange(9))), key=lambda it: it.time)
             driver.revert(wanted, [])
             self.assertEqual([_event(it) for it in driver.ask("log 0 32")[1:]], wanted)
 
 
 def _event(line: str) -> Event:
-    _, when, serial, byte = line.split()
-    return Event(int(when), int(serial), int(byte, 16))
+    _, when, place, byte, *kind = line.split()
+    return Event(int(when), int(place), int(byte, 16), Kind[kind[0].upper()] if kind else Kind.BYTE)
 
 
 class Ends(unittest.TestCase):

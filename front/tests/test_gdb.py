@@ -17,6 +17,7 @@ from typing import Sequence
 
 from front.tests import debugger
 from front.tests.debugger import batch
+from front.tests.support import needs_erase
 
 POSITION = 'printf "at %d\\n", $position'
 
@@ -111,7 +112,9 @@ class Login(GdbTest):
             " R8   bfc00470 80001030 80001030 80001030 00000000 00000000 00000000 00000000 ",
             " R24  00000000 00000000 00000000 00000000 00000000 80010fd0 00000000 bfc00274 ",
             "      00400000 00000000 00000000 00000000 00000000 bfc00258 ",
-            "       <unavl>  <unavl> 00009c58 bfc0025c 00000000 00000000 00000000 00000000 ")
+            "       <unavl>  <unavl> ",
+            "position: 0x9c58",
+            "      bfc0025c 00000000 00000000 00000000 00000000 00001700 00000000 00000000 ")
 
     def test_an_edit(self) -> None:
         lines = self.batch("continue", "wb del 2", POSITION, "wb goto 0", "continue", POSITION, "wb log 0 3")
@@ -125,6 +128,12 @@ class Login(GdbTest):
                            "frame")
         self.holds(lines, "writer 50031", "pos 50029", "47\t            session.line[session.length] = c;",
                    "0x00001004 0x726f7461")
+
+    def test_an_expression_of_a_far_step(self) -> None:
+        needs_erase(self)
+        lines = self.batch("starti 20000", "wb add $position+0x100000000 0 65", "wb log 10 1",
+                           "wb erase $position $position+0xffffffff", "wb log 0 1")
+        self.holds(lines, "event 10", "10 4294987296 0 0x41", "log 1", "0 4294987296 0 0x41")
 
     def test_what_cannot_be_done_says_why(self) -> None:
         lines = self.batch("break send", "continue", "print $v0 = 5", "print session.length = 3",

@@ -11,20 +11,21 @@ from unittest import mock
 
 from front import log as logs
 from front.errors import Problem
-from front.log import Event
+from front.log import Event, Kind
 from front.saving import save
 from front.tests.support import ROOT
 
 
 def random_log(source: random.Random) -> list[Event]:
-    """A log with runs of equal gaps, several lines, and events of one time."""
+    """A log with runs of equal gaps, several kinds and lines, and events of one time."""
     events: list[Event] = []
     time = 0
     for _ in range(source.randrange(8)):
         time += source.randrange(3)
-        line, gap = source.randrange(4), source.choice((0, 0, 1, 7))
-        for byte in source.choice((b"a", b"help\r", b"'\\\b\xff\0", b"xx")):
-            events.append(Event(time, line, byte))
+        gap, kind = source.choice((0, 0, 1, 7)), source.choice((Kind.BYTE, Kind.BYTE, Kind.FRAMING, Kind.WIRE))
+        line = source.randrange(3 if kind == Kind.WIRE else 4)
+        for byte in source.choice((b"\0\1", b"\1") if kind == Kind.WIRE else (b"a", b"help\r", b"'\\\b\xff\0", b"xx")):
+            events.append(Event(time, line, byte, kind))
             time += gap
     return sorted(events, key=lambda it: it.time)
 
@@ -36,13 +37,43 @@ class Format(unittest.TestCase):
         self.assertEqual(logs.write([Event(70, 0, 0x41)]), content)
         self.assertEqual(logs.read(b"", "x"), [])
 
+    def test_times_at_the_limits(self) -> None:
+        """Format 1 has the times below 2^32 - 1, and format 2 those below 2^40 - 1."""
+        for time, content in ((0xFFFF_FFFE, "52334b4c4f47310a 01000000 feffffff 00 01"),
+                              (0xFFFF_FFFF, "52334b4c4f47320a 01000000 ffffffff00000000 00 00 01"),
+                              (1_099_511_627_774, "52334b4c4f47320a 01000000 feffffffff000000 00 00 01")):
+            self.assertEqual(logs.write([Event(time, 0, 1)]), bytes.fromhex(content))
+            self.assertEqual(logs.read(bytes.fromhex(content), "x"), [Event(time, 0, 1)])
+
+    def test_worked_example_of_format_2(self) -> None:
+        content = bytes.fromhex("52334b4c4f47320a 01000000 4600000000000000 01 00 41")
+        self.assertEqual(logs.read(content, "x"), [Event(70, 0, 0x41, Kind.FRAMING)])
+        self.assertEqual(logs.write([Event(70, 0, 0x41, Kind.FRAMING)]), content)
+        # A log of bytes may stand in either format, and is written in format 1.
+        sound = [Event(70, 0, 0x41)]
+        self.assertEqual(logs.read(content.replace(b"\1\0\x41", b"\0\0\x41"), "x"), sound)
+        self.assertEqual(logs.write(sound)[:8], b"R3KLOG1\n")
+        wires = logs.write([Event(70, 2, 1, Kind.WIRE), Event(71, 0, 0, Kind.WIRE)])
+        self.assertEqual(wires[12:], bytes.fromhex("4600000000000000 02 02 01 4700000000000000 02 00 00"))
+
+    def test_faults_of_format_2(self) -> None:
+        good = logs.write([Event(70, 0, 0x41, Kind.FRAMING), Event(71, 2, 1, Kind.WIRE)])
+        for content, said in (
+                (good[:-1], "are 22 bytes; it has 21"), (good + b"\0", "it has 23"), (good[:9], "ends before"),
+                (good[:20] + b"\3" + good[21:], "event 0 is of kind 3"), (good[:-2] + b"\3\1", "external line 3; they are 0 to 2"),
+                (good[:-1] + b"\2", "level 2; a level is 0 or 1"), (good[:21] + b"\4" + good[22:], "lines 0 to 3"),
+                (good[:12] + b"\x48" + good[13:], "steps don't fall"), (good[:30] + b"\xff" + good[31:], "at most")):
+            with self.assertRaisesRegex(Problem, said):
+                logs.read(content, "x")
+
     def test_faults(self) -> None:
         good = logs.write([Event(70, 0, 0x41), Event(71, 3, 0)])
         for content, said in (
                 (good[:-1], "are 12 bytes; it has 11"), (good + b"\0", "it has 13"), (good[:9], "ends before"),
                 (b"hello", "is no log"), (good[:8] + b"\xff\xff\xff\xff" + good[12:], "at most 1,048,576"),
                 (logs.write([Event(70, 0, 1), Event(69, 0, 1)]), "steps don't fall"), (logs.write([Event(70, 4, 1)]), "lines 0 to 3"),
-                (logs.write([Event(0xFFFF_FFFF, 0, 1)]), "at most 4,294,967,294")):
+                (good[:12] + b"\xff\xff\xff\xff" + good[16:], "at most 4,294,967,294"),
+                (logs.write([Event((1 << 40) - 1, 0, 1)]), "at most 1,099,511,627,774")):
             with self.assertRaisesRegex(Problem, said):
                 logs.read(content, "x")
 
@@ -53,6 +84,16 @@ class Text(unittest.TestCase):
         self.assertEqual(made, [
             *(Event(7, 1, it) for it in b"'\\\b"), *(Event(150000 + 10 * at, 0, it) for at, it in enumerate(b"help\r")),
             Event(150045, 2, 0x61), Event(150045, 2, 0x41)])
+
+    def test_other_kinds_by_hand(self) -> None:
+        made = logs.make(["70 0 'ab' 10 framing  # noise", "+5 2 1 wire", "+1 2 0 wire", "75 1 '\\xff' framing"], "x")
+        self.assertEqual(made, [
+            Event(70, 0, 0x61, Kind.FRAMING), Event(75, 1, 0xFF, Kind.FRAMING), Event(80, 0, 0x62, Kind.FRAMING),
+            Event(85, 2, 1, Kind.WIRE), Event(86, 2, 0, Kind.WIRE)])
+        self.assertEqual(list(logs.show(made)), ["70 0 'a' framing", "75 1 '\\xff' framing", "80 0 'b' framing", "85 2 1 wire",
+                                                 "86 2 0 wire"])
+        typed = [Event(500 + 10 * at, 0, it, Kind.FRAMING) for at, it in enumerate(b"abc")]
+        self.assertEqual(list(logs.show([*typed, Event(530, 0, 0x64)])), ["500 0 'abc' 10 framing", "530 0 'd'"])
 
     def test_shown(self) -> None:
         events = logs.read((ROOT / "examples/driver/log").read_bytes(), "x")
@@ -69,7 +110,9 @@ class Text(unittest.TestCase):
 
     def test_faults(self) -> None:
         for line, said in (("5 0 help", "x:1: .* is not of the form"), ("5 0 '\\q'", "no escape"), ("5 9 'a'", "lines 0 to 3"),
-                           ("a 0 'b'", "a is no number"), ("4294967295 0 'a'", "at most"), ("5 0 'a' b", "b is no number")):
+                           ("a 0 'b'", "a is no number"), ("1099511627775 0 'a'", "at most 1,099,511,627,774"), ("5 0 'a' b", "b is no number"),
+                           ("5 3 1 wire", "external line 3"), ("5 0 2 wire", "level 2"), ("5 0 wire", "is not of the form"),
+                           ("5 0 1", "or TIME LINE LEVEL wire"), ("5 0 1 framing", "is not of the form")):
             with self.assertRaisesRegex(Problem, said):
                 logs.make([line], "x")
 

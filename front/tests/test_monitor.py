@@ -5,6 +5,7 @@ import tempfile
 import unittest
 from pathlib import Path
 
+from front.tests.support import needs_erase, needs_kinds
 from front.tests.wire import COUNTER, ECHO, TYPED, StubTest
 
 
@@ -20,12 +21,29 @@ class Commands(StubTest):
                 ("", ""), ("mem 0xc0000000 1", "E01"), ("quit", "E01")):
             self.assertEqual(wire.command(line), expected, line)
 
+    def test_framing_errors_and_external_lines(self) -> None:
+        needs_kinds(self)
+        wire = self.wire(ECHO, TYPED)
+        for line, expected in (("ferr 60 3 7", "event 0\n"), ("wire 65 2 1", "event 1\n"),
+                               ("log 0 2", "log 4\n0 60 3 0x07 framing\n1 65 2 0x01 wire\n"), ("set 1 0", "event 1\n")):
+            self.assertEqual(wire.command(line), expected, line)
+        self.assertIn("error 3 Range: a step is", wire.command("wire 65 3 1"))
+
+    def test_a_range_is_erased(self) -> None:
+        needs_erase(self)
+        wire = self.wire(ECHO, TYPED)
+        for line, expected in (
+                ("goto 256", "pos 256\n"), ("erase 70 200", "log 1\n"), ("log 0 8", "log 1\n0 200 0 0x42\n"),
+                ("console 0 0 8", "console 0 1 42\n"), ("find 0 0", "find 215\n"),
+                ("erase 5 4", "error 3 Range: both steps are 0 to 1,099,511,627,775, and the first is not above the second\n")):
+            self.assertEqual(wire.command(line), expected, line)
+
     def test_refusals_say_what_would_be_right(self) -> None:
         wire = self.wire(ECHO, TYPED)
         for line, reason in (("mem 1 1", "error 5 Unaligned: 1 is no multiple of 4"),
                              ("del 2", "error 4 NoEvent: there is no event 2"),
                              ("mem 0x1fe00000 1", "error 6 NotMemory: "), ("add 5 4 0", "error 3 Range: "),
-                             ("goto 4294967296", "error 7 TooFar: ")):
+                             ("goto 1099511627776", "error 7 TooFar: ")):
             self.assertIn(reason, wire.command(line))
 
     def test_the_log_and_the_image_are_saved(self) -> None:

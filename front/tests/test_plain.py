@@ -13,7 +13,7 @@ import unittest
 from pathlib import Path
 from typing import Sequence
 
-from front.tests.support import ROOT
+from front.tests.support import ROOT, needs_erase, needs_kinds
 from front.tests.test_elf import made
 
 WB = str(ROOT / "bin/wb")
@@ -42,10 +42,13 @@ class Plain(unittest.TestCase):
             if not (folder / "script").exists():
                 continue
             log = ["--log", str(folder / "log")] if (folder / "log").exists() else []
-            for order in (lambda rest: [*log, *rest], lambda rest: [*rest, *log]):
-                done = run(order([str(folder / "boot.s"), str(folder / "script")]))
-                expected = (folder / "expected").read_bytes()
-                self.assertEqual((done.stdout, done.stderr, done.returncode), (expected, b"", 0), folder.name)
+            with self.subTest(folder.name):
+                if log and (folder / "log").read_bytes().startswith(b"R3KLOG2"):
+                    needs_kinds(self)
+                for order in (lambda rest: [*log, *rest], lambda rest: [*rest, *log]):
+                    done = run(order([str(folder / "boot.s"), str(folder / "script")]))
+                    expected = (folder / "expected").read_bytes()
+                    self.assertEqual((done.stdout, done.stderr, done.returncode), (expected, b"", 0))
 
     def test_statuses(self) -> None:
         """What goes wrong, as it always was told."""
@@ -102,15 +105,15 @@ class Plain(unittest.TestCase):
         self.check(["echo.rom"], b"mem 0x1fc01034 1\n", b"0x1fc01034 0x00000000\n", "", 0)
 
     def test_reply_by_reply(self) -> None:
-        rom, script = self.put("x.rom", bytes(8)), b"# begin\ngoto 3\n\ngoto 4294967296\nreg 0\nquit\npos\n"
-        self.check(["--strict", rom], script, b"pos 3\nerror 7 TooFar\n", "bin/wb: line 4: goto 4294967296: error 7 TooFar\n", 5)
+        rom, script = self.put("x.rom", bytes(8)), b"# begin\ngoto 3\n\ngoto 1099511627776\nreg 0\nquit\npos\n"
+        self.check(["--strict", rom], script, b"pos 3\nerror 7 TooFar\n", "bin/wb: line 4: goto 1099511627776: error 7 TooFar\n", 5)
         self.check([rom, "--echo"], script,
-                   b"> # begin\n> goto 3\npos 3\n> goto 4294967296\nerror 7 TooFar\n> reg 0\nr0 0x00000000\n", "", 0)
+                   b"> # begin\n> goto 3\npos 3\n> goto 1099511627776\nerror 7 TooFar\n> reg 0\nr0 0x00000000\n", "", 0)
         self.check(["--echo", rom], b"\xff\n", b"> \xff\nerror 2 Syntax\n", "", 0)
         objects = [json.loads(it) for it in run(["--json", rom], script, self.folder).stdout.splitlines()]
         self.assertEqual(objects, [
             {"command": "goto 3", "value": 3, "reply": ["pos 3"]},
-            {"command": "goto 4294967296", "error": {"number": 7, "name": "TooFar"}, "reply": ["error 7 TooFar"]},
+            {"command": "goto 1099511627776", "error": {"number": 7, "name": "TooFar"}, "reply": ["error 7 TooFar"]},
             {"command": "reg 0", "value": 0, "reply": ["r0 0x00000000"]}])
 
     def test_json_values(self) -> None:
@@ -125,9 +128,26 @@ class Plain(unittest.TestCase):
             [{"address": 0, "word": 0}, {"address": 4, "word": 0}],
             [{"address": 0x1FC0_0000, "word": 0x3C01_BFE0, "text": "lui r1, 0xbfe0"}],
             {"count": 2, "bytes": [0x41, 0x42]}, {"kind": "step", "step": 253}, {"kind": "image", "step": None}, 215,
-            {"count": 2, "events": [{"event": 0, "time": 70, "line": 0, "byte": 0x41},
-                                    {"event": 1, "time": 200, "line": 0, "byte": 0x42}]},
+            {"count": 2, "events": [{"event": 0, "time": 70, "line": 0, "byte": 0x41, "kind": "byte"},
+                                    {"event": 1, "time": 200, "line": 0, "byte": 0x42, "kind": "byte"}]},
             0, 2, "ok"])
+
+    def test_json_of_other_kinds(self) -> None:
+        needs_kinds(self)
+        done = run(["--json", "examples/echo/boot.s"], b"ferr 70 0 0x41\nwire 60 2 1\nlog 0 9\nwire 5 3 1\n")
+        objects = [json.loads(it) for it in done.stdout.splitlines()]
+        self.assertEqual([it.get("value") for it in objects], [
+            0, 0, {"count": 2, "events": [{"event": 0, "time": 60, "line": 2, "byte": 1, "kind": "wire"},
+                                          {"event": 1, "time": 70, "line": 0, "byte": 0x41, "kind": "framing"}]}, None])
+        self.assertEqual(objects[3]["error"], {"number": 3, "name": "Range"})
+
+    def test_json_of_an_erased_range(self) -> None:
+        needs_erase(self)
+        script = b"erase 70 200\nerase 9 8\ngoto 1099511627775\nstep 1\n"
+        done = run(["--json", "--log", "examples/echo/log", "examples/echo/boot.s"], script)
+        objects = [json.loads(it) for it in done.stdout.splitlines()]
+        self.assertEqual([it.get("value") for it in objects], [1, None, 1_099_511_627_775, None])
+        self.assertEqual([objects[at]["error"]["name"] for at in (1, 3)], ["Range", "TooFar"])
 
     def test_help(self) -> None:
         for arguments in (["--help"], *([it, "--help"] for it in ("shell", "console", "log", "image"))):
@@ -143,7 +163,7 @@ class Plain(unittest.TestCase):
         self.check(["log", "show", "text"], b"", text, "", 0)
         self.check(["log", "show", "-"], (self.folder / "made").read_bytes(), text, "", 0)
         self.check(["log", "make", "-", "made"], b"oh\n", b"",
-                   "bin/wb: standard input:1: 'oh' is not of the form TIME LINE 'BYTES' [GAP]\n", 2)
+                   "bin/wb: standard input:1: 'oh' is not of the form TIME LINE 'BYTES' [GAP] [framing] or TIME LINE LEVEL wire\n", 2)
         self.assertEqual((self.folder / "made").read_bytes(), (ROOT / "examples/driver/log").read_bytes())
         self.check(["log", "make", "-", "/dev/full"], text, b"", "bin/wb: /dev/full can't be written: No space left on device\n", 2)
         self.check(["log"], b"", b"", "bin/wb: usage: bin/wb log show LOG | bin/wb log make TEXT LOG\n", 2)

@@ -9,6 +9,7 @@ from pathlib import Path
 from xml.etree import ElementTree
 
 from front.tests import debugger
+from front.tests.support import needs_erase, needs_kinds
 
 SVG = "{http://www.w3.org/2000/svg}"
 LOGIN = ["--to", "130000", "--log", "examples/login/log", "examples/login/login.elf"]
@@ -44,6 +45,22 @@ class Plot(unittest.TestCase):
         places = [float(line.get("x1", "0")) for line in picture.iter(f"{SVG}line") if line.get("class") == "edit"]
         # The run goes from 190 to 1,040: step 40,000 of 130,000 stands at 190 + 850 * 4 / 13.
         self.assertEqual(places, [190.0, 451.5])
+
+    def test_an_erased_range_stands_at_its_first_event(self) -> None:
+        needs_erase(self)
+        picture = self.plot("--to", "256", "--edits", "add 128 0 0x43; erase 100 300", "--log", "examples/echo/log",
+                            "examples/echo/boot.s")
+        self.holds(self.texts(picture), "1 byte", "'A'", "add 128 0 0x43", "erase 100 300")
+        places = [float(line.get("x1", "0")) for line in picture.iter(f"{SVG}line") if line.get("class") == "edit"]
+        # The run goes from 190 to 1,040, so step 128 of 256 is half of it.
+        self.assertEqual(places, [615.0, 615.0])
+
+    def test_framing_errors_and_external_lines(self) -> None:
+        needs_kinds(self)
+        edits = "wire 10 1 1; wire 20 1 0; ferr 70 0 0x41"
+        texts = self.texts(self.plot("--to", "256", "--edits", edits, "examples/echo/boot.s"))
+        self.holds(texts, "line 0 receives", "1 byte", "'A'", "line 0 sends", "'A'", "external line 1", "0x00000000", "1", "0", "loop",
+                   "wire 10 1 1")
 
     def test_shares_of_a_short_run_are_exact(self) -> None:
         # The set-up takes steps 0 to 8; each turn takes 6 steps from `loop` on, 3 from `none` and 2 from `next`, and

@@ -10,11 +10,11 @@ from front import expressions, loading
 from front import log as logs
 from front.driver import Driver
 from front.errors import Problem
-from front.log import Event
+from front.log import Event, Kind
 from front.session import Session, distance
 from front.shell import Shell
 from front.symbols import symbols_of
-from front.tests.support import ROOT
+from front.tests.support import ROOT, needs_erase, needs_kinds
 
 
 class Talk:
@@ -49,7 +49,7 @@ class Echo(unittest.TestCase):
         self.assertEqual(talk("back 2"), ["step 7, 0xbfc0001c: j 0xbfc01000 <loop>"])
         self.assertEqual(talk("step"), ["step 8, 0xbfc00020: sw r5, 0(r1)   (delay slot)"])
         self.assertEqual(talk("goto 1,000"), ["step 1,000, loop+0x4: sll r0, r0, 0"])
-        self.assertEqual(talk("goto 4,294,967,296"), ["refused: a position is 0 to 4,294,967,295"])
+        self.assertEqual(talk("goto 1,099,511,627,776"), ["refused: a position is 0 to 1,099,511,627,775"])
         self.assertEqual(talk("visit 0x80000000 100"), ["the run does not come to 0x80000000 in the next 100 steps"])
         self.assertRegex(talk("visit 0x80000000")[0], "does not come to 0x80000000: from step .* waits for a byte")
         self.assertEqual(talk("pos"), ["step 1,000, loop+0x4: sll r0, r0, 0"])
@@ -84,6 +84,37 @@ class Echo(unittest.TestCase):
         self.assertEqual(talk("writer 0x80000200"),
                          ["no step before this position stored at 0x80000200, and the image does not set it"])
 
+    def test_a_range_is_erased(self) -> None:
+        needs_erase(self)
+        talk = self.talk
+        before = list(talk.driver.log)
+        self.assertEqual(talk("goto 256", "add 130 0 'C'", "console 0")[-1], "ACB")
+        self.assertEqual(talk("erase 70 131", "console 0"), ["1 event left", "B"])
+        self.assertEqual(talk("erase pos 70"), [
+            "refused: both steps are 0 to 1,099,511,627,775, and the first is not above the second"])
+        self.assertEqual(talk("erase pos-56 pos", "log")[0], "0 events left")
+        self.assertEqual(talk("undo", "undo", "undo")[-1], "taken back: add 130 0 'C'")
+        self.assertEqual((talk.driver.log, talk("console 0")[-1]), (before, "AB"))
+
+    def test_framing_errors_and_external_lines(self) -> None:
+        needs_kinds(self)
+        talk = self.talk
+        before = list(talk.driver.log)
+        self.assertEqual(talk("del 0", "ferr 70 0 'A'", "wire 80 2 1"), ["1 event left", "event 0", "event 1"])
+        self.assertEqual(talk("log 0"), [
+            "3 events, 0 before this position", "     0: step 70, line 0, 0x41 'A' with a framing error, 70 steps ahead",
+            "     1: step 80, external line 2 gets 1, 80 steps ahead", "     2: step 200, line 0, 0x42 'B', 200 steps ahead"])
+        self.assertEqual(talk("set 1 2"), ["refused: a byte is 0 to 255, and the level of an external line 0 or 1"])
+        self.assertRegex(talk("wire 5 3 1")[0], "refused: a step is 0 to .*, an external line is 0 to 2, a level is 0 or 1; ")
+        self.assertRegex(talk("ferr 5 4 1")[0], "refused: a step is 0 to .*, a line is 0 to 3, a byte is 0 to 255; ")
+        self.assertEqual(talk("goto 256", "console 0")[-1], "AB")
+        self.assertEqual(talk("set 1 0", "move 1 90", "undo", "undo", "undo", "undo", "undo")[-1], "taken back: del 0")
+        self.assertEqual(talk.driver.log, before)
+        with tempfile.TemporaryDirectory() as folder:
+            talk("wire 80 2 1", f"save-log {folder}/log")
+            saved = logs.read(Path(folder, "log").read_bytes(), "log")
+        self.assertEqual(saved, [before[0], Event(80, 2, 1, Kind.WIRE), before[1]])
+
     def test_undo(self) -> None:
         talk = self.talk
         before = list(talk.driver.log)
@@ -115,7 +146,7 @@ class Echo(unittest.TestCase):
                 ("mem 0xa0000101", "multiple of 4; .* 0xa0000100"),
                 ("patch loop 0x100000000", "no word"), ("del 7", "refused: there is no event 7: they are 0 to 1"),
                 ("find 0 0", "line 0 sent no byte of place 0"),
-                ("add 5 9 9", "refused: a step is 0 to 4,294,967,294, a line is 0 to 3"), ("reg 32", "there is no register 32"),
+                ("add 5 9 9", "refused: a step is 0 to 1,099,511,627,774, a line is 0 to 3"), ("reg 32", "there is no register 32"),
                 ("step nowhere", "no symbol and no register nowhere"), ("frob", "no command frob"), ("goto", "usage: goto N"),
                 ("r", "pc"), ("s 1 2", "usage: step"), ("delete x", "no symbol"), ("type hi", "between quotes"),
                 ("type 7 'x'", "there is no line 7"), ("type '\\q'", "no escape"), ("break 2", "multiple of 4"),

@@ -6,10 +6,10 @@ import unittest
 from typing import Optional, Sequence
 
 from front.driver import Driver
-from front.log import Event
+from front.log import Event, Kind
 from front.replies import memory, registers
 from front.standstill import Quiet, Standstill, quiet, standstill
-from front.tests.support import DATA, random_rom, rom, start
+from front.tests.support import DATA, needs_kinds, random_rom, rom, start
 
 STEPS = 600
 LOOKED_AT = 100
@@ -76,6 +76,14 @@ class Stands(unittest.TestCase):
         self.assertEqual(quiet(driver, LOOKED_AT), Quiet(90, waits=True))
         driver.goto(80)
         self.assertIsNone(quiet(driver, LOOKED_AT))
+
+    def test_a_framing_error_and_an_external_line_that_are_to_come(self) -> None:
+        needs_kinds(self)
+        driver = self.driver([*SERIAL_ON, *POLL], [Event(90, 0, 1, Kind.FRAMING)])
+        self.assertEqual([self.stands(driver, it) for it in (20, 90, 91)], [None, None, Standstill.WAITING])
+        # The loop does not see an external line.
+        driver = self.driver([*SERIAL_ON, *POLL], [Event(90, 0, 1, Kind.WIRE)])
+        self.assertEqual([self.stands(driver, it) for it in (20, 90, 91)], [Standstill.WAITING] * 3)
 
     def test_a_loop_that_reads_the_clock(self) -> None:
         # lui r1, 0xbfe8; lw r3, 0(r1) ..

@@ -9,8 +9,9 @@ import random
 import signal
 import unittest
 
+from front import target
 from front.log import Event
-from front.tests.support import rom, start
+from front.tests.support import needs_erase, rom, start
 from front.tests.wire import COUNTER, ECHO, TYPED, StubTest
 
 PC, STATUS = 37, 32  # the numbers that gdb gives registers of a MIPS processor
@@ -55,9 +56,15 @@ class Registers(StubTest):
         while more == "m":
             piece = wire.ask(f"qXfer:features:read:target.xml:{len(whole):x},100")
             more, whole = piece[0], whole + piece[1:]
-        for name, number in ("r0", 0), ("status", 32), ("pc", 37), ("position", 72), ("prid", 83):
-            self.assertIn(f'<reg name="{name}" bitsize="32"', whole)
+        for name, number, bits in ("r0", 0, 32), ("status", 32, 32), ("pc", 37, 32), ("position", 72, 64), ("prid", 83, 32):
+            self.assertIn(f'<reg name="{name}" bitsize="{bits}"', whole)
             self.assertRegex(whole, f'name="{name}"[^>]* regnum="{number}"')
+
+    def test_the_position_has_64_bits(self) -> None:
+        wire = self.wire(COUNTER)
+        wire.command("goto 5")
+        self.dialog(wire, ("p48", "0500000000000000"))
+        self.assertEqual(target.text({"position": (1 << 40) - 1}, 72), b"ffffffffff000000")
 
     def test_a_run_does_not_begin_elsewhere(self) -> None:
         wire = self.wire(COUNTER)
@@ -101,7 +108,11 @@ class Runs(StubTest):
         wire = self.wire(COUNTER)
         self.stops(wire, ("s", "T05", 1), ("vCont;s:1;c", "T05", 2), ("bs", "T05", 1), ("bs", "T05", 0),
                    ("bs", "T05replaylog:begin;", 0))
-        wire.command("goto 4294967295")
+
+    def test_a_step_beyond_the_end(self) -> None:
+        needs_erase(self)
+        wire = self.wire(COUNTER)
+        wire.command("goto 1099511627775")
         self.assertEqual(wire.ask("s"), "T05replaylog:end;")
 
     def test_breakpoints_go_both_ways(self) -> None:
