@@ -56,6 +56,7 @@ LINES = [
     (["--kind", "image", "--size", "40"], EMPTY, 3, b"", b"r3kwb: error 11 ReadFault\n"),
     (["--kind", "source", "--size", "9"], b"j nowhere", 1, b"", b"r3kwb: error 13 BadSource 1 Label\n"),
     (["--log", "17"], b"R3KLOG1\n\x01\0\0\0\x46\0\0\0\0", 1, b"", b"r3kwb: error 10 BadLog Short\n"),
+    (["--log", "23"], b"R3KLOG2\n\x01\0\0\0\x46\0\0\0\0\0\0\0\x03\0\x41", 1, b"", b"r3kwb: error 10 BadLog Kind\n"),
     # 2,048 pages of RAM: the last word of it, and the word after it, which is neither RAM nor ROM.
     ([], b"mem 0x7ffffc 1\nmem 0x800000 1\n", 0, b"0x007ffffc 0x00000000\nerror 6 NotMemory\n", b""),
     (["--size", "67108865"], b"pos\n", 2, b"", b"--size is a number from 0 to 67108864"),
