@@ -1,9 +1,10 @@
 -- What queries cost, as replies say it, and what several at one position cost together.
-use Rattle.std.proofs.Common.{◌≡◌, ◌⊎◌, inl, inr, ℕ, zero, suc, ◌+◌, ◌-◌, ◌*◌, ◌/◌, ◌%◌, ◌<◌, ◌≤◌, ◌==◌, List, Option, Some, None, Bool, true, false, if◌then◌else◌, Contains, Result, Ok, Err, refl, sym, ap, ◌∙◌, subst, arith}
+use Rattle.std.proofs.Common.{◌≡◌, ◌⊎◌, inl, inr, ℕ, zero, suc, ◌+◌, ◌-◌, ◌*◌, ◌/◌, ◌%◌, ◌<◌, ◌≤◌, ◌==◌, ◌∷◌, nat_eq, cond, take, List, Option, Some, None, Bool, true, false, if◌then◌else◌, Contains, Result, Ok, Err, refl, sym, ap, ◌∙◌, subst, arith}
 use Rattle.std.proofs.Math.Nat.{add-mul, mul-le-mul_right}
 use Rattle.std.specs.Option.{ok_or}
 use Rattle.std.specs.Result.{is_ok}
-use Rattle.std.proofs.lemmas.Bool.{true≢false}
+use Rattle.std.proofs.lemmas.Bool.{eq-eqb, true≢false}
+use Rattle.std.specs.Set.{remove_key}
 use Rattle.timeline.specs.History.{History}
 use Rattle.timeline.specs.Reuse.{Applies, Holding, Lacks, Reaches, Serves, Spends, kept_at, span_of}
 use Rattle.refusal.specs.declared.fault.Fault.{Fault}
@@ -11,7 +12,7 @@ use Rattle.refusal.specs.declared.fault.Fault.TheVariants.{Memory, Unaligned, No
 use Rattle.timeline.specs.Landed.{Asks, AsksFault, Landed, Lands, holding}
 use Rattle.wb_text.specs.declared.reply.Reply.{Reply}
 use Rattle.wb_text.specs.declared.reply.Reply.TheVariants.{Fault as Refused}
-use Rattle.wb_session.specs.Cost.{AsksState, AsksSteps, AsksWords, outcome_of}
+use Rattle.wb_session.specs.Cost.{AsksState, AsksSteps, AsksWords, LandsOnce, outcome_of}
 use Rattle.wb_session.specs.Memory.{places_from, places_of}
 use Rattle.wb_session.specs.Session.{Held}
 
@@ -55,17 +56,20 @@ steps_refused pages span beyond old new fault asks landings = record { asks = as
 pub words_shown : {A : Type 0} (pages span count : ℕ) (old new : Held) (x : A) (reply : Reply) → outcome_of reply ≡ Ok tt
     → Asks {A = A} pages span old.position ((count - 1) * (old.position % span)) old.timeline new.timeline (Ok x)
     → (Contains old.timeline.landings old.position → new.timeline.steps ≡ old.timeline.steps)
+    → LandsOnce {A = A} span old.position old.timeline new.timeline (Ok x)
     → AsksWords pages span count old new reply
-words_shown pages span count old new x reply e asks free = record {
+words_shown pages span count old new x reply e asks free lands = record {
   asks = subst (λ (r : Result (Unit {0}) Fault). Asks {A = Unit {0}} pages span old.position ((count - 1) * (old.position % span)) old.timeline new.timeline r) (sym e) asks;
   free = free;
+  lands = subst (λ (r : Result (Unit {0}) Fault). LandsOnce {A = Unit {0}} span old.position old.timeline new.timeline r) (sym e) lands;
 }
 
 pub words_refused : (pages span count : ℕ) (old new : Held) (fault : Fault)
     → AsksFault pages span old.position ((count - 1) * (old.position % span)) old.timeline new.timeline fault
     → (Contains old.timeline.landings old.position → new.timeline.steps ≡ old.timeline.steps)
+    → LandsOnce {A = Unit {0}} span old.position old.timeline new.timeline (Err fault)
     → AsksWords pages span count old new (Refused fault)
-words_refused pages span count old new fault asks free = record { asks = asks; free = free }
+words_refused pages span count old new fault asks free lands = record { asks = asks; free = free; lands = lands }
 
 -- Several queries of words at one position.
 -- where each span has a record that serves, none is lacking
@@ -120,12 +124,69 @@ reaches_again pages span count a b old now new first spends second = record {
   there = second.there;
 }
 
--- so many words were asked for at a position
+-- what is left of the kept states where a query of the state was answered
+abbrev pub Left : (span position : ℕ) → (old new : Landed) → Type 0
+Left span position old new = Lands {A = Unit {0}} {E = Fault} span position old new (Ok tt)
+
+left_by : {A : Type 0} (span position : ℕ) (old new : Landed) (x : A) → Lands {A = A} {E = Fault} span position old new (Ok x) → Left span position old new
+left_by span position old new x lands = record { free = lands.free; again = lands.again; first = lands.first; start = lands.start; refused = tt }
+
+first_removed : (p : ℕ) (ps : List ℕ) → remove_key (nat_eq p) (p ∷ ps) ≡ ps
+first_removed p ps = ap (λ (same : Bool). cond same ps (p ∷ remove_key (nat_eq p) ps)) (eq-eqb p p refl)
+
+-- a second query leaves them as the first one did
+left_again : (span position : ℕ) (old now new : Landed) → Left span position old now → Left span position now new → Left span position old new
+left_again span position old now new before after =
+    let comes_first : Contains old.landings position → Contains now.landings position =
+    λ there. subst (λ (l : List ℕ). Contains l position) (sym (before.again there)) (0, omega arith, refl) in record {
+      free = λ there. after.free (comes_first there) ∙ before.free there;
+      again = λ there.
+          after.again (comes_first there)
+          ∙ ap (λ (l : List ℕ). position ∷ l) (ap (remove_key (nat_eq position)) (before.again there) ∙ first_removed position (remove_key (nat_eq position) old.landings));
+      first = λ none.
+          elim (before.first none) [
+            | inl took ↦
+                let there : Contains now.landings position = subst (λ (l : List ℕ). Contains l position) (sym took) (0, omega arith, refl) in
+                inl (after.again there
+                ∙ ap (λ (l : List ℕ). position ∷ l) (ap (remove_key (nat_eq position)) took ∙ first_removed position (take 7 old.landings)))
+            | inr same ↦
+                elim (after.first (λ there. none (subst (λ (l : List ℕ). Contains l position) same there))) [
+                  | inl took ↦ inl (took ∙ ap (λ (l : List ℕ). take 8 (position ∷ l)) same)
+                  | inr still ↦ inr (still ∙ same)
+                ]
+          ];
+      start = λ at. after.start at ∙ before.start at;
+      refused = tt;
+    }
+
+-- one more query, after none or after some
+left_one : (span position words : ℕ) (old now new : Landed) → (words ≡ 0 → now ≡ old) → (0 < words → Left span position old now) → Left span position now new
+    → Left span position old new
+left_one span position zero old now new none some lands = subst (λ (h : Landed). Left span position h new) (none refl) lands
+left_one span position (suc n) old now new none some lands = left_again span position old now new (some (omega arith)) lands
+
+-- one more that is refused
+pub left_refused : (span position words : ℕ) (old now new : Landed) → (words ≡ 0 → now ≡ old) → (0 < words → Left span position old now)
+    → new.landings ≡ now.landings → (Contains old.landings position → new.steps ≡ old.steps)
+    → (new.landings ≡ old.landings) ⊎ Left span position old new
+left_refused span position zero old now new none some same free = inl (same ∙ ap (λ (h : Landed). h.landings) (none refl))
+left_refused span position (suc n) old now new none some same free =
+    let before = some (omega arith) in
+    inr (record {
+      free = free;
+      again = λ there. same ∙ before.again there;
+      first = λ none. elim (before.first none) [ inl took ↦ inl (same ∙ took) | inr still ↦ inr (same ∙ still) ];
+      start = λ at. same ∙ before.start at;
+      refused = tt;
+    })
+
+-- n words were asked for at a position
 pub record AskedSo (pages span position words : ℕ) (old now : Landed) : Type 0 where
   pub first : words ≡ 0 → now ≡ old
   pub spends : Spends pages span (position / span) (words * (position % span)) (holding old) (holding now)
   pub reaches : 0 < words → Reaches pages span (position / span) (holding old) (holding now)
   pub free : Contains old.landings position → (now.steps ≡ old.steps) × Contains now.landings position
+  pub left : 0 < words → Left span position old now
 
 pub asked_none : (pages span position : ℕ) (h : Landed) → AskedSo pages span position 0 h h
 asked_none pages span position h = record {
@@ -133,6 +194,7 @@ asked_none pages span position h = record {
   spends = spends_more pages span (position / span) 0 (0 * (position % span)) (holding h) (holding h) (omega arith) (nothing_spent pages span (position / span) (holding h));
   reaches = λ some. absurd (omega (arith, some));
   free = λ there. (refl, there);
+  left = λ some. absurd (omega (arith, some));
 }
 
 one_more : (n rest : ℕ) → (n + 1) * rest ≡ n * rest + rest
@@ -169,6 +231,7 @@ asked_one pages span position words old now new x so asks lands = record {
   free = λ there.
       let before = so.free there in
       (lands.free before.1 ∙ before.0, subst (λ (l : List ℕ). Contains l position) (sym (lands.again before.1)) (0, omega arith, refl));
+  left = λ _. left_one span position words old now new so.first so.left (left_by span position now new x lands);
 }
 
 -- all words were shown

@@ -1,6 +1,6 @@
 -- What a command costs (own): the steps that it may run, and what is kept after it.
-use Rattle.std.specs.Prelude.{◌≡◌, ℕ, ◌-◌, ◌*◌, ◌%◌, [], Contains, Result, Ok, Err}
-use Rattle.timeline.specs.Landed.{Asks, Lands}
+use Rattle.std.specs.Prelude.{◌≡◌, ◌⊎◌, ℕ, ◌-◌, ◌*◌, ◌%◌, [], Contains, Result, Ok, Err}
+use Rattle.timeline.specs.Landed.{Asks, Landed, Lands}
 use Rattle.refusal.specs.declared.fault.Fault.{Fault}
 use Rattle.wb_text.specs.declared.command.Command.{Command}
 use Rattle.wb_text.specs.declared.command.Command.TheVariants.{Pos, Goto, Step, Back, Visit, Regs, Reg, Cp0, Tlb, Where, Mem, Dis, Console, Find, Writer, Log, Add, Ferr, Wire, Del, Set, Move, Erase, Patch, Quit}
@@ -33,11 +33,18 @@ pub record AsksSteps (pages span beyond : ℕ) (old new : Held) (reply : Reply) 
   pub asks : Asks pages span old.position beyond old.timeline new.timeline (outcome_of reply)
   pub landings : new.timeline.landings ≡ old.timeline.landings
 
--- So many words at the position, each by a query: the first costs what one costs, and each after it at most what is left of the last
+-- Several queries of the state at a position leave the states that are kept as one does. Where one of them is refused, those before it may
+-- have left them so.
+abbrev pub LandsOnce : {A : Type 0} → (span position : ℕ) → (old new : Landed) → Result A Fault → Type 0
+LandsOnce span position old new (Ok answer) = Lands {A = Unit {0}} {E = Fault} span position old new (Ok tt)
+LandsOnce span position old new (Err fault) = (new.landings ≡ old.landings) ⊎ Lands {A = Unit {0}} {E = Fault} span position old new (Ok tt)
+
+-- count words at the position, each by a query: the first costs what one costs, and each after it at most what is left of the last
 -- span. Where the state at the position is kept, none of them runs a step.
 pub record AsksWords (pages span count : ℕ) (old new : Held) (reply : Reply) : Type 0 where
   pub asks : Asks pages span old.position ((count - 1) * (old.position % span)) old.timeline new.timeline (outcome_of reply)
   pub free : Contains old.timeline.landings old.position → new.timeline.steps ≡ old.timeline.steps
+  pub lands : LandsOnce span old.position old.timeline new.timeline (outcome_of reply)
 
 -- what each command costs, on a machine with so many pages of RAM whose runs are kept in spans of so many steps
 abbrev pub Costs : (pages span : ℕ) → Command → (old new : Held) → Reply → Type 0

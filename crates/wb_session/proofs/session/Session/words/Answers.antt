@@ -1,5 +1,5 @@
 -- The words, one after the other.
-use Rattle.std.proofs.Common.{◌+◌, ◌-◌, ◌*◌, ◌%◌, ◌++◌, Contains, rules, ◌∷◌, [], ◌≤◌, ℕ, List, slice_index, inr, refl, sym, ap, ◌∙◌, subst, arith, Result, Err}
+use Rattle.std.proofs.Common.{◌≡◌, ◌+◌, ◌-◌, ◌*◌, ◌%◌, ◌++◌, Contains, rules, ◌∷◌, [], ◌≤◌, ℕ, List, slice_index, inr, refl, sym, ap, ◌∙◌, subst, arith, Result, Err}
 use Rattle.std.proofs.Math.Path.{ap₂}
 use Rattle.std.proofs.lemmas.List.{map-append}
 use Rattle.std.specs.Result.{is_ok}
@@ -12,7 +12,8 @@ use Rattle.r3k_machine.specs.Run.{state_at}
 use Rattle.timeline.specs.History.{History}
 use Rattle.timeline.specs.Query.{word_at}
 use Rattle.wb_session.specs.Memory.{place_behind}
-use Rattle.wb_session.proofs.Costs.{AskedSo, asked_none, asked_one, asked_part}
+use Rattle.wb_session.proofs.Costs.{AskedSo, asked_none, asked_one, asked_part, left_refused}
+use Rattle.wb_session.specs.Cost.{LandsOnce}
 use Rattle.wb_session.specs.Session.{Held}
 use Rattle.wb_session.proofs.Places.{all_places, only_memory, place_among, places_from-more, places_from-zero, starts_even, value_is}
 use Rattle.wb_session.proofs.session.Session.words.Goals as goal
@@ -86,4 +87,9 @@ returns-in-Err g c =
       asks = subst (λ (f : Fault). AsksFault pages span now.position ((c.args.count - 1) * (now.position % span)) now.timeline after f) (sym memory)
           (subst (λ (n : ℕ). AsksFault pages span n ((c.args.count - 1) * (n % span)) now.timeline after Memory) position cost);
       free = λ there. (let kept = so.free (subst (λ (n : ℕ). Contains now.timeline.landings n) (sym position) there) in c.in-Err.ensures.lands.free kept.1 ∙ kept.0);
+      lands =
+          let from : ℕ = c.self.inside.position in
+          let steps : Contains now.timeline.landings from → after.steps ≡ now.timeline.steps = (λ there. let kept = so.free there in c.in-Err.ensures.lands.free kept.1 ∙ kept.0) in
+          subst (λ (n : ℕ). LandsOnce {A = Unit {0}} span n now.timeline after (Err Memory)) position
+          (left_refused span from word now.timeline before after so.first so.left c.in-Err.ensures.lands.refused steps);
     }
