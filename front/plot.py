@@ -21,8 +21,7 @@ from .symbols import Symbols, symbols_of
 USAGE = ("usage: bin/wb plot --to N [--log FILE] [--words NAME,..] [--edits 'COMMAND; ..'] "
          "[--background light|dark] [--kind KIND] IMAGE [OUT]")
 OPTIONS = {"--to": "a position", "--log": "a file", "--words": "names or addresses", "--edits": "commands",
-           "--background": "light or dark",
-           "--kind": "a kind", "--help": ""}
+           "--background": "light or dark", "--kind": "a kind"}
 HELP = f"""\
 {USAGE}
 
@@ -49,11 +48,8 @@ UNNAMED = 256  # bytes of code that stand for a function, where no symbol is kno
 
 
 def main(arguments: Sequence[str]) -> int:
-    line = parse(arguments, OPTIONS, USAGE)
-    if line.has("--help"):
-        sys.stdout.write(HELP)
-        return 0
-    if len(line.words) not in (1, 2) or not line.has("--to"):
+    line = parse(arguments, OPTIONS, USAGE, HELP, (1, 2))
+    if not line.has("--to"):
         raise Problem(USAGE)
     end = line.number("--to", 0)
     if not 0 < end <= GREATEST_POSITION:

@@ -16,7 +16,7 @@ from .rsp import PACKET_BYTES, Link
 from .travel import Watch
 
 USAGE = "usage: bin/wb stub [--log FILE] [--kind KIND] [--through] IMAGE"
-OPTIONS = {"--log": "a file", "--kind": "a kind", "--through": "", "--help": ""}
+OPTIONS = {"--log": "a file", "--kind": "a kind", "--through": ""}
 HELP = f"""\
 {USAGE}
 
@@ -293,12 +293,7 @@ def _from_digits(digits: bytes) -> bytes:
 
 def main(arguments: Sequence[str]) -> int:
     """Serves one debugger on standard input and output."""
-    line = parse(arguments, OPTIONS, USAGE)
-    if line.has("--help"):
-        sys.stdout.write(HELP)
-        return 0
-    if len(line.words) != 1:
-        raise Problem(USAGE)
+    line = parse(arguments, OPTIONS, USAGE, HELP, (1,))
     driver = loading.start(loading.image(line.words[0], line.get("--kind")), line.get("--log"))
     try:
         Stub(driver, Link(sys.stdin.fileno(), sys.stdout.fileno()), exceptions_whole=line.has("--through")).serve()
