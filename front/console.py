@@ -66,12 +66,9 @@ def main(arguments: Sequence[str]) -> int:
         raise Problem(f"a line is 0 to {LINES - 1}, and a speed at least 1 step a second")
     if not (sys.stdin.isatty() and sys.stdout.isatty()):
         raise Problem("console wants a terminal; scripts have `type` and `expect` of bin/wb shell")
-    driver = loading.start(loading.image(line.words[0], line.get("--kind")), line.get("--log"))
-    try:
+    with loading.running(line) as driver:
         print(f"line {serial}, {speed:,} steps a second; Ctrl-] ? shows the keys")
         Console(driver, serial, speed).run()
-    finally:
-        driver.close()
     return 0
 
 

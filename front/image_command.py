@@ -29,9 +29,8 @@ Examples:
 
 def main(arguments: Sequence[str]) -> int:
     line = parse(arguments, {"--kind": "a kind"}, USAGE, HELP, (2,))
-    driver = loading.start(loading.image(line.words[0], line.get("--kind")), None)
-    save(line.words[1], content_for(line.words[1], driver.boot()))
-    driver.close()
+    with loading.running(line) as driver:
+        save(line.words[1], content_for(line.words[1], driver.boot()))
     return 0
 
 

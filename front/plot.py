@@ -57,15 +57,11 @@ def main(arguments: Sequence[str]) -> int:
     background = line.get("--background")
     if background not in (None, *BACKGROUNDS):
         raise Problem(f"there is no background {background}; there are {' and '.join(BACKGROUNDS)}")
-    image = loading.image(line.words[0], line.get("--kind"))
-    driver = loading.start(image, line.get("--log"), on_terminal())
-    try:
-        plot = _Plot(driver, symbols_of(image), end)
+    with loading.running(line, on_terminal()) as driver:
+        plot = _Plot(driver, symbols_of(driver.image), end)
         edits = plot.edits((line.get("--edits") or "").split(";"))
         words = [plot.word(name) for name in (line.get("--words") or "").split(",") if name]
-        picture = plot.picture(image.name, edits, words)
-    finally:
-        driver.close()
+        picture = plot.picture(driver.image.name, edits, words)
     text = draw(picture, background)
     if len(line.words) == 1:
         sys.stdout.write(text)

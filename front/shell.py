@@ -41,13 +41,9 @@ Example:
 def main(arguments: Sequence[str]) -> int:
     line = parse(arguments, OPTIONS, USAGE, HELP + help_text(), (1, 2))
     script = open(loading.check(line.words[1]), encoding="utf-8", errors="surrogateescape") if len(line.words) == 2 else None
-    image = loading.image(line.words[0], line.get("--kind"))
-    driver = loading.start(image, line.get("--log"), on_terminal())
-    session = Session(driver, symbols_of(image), saved_log=list(driver.log))
-    try:
+    with loading.running(line, on_terminal()) as driver:
+        session = Session(driver, symbols_of(driver.image), saved_log=list(driver.log))
         return Shell(session).run(script, line.has("--echo"))
-    finally:
-        driver.close()
 
 
 class Shell:

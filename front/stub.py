@@ -294,9 +294,6 @@ def _from_digits(digits: bytes) -> bytes:
 def main(arguments: Sequence[str]) -> int:
     """Serves one debugger on standard input and output."""
     line = parse(arguments, OPTIONS, USAGE, HELP, (1,))
-    driver = loading.start(loading.image(line.words[0], line.get("--kind")), line.get("--log"))
-    try:
+    with loading.running(line) as driver:
         Stub(driver, Link(sys.stdin.fileno(), sys.stdout.fileno()), exceptions_whole=line.has("--through")).serve()
-    finally:
-        driver.close()
     return 0
