@@ -2,9 +2,13 @@
 from __future__ import annotations
 
 from dataclasses import dataclass, field
-from typing import Mapping, Optional, Sequence
+from typing import Container, Mapping, Optional, Sequence
 
 from .errors import Problem
+
+
+class Shown(Exception):
+    """A text that the user asked for in place of all else."""
 
 
 @dataclass
@@ -31,8 +35,10 @@ class Line:
             raise Problem(f"{name} wants a number, and {word} is none") from None
 
 
-def parse(arguments: Sequence[str], options: Mapping[str, str], usage: str) -> Line:
-    """Divides an argument line. `options` says what value each option wants (`a file`), or '' where it has none."""
+def parse(arguments: Sequence[str], options: Mapping[str, str], usage: str, help_text: str, counts: Container[int]) -> Line:
+    """Divides an argument line with as many words as `counts` has. `options` says what value each option wants (`a file`), or ''
+    where it has none; `--help` is one of each command."""
+    options = {**options, "--help": ""}
     line = Line()
     rest = list(arguments)
     while rest:
@@ -57,4 +63,8 @@ def parse(arguments: Sequence[str], options: Mapping[str, str], usage: str) -> L
                     raise Problem(f"{name} wants {options[name]}")
                 value = rest.pop(0)
             line.options[name] = value
+    if line.has("--help"):
+        raise Shown(help_text)
+    if len(line.words) not in counts:
+        raise Problem(usage)
     return line

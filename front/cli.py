@@ -8,6 +8,7 @@ import signal
 import sys
 from typing import Sequence
 
+from .arguments import Shown
 from .errors import Interrupted, Problem
 from .loading import say
 
@@ -25,7 +26,11 @@ def main(arguments: Sequence[str]) -> int:
     if rest and rest[0] in COMMANDS:
         name = rest.pop(0)
     try:
-        status = importlib.import_module(f".{_MODULES.get(name, name)}", __package__).main(rest)
+        try:
+            status = importlib.import_module(f".{_MODULES.get(name, name)}", __package__).main(rest)
+        except Shown as shown:
+            sys.stdout.write(str(shown))  # in here, as it may fail as all output may
+            status = 0
         if sys.stdout:
             sys.stdout.flush()
         return status

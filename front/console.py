@@ -22,7 +22,7 @@ from .shell_edits import gap_of
 
 USAGE = "usage: bin/wb console [--log FILE] [--kind KIND] [--line L] [--speed N] IMAGE"
 
-OPTIONS = {"--log": "a file", "--kind": "a kind", "--line": "a line", "--speed": "a number of steps", "--help": ""}
+OPTIONS = {"--log": "a file", "--kind": "a kind", "--line": "a line", "--speed": "a number of steps"}
 
 KEYS = """\
 Ctrl-] and then:
@@ -60,23 +60,15 @@ _SHOWN_AGAIN = 1 << 16
 
 
 def main(arguments: Sequence[str]) -> int:
-    line = parse(arguments, OPTIONS, USAGE)
-    if line.has("--help"):
-        sys.stdout.write(HELP)
-        return 0
-    if len(line.words) != 1:
-        raise Problem(USAGE)
+    line = parse(arguments, OPTIONS, USAGE, HELP, (1,))
     serial, speed = line.number("--line", 0), line.number("--speed", 1_000_000)
     if not 0 <= serial < LINES or speed < 1:
         raise Problem(f"a line is 0 to {LINES - 1}, and a speed at least 1 step a second")
     if not (sys.stdin.isatty() and sys.stdout.isatty()):
         raise Problem("console wants a terminal; scripts have `type` and `expect` of bin/wb shell")
-    driver = loading.start(loading.image(line.words[0], line.get("--kind")), line.get("--log"))
-    try:
+    with loading.running(line) as driver:
         print(f"line {serial}, {speed:,} steps a second; Ctrl-] ? shows the keys")
         Console(driver, serial, speed).run()
-    finally:
-        driver.close()
     return 0
 
 

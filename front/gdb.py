@@ -5,7 +5,6 @@ import shlex
 import shutil
 import signal
 import subprocess
-import sys
 import tempfile
 from contextlib import contextmanager
 from pathlib import Path
@@ -51,12 +50,7 @@ SETTINGS = (
 def main(arguments: Sequence[str]) -> int:
     """Runs gdb, and gives its status."""
     count = _stub_words(arguments)
-    line = parse(arguments[:count], stub.OPTIONS, USAGE)
-    if line.has("--help"):
-        sys.stdout.write(HELP)
-        return 0
-    if not line.words:
-        raise Problem(USAGE)
+    line = parse(arguments[:count], stub.OPTIONS, USAGE, HELP, range(1, count + 1))
     image = loading.image(line.words[0], line.get("--kind"))
     debugger = shutil.which(DEBUGGER)
     if debugger is None:

@@ -1,7 +1,6 @@
 """`bin/wb image ELF OUT`: an ELF, or another image, as an image of this project or as a raw ROM."""
 from __future__ import annotations
 
-import sys
 from pathlib import Path
 from typing import Sequence
 
@@ -13,8 +12,8 @@ from .saving import save
 
 USAGE = "usage: bin/wb image [--kind KIND] ELF OUT"
 
-HELP = """\
-usage: bin/wb image [--kind KIND] ELF OUT
+HELP = f"""\
+{USAGE}
 
 Writes what an ELF starts the machine with to the file OUT: as an image of this project where its name ends in .img,
 and else as a raw ROM, which holds words of ROM alone. In place of the ELF may stand any other image.
@@ -29,15 +28,9 @@ Examples:
 
 
 def main(arguments: Sequence[str]) -> int:
-    line = parse(arguments, {"--kind": "a kind", "--help": ""}, USAGE)
-    if line.has("--help"):
-        sys.stdout.write(HELP)
-        return 0
-    if len(line.words) != 2:
-        raise Problem(USAGE)
-    driver = loading.start(loading.image(line.words[0], line.get("--kind")), None)
-    save(line.words[1], content_for(line.words[1], driver.boot()))
-    driver.close()
+    line = parse(arguments, {"--kind": "a kind"}, USAGE, HELP, (2,))
+    with loading.running(line) as driver:
+        save(line.words[1], content_for(line.words[1], driver.boot()))
     return 0
 
 

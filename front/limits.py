@@ -8,8 +8,6 @@ EXTERNAL_LINES = 3
 
 RAM = range(0, 0x0080_0000)
 ROM = range(0x1FC0_0000, 0x1FC4_0000)
-# An image may set words of the RAM of a larger machine; the program refuses those that this one lacks.
-IMAGE_RAM = range(0, 0x0200_0000)
 
 RESET_PC = 0xBFC0_0000
 
@@ -20,7 +18,6 @@ SPAN = 65_536
 VISIT_STEPS = 1_048_576
 WORDS = 32
 CONSOLE_BYTES = 256
-LOG_EVENTS = 32
 
 COMMAND_BYTES = 256
 

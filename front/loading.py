@@ -3,11 +3,13 @@ from __future__ import annotations
 
 import os
 import sys
+from contextlib import contextmanager
 from pathlib import Path
 from typing import Iterator, Optional
 
 from . import elf
 from . import log as logs
+from .arguments import Line
 from .driver import Driver
 from .errors import Ended, Problem
 from .image import HOW_TO_LINK, KINDS, Image, is_gnu_source, kind_of
@@ -67,6 +69,16 @@ def start(made: Image, log: Optional[str], report: Optional[TerminalProgress] = 
         raise Problem("\n".join([str(ended), *what_is_wrong(made, log, content)]), ended.status) from None
 
 
+@contextmanager
+def running(line: Line, report: Optional[TerminalProgress] = None) -> Iterator[Driver]:
+    """A driver on the image that is the first word of an argument line, with the log of its option. It is closed at the end."""
+    driver = start(image(line.words[0], line.get("--kind")), line.get("--log"), report)
+    try:
+        yield driver
+    finally:
+        driver.close()
+
+
 def what_is_wrong(image: Image, log: Optional[str], log_content: bytes) -> Iterator[str]:
     """What is said of an image or a log that the program refused."""
     yield f"that is {image.name}, taken as kind {image.kind}" + (f", with the log {log}" if log is not None else "")
@@ -76,5 +88,3 @@ def what_is_wrong(image: Image, log: Optional[str], log_content: bytes) -> Itera
         yield f"{log} is an image, no log"
     elif log_content and not logs.is_log(log_content):
         yield f"{log} is no log; one is made of text by: bin/wb log make TEXT OUT"
-
-

@@ -29,10 +29,7 @@ Example:
 
 
 def main(arguments: Sequence[str]) -> int:
-    line = parse(arguments, {"--help": ""}, USAGE)
-    if line.has("--help"):
-        sys.stdout.write(HELP)
-        return 0
+    line = parse(arguments, {}, USAGE, HELP, (2, 3))
     if len(line.words) == 2 and line.words[0] == "show":
         for text in logs.show(_events(line.words[1])):
             print(text)

@@ -4,14 +4,12 @@ from __future__ import annotations
 import json
 import os
 import subprocess
-import sys
 import threading
 from typing import IO, Optional, Sequence
 
 from . import loading, program, replies
 from .arguments import Line, parse
 from .driver import Driver
-from .errors import Problem
 from .image import Image
 from .loading import say
 from .progress import on_terminal
@@ -52,18 +50,13 @@ Examples:
 The commands of a script, such as goto, regs, mem, writer and patch, are on the page docs/USING.md.
 """
 
-OPTIONS = {"--log": "a file", "--kind": "a kind", "--strict": "", "--echo": "", "--json": "", "--help": ""}
+OPTIONS = {"--log": "a file", "--kind": "a kind", "--strict": "", "--echo": "", "--json": ""}
 
 STRICT_STATUS = 5
 
 
 def main(arguments: Sequence[str]) -> int:
-    line = parse(arguments, OPTIONS, USAGE)
-    if line.has("--help"):
-        sys.stdout.write(HELP)
-        return 0
-    if len(line.words) not in (1, 2):
-        raise Problem(USAGE)
+    line = parse(arguments, OPTIONS, USAGE, HELP, (1, 2))
     image = loading.image(line.words[0], line.get("--kind"))
     log = line.get("--log")
     log_content = loading.content_of(log) if log is not None else b""

@@ -21,8 +21,7 @@ from .symbols import Symbols, symbols_of
 USAGE = ("usage: bin/wb plot --to N [--log FILE] [--words NAME,..] [--edits 'COMMAND; ..'] "
          "[--background light|dark] [--kind KIND] IMAGE [OUT]")
 OPTIONS = {"--to": "a position", "--log": "a file", "--words": "names or addresses", "--edits": "commands",
-           "--background": "light or dark",
-           "--kind": "a kind", "--help": ""}
+           "--background": "light or dark", "--kind": "a kind"}
 HELP = f"""\
 {USAGE}
 
@@ -49,11 +48,8 @@ UNNAMED = 256  # bytes of code that stand for a function, where no symbol is kno
 
 
 def main(arguments: Sequence[str]) -> int:
-    line = parse(arguments, OPTIONS, USAGE)
-    if line.has("--help"):
-        sys.stdout.write(HELP)
-        return 0
-    if len(line.words) not in (1, 2) or not line.has("--to"):
+    line = parse(arguments, OPTIONS, USAGE, HELP, (1, 2))
+    if not line.has("--to"):
         raise Problem(USAGE)
     end = line.number("--to", 0)
     if not 0 < end <= GREATEST_POSITION:
@@ -61,15 +57,11 @@ def main(arguments: Sequence[str]) -> int:
     background = line.get("--background")
     if background not in (None, *BACKGROUNDS):
         raise Problem(f"there is no background {background}; there are {' and '.join(BACKGROUNDS)}")
-    image = loading.image(line.words[0], line.get("--kind"))
-    driver = loading.start(image, line.get("--log"), on_terminal())
-    try:
-        plot = _Plot(driver, symbols_of(image), end)
+    with loading.running(line, on_terminal()) as driver:
+        plot = _Plot(driver, symbols_of(driver.image), end)
         edits = plot.edits((line.get("--edits") or "").split(";"))
         words = [plot.word(name) for name in (line.get("--words") or "").split(",") if name]
-        picture = plot.picture(image.name, edits, words)
-    finally:
-        driver.close()
+        picture = plot.picture(driver.image.name, edits, words)
     text = draw(picture, background)
     if len(line.words) == 1:
         sys.stdout.write(text)

@@ -38,6 +38,6 @@ class TerminalProgress:
         self._began, self._shown = None, 0.0
 
 
-def on_terminal(stream: TextIO = sys.stderr) -> Optional[TerminalProgress]:
-    """The progress to report to a terminal, or None where the stream is none."""
-    return TerminalProgress(stream) if stream.isatty() else None
+def on_terminal() -> Optional[TerminalProgress]:
+    """The progress to report on standard error, or None where that is no terminal."""
+    return TerminalProgress(sys.stderr) if sys.stderr.isatty() else None

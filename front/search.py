@@ -32,7 +32,7 @@ def next_visit(driver: Driver, addresses: Collection[int], limit: int) -> Option
     return None
 
 
-def last_visit(driver: Driver, addresses: Collection[int], lowest: int = 0) -> Optional[int]:
+def last_visit(driver: Driver, addresses: Collection[int], lowest: int) -> Optional[int]:
     """The greatest position below the present one, and not below `lowest`, whose PC is one of the addresses."""
     begin = driver.position
     with _search(driver) as tell:

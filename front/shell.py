@@ -18,7 +18,7 @@ from .symbols import symbols_of
 
 USAGE = "usage: bin/wb shell [--log FILE] [--kind KIND] [--echo] IMAGE [SCRIPT]"
 
-OPTIONS = {"--log": "a file", "--kind": "a kind", "--echo": "", "--help": ""}
+OPTIONS = {"--log": "a file", "--kind": "a kind", "--echo": ""}
 
 HELP = f"""\
 {USAGE}
@@ -39,20 +39,11 @@ Example:
 
 
 def main(arguments: Sequence[str]) -> int:
-    line = parse(arguments, OPTIONS, USAGE)
-    if line.has("--help"):
-        sys.stdout.write(HELP + help_text())
-        return 0
-    if len(line.words) not in (1, 2):
-        raise Problem(USAGE)
+    line = parse(arguments, OPTIONS, USAGE, HELP + help_text(), (1, 2))
     script = open(loading.check(line.words[1]), encoding="utf-8", errors="surrogateescape") if len(line.words) == 2 else None
-    image = loading.image(line.words[0], line.get("--kind"))
-    driver = loading.start(image, line.get("--log"), on_terminal())
-    session = Session(driver, symbols_of(image), saved_log=list(driver.log))
-    try:
+    with loading.running(line, on_terminal()) as driver:
+        session = Session(driver, symbols_of(driver.image), saved_log=list(driver.log))
         return Shell(session).run(script, line.has("--echo"))
-    finally:
-        driver.close()
 
 
 class Shell:

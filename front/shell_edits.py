@@ -171,4 +171,3 @@ def save_image(session: Session, words: list[str]) -> None:
 def wb(session: Session, words: list[str]) -> None:
     for line in session.driver.ask(" ".join(words)):
         session.tell(line)
-

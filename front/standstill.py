@@ -54,7 +54,7 @@ def standstill(driver: Driver, turn: int = TURN) -> Optional[Standstill]:
     return Standstill.WAITING if found.waits else Standstill.STUCK
 
 
-def quiet(driver: Driver, turn: int = TURN) -> Optional[Quiet]:
+def quiet(driver: Driver, turn: int) -> Optional[Quiet]:
     """How long the run stands still from the position on, which stays, in a loop whose turns have at most so many
     steps."""
     start = driver.position

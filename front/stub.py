@@ -16,7 +16,7 @@ from .rsp import PACKET_BYTES, Link
 from .travel import Watch
 
 USAGE = "usage: bin/wb stub [--log FILE] [--kind KIND] [--through] IMAGE"
-OPTIONS = {"--log": "a file", "--kind": "a kind", "--through": "", "--help": ""}
+OPTIONS = {"--log": "a file", "--kind": "a kind", "--through": ""}
 HELP = f"""\
 {USAGE}
 
@@ -36,7 +36,7 @@ Example, in gdb:
 FEATURES = (b"PacketSize=%x;QStartNoAckMode+;qXfer:features:read+;ReverseStep+;ReverseContinue+;vContSupported+"
             % PACKET_BYTES)
 OK, FAILED, NOT_KNOWN, GONE = b"OK", b"E01", b"", b"W00"
-CODE, CODE_IN_HARDWARE, WRITE, READ, ACCESS = range(5)  # the kinds of breakpoints and watches
+CODE, CODE_IN_HARDWARE, WRITE = range(3)  # of the kinds of breakpoints and watches; the others watch reads
 
 WATCHED = 256  # bytes of a watch at most
 
@@ -293,15 +293,7 @@ def _from_digits(digits: bytes) -> bytes:
 
 def main(arguments: Sequence[str]) -> int:
     """Serves one debugger on standard input and output."""
-    line = parse(arguments, OPTIONS, USAGE)
-    if line.has("--help"):
-        sys.stdout.write(HELP)
-        return 0
-    if len(line.words) != 1:
-        raise Problem(USAGE)
-    driver = loading.start(loading.image(line.words[0], line.get("--kind")), line.get("--log"))
-    try:
+    line = parse(arguments, OPTIONS, USAGE, HELP, (1,))
+    with loading.running(line) as driver:
         Stub(driver, Link(sys.stdin.fileno(), sys.stdout.fileno()), exceptions_whole=line.has("--through")).serve()
-    finally:
-        driver.close()
     return 0
