@@ -18,6 +18,16 @@ LOGIN = "examples/login/login.elf"
 BACK, SAVE, QUIT, SEND_ESCAPE = b"\x1db", b"\x1ds", b"\x1dq", b"\x1d\x1d"
 
 
+def refused_and_back(terminal: Terminal) -> None:
+    """Types a wrong password, and goes back to the start once it is refused."""
+    terminal.until(b"password: ")
+    terminal.type(b"wrong\r")
+    terminal.until(b"Sorry, operator.")
+    for _ in range(40):
+        terminal.type(BACK)
+    terminal.until(b"back at step 0")
+
+
 class Console(unittest.TestCase):
     def setUp(self) -> None:
         folder = tempfile.TemporaryDirectory()
@@ -48,12 +58,7 @@ class Console(unittest.TestCase):
     def test_going_back(self) -> None:
         """What was typed is gone, and typed otherwise. Nothing is lost where the log can't be saved."""
         terminal = Terminal("console", "--speed", "100000", "--line=0", LOGIN)
-        terminal.until(b"password: ")
-        terminal.type(b"wrong\r")
-        terminal.until(b"Sorry, operator.")
-        for _ in range(40):
-            terminal.type(BACK)
-        terminal.until(b"back at step 0")
+        refused_and_back(terminal)
         terminal.until(b"password: ")
         terminal.type(b"ses" + b"ame\r")
         terminal.until(b"Welcome, operator.")
@@ -72,12 +77,7 @@ class Console(unittest.TestCase):
         later = Event(1 << 31, 0, 1, Kind.WIRE)
         Path(self.log).write_bytes(logs.write([later]))
         terminal = Terminal("console", "--log", self.log, "--speed", "100000", LOGIN)
-        terminal.until(b"password: ")
-        terminal.type(b"wrong\r")
-        terminal.until(b"Sorry, operator.")
-        for _ in range(40):
-            terminal.type(BACK)
-        terminal.until(b"back at step 0")
+        refused_and_back(terminal)
         terminal.type(SAVE)
         terminal.until(b"save the log")
         terminal.type(self.log.encode() + b"\r")
