@@ -21,6 +21,7 @@ use Rattle.r3k_machine.specs.declared.exception.Exception.TheVariants.{BusErrorF
 use Rattle.r3k_machine.specs.declared.load_store.Loaded.{Loaded}
 use Rattle.r3k_machine.specs.declared.load_store.Stored.{Stored}
 use Rattle.r3k_machine.specs.declared.load_store.Word.{Word}
+use Rattle.r3k_machine.specs.declared.step.Done.{Done}
 use Rattle.r3k_machine.specs.Core.{Core}
 use Rattle.r3k_machine.specs.State.{State}
 use Rattle.r3k_machine.specs.Address.{met}
@@ -28,7 +29,7 @@ use Rattle.r3k_machine.specs.Exceptions.{is_unusable}
 use Rattle.r3k_machine.specs.Devices.{word_of_device}
 use Rattle.r3k_machine.specs.Isolated.{is_isolated}
 use Rattle.r3k_machine.specs.LoadStore.{loaded_at, loaded_elsewhere, loaded_over_bus, meaning_of_fetch, meaning_of_load, meaning_of_store, core_after_load, core_after_store, loaded_from, ram_word, stored_at, stored_over_bus, stored_to, word_of_place, word_or, word_read, words_after}
-use Rattle.r3k_machine.specs.Step.{Completion, Outcome, arrived, completion_of_effect, completion_of_load, completion_of_operation, completion_of_store, completion_of_word, operands_of, outcome_of_completion, outcome_of_fetch, outcome_of_interrupt_or_instruction, outcome_of_step, page_stored, sampled, ticked, told}
+use Rattle.r3k_machine.specs.Step.{Completion, Outcome, arrived, completion_of_effect, completion_of_load, completion_of_operation, completion_of_store, completion_of_word, fetching, operands_of, outcome_of_completion, outcome_of_fetch, outcome_of_interrupt_or_instruction, outcome_of_step, page_stored, sampled, ticked, told}
 use Rattle.r3k_machine.specs.Told.{IsPage}
 
 -- a page that is told, or none
@@ -103,27 +104,36 @@ store_in pages core covered (Ok physical) =
       | inr over_bus ↦ rw over_bus (bus_store_in pages core (region_of pages physical.address) covered (ram_word pages physical.address) (ram_in pages physical.address))
     ]
 
+-- the pages that a step tells, and the one that it stored into
+record IsWithin (pages : ℕ) (done : Done) : Type 0 where
+  touched : All (IsIn pages) done.touched
+  stored : IsIn pages (page_stored done.stored)
+
+-- where it was only fetched from one, if from any
+only_fetched : (pages : ℕ) (page : Option ℕ) → IsIn pages page → IsWithin pages (fetching page)
+only_fetched pages page here = record { touched = two pages page None here tt; stored = tt; }
+
 -- what an instruction tells, where it completes
 abbrev CompletesIn : ℕ → Completion → Type 0
-CompletesIn pages completion = IfOk completion (λ outcome. All (IsIn pages) outcome.done.touched)
+CompletesIn pages completion = IfOk completion (λ outcome. IsWithin pages outcome.done)
 
 load_completes : (pages : ℕ) (s : State) (page : ℕ) (kind : LoadKind) (number address : ℕ) (r : Result Loaded Exception) → IsPage pages page
     → IfOk r (λ loaded. IsIn pages loaded.page) → CompletesIn pages (completion_of_load s page kind number address r)
 load_completes pages s page kind number address (Err e) here there = tt
-load_completes pages s page kind number address (Ok a) here there = two pages (Some page) a.page here there
+load_completes pages s page kind number address (Ok a) here there = record { touched = two pages (Some page) a.page here there; stored = tt; }
 
 store_completes : (pages : ℕ) (s : State) (page : ℕ) (words : List ℕ) (r : Result Stored Exception) → IsPage pages page
     → IfOk r (λ stored. IsIn pages (page_stored stored.address)) → CompletesIn pages (completion_of_store s page words r)
 store_completes pages s page words (Err e) here there = tt
-store_completes pages s page words (Ok a) here there = two pages (Some page) (page_stored a.address) here there
+store_completes pages s page words (Ok a) here there = record { touched = two pages (Some page) (page_stored a.address) here there; stored = there; }
 
 effect_completes : (pages : ℕ) (s : State) (page : ℕ) (effect : Effect) → IsPage pages page → CompletesIn pages (completion_of_effect pages s page effect)
-effect_completes pages s page (Write number value) here = two pages (Some page) None here tt
-effect_completes pages s page (WriteHi value) here = two pages (Some page) None here tt
-effect_completes pages s page (WriteLo value) here = two pages (Some page) None here tt
-effect_completes pages s page (WriteHiLo hi lo) here = two pages (Some page) None here tt
-effect_completes pages s page (Jump target) here = two pages (Some page) None here tt
-effect_completes pages s page (JumpAndLink target number value) here = two pages (Some page) None here tt
+effect_completes pages s page (Write number value) here = only_fetched pages (Some page) here
+effect_completes pages s page (WriteHi value) here = only_fetched pages (Some page) here
+effect_completes pages s page (WriteLo value) here = only_fetched pages (Some page) here
+effect_completes pages s page (WriteHiLo hi lo) here = only_fetched pages (Some page) here
+effect_completes pages s page (Jump target) here = only_fetched pages (Some page) here
+effect_completes pages s page (JumpAndLink target number value) here = only_fetched pages (Some page) here
 effect_completes pages s page (Trap trap) here = tt
 effect_completes pages s page (Load kind number address) here =
     let m = meaning_of_load s.core kind address in
@@ -134,13 +144,13 @@ effect_completes pages s page (Store kind address value) here =
     store_completes pages (record { core = core_after_store pages s.core kind address value; words = s.words }) page
     (words_after s.words (stored_to pages s.core kind address value) (stored kind (address % 4) value)) (stored_to pages s.core kind address value) here
     (store_in pages (met s.core m) (stored kind (address % 4) value) m.answer)
-effect_completes pages s page (MoveFromControl number control) here = two pages (Some page) None here tt
-effect_completes pages s page (MoveToControl control value) here = two pages (Some page) None here tt
-effect_completes pages s page ReturnFromException here = two pages (Some page) None here tt
-effect_completes pages s page ReadEntry here = two pages (Some page) None here tt
-effect_completes pages s page WriteIndexedEntry here = two pages (Some page) None here tt
-effect_completes pages s page WriteRandomEntry here = two pages (Some page) None here tt
-effect_completes pages s page ProbeEntry here = two pages (Some page) None here tt
+effect_completes pages s page (MoveFromControl number control) here = only_fetched pages (Some page) here
+effect_completes pages s page (MoveToControl control value) here = only_fetched pages (Some page) here
+effect_completes pages s page ReturnFromException here = only_fetched pages (Some page) here
+effect_completes pages s page ReadEntry here = only_fetched pages (Some page) here
+effect_completes pages s page WriteIndexedEntry here = only_fetched pages (Some page) here
+effect_completes pages s page WriteRandomEntry here = only_fetched pages (Some page) here
+effect_completes pages s page ProbeEntry here = only_fetched pages (Some page) here
 
 operation_completes : (pages : ℕ) (s : State) (i : Word) (operation : Option Operation) → IsPage pages i.page → CompletesIn pages (completion_of_operation pages s i operation)
 operation_completes pages s i None here = tt
@@ -155,30 +165,40 @@ word_completes pages s i here =
 
 -- what a step tells
 abbrev TellsIn : ℕ → Outcome → Type 0
-TellsIn pages outcome = All (IsIn pages) outcome.done.touched
+TellsIn pages outcome = IsWithin pages outcome.done
 
 completion_in : (pages : ℕ) (s : State) (page : ℕ) (completion : Completion) → IsPage pages page → CompletesIn pages completion → TellsIn pages (outcome_of_completion s page completion)
-completion_in pages s page (Err e) here there = two pages (Some page) None here tt
+completion_in pages s page (Err e) here there = only_fetched pages (Some page) here
 completion_in pages s page (Ok outcome) here there = there
 
 place_tells : (pages : ℕ) (s : State) (place : Option ℕ) → IfSome place (λ place. IsPage pages (page_of_place place))
     → TellsIn pages (outcome_of_fetch pages s (word_or BusErrorFetch (word_of_place s.words place)))
-place_tells pages s None none = two pages None None tt tt
+place_tells pages s None none = only_fetched pages None tt
 place_tells pages s (Some place) here =
     let i : Word = record { word = slice_index s.words place; page = page_of_place place } in
     completion_in pages s i.page (completion_of_word pages s i) here (word_completes pages s i here)
 
 fetch_tells : (pages : ℕ) (s : State) (answer : Result Physical Exception) → TellsIn pages (outcome_of_fetch pages s (word_read pages s.words BusErrorFetch answer))
-fetch_tells pages s (Err e) = two pages None None tt tt
+fetch_tells pages s (Err e) = only_fetched pages None tt
 fetch_tells pages s (Ok physical) = place_tells pages s (place_of_word pages (physical.address / 4 * 4)) (place_in pages (physical.address / 4 * 4))
 
 turn_tells : (pages : ℕ) (s : State) → TellsIn pages (outcome_of_interrupt_or_instruction pages s)
 turn_tells pages s =
     elim (cases_Bool (control.is_wanted s.core.cop0)) [
-      | inl wanted ↦ rw wanted (two pages None None tt tt)
+      | inl wanted ↦ rw wanted (only_fetched pages None tt)
       | inr not_wanted ↦ rw not_wanted (fetch_tells pages (record { core = met s.core (meaning_of_fetch s.core); words = s.words }) (meaning_of_fetch s.core).answer)
     ]
 
-pub pages_within : (pages : ℕ) (events : List LogEvent) (s : State) → All (λ page. IfSome page (IsPage pages)) (told pages events s).touched
+step_tells : (pages : ℕ) (events : List LogEvent) (s : State) → IsWithin pages (told pages events s)
 unfolding outcome_of_step
-pages_within pages events s = turn_tells pages (record { core = sampled (ticked (arrived events s.core)); words = s.words })
+step_tells pages events s = turn_tells pages (record { core = sampled (ticked (arrived events s.core)); words = s.words })
+
+pub pages_within : (pages : ℕ) (events : List LogEvent) (s : State) → All (λ page. IfSome page (IsPage pages)) (told pages events s).touched
+pages_within pages events s = (step_tells pages events s).touched
+
+pub store_within : (pages : ℕ) (events : List LogEvent) (s : State) → IfSome (told pages events s).stored (λ address. IsPage pages (address / PAGE_BYTES))
+store_within pages events s = at_word (told pages events s).stored (step_tells pages events s).stored
+  where
+    at_word : (stored : Option ℕ) → IsIn pages (page_stored stored) → IfSome stored (λ address. IsPage pages (address / PAGE_BYTES))
+    at_word None here = tt
+    at_word (Some address) here = here

@@ -1,4 +1,4 @@
--- The run (Kane and Heinrich for a step; that steps are counted, and when a byte arrives, is own).
+-- The run (Kane and Heinrich for a step; that steps are counted, and when an event takes effect, is own).
 use Rattle.std.specs.Prelude.{ℕ, zero, suc, ◌+◌, List, [], ◌∷◌, ◌++◌, Option, Some, None, ◌==◌, if◌then◌else◌}
 use Rattle.std.specs.List.{filter_map}
 use Rattle.input_log.specs.Event.{LogEvent}
@@ -10,7 +10,7 @@ use Rattle.r3k_machine.specs.State.{State}
 use Rattle.r3k_machine.specs.Reset.{reset}
 use Rattle.r3k_machine.specs.Step.{next, told}
 
--- the bytes that arrive in the step of a time, in the order of the log
+-- the events that take effect in the step of a time, in the order of the log
 abbrev pub arriving : List LogEvent → ℕ → List LogEvent
 arriving log time = window_of time (time + 1) log
 

@@ -221,7 +221,7 @@ outcome_of_interrupt_or_instruction pages s =
 abbrev pub with_fall : Outcome → Outcome
 with_fall o = record { state = record { core = fallen o.state.core; words = o.state.words }; done = o.done }
 
--- One step of a machine with so many RAM pages, in which these bytes arrive: its five parts in their order.
+-- One step of a machine with n RAM pages, in which these events take effect: its five parts in their order.
 unfoldable pub outcome_of_step : ℕ → List LogEvent → State → Outcome
 outcome_of_step pages events s =
     with_fall (outcome_of_interrupt_or_instruction pages (record { core = sampled (ticked (arrived events s.core)); words = s.words }))

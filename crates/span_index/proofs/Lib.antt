@@ -1,5 +1,4 @@
 mod Counting
-mod Stored
 mod Written
 pub mod Agreeing
 pub mod Totals

@@ -10,43 +10,23 @@ use Rattle.r3k_machine.specs.State.{State}
 use Rattle.r3k_machine.specs.Step.{told}
 use Rattle.r3k_machine.specs.Run.{arriving, last_writer, later, run, stores_into, trace}
 use Rattle.r3k_machine.specs.Told.{IsPage}
-use Rattle.r3k_machine.proofs.Within.{pages_within}
+use Rattle.r3k_machine.proofs.Within.{store_within}
 use Rattle.r3k_pages.specs.Pages.{holds, page_count_of}
 use Rattle.r3k_live.specs.Record.{dirty_pages, is_dirty, stores_in}
 use Rattle.r3k_live.proofs.Marks.{holds_where}
 use Rattle.r3k_live.proofs.Recorded.{any_more}
 use Rattle.span_fact.specs.Span.{Span}
 use Rattle.span_index.specs.Index.{steps_in}
-use Rattle.span_index.proofs.Stored.{TouchesStored, step_touches}
 
 not_equal : (a b : ℕ) → ¬ (a ≡ b) → nat_eq a b ≡ false
 not_equal a b other = elim (cases_Bool (nat_eq a b)) [ inl same ↦ absurd (other (eqb-true a b same)) | inr apart ↦ apart ]
 
 -- no step stores into a page past the last one
-told_within : (pages : ℕ) (touched : List (Option ℕ)) (page : ℕ) → All (λ one. IfSome one (IsPage pages)) touched → slice_index_or touched 1 None ≡ Some page
-    → page < page_count_of pages
-told_within pages touched page all is =
-    elim (cases_lt 1 (length touched)) [
-      | inl told ↦ within (slice_index_or touched 1 None) (all 1 None told) is
-      | inr over ↦ absurd (none (sym (get_or_past touched 1 None over) ∙ is))
-    ]
-  where
-    none : None ≡ Some page → ⊥
-    none is = cc
-
-    within : (one : Option ℕ) → IfSome one (IsPage pages) → one ≡ Some page → page < page_count_of pages
-    within None here is = absurd (none is)
-    within (Some other) here is = let same : other ≡ page = cc in omega (arith, same, here)
-
-step_not_past : (pages page : ℕ) (done : Done) → page_count_of pages ≤ page → All (λ one. IfSome one (IsPage pages)) done.touched → TouchesStored done
-    → stores_in page done.stored ≡ false
-step_not_past pages page done past all touches = at_store done.stored touches
-  where
-    at_store : (stored : Option ℕ) → IfSome stored (λ address. slice_index_or done.touched 1 None ≡ Some (address / PAGE_BYTES)) → stores_in page stored ≡ false
-    at_store None touches = refl
-    at_store (Some address) touches =
-        let within = told_within pages done.touched (address / PAGE_BYTES) all touches in
-        not_equal (address / PAGE_BYTES) page (λ same. absurd (let e : ⊥ = omega (arith, same, within, past) in e))
+step_not_past : (pages page : ℕ) (stored : Option ℕ) → page_count_of pages ≤ page → IfSome stored (λ address. IsPage pages (address / PAGE_BYTES))
+    → stores_in page stored ≡ false
+step_not_past pages page None past within = refl
+step_not_past pages page (Some address) past within =
+    not_equal (address / PAGE_BYTES) page (λ same. absurd (let e : ⊥ = omega (arith, same, within, past) in e))
 
 none_past : (pages : ℕ) (log : List LogEvent) (time : ℕ) (s : State) (n page : ℕ) → page_count_of pages ≤ page → is_dirty (trace pages log time s n) page ≡ false
 unfolding trace
@@ -57,7 +37,7 @@ none_past pages log time s (suc n) page past =
     let done = told pages events here in
     any_more (λ done. stores_in page done.stored) (trace pages log time s n) done
     ∙ or_from (is_dirty (trace pages log time s n) page) (stores_in page done.stored) (none_past pages log time s n page past)
-    (step_not_past pages page done past (pages_within pages events here) (step_touches pages events here))
+    (step_not_past pages page done.stored past (store_within pages events here))
 
 clean : (pages : ℕ) (log : List LogEvent) (time : ℕ) (s : State) (n page : ℕ) → holds (dirty_pages pages (trace pages log time s n)) page ≡ false
     → is_dirty (trace pages log time s n) page ≡ false

@@ -39,8 +39,8 @@ abbrev pub LandsOnce : {A : Type 0} → (span position : ℕ) → (old new : Lan
 LandsOnce span position old new (Ok answer) = Lands {A = Unit {0}} {E = Fault} span position old new (Ok tt)
 LandsOnce span position old new (Err fault) = (new.landings ≡ old.landings) ⊎ Lands {A = Unit {0}} {E = Fault} span position old new (Ok tt)
 
--- count words at the position, each by a query: the first costs what one costs, and each after it at most what is left of the last
--- span. Where the state at the position is kept, none of them runs a step.
+-- count words at the position, each by a query: the first costs what one costs, and each after it at most the steps of the position's
+-- own span up to the position. Where the state at the position is kept, none of them runs a step.
 pub record AsksWords (pages span count : ℕ) (old new : Held) (reply : Reply) : Type 0 where
   pub asks : Asks pages span old.position ((count - 1) * (old.position % span)) old.timeline new.timeline (outcome_of reply)
   pub free : Contains old.timeline.landings old.position → new.timeline.steps ≡ old.timeline.steps

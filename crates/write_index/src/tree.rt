@@ -9,11 +9,11 @@ use crate::level::Level;
 use crate::page_set::PageSet;
 use std::alloc::{AllocError, Global};
 
-/// How many spans there may be: those of all positions up to 2^40 - 1, where a span has 64 steps.
-pub const MAX_SPANS: u64 = 1 << 34;
-
-/// How many levels hold all spans that there may be.
+/// How many levels hold all spans that there may be: one for each binary digit of their number.
 pub(crate) const LEVELS: usize = 35;
+
+/// How many spans there may be: those of all positions up to 2^40 - 1, where a span has 64 steps.
+pub const MAX_SPANS: u64 = 1 << (LEVELS - 1);
 
 /// Makes all levels.
 pub(crate) fn deepen(alloc: Global, levels: &mut Vec<Level>) -> Result<(), AllocError>

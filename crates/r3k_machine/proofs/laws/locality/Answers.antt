@@ -1,10 +1,13 @@
 use Rattle.r3k_machine.proofs.Carried.{one_state}
 use Rattle.r3k_machine.proofs.Elsewhere.{run_elsewhere, step_elsewhere}
-use Rattle.r3k_machine.proofs.Within.{pages_within}
+use Rattle.r3k_machine.proofs.Within.{pages_within, store_within}
 use Rattle.r3k_machine.proofs.laws.locality.Goals as goal
 
 pub returns-clause-pages : goal.returns-clause-pages
 returns-clause-pages c = pages_within
+
+pub returns-clause-stored : goal.returns-clause-stored
+returns-clause-stored c = store_within
 
 pub returns-clause-told : goal.returns-clause-told
 returns-clause-told c = λ pages events set s t other w apart. (step_elsewhere pages events set s t other w apart).0
