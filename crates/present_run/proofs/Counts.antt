@@ -16,11 +16,6 @@ lacks_none pages span h (suc index) lacking all (inl (here, before)) =
     lacks_none pages span h index lacking (λ i below. all i (omega (arith, below))) before
 lacks_none pages span h (suc index) lacking all (inr lacks) = absurd (lacks.0 (all index (omega arith)))
 
-pub lacks_all : (pages span : ℕ) (h : Holding) (count : ℕ) → ((index : ℕ) → index < count → Serves pages span h index) → Lacks pages span h count 0
-unfolding Lacks
-lacks_all pages span h zero all = refl
-lacks_all pages span h (suc index) all = inl (all index (omega arith), lacks_all pages span h index (λ i below. all i (omega (arith, below))))
-
 -- one span more
 pub lacks_more : {P : Type 0} (pages span : ℕ) (h : Holding) (index lacking : ℕ) → Lacks pages span h (index + 1) lacking
     → (Serves pages span h index → Lacks pages span h index lacking → P)
@@ -43,6 +38,23 @@ lacks_below pages span h below (suc more) lacking lacks found =
     lacks_more pages span h (below + more) lacking (subst (λ (n : ℕ). Lacks pages span h n lacking) (let e : below + suc more ≡ below + more + 1 = omega arith in e) lacks)
     (λ here rest. lacks_below pages span h below more lacking rest found)
     (λ absent fewer is rest. lacks_below pages span h below more fewer rest (λ n less. found n (omega (arith, less, is))))
+
+-- and as many, where each of the others has one that serves
+pub lacks_on : (pages span : ℕ) (h : Holding) (below more lacking : ℕ) → ((i : ℕ) → below ≤ i → i < below + more → Serves pages span h i)
+    → Lacks pages span h below lacking → Lacks pages span h (below + more) lacking
+unfolding Lacks
+lacks_on pages span h below zero lacking serve lacks = subst (λ (n : ℕ). Lacks pages span h n lacking) (let e : below ≡ below + 0 = omega arith in e) lacks
+lacks_on pages span h below (suc more) lacking serve lacks =
+    subst (λ (n : ℕ). Lacks pages span h n lacking) (let e : suc (below + more) ≡ below + suc more = omega arith in e)
+    (inl (serve (below + more) (omega arith) (omega arith), lacks_on pages span h below more lacking (λ i after within. serve i after (omega (arith, within))) lacks))
+
+pub lacks_back : (pages span : ℕ) (h : Holding) (below more lacking : ℕ) → ((i : ℕ) → below ≤ i → i < below + more → Serves pages span h i)
+    → Lacks pages span h (below + more) lacking → Lacks pages span h below lacking
+lacks_back pages span h below zero lacking serve lacks = subst (λ (n : ℕ). Lacks pages span h n lacking) (let e : below + 0 ≡ below = omega arith in e) lacks
+lacks_back pages span h below (suc more) lacking serve lacks =
+    lacks_more pages span h (below + more) lacking (subst (λ (n : ℕ). Lacks pages span h n lacking) (let e : below + suc more ≡ below + more + 1 = omega arith in e) lacks)
+    (λ here rest. lacks_back pages span h below more lacking (λ i after within. serve i after (omega (arith, within))) rest)
+    (λ absent fewer is rest. absurd (absent (serve (below + more) (omega arith) (omega arith))))
 
 one_more : (n span : ℕ) → (n + 1) * span ≡ n * span + span
 one_more n span = add-mul n 1 span ∙ ap (λ (m : ℕ). n * span + m) (let e : 1 * span ≡ span = omega arith in e)

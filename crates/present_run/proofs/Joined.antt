@@ -16,7 +16,8 @@ use Rattle.span_index.specs.Sent.{bytes_on, steps_on}
 use Rattle.span_index.proofs.Joined.{sent_joined, step_of, writer_joined}
 use Rattle.present_run.specs.Console.{Shows, part_of}
 use Rattle.present_run.specs.Reuse.{span_of}
-use Rattle.present_run.specs.Runs.{IsJoined, steps_between}
+use Rattle.present_run.specs.Ends.{IsJoined}
+use Rattle.present_run.specs.Runs.{steps_between}
 use Rattle.present_run.proofs.Consoles.{part_enough}
 use Rattle.present_run.specs.declared.sent.Shown.{Shown}
 use Rattle.present_run.proofs.Near.{same_steps}

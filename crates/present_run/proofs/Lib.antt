@@ -1,3 +1,4 @@
+mod Again
 mod Carry
 mod Consoles
 pub mod Counts

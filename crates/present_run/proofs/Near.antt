@@ -14,7 +14,7 @@ use Rattle.span_fact.specs.Span.{Span, end_of, steps_of}
 use Rattle.checkpoints.specs.Kept.{IsNear, NearlyApplies}
 use Rattle.checkpoints.proofs.Near.{near_steps}
 use Rattle.present_run.specs.Reuse.{span_of}
-use Rattle.present_run.specs.Runs.{IsJoined}
+use Rattle.present_run.specs.Ends.{IsJoined}
 use Rattle.present_run.proofs.Spans.{ends, if_some}
 
 -- a record that is there

@@ -11,7 +11,7 @@ use Rattle.span_fact.specs.Span.{Span, end_of}
 use Rattle.checkpoints.specs.Kept.{Follows}
 use Rattle.span_index.specs.Index.{Index, IsSettled}
 use Rattle.present_run.specs.Reuse.{span_of}
-use Rattle.present_run.specs.Runs.{AreEnds}
+use Rattle.present_run.specs.Ends.{AreEnds}
 use Rattle.present_run.proofs.Differ.{same_all}
 use Rattle.present_run.proofs.Spans.{at_reset, ends, some_is}
 
@@ -92,28 +92,9 @@ and_last P valid before here i within =
 -- where spans end, at first
 pub no_ends : (pages span : ℕ) (image : Boot) (log : List LogEvent) (count : ℕ) (ends : List State) → count ≡ 0 → ends ≡ [] → AreEnds pages span image log count ends
 no_ends pages span image log count ends none empty = record {
-  many = ap (λ (e : List State). length e) empty ∙ sym none;
+  many = omega (arith, none);
   each = λ index within. absurd (let e : ⊥ = omega (arith, none, within) in e);
 }
-
--- and with one more
-pub more_ends : (pages span : ℕ) (image : Boot) (log : List LogEvent) (count : ℕ) (ends : List State) (end : State) → AreEnds pages span image log count ends
-    → end ≡ state_at pages image log ((count + 1) * span) → AreEnds pages span image log (count + 1) (ends ++ end ∷ [])
-more_ends pages span image log count ends end are is = record {
-  many = length-append ends (end ∷ []) ∙ ap (λ (n : ℕ). n + 1) are.many;
-  each = and_last (λ index. slice_get (ends ++ end ∷ []) index ≡ Some (state_at pages image log ((index + 1) * span))) count
-      (λ index within. before ends index (subst (λ (n : ℕ). index < n) (sym are.many) within) ∙ are.each index within)
-      (ap (slice_get (ends ++ end ∷ [])) (sym are.many) ∙ (behind ends ∙ ap Some is));
-}
-  where
-    before : (ends : List State) (index : ℕ) → index < length ends → slice_get (ends ++ end ∷ []) index ≡ slice_get ends index
-    before [] index within = absurd (let e : ⊥ = omega (arith, within) in e)
-    before (first ∷ rest) zero within = refl
-    before (first ∷ rest) (suc index) within = before rest index (omega (arith, within))
-
-    behind : (ends : List State) → slice_get (ends ++ end ∷ []) (length ends) ≡ Some end
-    behind [] = refl
-    behind (first ∷ rest) = behind rest
 
 -- an end by its place
 pub end_at : {A : Type 0} (value : A → State) (ends : List A) (index : ℕ) (end : A) (state : State) → index < length ends → end ≡ slice_index_or ends index end
@@ -121,10 +102,6 @@ pub end_at : {A : Type 0} (value : A → State) (ends : List A) (index : ℕ) (e
 end_at value [] index end state within is got = absurd (let e : ⊥ = omega (arith, within) in e)
 end_at value (first ∷ rest) zero end state within is got = ap value is ∙ some_is (value first) state got
 end_at value (first ∷ rest) (suc index) end state within is got = end_at value rest index end state (omega (arith, within)) is got
-
-pub values_more : {A : Type 0} (value : A → State) (ends : List A) (end : A) → map value (ends ++ end ∷ []) ≡ map value ends ++ value end ∷ []
-values_more value [] end = refl
-values_more value (first ∷ rest) end = ap (λ (states : List State). value first ∷ states) (values_more value rest end)
 
 pub value_count : {A : Type 0} (value : A → State) (ends : List A) → length (map value ends) ≡ length ends
 value_count value [] = refl

@@ -6,4 +6,5 @@ pub mod Sizes
 pub mod Console
 pub mod Seeking
 pub mod Reuse
+pub mod Ends
 pub mod Runs

@@ -3,6 +3,7 @@ use Rattle.std.specs.Prelude.{◌≡◌, ◌⊎◌, ℕ, zero, suc, ◌+◌, ◌
 use Rattle.input_log.specs.Event.{LogEvent}
 use Rattle.input_log.specs.Log.{window_of}
 use Rattle.r3k_image.specs.Boot.{Boot}
+use Rattle.r3k_machine.specs.State.{State}
 use Rattle.r3k_machine.specs.Run.{state_at}
 use Rattle.r3k_live.specs.Living.{counted}
 use Rattle.span_fact.specs.Span.{Span}
@@ -15,13 +16,12 @@ pub record Holding : Type 0 where
   pub spans : List (Option Span)
   pub steps : ℕ
 
--- a span of the run from reset
+-- the span of a number from a state, and that of the run from reset
+abbrev pub span_from : (span : ℕ) → List LogEvent → ℕ → State → Span
+span_from span log index start = record { index = index; start = start; events = window_of (index * span) ((index + 1) * span) log }
+
 abbrev pub span_of : (pages span : ℕ) → Boot → List LogEvent → ℕ → Span
-span_of pages span image log index = record {
-  index = index;
-  start = state_at pages image log (index * span);
-  events = window_of (index * span) ((index + 1) * span) log;
-}
+span_of pages span image log index = span_from span log index (state_at pages image log (index * span))
 
 -- the span of which a record of this number is kept, if there is one
 abbrev pub kept_at : Holding → ℕ → Option Span

@@ -1,6 +1,7 @@
 -- The present run of a history, as it is kept (own).
-use Rattle.std.specs.Prelude.{◌≡◌, ℕ, ◌+◌, ◌-◌, ◌*◌, ◌/◌, ◌<◌, ◌≤◌, IfSome, IsTrue, List, Option, Some, length, map, slice_get}
+use Rattle.std.specs.Prelude.{◌≡◌, ℕ, ◌+◌, ◌-◌, ◌*◌, ◌/◌, ◌<◌, ◌≤◌, ◌⊎◌, IfSome, IsTrue, List, Some, map}
 use Rattle.input_log.specs.Event.{LogEvent}
+use Rattle.input_log.specs.Log.{window_of}
 use Rattle.r3k_image.specs.Boot.{Boot}
 use Rattle.r3k_machine.specs.Reset.{reset}
 use Rattle.r3k_machine.specs.declared.step.Done.{Done}
@@ -8,9 +9,10 @@ use Rattle.r3k_machine.specs.Run.{state_at, trace}
 use Rattle.r3k_pages.specs.Pages.{SameOutside}
 use Rattle.r3k_machine.specs.State.{State}
 use Rattle.span_fact.specs.Span.{Span}
-use Rattle.checkpoints.specs.Kept.{IsNear, span_at}
+use Rattle.checkpoints.specs.Kept.{span_at}
 use Rattle.r3k_live.specs.Recording.{Records}
 use Rattle.span_index.specs.Index.{Agrees, IsSettled}
+use Rattle.present_run.specs.Ends.{AreEnds, GoesOn, IsJoined}
 use Rattle.present_run.specs.Reuse.{Holding, span_of}
 use Rattle.present_run.specs.Sizes.{AreSizes}
 use Rattle.present_run.specs.declared.runs.Runs.{Runs}
@@ -18,6 +20,10 @@ use Rattle.present_run.specs.declared.runs.Runs.{Runs}
 -- what the steps from a position up to another one tell
 abbrev pub steps_between : (pages : ℕ) → Boot → List LogEvent → (from to : ℕ) → List Done
 steps_between pages image log from to = trace pages log from (state_at pages image log from) (to - from)
+
+-- two logs have the same events before one time and after another one
+abbrev pub AreSameOutside : (from last : ℕ) → (a b : List LogEvent) → Type 0
+AreSameOutside from last a b = (start end : ℕ) → (end ≤ from) ⊎ (last < start) → window_of start end b ≡ window_of start end a
 
 -- what is held with the run of a history
 abbrev pub holding_of : {pages span : ℕ} → Boot → List LogEvent → Runs pages span → Holding
@@ -29,19 +35,9 @@ pub record IsOnTheWay (pages : ℕ) (image : Boot) (log : List LogEvent) (from t
   pub least : from ≤ position
   pub most : position ≤ to
 
--- a record that is joined nearly is that of a span of the run
-pub record IsJoined (pages span index : ℕ) (o : Option Span) (s : Span) : Type 0 where
-  pub near : IsNear pages span o s.start s.events
-  pub number : IfSome o (λ r. r.index ≡ index)
-  pub long : IfSome o (λ r. length s.start.words ≡ length r.start.words)
-
--- where the spans of the run end, so many from the first on
-pub record AreEnds (pages span : ℕ) (image : Boot) (log : List LogEvent) (count : ℕ) (ends : List State) : Type 0 where
-  pub many : length ends ≡ count
-  pub each : (index : ℕ) → index < count → slice_get ends index ≡ Some (state_at pages image log ((index + 1) * span))
-
 -- What is kept is of the run from reset: where it starts, where the machine stands, what the recorder holds, the records that are joined, and where their
 -- spans end; the last of them may be known to be that of the run. The index has what the records tell, and all of the joined ones.
+-- Behind these ends stand those of an earlier run: from a number on each span goes on from where the one before it ended.
 -- The record of the next span starts with the same words as that span outside the differing pages, and the first record with those
 -- of reset outside the patched ones.
 pub record AreOf {pages span : ℕ} (image : Boot) (log : List LogEvent) (runs : Runs pages span) : Type 0 where
@@ -51,6 +47,8 @@ pub record AreOf {pages span : ℕ} (image : Boot) (log : List LogEvent) (runs :
   pub recorded : IfSome runs.recorded (λ position. Records pages (steps_between pages image log (position / span * span) position) runs.recorder)
   pub joined : (index : ℕ) → index < runs.kept.valid → IsJoined pages span index (span_at runs.kept index) (span_of pages span image log index)
   pub ends : AreEnds pages span image log runs.kept.valid (map (λ end. end.value) runs.ends.items)
+  pub again : (index : ℕ) → runs.again ≤ index → runs.kept.valid ≤ index →
+      GoesOn pages span log runs.kept.spans (map (λ end. end.value) runs.ends.items) index
   pub exact : (last : ℕ) → last + 1 ≡ runs.kept.valid → IsTrue runs.exact → span_at runs.kept last ≡ Some (span_of pages span image log last)
   pub differ : IfSome (span_at runs.kept runs.kept.valid) (λ s. SameOutside runs.differing s.start.words (state_at pages image log (runs.kept.valid * span)).words)
   pub patches : IfSome (span_at runs.kept 0) (λ s. SameOutside runs.patched s.start.words (reset pages image).words)

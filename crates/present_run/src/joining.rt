@@ -1,9 +1,11 @@
 //! What the joining of one more span needs: where it ends, and what is known of the record behind it.
 
-ghost use Rattle.std.specs.Prelude.{◌≡◌, ◌+◌, ◌-◌, ◌^◌, ◌<◌, [], ℕ, IfOk, IfSome, IsTrue, List, length};
+ghost use Rattle.std.specs.Prelude.{◌≡◌, ◌↔◌, ◌+◌, ◌-◌, ◌^◌, ◌<◌, ◌≤◌, [], ℕ, IfOk, IfSome, IsSome, IsTrue, List, OnErr, Some, length, map, slice_get};
 ghost use Rattle.r3k_pages.specs.Pages.{SameOutside, overlaid};
 ghost use Rattle.span_fact.specs.Span.{Span, end_of};
 ghost use Rattle.checkpoints.specs.Kept.{Follows, NearlyApplies, span_at};
+ghost use Rattle.r3k_machine.specs.State.{State};
+ghost use Rattle.present_run.specs.Ends.{IsPut};
 
 use checkpoints::Kept;
 use r3k_live::Boundary;
@@ -70,19 +72,30 @@ pub(crate) fn pass<const PAGES: u32, const SPAN: u32>(
 
 /// The differing pages are from here on those in which the record of a number starts otherwise than the run stands, where that is not
 /// known of them.
-pub(crate) fn compare<const PAGES: u32, const SPAN: u32>(
+pub(crate) fn compare_unless<const PAGES: u32, const SPAN: u32>(
+    known: bool,
     kept: &Kept<PAGES, SPAN>,
     index: u64,
     here: &Boundary<PAGES>,
-    known: bool,
     differing: &mut PageMarks<PAGES>,
 )
     requires { IsTrue known → IfSome (span_at kept.now index) (λ s. SameOutside differing.old s.start.words here.now.words) }
     ensures { IfSome (span_at kept.now index) (λ s. SameOutside differing.new s.start.words here.now.words) }
 {
-    if known {
-        return;
+    if !known {
+        compare(kept, index, here, differing);
     }
+}
+
+/// The differing pages are from here on those in which the record of a number starts otherwise than the run stands.
+pub(crate) fn compare<const PAGES: u32, const SPAN: u32>(
+    kept: &Kept<PAGES, SPAN>,
+    index: u64,
+    here: &Boundary<PAGES>,
+    differing: &mut PageMarks<PAGES>,
+)
+    ensures { IfSome (span_at kept.now index) (λ s. SameOutside differing.new s.start.words here.now.words) }
+{
     differing.clear();
     if let Some(fact) = kept.fact(index) {
         differing.add_differing(fact.start().memory(), here.memory());
@@ -113,6 +126,79 @@ pub(crate) fn begin<const PAGES: u32, const SPAN: u32>(
     if before {
         kept.tie(index - 1);
     }
+}
+
+/// Joins all records up to a number.
+pub(crate) fn join_up_to<const PAGES: u32, const SPAN: u32>(
+    kept: &mut Kept<PAGES, SPAN>,
+    count: u64,
+)
+    requires there { (i : ℕ) → i < count → IsSome (span_at kept.old i) }
+    requires more { kept.old.valid ≤ count }
+    ensures { kept.new ≡ record kept.old { valid = count } }
+{
+    while kept.valid() < count {
+        kept.join();
+    }
+}
+
+/// Where the span of a number starts: where the one before it ends, or else at reset.
+pub(crate) fn start_in<'a, const PAGES: u32>(
+    reset: &'a Rc<Boundary<PAGES>>,
+    ends: &'a [Rc<Boundary<PAGES>>],
+    index: u64,
+) -> &'a Rc<Boundary<PAGES>>
+    ensures first { index ≡ 0 → result.now.value ≡ reset.now.value }
+    ensures later { (state : State) → 0 < index → slice_get (map (λ end. end.value) ends.now) (index - 1) ≡ Some state → result.now.value ≡ state }
+{
+    if index == 0 {
+        return reset;
+    }
+    match ends.get(index as usize - 1) {
+        Some(end) => end,
+        None => reset,
+    }
+}
+
+/// Whether the end of a span is where that span ended before, and spans go on from there that can be joined again.
+pub(crate) fn meets<const PAGES: u32>(
+    ends: &[Rc<Boundary<PAGES>>],
+    again: u64,
+    index: u64,
+    end: &Boundary<PAGES>,
+) -> bool
+    requires { index < 2 ^ 64 - 1 }
+    ensures { IsTrue result ↔ ((again ≤ index) × (index + 1 < length ends.now) × (slice_get (map (λ end. end.value) ends.now) index ≡ Some end.now)) }
+{
+    if index < again || index + 1 >= ends.len() as u64 {
+        return false;
+    }
+    is_same(&ends[index as usize], end)
+}
+
+// Whether two states are the same.
+fn is_same<const PAGES: u32>(a: &Boundary<PAGES>, b: &Boundary<PAGES>) -> bool
+    ensures { IsTrue result ↔ (a.now ≡ b.now) }
+{
+    a.core() == b.core() && a.memory().equals(b.memory())
+}
+
+/// The span of a number ends there: the next one that is joined, or one that was joined before.
+pub(crate) fn put_end<const PAGES: u32>(
+    ends: &mut Vec<Rc<Boundary<PAGES>>>,
+    index: u64,
+    end: Rc<Boundary<PAGES>>,
+) -> Result<(), AllocError>
+    requires { index ≤ length ends.old.items }
+    ensures put { IfOk result (λ _. IsPut index end.entry.value (map (λ end. end.value) ends.old.items) (map (λ end. end.value) ends.new.items)) }
+    ensures same { OnErr result (map (λ end. end.value) ends.new.items ≡ map (λ end. end.value) ends.old.items) }
+{
+    if index == ends.len() as u64 {
+        ends.push(end)?;
+        return Ok(());
+    }
+    ends[index as usize] = end;
+    Ok(())
 }
 
 /// A boundary that several spans can hold.

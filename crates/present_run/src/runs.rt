@@ -1,6 +1,20 @@
 //! The present run of a history: the machine that runs, and the records of spans that are kept.
+//!
+//! A run is cut into spans of `SPAN` steps. Of each span that was run a record is kept, which says where it starts and ends and what
+//! its steps reported. A query joins the spans before its position, one after the other: a record whose events are those of the log,
+//! and whose start is where the run stands but for pages that it does not touch, is joined as it is, with these pages carried over
+//! to its end. Else the span is run, and its record takes the place of the old one. The rest of the way the machine goes on from the
+//! last end, or from where it stands.
+//!
+//! So it must be known of the next span in which pages its start may differ from that of its record (`differing`). Where a span was
+//! run they are also those that either run stored into. Where one was joined they are not those that it touches.
+//!
+//! An edit of the log takes back what is joined to the span of its time. The ends of the later spans stay. Once a span ends where it
+//! ended before, all that go on from there are joined again at once. `again` says from which end on that is known, as each edit
+//! breaks what goes on at its own times. A patch changes the start of the run, so nothing stays joined. `patched` has the pages in
+//! which the first record may differ from it.
 
-ghost use Rattle.std.specs.Prelude.{◌≡◌, ◌↔◌, ◌⊎◌, [], ◌∷◌, ℕ, ◌+◌, ◌-◌, ◌*◌, ◌^◌, ◌<◌, ◌≤◌, IfOk, IfSome, IsTrue, List, OnErr, Some, slice_set};
+ghost use Rattle.std.specs.Prelude.{◌≡◌, ◌↔◌, ◌⊎◌, [], ◌∷◌, ℕ, ◌+◌, ◌-◌, ◌*◌, ◌^◌, ◌<◌, ◌≤◌, IfOk, IfSome, IsTrue, List, None, OnErr, Some, map, slice_get, slice_set};
 ghost use Rattle.input_log.specs.Event.{LogEvent};
 ghost use Rattle.r3k_image.specs.Boot.{Boot};
 ghost use Rattle.r3k_word.specs.Layout.{word_count_of};
@@ -11,11 +25,14 @@ ghost use Rattle.r3k_live.specs.Living.{counted};
 ghost use Rattle.checkpoints.specs.Kept.{Follows, span_at};
 ghost use Rattle.span_index.specs.Index.{Agrees, max_spans};
 ghost use Rattle.present_run.specs.Reuse.{Applies, Reaches, Serves, Spends, span_of};
-ghost use Rattle.present_run.specs.Runs.{AreOf, IsJoined, holding_of};
+ghost use Rattle.present_run.specs.Ends.{GoesOn, IsJoined};
+ghost use Rattle.present_run.specs.Runs.{AreOf, AreSameOutside, holding_of};
 ghost use Rattle.present_run.specs.Sizes.{AreSizes};
 
 use crate::inputs::Inputs;
-use crate::joining::{begin, carry, compare, pass, share};
+use crate::joining::{
+    begin, carry, compare, compare_unless, join_up_to, meets, pass, put_end, share, start_in,
+};
 use checkpoints::Kept;
 use landings::Standing;
 use r3k_live::{Boundary, Recorder};
@@ -39,8 +56,10 @@ pub struct Runs<const PAGES: u32, const SPAN: u32> {
     pub at: Option<u64>,
     // Up to where the recorder holds what the run tells, from the start of that span on, if it does.
     pub recorded: Option<u64>,
-    // Where each span ends that is joined.
+    // Where each span ends that is joined, and after these where spans ended in an earlier run.
     pub ends: Vec<Rc<Boundary<PAGES>>>,
+    // From which of the later ones on a span goes on from where the one before it ended, with the events of the log.
+    pub again: u64,
     // Whether the last record that is joined starts where its span does.
     pub exact: bool,
     // Pages in which the next span may start otherwise than the record of its number.
@@ -68,6 +87,7 @@ impl<const PAGES: u32, const SPAN: u32> Runs<PAGES, SPAN> {
             at: Some(0),
             recorded: None,
             ends: Vec::new(alloc),
+            again: 0,
             exact: false,
             differing: PageMarks::new(alloc)?,
             patched: PageMarks::new(alloc)?,
@@ -80,13 +100,7 @@ impl<const PAGES: u32, const SPAN: u32> Runs<PAGES, SPAN> {
         ensures { (image : Boot) (log : List LogEvent) → AreOf {pages = PAGES} {span = SPAN} image log self.now →
             result.now.value ≡ state_at PAGES image log (index * SPAN) }
     {
-        if index == 0 {
-            return &self.reset;
-        }
-        match self.ends.get(index as usize - 1) {
-            Some(end) => end,
-            None => &self.reset,
-        }
+        start_in(&self.reset, &self.ends, index)
     }
 
     // Whether the record that is kept of the first span that is not joined serves for that of this run: its steps tell the same.
@@ -107,13 +121,13 @@ impl<const PAGES: u32, const SPAN: u32> Runs<PAGES, SPAN> {
         self.kept.nearly(index, start, events, differing)
     }
 
-    // Joins one more span. A span for which no record serves is run for it.
+    // Joins one more span, and those that go on from its end again. A span for which no record serves is run for it.
     fn extend(&mut self, alloc: Global, inputs: &Inputs) -> Result<(), AllocError>
         requires of { AreOf {pages = PAGES} {span = SPAN} inputs.now.image inputs.now.log self.old }
         requires time { (self.old.kept.valid + 1) * SPAN < 2 ^ 64 }
         requires few { self.old.kept.valid < max_spans }
         ensures of { AreOf {pages = PAGES} {span = SPAN} inputs.now.image inputs.now.log self.new }
-        ensures joined { IfOk result (λ _. self.new.kept.valid ≡ self.old.kept.valid + 1) }
+        ensures joined { IfOk result (λ _. self.old.kept.valid < self.new.kept.valid) }
         ensures others { (i : ℕ) → ¬ (i ≡ self.old.kept.valid) → span_at self.new.kept i ≡ span_at self.old.kept i }
         ensures kept { (span_at self.new.kept self.old.kept.valid ≡ span_at self.old.kept self.old.kept.valid)
             ⊎ Applies PAGES SPAN (holding_of inputs.now.image inputs.now.log self.new) self.old.kept.valid }
@@ -131,7 +145,7 @@ impl<const PAGES: u32, const SPAN: u32> Runs<PAGES, SPAN> {
         self.run_span(alloc, inputs, start)
     }
 
-    // Joins the record that is kept of the next span, as it serves.
+    // Joins the record that is kept of the next span, as it serves, and those that go on from its end again.
     fn join_kept(
         &mut self,
         alloc: Global,
@@ -143,7 +157,7 @@ impl<const PAGES: u32, const SPAN: u32> Runs<PAGES, SPAN> {
         requires serves { Serves PAGES SPAN (holding_of inputs.now.image inputs.now.log self.old) self.old.kept.valid }
         requires few { self.old.kept.valid < max_spans }
         ensures of { AreOf {pages = PAGES} {span = SPAN} inputs.now.image inputs.now.log self.new }
-        ensures joined { IfOk result (λ _. self.new.kept.valid ≡ self.old.kept.valid + 1) }
+        ensures joined { IfOk result (λ _. self.old.kept.valid < self.new.kept.valid) }
         ensures spans { self.new.kept.spans ≡ self.old.kept.spans }
         ensures steps { self.new.live.steps ≡ self.old.live.steps }
     {
@@ -157,7 +171,7 @@ impl<const PAGES: u32, const SPAN: u32> Runs<PAGES, SPAN> {
         self.join(inputs, end, exact, follows)
     }
 
-    // Runs the next span, keeps its record and joins it.
+    // Runs the next span, keeps its record and joins it, and those that go on from its end again.
     fn run_span(
         &mut self,
         alloc: Global,
@@ -169,7 +183,7 @@ impl<const PAGES: u32, const SPAN: u32> Runs<PAGES, SPAN> {
         requires time { (self.old.kept.valid + 1) * SPAN < 2 ^ 64 }
         requires few { self.old.kept.valid < max_spans }
         ensures of { AreOf {pages = PAGES} {span = SPAN} inputs.now.image inputs.now.log self.new }
-        ensures joined { IfOk result (λ _. self.new.kept.valid ≡ self.old.kept.valid + 1) }
+        ensures joined { IfOk result (λ _. self.old.kept.valid < self.new.kept.valid) }
         ensures others { (i : ℕ) → ¬ (i ≡ self.old.kept.valid) → span_at self.new.kept i ≡ span_at self.old.kept i }
         ensures kept { (span_at self.new.kept self.old.kept.valid ≡ span_at self.old.kept self.old.kept.valid)
             ⊎ Applies PAGES SPAN (holding_of inputs.now.image inputs.now.log self.new) self.old.kept.valid }
@@ -207,9 +221,39 @@ impl<const PAGES: u32, const SPAN: u32> Runs<PAGES, SPAN> {
         Ok(())
     }
 
-    // Joins the record of the next span, which is there. Whether it starts where the span does, and whether the differing pages are
-    // those at the start of the record behind it, is known.
+    // Joins the record of the next span, which is there, and where the span ends where it ended before, all spans that go on from
+    // there again. Whether it starts where the span does, and whether the differing pages are those at the start of the record behind
+    // it, is known.
     fn join(
+        &mut self,
+        inputs: &Inputs,
+        end: Rc<Boundary<PAGES>>,
+        exact: bool,
+        follows: bool,
+    ) -> Result<(), AllocError>
+        requires of { AreOf {pages = PAGES} {span = SPAN} inputs.now.image inputs.now.log self.old }
+        requires there { IsJoined PAGES SPAN self.old.kept.valid (span_at self.old.kept self.old.kept.valid)
+            (span_of PAGES SPAN inputs.now.image inputs.now.log self.old.kept.valid) }
+        requires end { end.value ≡ state_at PAGES inputs.now.image inputs.now.log ((self.old.kept.valid + 1) * SPAN) }
+        requires exact { IsTrue exact → Applies PAGES SPAN (holding_of inputs.now.image inputs.now.log self.old) self.old.kept.valid }
+        requires follows { IsTrue follows → IfSome (span_at self.old.kept (self.old.kept.valid + 1))
+            (λ s. SameOutside self.old.differing s.start.words (state_at PAGES inputs.now.image inputs.now.log ((self.old.kept.valid + 1) * SPAN)).words) }
+        requires few { self.old.kept.valid < max_spans }
+        ensures of { AreOf {pages = PAGES} {span = SPAN} inputs.now.image inputs.now.log self.new }
+        ensures joined { IfOk result (λ _. self.old.kept.valid < self.new.kept.valid) }
+        ensures spans { self.new.kept.spans ≡ self.old.kept.spans }
+        ensures steps { self.new.live.steps ≡ self.old.live.steps }
+    {
+        let met = meets(&self.ends, self.again, self.kept.valid(), &end);
+        self.join_one(inputs, end, exact, follows)?;
+        if met {
+            self.join_again(inputs);
+        }
+        Ok(())
+    }
+
+    // Joins the record of the next span.
+    fn join_one(
         &mut self,
         inputs: &Inputs,
         end: Rc<Boundary<PAGES>>,
@@ -228,15 +272,37 @@ impl<const PAGES: u32, const SPAN: u32> Runs<PAGES, SPAN> {
         ensures joined { IfOk result (λ _. self.new.kept.valid ≡ self.old.kept.valid + 1) }
         ensures spans { self.new.kept.spans ≡ self.old.kept.spans }
         ensures steps { self.new.live.steps ≡ self.old.live.steps }
+        ensures settled { IfOk result (λ _. self.new.told.stale ≡ None) }
+        ensures met { slice_get (map (λ end. end.value) self.old.ends.items) self.old.kept.valid ≡ Some end.entry.value → IfOk result (λ _.
+            map (λ end. end.value) self.new.ends.items ≡ map (λ end. end.value) self.old.ends.items) }
     {
         let index = self.kept.valid();
         self.told.settle(&self.kept)?;
-        self.ends.push(end.clone()?)?;
+        put_end(&mut self.ends, index, end.clone()?)?;
         begin(&mut self.kept, &mut self.patched, index, exact, self.exact);
         self.exact = exact;
         self.kept.join();
-        compare(&self.kept, index + 1, &end, follows, &mut self.differing);
+        compare_unless(follows, &self.kept, index + 1, &end, &mut self.differing);
         Ok(())
+    }
+
+    // Joins all spans that are not joined and of which it is known where they end, as each goes on from the one before it.
+    fn join_again(&mut self, inputs: &Inputs)
+        requires of { AreOf {pages = PAGES} {span = SPAN} inputs.now.image inputs.now.log self.old }
+        requires settled { self.old.told.stale ≡ None }
+        requires some { 0 < self.old.kept.valid }
+        requires again { (index : ℕ) → self.old.kept.valid ≤ index + 1 →
+            GoesOn PAGES SPAN inputs.now.log self.old.kept.spans (map (λ end. end.value) self.old.ends.items) index }
+        ensures of { AreOf {pages = PAGES} {span = SPAN} inputs.now.image inputs.now.log self.new }
+        ensures joined { self.old.kept.valid ≤ self.new.kept.valid }
+        ensures spans { self.new.kept.spans ≡ self.old.kept.spans }
+        ensures steps { self.new.live.steps ≡ self.old.live.steps }
+    {
+        let count = self.ends.len() as u64;
+        join_up_to(&mut self.kept, count);
+        self.exact = false;
+        let start = start_in(&self.reset, &self.ends, count);
+        compare(&self.kept, count, start, &mut self.differing);
     }
 
     // Runs the next span, and gives its record.
@@ -292,9 +358,32 @@ impl<const PAGES: u32, const SPAN: u32> Runs<PAGES, SPAN> {
         Ok(())
     }
 
-    /// No record is joined any more, and the machine stands nowhere in the run: what determines the run has changed but for its
-    /// start. The records stay.
-    pub fn forget(&mut self)
+    /// The events of the times from one to another have changed. The spans before them stay joined. Where a span after them ends where
+    /// it ended before, those that go on from there are joined again.
+    pub fn forget(&mut self, from: u64, last: u64)
+        requires { 0 < SPAN }
+        ensures of { (image : Boot) (log changed : List LogEvent) → AreOf {pages = PAGES} {span = SPAN} image log self.old →
+            AreSameOutside from last log changed → AreOf {pages = PAGES} {span = SPAN} image changed self.new }
+        ensures spans { self.new.kept.spans ≡ self.old.kept.spans }
+        ensures steps { self.new.live.steps ≡ self.old.live.steps }
+    {
+        let index = from / SPAN as u64;
+        let last = last / SPAN as u64;
+        let joined = self.kept.valid();
+        self.again = again_from(self.again, last, joined, self.ends.len() as u64);
+        self.at = up_to(from, self.at);
+        self.recorded = up_to(from, self.recorded);
+        if joined <= index {
+            return;
+        }
+        self.kept.truncate_valid(index);
+        self.exact = false;
+        let start = start_in(&self.reset, &self.ends, index);
+        compare(&self.kept, index, start, &mut self.differing);
+    }
+
+    // No record is joined any more, and the machine stands nowhere in the run. The records stay.
+    fn forget_all(&mut self)
         ensures of { (image : Boot) (log : List LogEvent) → AreSizes PAGES SPAN → self.old.reset.value ≡ reset PAGES image →
             IfSome (span_at self.old.kept 0) (λ s. SameOutside self.old.patched s.start.words (reset PAGES image).words) →
             Agrees PAGES SPAN self.old.told self.old.kept.spans → AreOf {pages = PAGES} {span = SPAN} image log self.new }
@@ -333,6 +422,27 @@ impl<const PAGES: u32, const SPAN: u32> Runs<PAGES, SPAN> {
     {
         self.reset = start;
         self.patched.add(&[page]);
-        self.forget();
+        self.forget_all();
     }
+}
+
+// Where a run stands, if that is not after a time.
+fn up_to(time: u64, position: Option<u64>) -> Option<u64>
+    ensures { IfSome result (λ p. (position ≡ Some p) × (p ≤ time)) }
+{
+    match position {
+        Some(position) if position <= time => Some(position),
+        _ => None,
+    }
+}
+
+// From which span on the ends that are there go on from each other, once the events of a span have changed.
+fn again_from(again: u64, last: u64, joined: u64, ends: u64) -> u64
+    ensures last { last ≤ result }
+    ensures again { (joined ≡ ends) ⊎ ((again ≤ result) × (joined ≤ result)) }
+{
+    if joined == ends {
+        return last;
+    }
+    again.max(joined).max(last)
 }

@@ -1,14 +1,20 @@
 //! Edits of the history. Records of spans outlive them, though they may no longer be those of the run.
 
-ghost use Rattle.std.specs.Prelude.{◌≡◌, IfOk, length};
+ghost use Rattle.std.specs.Prelude.{◌≡◌, [], IfOk, List, Some, length, slice_get};
 ghost use Rattle.input_log.specs.declared.event.Kind.TheVariants.{Byte, Framing, Wire};
+ghost use Rattle.input_log.specs.Event.{LogEvent};
+ghost use Rattle.input_log.specs.Log.{IsLog};
 ghost use Rattle.input_log.specs.Edits.{adding, deleting, erasing, moving, setting, up_to, without};
-ghost use Rattle.r3k_image.specs.Boot.{FitsRam};
+ghost use Rattle.r3k_image.specs.Boot.{Boot, FitsRam};
+ghost use Rattle.present_run.specs.Runs.{AreOf, AreSameOutside};
 ghost use Rattle.r3k_image.specs.Patch.{patching};
 ghost use Rattle.refusal.specs.Given.{Changes, ChangesOrLacks};
 ghost use Rattle.timeline.specs.Landed.{with_image, with_log};
 
 use crate::timeline::Timeline;
+use input_log::{Log, log_laws};
+use landings::Landings;
+use present_run::Runs;
 use r3k_word::layout::{page_of, place_of};
 use refusal::Fault;
 
@@ -19,9 +25,10 @@ impl<const PAGES: u32, const SPAN: u32> Timeline<PAGES, SPAN> {
         ensures log { ChangesOrLacks (with_log self.old (adding (record { time = time; kind = Byte; line = line; byte = byte }) self.old.history.log)) self.old self.new result }
         ensures place { IfOk result (λ place. place ≡ length (up_to time self.old.history.log)) }
     {
+        log_laws();
+        let _in_order = self.inputs.log.events();
         let place = self.inputs.log.add(time, line, byte)?;
-        self.runs.forget();
-        self.landings.clear();
+        edited(&mut self.runs, &mut self.landings, time, time);
         Ok(place)
     }
 
@@ -30,9 +37,10 @@ impl<const PAGES: u32, const SPAN: u32> Timeline<PAGES, SPAN> {
         ensures log { ChangesOrLacks (with_log self.old (adding (record { time = time; kind = Framing; line = line; byte = byte }) self.old.history.log)) self.old self.new result }
         ensures place { IfOk result (λ place. place ≡ length (up_to time self.old.history.log)) }
     {
+        log_laws();
+        let _in_order = self.inputs.log.events();
         let place = self.inputs.log.ferr(time, line, byte)?;
-        self.runs.forget();
-        self.landings.clear();
+        edited(&mut self.runs, &mut self.landings, time, time);
         Ok(place)
     }
 
@@ -41,9 +49,10 @@ impl<const PAGES: u32, const SPAN: u32> Timeline<PAGES, SPAN> {
         ensures log { ChangesOrLacks (with_log self.old (adding (record { time = time; kind = Wire; line = line; byte = level }) self.old.history.log)) self.old self.new result }
         ensures place { IfOk result (λ place. place ≡ length (up_to time self.old.history.log)) }
     {
+        log_laws();
+        let _in_order = self.inputs.log.events();
         let place = self.inputs.log.wire(time, line, level)?;
-        self.runs.forget();
-        self.landings.clear();
+        edited(&mut self.runs, &mut self.landings, time, time);
         Ok(place)
     }
 
@@ -51,9 +60,10 @@ impl<const PAGES: u32, const SPAN: u32> Timeline<PAGES, SPAN> {
     pub fn del(&mut self, place: u64) -> Result<(), Fault>
         ensures { Changes (with_log self.old (deleting place self.old.history.log)) self.old self.new result }
     {
+        log_laws();
+        let at = time_of(&self.inputs.log, place);
         self.inputs.log.del(place)?;
-        self.runs.forget();
-        self.landings.clear();
+        edited(&mut self.runs, &mut self.landings, at, at);
         Ok(())
     }
 
@@ -62,9 +72,10 @@ impl<const PAGES: u32, const SPAN: u32> Timeline<PAGES, SPAN> {
     pub fn set(&mut self, place: u64, byte: u8) -> Result<(), Fault>
         ensures { Changes (with_log self.old (setting place byte self.old.history.log)) self.old self.new result }
     {
+        log_laws();
+        let at = time_of(&self.inputs.log, place);
         self.inputs.log.set(place, byte)?;
-        self.runs.forget();
-        self.landings.clear();
+        edited(&mut self.runs, &mut self.landings, at, at);
         Ok(())
     }
 
@@ -74,9 +85,15 @@ impl<const PAGES: u32, const SPAN: u32> Timeline<PAGES, SPAN> {
         ensures log { Changes (with_log self.old (moving place time self.old.history.log)) self.old self.new result }
         ensures place { IfOk result (λ now. now ≡ length (up_to time (without place self.old.history.log))) }
     {
+        log_laws();
+        let at = time_of(&self.inputs.log, place);
         let place = self.inputs.log.move_to(place, time)?;
-        self.runs.forget();
-        self.landings.clear();
+        edited(
+            &mut self.runs,
+            &mut self.landings,
+            at.min(time),
+            at.max(time),
+        );
         Ok(place)
     }
 
@@ -85,9 +102,9 @@ impl<const PAGES: u32, const SPAN: u32> Timeline<PAGES, SPAN> {
     pub fn erase(&mut self, from: u64, to: u64) -> Result<(), Fault>
         ensures { Changes (with_log self.old (erasing from to self.old.history.log)) self.old self.new result }
     {
+        log_laws();
         self.inputs.log.erase(from, to)?;
-        self.runs.forget();
-        self.landings.clear();
+        edited(&mut self.runs, &mut self.landings, from, to);
         Ok(())
     }
 
@@ -112,5 +129,34 @@ impl<const PAGES: u32, const SPAN: u32> Timeline<PAGES, SPAN> {
         self.runs.restart(reset, page_of(place) as u32);
         self.landings.clear();
         Ok(())
+    }
+}
+
+// The events of the times from one to another have changed in the log.
+fn edited<const PAGES: u32, const SPAN: u32>(
+    runs: &mut Runs<PAGES, SPAN>,
+    landings: &mut Landings<PAGES>,
+    from: u64,
+    last: u64,
+)
+    requires { 0 < SPAN }
+    ensures of { (image : Boot) (log changed : List LogEvent) → AreOf {pages = PAGES} {span = SPAN} image log runs.old →
+        AreSameOutside from last log changed → AreOf {pages = PAGES} {span = SPAN} image changed runs.new }
+    ensures spans { runs.new.kept.spans ≡ runs.old.kept.spans }
+    ensures steps { runs.new.live.steps ≡ runs.old.live.steps }
+    ensures landings { landings.new ≡ [] }
+{
+    runs.forget(from, last);
+    landings.clear();
+}
+
+// The time of the event of a number, or 0 where there is none.
+fn time_of(log: &Log, place: u64) -> u64
+    ensures time { (event : LogEvent) → slice_get log.now place ≡ Some event → result ≡ event.time }
+    ensures log { IsLog log.now }
+{
+    match log.events().get(place as usize) {
+        Some(event) => event.time,
+        None => 0,
     }
 }

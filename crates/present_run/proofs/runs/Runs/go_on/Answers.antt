@@ -25,6 +25,7 @@ returns-clause-of g c =
       recorded = tt;
       joined = c.requires.of.joined;
       ends = c.requires.of.ends;
+      again = c.requires.of.again;
       exact = c.requires.of.exact;
       differ = c.requires.of.differ;
       patches = c.requires.of.patches;

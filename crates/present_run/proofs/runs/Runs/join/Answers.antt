@@ -1,96 +1,35 @@
-use Rattle.std.proofs.Common.{◌≡◌, ℕ, ◌+◌, ◌-◌, ◌*◌, ◌<◌, [], ◌∷◌, ◌++◌, IfSome, List, Option, None, Some, map, slice_index_or, sym, ap, subst, ◌∙◌, arith}
+use Rattle.std.proofs.Common.{◌≡◌, ◌+◌, ◌≤◌, map, slice_get, slice_index_or, List, None, Option, Some, sym, ap, subst, ◌∙◌, arith}
 use Rattle.r3k_machine.specs.State.{State}
-use Rattle.r3k_machine.specs.Run.{state_at}
-use Rattle.r3k_machine.specs.Reset.{reset}
-use Rattle.r3k_pages.specs.Pages.{SameOutside}
 use Rattle.span_fact.specs.Span.{Span}
-use Rattle.checkpoints.specs.Kept.{Kept, span_at}
-use Rattle.span_index.specs.Index.{Agrees}
-use Rattle.present_run.specs.Reuse.{span_of}
-use Rattle.present_run.specs.Runs.{AreEnds, IsJoined}
-use Rattle.present_run.proofs.Next.{and_last, first_joined, more_ends, settled_none, values_more}
-use Rattle.present_run.proofs.Spans.{follow}
+use Rattle.present_run.specs.Ends.{GoesOn}
+use Rattle.present_run.proofs.Again.{goes_on_kept}
 use Rattle.present_run.proofs.runs.Runs.join.Goals as goal
 
-pub begin-requires : goal.begin-requires
-begin-requires g c =
+pub join_again-requires : goal.join_again-requires
+join_again-requires g c =
     let pages = g.row.PAGES in
     let span = g.row.SPAN in
-    let image = c.args.inputs.now.image in
     let log = c.args.inputs.now.log in
     let kept = c.args.self.now.kept in
-    let before = c.valid-index.result - 1 in (
+    let all = map (λ end. end.value) c.args.self.now.ends.items in
+    let joined = c.in_ok-join_one.ensures {u = tt} in
+    let met = c.meets-met.ensures.0 c.if-met.true in
+    let same = joined.met
+    (subst (λ ends. slice_get (map (λ end. end.value) ends) kept.valid ≡ Some c.args.end.value) c.deref.ensures.value
+    (ap (slice_get (map (λ end. end.value) c.deref.result.now)) (sym c.valid.ensures) ∙ (met.2 ∙ ap (λ (s : State). Some s) c.deref-2.ensures))) in (
       omega arith,
       (
-        omega arith,
-        λ some exact last.
-            let next : before + 1 ≡ kept.valid = omega (arith, c.valid-index.ensures, some) in
-            follow pages span image log (span_at kept before) (span_at kept (before + 1)) before (c.requires.of.exact before next last)
-            (ap (span_at kept) next ∙ (c.requires.exact exact ∙ ap (λ (n : ℕ). Some (span_of pages span image log n)) (sym next))),
-      ),
-    )
-
-pub compare-requires : goal.compare-requires
-compare-requires g c =
-    let pages = g.row.PAGES in
-    let kept = c.args.self.now.kept in
-    let spans : c.join.new.self.spans ≡ kept.spans = ap (λ (k : Kept). k.spans) c.join.ensures ∙ c.begin.ensures.spans in
-    let at : (i : ℕ) → span_at c.join.new.self i ≡ span_at kept i = λ i. ap (λ (s : List (Option Span)). slice_index_or s i None) spans in
-    let here = c.deref.ensures ∙ c.requires.end in (
-      omega arith,
-      (
-        omega arith,
+        c.join_one.ensures.of,
         (
-          omega arith,
-          λ follows.
-              subst (λ (o : Option Span). IfSome o (λ s. SameOutside c.args.self.now.differing s.start.words c.deref.result.now.words)) (sym (at (c.valid-index.result + 1)))
-              (subst (λ (n : ℕ). IfSome (span_at kept (n + 1)) (λ s. SameOutside c.args.self.now.differing s.start.words c.deref.result.now.words)) (sym c.valid-index.ensures)
-              (subst (λ (end : State). IfSome (span_at kept (kept.valid + 1)) (λ s. SameOutside c.args.self.now.differing s.start.words end.words)) (sym here)
-              (c.requires.follows follows))),
+          joined.settled,
+          (
+            omega (arith, joined.joined),
+            λ index after.
+                subst (λ (all : List State). GoesOn pages span log c.join_one.new.self.kept.spans all index) (sym same)
+                (goes_on_kept pages span log kept.spans c.join_one.new.self.kept.spans all index
+                (ap (λ (spans : List (Option Span)). slice_index_or spans (index + 1) None) c.join_one.ensures.spans)
+                (c.requires.of.again index (omega (arith, met.0, c.valid.ensures, joined.joined, after)) (omega (arith, joined.joined, after)))),
+          ),
         ),
       ),
     )
-
-pub returns-clause-of : goal.returns-clause-of
-returns-clause-of g c =
-    let pages = g.row.PAGES in
-    let span = g.row.SPAN in
-    let image = c.args.inputs.now.image in
-    let log = c.args.inputs.now.log in
-    let kept = c.args.self.now.kept in
-    let valid = kept.valid in
-    let joined = ap (λ (k : Kept). k.valid) c.join.ensures in
-    let more : c.join.new.self.valid ≡ valid + 1 = joined ∙ ap (λ (n : ℕ). n + 1) c.begin.ensures.valid in
-    let spans : c.join.new.self.spans ≡ kept.spans = ap (λ (k : Kept). k.spans) c.join.ensures ∙ c.begin.ensures.spans in
-    let at : (i : ℕ) → span_at c.join.new.self i ≡ span_at kept i = λ i. ap (λ (s : List (Option Span)). slice_index_or s i None) spans in
-    let pushed : map (λ end. end.value) c.push.new.self.items ≡ map (λ end. end.value) c.args.self.now.ends.items ++ c.in_ok-clone.field-0.value ∷ [] =
-    ap (map (λ end. end.value)) (c.in_ok-push.ensures {u = tt}).items ∙ values_more (λ end. end.value) c.args.self.now.ends.items c.in_ok-clone.field-0 in record {
-      sizes = c.requires.of.sizes;
-      start = c.requires.of.start;
-      stands = c.requires.of.stands;
-      recorded = c.requires.of.recorded;
-      joined = λ i within.
-          subst (λ (o : Option Span). IsJoined pages span i o (span_of pages span image log i)) (sym (at i))
-          (and_last (λ i. IsJoined pages span i (span_at kept i) (span_of pages span image log i)) valid c.requires.of.joined c.requires.there i
-          (subst (λ (n : ℕ). i < n) more within));
-      ends =
-          subst (λ (n : ℕ). AreEnds pages span image log n (map (λ end. end.value) c.push.new.self.items)) (sym more)
-          (subst (λ (ends : List State). AreEnds pages span image log (valid + 1) ends) (sym pushed)
-          (more_ends pages span image log valid (map (λ end. end.value) c.args.self.now.ends.items) c.in_ok-clone.field-0.value c.requires.of.ends
-          ((c.in_ok-clone.ensures {u = tt}).cases ∙ c.requires.end)));
-      exact = λ last is yes.
-          let same : last ≡ valid = omega (arith, is, more) in
-          at last ∙ (ap (span_at kept) same ∙ (c.requires.exact yes ∙ ap (λ (n : ℕ). Some (span_of pages span image log n)) (sym same)));
-      differ =
-          subst (λ (n : ℕ). IfSome (span_at c.join.new.self n) (λ s. SameOutside c.compare.new.differing s.start.words (state_at pages image log (n * span)).words)) (sym more)
-          (subst (λ (end : State). IfSome (span_at c.join.new.self (valid + 1)) (λ s. SameOutside c.compare.new.differing s.start.words end.words)) (c.deref.ensures ∙ c.requires.end)
-          (subst (λ (n : ℕ). IfSome (span_at c.join.new.self (n + 1)) (λ s. SameOutside c.compare.new.differing s.start.words c.deref.result.now.words)) c.valid-index.ensures
-          c.compare.ensures));
-      patches =
-          subst (λ (o : Option Span). IfSome o (λ s. SameOutside c.begin.new.patched s.start.words (reset pages image).words)) (sym (at 0))
-          (first_joined pages span image log valid c.args.exact c.args.self.now.patched c.begin.new.patched (span_at kept 0)
-          (λ first exact. subst (λ (n : ℕ). span_at kept n ≡ Some (span_of pages span image log n)) first (c.requires.exact exact))
-          (λ later. c.begin.ensures.patched (λ exact. omega (arith, later exact, c.valid-index.ensures))) c.requires.of.patches);
-      agrees = subst (λ (s : List (Option Span)). Agrees pages span c.settle.new.self s) (sym spans) c.settle.ensures.agrees;
-      settled = settled_none c.settle.new.self _ (c.in_ok-settle.ensures {u = tt}).settled;
-    }

@@ -41,6 +41,7 @@ join-requires g c =
             recorded = of.recorded;
             joined = of.joined;
             ends = of.ends;
+            again = of.again;
             exact = of.exact;
             differ = into_some _ (span_at kept valid) r is (subst (λ (start : State). SameOutside new r.start.words start.words) start c.carry.ensures.start);
             patches = of.patches;

@@ -7,7 +7,8 @@ use Rattle.checkpoints.specs.Kept.{span_at}
 use Rattle.span_index.specs.Index.{Index}
 use Rattle.span_index.proofs.Joined.{agrees_same}
 use Rattle.present_run.specs.Reuse.{span_of}
-use Rattle.present_run.specs.Runs.{AreEnds, IsJoined}
+use Rattle.present_run.specs.Ends.{AreEnds, IsJoined}
+use Rattle.present_run.proofs.Again.{goes_on_kept}
 use Rattle.present_run.proofs.Next.{as_kept, behind_run, first_put, into_some, map_some, settled_at, settled_none}
 use Rattle.present_run.proofs.runs.Runs.keep.Goals as goal
 
@@ -28,6 +29,9 @@ returns-in_err-put-clause-of g c =
       joined = λ i within.
           subst (λ (o : Option Span). IsJoined pages span i o (span_of pages span image log i)) (sym (same i)) (of.joined i (subst (λ (n : ℕ). i < n) valid_is within));
       ends = subst (λ (n : ℕ). AreEnds pages span image log n (map (λ end. end.value) c.args.self.now.ends.items)) (sym valid_is) of.ends;
+      again = λ index first past.
+          goes_on_kept pages span log kept.spans c.put.new.self.spans (map (λ end. end.value) c.args.self.now.ends.items) index (same (index + 1))
+          (of.again index first (omega (arith, valid_is, past)));
       exact = λ last is yes. same last ∙ of.exact last (is ∙ valid_is) yes;
       differ =
           subst (λ (n : ℕ). IfSome (span_at c.put.new.self n) (λ s. SameOutside c.pass.new.differing s.start.words (state_at pages image log (n * span)).words)) (sym valid_is)
@@ -63,6 +67,9 @@ returns-clause-of g c =
           subst (λ (o : Option Span). IsJoined pages span i o (span_of pages span image log i)) (sym (at_others i (λ same. let e : ⊥ = omega (arith, below, same) in e)))
           (of.joined i below);
       ends = subst (λ (n : ℕ). AreEnds pages span image log n (map (λ end. end.value) c.args.self.now.ends.items)) (sym valid_is) of.ends;
+      again = λ index first past.
+          goes_on_kept pages span log kept.spans c.put.new.self.spans (map (λ end. end.value) c.args.self.now.ends.items) index
+          (at_others (index + 1) (λ same. let e : ⊥ = omega (arith, valid_is, past, same) in e)) (of.again index first (omega (arith, valid_is, past)));
       exact = λ last is yes. at_others last (λ same. let e : ⊥ = omega (arith, is, valid_is, same) in e) ∙ of.exact last (is ∙ valid_is) yes;
       differ =
           subst (λ (n : ℕ). IfSome (span_at c.put.new.self n) (λ s. SameOutside c.pass.new.differing s.start.words (state_at pages image log (n * span)).words)) (sym valid_is)

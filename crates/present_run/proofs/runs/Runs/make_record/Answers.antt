@@ -38,6 +38,7 @@ returns-clause-of g c =
       recorded = tt;
       joined = of.joined;
       ends = of.ends;
+      again = of.again;
       exact = of.exact;
       differ = of.differ;
       patches = of.patches;

@@ -2,7 +2,7 @@ use Rattle.std.proofs.Common.{◌≡◌, ◌⊎◌, inl, inr, ℕ, ◌+◌, ◌-
 use Rattle.std.proofs.lemmas.Bool.{cases_eq}
 use Rattle.present_run.specs.Reuse.{Applies, Holding, Lacks, Serves, kept_at}
 use Rattle.present_run.specs.Runs.{holding_of}
-use Rattle.present_run.proofs.Counts.{Within, count_more, count_most, count_same, kept_on, lacks_all, lacks_below, lacks_more, lacks_none, none_run, serves_same}
+use Rattle.present_run.proofs.Counts.{Within, count_more, count_most, count_same, kept_on, lacks_back, lacks_below, lacks_more, lacks_on, lacks_none, none_run, serves_same}
 use Rattle.present_run.proofs.runs.Runs.reach.Goals as goal
 
 -- the record of the span that was joined stayed, or one that applies took its place
@@ -24,7 +24,7 @@ loop-alloc-init g c =
       count = λ lacking lacks.
           subst (λ (n : ℕ). Within span old.steps n old.steps) (sym (lacks_none pages span old c.args.self.now.kept.valid lacking (λ i below. (c.requires.of.joined i below).near) lacks))
           (none_run span old.steps);
-      bound = inr refl;
+      beyond = λ i _ below. (c.requires.of.joined i below).near;
     }
 
 pub loop-alloc-preserved : goal.loop-alloc-preserved
@@ -38,7 +38,11 @@ loop-alloc-preserved g c =
     let new = holding_of image log c.extend.new.self in
     let so_far = c.loop-alloc.invariant in
     let valid = c.loop-alloc.self.kept.valid in
-    let joined : c.extend.new.self.kept.valid ≡ valid + 1 = (c.in_ok-extend.ensures {u = tt}).joined in record {
+    let joined : valid < c.extend.new.self.kept.valid = (c.in_ok-extend.ensures {u = tt}).joined in
+    let after : (i : ℕ) → valid < i → i < c.extend.new.self.kept.valid → Serves pages span old i = λ i past below.
+    serves_same pages span new old i refl
+    (sym (c.extend.ensures.others i (λ same. let e : ⊥ = omega (arith, past, same) in e) ∙ so_far.later i (omega (arith, past)))) (c.extend.ensures.of.joined i below).near
+    in record {
       of = c.extend.ensures.of;
       later = λ i past.
           c.extend.ensures.others i (λ same. let e : ⊥ = omega (arith, past, same, joined) in e)
@@ -50,13 +54,16 @@ loop-alloc-preserved g c =
             | inr other ↦ kept_on pages span old mid new i refl (c.extend.ensures.others i other) (so_far.kept i)
           ];
       count = λ lacking lacks.
-          lacks_more pages span old valid lacking (subst (λ (n : ℕ). Lacks pages span old n lacking) joined lacks)
+          lacks_more pages span old valid lacking
+          (lacks_back pages span old (valid + 1) (c.extend.new.self.kept.valid - (valid + 1)) lacking (λ i past below. after i (omega (arith, past)) (omega (arith, below, joined)))
+          (subst (λ (n : ℕ). Lacks pages span old n lacking)
+          (let e : c.extend.new.self.kept.valid ≡ valid + 1 + (c.extend.new.self.kept.valid - (valid + 1)) = omega (arith, joined) in e) lacks))
           (λ there rest.
           subst (λ (n : ℕ). Within span old.steps lacking n) (sym (c.extend.ensures.free (serves_same pages span old mid valid refl (so_far.later valid (omega arith)) there))) (so_far.count lacking rest))
           (λ absent before is rest.
           count_more span before lacking old.steps mid.steps new.steps is (so_far.count before rest)
           ((c.in_ok-extend.ensures {u = tt}).count (λ serves. absent (serves_same pages span mid old valid refl (sym (so_far.later valid (omega arith))) serves))));
-      bound = inl (omega (arith, joined, c.loop-alloc-test.true));
+      beyond = λ i past below. after i (omega (arith, past, c.loop-alloc-test.true)) below;
     }
 
 pub returns-in_err-extend-clause-spends : goal.returns-in_err-extend-clause-spends
@@ -90,15 +97,14 @@ returns-in_err-extend-clause-spends g c =
           ];
     }
 
--- the spans up to the last one are all that were needed
-within : (pages span : ℕ) (old now : Holding) (index valid first lacking : ℕ) → index ≤ valid → (valid ≤ index) ⊎ (valid ≡ first)
-    → ((i : ℕ) → i < first → Serves pages span old i) → ((lacking : ℕ) → Lacks pages span old valid lacking → Within span old.steps lacking now.steps)
-    → Lacks pages span old index lacking → Within span old.steps lacking now.steps
-within pages span old now index valid first lacking reached (inl bound) all count lacks =
-    count lacking (subst (λ (n : ℕ). Lacks pages span old n lacking) (let e : index ≡ valid = omega (arith, reached, bound) in e) lacks)
-within pages span old now index valid first lacking reached (inr bound) all count lacks =
-    let none = lacks_none pages span old index lacking (λ i below. all i (omega (arith, below, reached, bound))) lacks in
-    subst (λ (n : ℕ). Within span old.steps n now.steps) (sym none) (count 0 (lacks_all pages span old valid (λ i below. all i (omega (arith, below, bound)))))
+-- the spans after those that were needed cost nothing
+within : (pages span : ℕ) (old now : Holding) (index valid lacking : ℕ) → index ≤ valid → ((i : ℕ) → index ≤ i → i < valid → Serves pages span old i)
+    → ((lacking : ℕ) → Lacks pages span old valid lacking → Within span old.steps lacking now.steps) → Lacks pages span old index lacking → Within span old.steps lacking now.steps
+within pages span old now index valid lacking reached beyond count lacks =
+    let all : index + (valid - index) ≡ valid = omega (arith, reached) in
+    count lacking
+    (subst (λ (n : ℕ). Lacks pages span old n lacking) all
+    (lacks_on pages span old index (valid - index) lacking (λ i past below. beyond i past (omega (arith, below, all))) lacks))
 
 pub returns-clause-spends : goal.returns-clause-spends
 returns-clause-spends g c =
@@ -110,8 +116,8 @@ returns-clause-spends g c =
       history = refl;
       grows = so_far.grows;
       most = λ lacking lacks.
-          let cost = within pages span old now c.args.index c.loop-alloc.self.kept.valid c.args.self.now.kept.valid lacking
-          (omega (arith, c.loop-alloc-test.false)) so_far.bound (λ i below. (c.requires.of.joined i below).near) so_far.count lacks in
+          let cost = within pages span old now c.args.index c.loop-alloc.self.kept.valid lacking
+          (omega (arith, c.loop-alloc-test.false)) so_far.beyond so_far.count lacks in
           omega (arith, cost.1);
       kept = so_far.kept;
     }
@@ -124,7 +130,7 @@ returns-clause-reaches g c =
     let now = holding_of c.args.inputs.now.image c.args.inputs.now.log c.loop-alloc.self in
     let so_far = c.loop-alloc.invariant in record {
       least = λ lacking lacks.
-          (within pages span old now c.args.index c.loop-alloc.self.kept.valid c.args.self.now.kept.valid lacking
-          (omega (arith, c.loop-alloc-test.false)) so_far.bound (λ i below. (c.requires.of.joined i below).near) so_far.count lacks).0;
+          (within pages span old now c.args.index c.loop-alloc.self.kept.valid lacking
+          (omega (arith, c.loop-alloc-test.false)) so_far.beyond so_far.count lacks).0;
       there = λ i below. (so_far.of.joined i (omega (arith, below, c.loop-alloc-test.false))).near;
     }

@@ -1,6 +1,6 @@
-use Rattle.std.proofs.Common.{◌≡◌, ◌⊎◌, ℕ, ◌-◌, ◌≤◌}
+use Rattle.std.proofs.Common.{◌≡◌, ◌⊎◌, ℕ, ◌-◌, ◌<◌, ◌≤◌}
 use Rattle.checkpoints.specs.Kept.{span_at}
-use Rattle.present_run.specs.Reuse.{Applies, Lacks, kept_at}
+use Rattle.present_run.specs.Reuse.{Applies, Lacks, Serves, kept_at}
 use Rattle.present_run.specs.Runs.{AreOf, holding_of}
 use Rattle.present_run.proofs.Counts.{Within}
 use Rattle.present_run.proofs.runs.Runs.reach.Given as goal
@@ -17,7 +17,7 @@ invariant-loop-alloc g l =
       grows : old.steps ≤ now.steps;
       kept : (i : ℕ) → (kept_at now i ≡ kept_at old i) ⊎ Applies pages span now i;
       count : (lacking : ℕ) → Lacks pages span old l.self.kept.valid lacking → Within span old.steps lacking now.steps;
-      bound : (l.self.kept.valid ≤ l.index) ⊎ (l.self.kept.valid ≡ l.fn.self.kept.valid);
+      beyond : (i : ℕ) → l.index ≤ i → i < l.self.kept.valid → Serves pages span old i;
     }
 
 abbrev pub decreases-loop-alloc : goal.decreases-loop-alloc

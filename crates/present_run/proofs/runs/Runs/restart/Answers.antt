@@ -11,7 +11,7 @@ returns-clause-of g c =
     λ image changed log of is same.
     let pages = g.row.PAGES in
     let patched = c.args.self.now.patched in
-    c.forget.ensures.of changed log of.sizes is
+    c.forget_all.ensures.of changed log of.sizes is
     (map_some (λ s. SameOutside patched s.start.words (reset pages image).words) (λ s. SameOutside c.add.new.self s.start.words (reset pages changed).words)
     (span_at c.args.self.now.kept 0) (λ s was. both patched (c.args.page ∷ []) c.add.new.self _ _ _ c.add.ensures was same) of.patches)
     of.agrees

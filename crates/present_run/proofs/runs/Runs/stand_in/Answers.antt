@@ -17,6 +17,7 @@ returns-clause-of g c =
       recorded = of.recorded;
       joined = of.joined;
       ends = of.ends;
+      again = of.again;
       exact = of.exact;
       differ = of.differ;
       patches = of.patches;

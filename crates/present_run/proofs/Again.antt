@@ -1,0 +1,294 @@
+-- Spans that go on from where one of them ends, and logs that are the same outside some times.
+use Rattle.std.proofs.Common.{◌≡◌, ℕ, zero, suc, ◌+◌, ◌-◌, ◌*◌, ◌/◌, ◌<◌, ◌≤◌, ◌⊎◌, IfSome, IsSome, List, [], ◌∷◌, ◌++◌, inl, inr, length, map, Option, Some, None, slice_get, slice_index_or, slice_set, refl, sym, ap, subst, ◌∙◌, arith, zero-add}
+use Rattle.std.proofs.Math.Nat.{div-mul-le_self, lt-div-mul-add, mul-le-mul_right}
+use Rattle.std.proofs.Math.Path.{ap₂}
+use Rattle.std.specs.Option.{is_some}
+use Rattle.std.proofs.lemmas.Bool.{cases_eq, cases_lt, false≢true}
+use Rattle.input_log.specs.Event.{LogEvent}
+use Rattle.r3k_image.specs.Boot.{Boot}
+use Rattle.r3k_machine.specs.declared.step.Done.{Done}
+use Rattle.r3k_machine.specs.Reset.{reset}
+use Rattle.r3k_machine.specs.Run.{run, state_at, trace}
+use Rattle.r3k_machine.specs.State.{State}
+use Rattle.r3k_machine.proofs.Splits.{run_own, trace_own}
+use Rattle.span_fact.specs.Span.{Span, end_of}
+use Rattle.present_run.specs.Ends.{AreEnds, GoesOn, IsJoined, IsJoinedFrom, IsPut}
+use Rattle.present_run.specs.Reuse.{span_from, span_of}
+use Rattle.present_run.specs.Runs.{AreSameOutside, steps_between}
+use Rattle.present_run.proofs.Spans.{ends, if_some, next_start, some_is}
+
+-- ---- a list of ends
+
+pub no_some : {A : Type 0} (x : A) → None ≡ Some x → ⊥
+no_some x is = false≢true (ap (λ (o : Option _). is_some o) is)
+
+pub within : {A : Type 0} (all : List A) (index : ℕ) (x : A) → slice_get all index ≡ Some x → index < length all
+within [] zero x is = absurd (no_some x is)
+within [] (suc index) x is = absurd (no_some x is)
+within (first ∷ rest) zero x is = omega arith
+within (first ∷ rest) (suc index) x is = let e = within rest index x is in omega (arith, e)
+
+pub at : {A : Type 0} (all : List A) (index : ℕ) → index < length all → (x : A) × (slice_get all index ≡ Some x)
+at [] index within = absurd (omega (arith, within))
+at (first ∷ rest) zero within = (first, refl)
+at (first ∷ rest) (suc index) within = at rest index (omega (arith, within))
+
+pub got : {A : Type 0} (value : A → State) (all : List A) (index : ℕ) (end : A) → index < length all → end ≡ slice_index_or all index end
+    → slice_get (map value all) index ≡ Some (value end)
+got value [] index end inside is = absurd (omega (arith, inside))
+got value (first ∷ rest) zero end inside is = ap (λ (e : _). Some (value e)) (sym is)
+got value (first ∷ rest) (suc index) end inside is = got value rest index end (omega (arith, inside)) is
+
+pub put_in_place : (all : List State) (index : ℕ) (end : State) → index < length all → IsPut index end all (slice_set all index end)
+put_in_place all index end inside = record {
+  within = long all index inside;
+  there = there all index inside;
+  others = others all index;
+  same = same all index;
+}
+  where
+    long : (all : List State) (index : ℕ) → index < length all → index < length (slice_set all index end)
+    long [] index inside = absurd (omega (arith, inside))
+    long (first ∷ rest) zero inside = omega arith
+    long (first ∷ rest) (suc index) inside = let e = long rest index (omega (arith, inside)) in omega (arith, e)
+
+    there : (all : List State) (index : ℕ) → index < length all → slice_get (slice_set all index end) index ≡ Some end
+    there [] index inside = absurd (omega (arith, inside))
+    there (first ∷ rest) zero inside = refl
+    there (first ∷ rest) (suc index) inside = there rest index (omega (arith, inside))
+
+    others : (all : List State) (index i : ℕ) → ¬ (i ≡ index) → slice_get (slice_set all index end) i ≡ slice_get all i
+    others [] index i other = refl
+    others (first ∷ rest) zero zero other = absurd (other refl)
+    others (first ∷ rest) zero (suc i) other = refl
+    others (first ∷ rest) (suc index) zero other = refl
+    others (first ∷ rest) (suc index) (suc i) other = others rest index i (λ e. other (ap suc e))
+
+    same : (all : List State) (index : ℕ) → slice_get all index ≡ Some end → slice_set all index end ≡ all
+    same [] index is = refl
+    same (first ∷ rest) zero is = ap (λ (s : State). s ∷ rest) (sym (some_is first end is))
+    same (first ∷ rest) (suc index) is = ap (λ (l : List State). first ∷ l) (same rest index is)
+
+pub put_last : (all : List State) (end : State) → IsPut (length all) end all (all ++ end ∷ [])
+put_last all end = record {
+  within = long all;
+  there = there all;
+  others = others all;
+  same = λ is. let e = within all (length all) end is in absurd (omega (arith, e));
+}
+  where
+    long : (all : List State) → length all < length (all ++ end ∷ [])
+    long [] = omega arith
+    long (first ∷ rest) = let e = long rest in omega (arith, e)
+
+    there : (all : List State) → slice_get (all ++ end ∷ []) (length all) ≡ Some end
+    there [] = refl
+    there (first ∷ rest) = there rest
+
+    others : (all : List State) (i : ℕ) → ¬ (i ≡ length all) → slice_get (all ++ end ∷ []) i ≡ slice_get all i
+    others [] zero other = absurd (other refl)
+    others [] (suc i) other = refl
+    others (first ∷ rest) zero other = refl
+    others (first ∷ rest) (suc i) other = others rest i (λ e. other (ap suc e))
+
+pub map_put : {A : Type 0} (value : A → State) (all : List A) (index : ℕ) (end : A) → map value (slice_set all index end) ≡ slice_set (map value all) index (value end)
+map_put value [] index end = refl
+map_put value (first ∷ rest) zero end = refl
+map_put value (first ∷ rest) (suc index) end = ap (λ (l : List State). value first ∷ l) (map_put value rest index end)
+
+pub map_last : {A : Type 0} (value : A → State) (all : List A) (end : A) → map value (all ++ end ∷ []) ≡ map value all ++ value end ∷ []
+map_last value [] end = refl
+map_last value (first ∷ rest) end = ap (λ (l : List State). value first ∷ l) (map_last value rest end)
+
+-- the ends of the spans of a run, with one more
+pub more_ends : (pages span : ℕ) (image : Boot) (log : List LogEvent) (count : ℕ) (old new : List State) (end : State) → AreEnds pages span image log count old
+    → IsPut count end old new → end ≡ state_at pages image log ((count + 1) * span) → AreEnds pages span image log (count + 1) new
+more_ends pages span image log count old new end are put is = record {
+  many = let e = put.within in omega (arith, e);
+  each = λ index below. elim (cases_eq index count) [
+    | inl here ↦ subst (λ (n : ℕ). slice_get new n ≡ Some (state_at pages image log ((n + 1) * span))) (sym here) (put.there ∙ ap (λ (s : State). Some s) is)
+    | inr other ↦ put.others index other ∙ are.each index (let e : index < count = omega (arith, below, other) in e)
+  ];
+}
+
+-- ---- spans that go on
+
+pub goes_on : (pages span : ℕ) (image : Boot) (log : List LogEvent) (spans : List (Option Span)) (all : List State) (count index : ℕ)
+    → AreEnds pages span image log count all → ((i : ℕ) → i < count → IsJoined pages span i (slice_index_or spans i None) (span_of pages span image log i))
+    → index + 1 < count → GoesOn pages span log spans all index
+goes_on pages span image log spans all count index are joined below start end start_is end_is =
+    let from : start ≡ state_at pages image log ((index + 1) * span) = some_is start _ (sym start_is ∙ are.each index (omega (arith, below))) in
+    let to : end ≡ state_at pages image log ((index + 1 + 1) * span) = some_is end _ (sym end_is ∙ are.each (index + 1) below) in
+    subst (λ (s : State). IsJoinedFrom pages span log (index + 1) (slice_index_or spans (index + 1) None) s end) (sym from)
+    (record { ends = to ∙ sym (ends pages span image log (index + 1)); joined = joined (index + 1) below })
+
+-- where they end, from one on that is known
+pub chain : (pages span : ℕ) (image : Boot) (log : List LogEvent) (spans : List (Option Span)) (all : List State) (first : ℕ)
+    → slice_get all first ≡ Some (state_at pages image log ((first + 1) * span)) → ((index : ℕ) → first ≤ index → GoesOn pages span log spans all index)
+    → (more : ℕ) → first + more < length all → slice_get all (first + more) ≡ Some (state_at pages image log ((first + more + 1) * span))
+chain pages span image log spans all first known goes zero inside =
+    subst (λ (n : ℕ). slice_get all n ≡ Some (state_at pages image log ((n + 1) * span))) (let e : first ≡ first + 0 = omega arith in e) known
+chain pages span image log spans all first known goes (suc more) inside =
+    let index : ℕ = first + more in
+    let before = chain pages span image log spans all first known goes more (omega (arith, inside)) in
+    let next : index + 1 ≡ first + suc more = omega arith in
+    let there = at all (index + 1) (omega (arith, inside)) in
+    let from = goes index (omega arith) (state_at pages image log ((index + 1) * span)) there.0 before there.1 in
+    subst (λ (n : ℕ). slice_get all n ≡ Some (state_at pages image log ((n + 1) * span))) next
+    (there.1 ∙ ap (λ (s : State). Some s) (from.ends ∙ ends pages span image log (index + 1)))
+
+pub chain_at : (pages span : ℕ) (image : Boot) (log : List LogEvent) (spans : List (Option Span)) (all : List State) (first index : ℕ)
+    → slice_get all first ≡ Some (state_at pages image log ((first + 1) * span)) → ((index : ℕ) → first ≤ index → GoesOn pages span log spans all index)
+    → first ≤ index → index < length all → slice_get all index ≡ Some (state_at pages image log ((index + 1) * span))
+chain_at pages span image log spans all first index known goes after inside =
+    let is : first + (index - first) ≡ index = omega (arith, after) in
+    subst (λ (n : ℕ). slice_get all n ≡ Some (state_at pages image log ((n + 1) * span))) is
+    (chain pages span image log spans all first known goes (index - first) (omega (arith, is, inside)))
+
+-- each of them is joined
+pub joined_on : (pages span : ℕ) (image : Boot) (log : List LogEvent) (spans : List (Option Span)) (all : List State) (first index : ℕ)
+    → slice_get all first ≡ Some (state_at pages image log ((first + 1) * span)) → ((index : ℕ) → first ≤ index → GoesOn pages span log spans all index)
+    → first < index → index < length all → IsJoined pages span index (slice_index_or spans index None) (span_of pages span image log index)
+joined_on pages span image log spans all first index known goes after inside =
+    let before : ℕ = index - 1 in
+    let next : before + 1 ≡ index = omega (arith, after) in
+    let here = chain_at pages span image log spans all first before known goes (omega (arith, after)) (omega (arith, inside, after)) in
+    let there = at all (before + 1) (omega (arith, inside, next)) in
+    subst (λ (n : ℕ). IsJoined pages span n (slice_index_or spans n None) (span_of pages span image log n)) next
+    (goes before (omega (arith, after)) (state_at pages image log ((before + 1) * span)) there.0 here there.1).joined
+
+-- so all are, and where they end is known
+pub all_ends : (pages span : ℕ) (image : Boot) (log : List LogEvent) (spans : List (Option Span)) (all : List State) (valid : ℕ) → 0 < valid
+    → AreEnds pages span image log valid all → ((index : ℕ) → valid ≤ index + 1 → GoesOn pages span log spans all index) → AreEnds pages span image log (length all) all
+all_ends pages span image log spans all valid some are goes =
+    let first : ℕ = valid - 1 in
+    record {
+      many = omega arith;
+      each = λ index inside. elim (cases_lt index valid) [
+        | inl below ↦ are.each index below
+        | inr past ↦
+            chain_at pages span image log spans all first index (are.each first (omega (arith, some))) (λ i after. goes i (omega (arith, after, some)))
+            (omega (arith, past)) inside
+      ];
+    }
+
+pub all_joined : (pages span : ℕ) (image : Boot) (log : List LogEvent) (spans : List (Option Span)) (all : List State) (valid index : ℕ) → 0 < valid
+    → AreEnds pages span image log valid all → ((i : ℕ) → i < valid → IsJoined pages span i (slice_index_or spans i None) (span_of pages span image log i))
+    → ((index : ℕ) → valid ≤ index + 1 → GoesOn pages span log spans all index) → index < length all
+    → IsJoined pages span index (slice_index_or spans index None) (span_of pages span image log index)
+all_joined pages span image log spans all valid index some are joined goes inside =
+    let first : ℕ = valid - 1 in
+    elim (cases_lt index valid) [
+      | inl below ↦ joined index below
+      | inr past ↦
+          joined_on pages span image log spans all first index (are.each first (omega (arith, some))) (λ i after. goes i (omega (arith, after, some)))
+          (omega (arith, past, some)) inside
+    ]
+
+-- ---- logs that are the same outside some times
+
+pub same_before : (pages : ℕ) (image : Boot) (log changed : List LogEvent) (from to time : ℕ) → AreSameOutside from to log changed → time ≤ from
+    → state_at pages image changed time ≡ state_at pages image log time
+same_before pages image log changed from to time same before =
+    sym (run_own pages changed 0 (reset pages image) time)
+    ∙ (ap (λ (l : List LogEvent). run pages l 0 (reset pages image) time) (same 0 (0 + time) (inl (omega (arith, before))))
+    ∙ run_own pages log 0 (reset pages image) time)
+
+pub span_before : (pages span : ℕ) (image : Boot) (log changed : List LogEvent) (from to index : ℕ) → AreSameOutside from to log changed → (index + 1) * span ≤ from
+    → span_of pages span image changed index ≡ span_of pages span image log index
+span_before pages span image log changed from to index same before =
+    ap₂ (λ (start : State) (events : List LogEvent). let s : Span = record { index = index; start = start; events = events } in s)
+    (same_before pages image log changed from to (index * span) same (omega (arith, before, next_start index span)))
+    (same (index * span) ((index + 1) * span) (inl before))
+
+pub steps_before : (pages : ℕ) (image : Boot) (log changed : List LogEvent) (from to time position : ℕ) → AreSameOutside from to log changed → time ≤ position → position ≤ from
+    → steps_between pages image changed time position ≡ steps_between pages image log time position
+steps_before pages image log changed from to time position same first before =
+    let n : ℕ = position - time in
+    ap (λ (s : State). trace pages changed time s n) (same_before pages image log changed from to time same (omega (arith, first, before)))
+    ∙ (sym (trace_own pages changed time (state_at pages image log time) n)
+    ∙ (ap (λ (l : List LogEvent). trace pages l time (state_at pages image log time) n) (same time (time + n) (inl (omega (arith, first, before))))
+    ∙ trace_own pages log time (state_at pages image log time) n))
+
+pub goes_on_after : (pages span : ℕ) (log changed : List LogEvent) (spans : List (Option Span)) (all : List State) (from to index : ℕ) → AreSameOutside from to log changed
+    → to < (index + 1) * span → GoesOn pages span log spans all index → GoesOn pages span changed spans all index
+goes_on_after pages span log changed spans all from to index same after goes start end start_is end_is =
+    let was = goes start end start_is end_is in
+    let is : span_from span changed (index + 1) start ≡ span_from span log (index + 1) start =
+    ap (λ (events : List LogEvent). let s : Span = record { index = index + 1; start = start; events = events } in s)
+    (same ((index + 1) * span) ((index + 1 + 1) * span) (inr after)) in
+    record {
+      ends = was.ends ∙ ap (end_of pages span) (sym is);
+      joined = subst (λ (s : Span). IsJoined pages span (index + 1) (slice_index_or spans (index + 1) None) s) (sym is) was.joined;
+    }
+
+-- a span of a number at most that of a time starts at the time or before it, and one of that number or a later one ends after it
+pub starts_before : (time span index : ℕ) → index ≤ time / span → index * span ≤ time
+starts_before time span index before =
+    let least : index * span ≤ time / span * span = mul-le-mul_right span before in
+    omega (arith, least, div-mul-le_self time span)
+
+pub ends_after : (time span index : ℕ) → 0 < span → time / span ≤ index → time < (index + 1) * span
+ends_after time span index some after =
+    let least : time / span * span ≤ index * span = mul-le-mul_right span after in
+    omega (arith, least, next_start index span, lt-div-mul-add {a = time} {b = span} some)
+
+-- an end that is put leaves those after it
+pub goes_on_put : (pages span : ℕ) (log : List LogEvent) (before after : List (Option Span)) (old new : List State) (end : State) (place index : ℕ)
+    → after ≡ before → IsPut place end old new → place < index → GoesOn pages span log before old index → GoesOn pages span log after new index
+goes_on_put pages span log before after old new end place index same put past goes start to start_is to_is =
+    subst (λ (spans : List (Option Span)). IsJoinedFrom pages span log (index + 1) (slice_index_or spans (index + 1) None) start to) (sym same)
+    (goes start to
+    (sym (put.others index (λ e. let x : ⊥ = omega (arith, e, past) in x)) ∙ start_is)
+    (sym (put.others (index + 1) (λ e. let x : ⊥ = omega (arith, e, past) in x)) ∙ to_is))
+
+-- and so do records that are put
+pub goes_on_kept : (pages span : ℕ) (log : List LogEvent) (before after : List (Option Span)) (all : List State) (index : ℕ)
+    → slice_index_or after (index + 1) None ≡ slice_index_or before (index + 1) None → GoesOn pages span log before all index → GoesOn pages span log after all index
+goes_on_kept pages span log before after all index same goes start to start_is to_is =
+    subst (λ (o : Option Span). IsJoinedFrom pages span log (index + 1) o start to) (sym same) (goes start to start_is to_is)
+
+-- ---- what an edit leaves
+
+pub joined_before : (pages span : ℕ) (image : Boot) (log changed : List LogEvent) (from to n i : ℕ) (o : Option Span) → AreSameOutside from to log changed → n ≤ from / span → i < n
+    → IsJoined pages span i o (span_of pages span image log i) → IsJoined pages span i o (span_of pages span image changed i)
+joined_before pages span image log changed from to n i o same few below was =
+    subst (λ (s : Span). IsJoined pages span i o s)
+    (sym (span_before pages span image log changed from to i same (starts_before from span (i + 1) (omega (arith, few, below))))) was
+
+pub ends_before : (pages span : ℕ) (image : Boot) (log changed : List LogEvent) (from to valid n : ℕ) (all : List State) → AreSameOutside from to log changed → n ≤ from / span → n ≤ valid
+    → AreEnds pages span image log valid all → AreEnds pages span image changed n all
+ends_before pages span image log changed from to valid n all same few less are = record {
+  many = let many = are.many in omega (arith, many, less);
+  each = λ index below.
+      are.each index (omega (arith, below, less))
+      ∙ ap (λ (s : State). Some s)
+      (sym (same_before pages image log changed from to ((index + 1) * span) same (starts_before from span (index + 1) (omega (arith, below, few)))));
+}
+
+pub goes_on_over : (pages span : ℕ) (image : Boot) (log changed : List LogEvent) (spans : List (Option Span)) (all : List State) (from to valid again now index : ℕ)
+    → 0 < span → AreSameOutside from to log changed → AreEnds pages span image log valid all
+    → ((i : ℕ) → i < valid → IsJoined pages span i (slice_index_or spans i None) (span_of pages span image log i))
+    → ((i : ℕ) → again ≤ i → valid ≤ i → GoesOn pages span log spans all i)
+    → (valid ≡ length all) ⊎ ((again ≤ now) × (valid ≤ now)) → to / span ≤ now → now ≤ index
+    → GoesOn pages span changed spans all index
+goes_on_over pages span image log changed spans all from to valid again now index some same are joined goes (inl whole) after past =
+    elim (cases_lt (index + 1) valid) [
+      | inl below ↦
+          goes_on_after pages span log changed spans all from to index same (ends_after to span index some (omega (arith, after, past)))
+          (goes_on pages span image log spans all valid index are joined below)
+      | inr beyond ↦ λ start end start_is end_is. absurd (let there = within all (index + 1) end end_is in let e : ⊥ = omega (arith, there, beyond, whole) in e)
+    ]
+goes_on_over pages span image log changed spans all from to valid again now index some same are joined goes (inr later) after past =
+    goes_on_after pages span log changed spans all from to index same (ends_after to span index some (omega (arith, after, past)))
+    (goes index (omega (arith, later.0, past)) (omega (arith, later.1, past)))
+
+-- what is so of the position of a run, if there is one up to a time
+pub up_to_time : (time : ℕ) (P Q : ℕ → Type 0) (position result : Option ℕ) → ((p : ℕ) → p ≤ time → P p → Q p)
+    → IfSome result (λ p. (position ≡ Some p) × (p ≤ time)) → IfSome position P → IfSome result Q
+up_to_time time P Q position None over is was = tt
+up_to_time time P Q position (Some p) over is was = over p is.1 (if_some P position p is.0 was)
+
+pub there_is : (pages span index : ℕ) (o : Option Span) (s : Span) → IsJoined pages span index o s → IsSome o
+there_is pages span index None s joined = absurd joined.near
+there_is pages span index (Some r) s joined = refl
