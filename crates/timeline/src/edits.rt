@@ -1,6 +1,6 @@
 //! Edits of the history. Records of spans outlive them, though they may no longer be those of the run.
 
-ghost use Rattle.std.specs.Prelude.{◌≡◌, [], IfOk, List, Some, length, slice_get};
+ghost use Rattle.std.specs.Prelude.{◌≡◌, ◌<◌, [], IfOk, List, Some, length, slice_get};
 ghost use Rattle.input_log.specs.declared.event.Kind.TheVariants.{Byte, Framing, Wire};
 ghost use Rattle.input_log.specs.Event.{LogEvent};
 ghost use Rattle.input_log.specs.Log.{IsLog};

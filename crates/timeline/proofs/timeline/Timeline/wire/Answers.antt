@@ -13,7 +13,7 @@ invariant_of-self-2 g c =
     let old = c.self.invariant.0 in
     let runs = c.self.invariant.1 in
     let log = c.self.inside.inputs.log in
-    let in_order = subst AreInOrder c.events-_in_order.ensures.all c.events-_in_order.ensures.log.in_order in
+    let in_order = subst AreInOrder c.events-in_order.ensures.all c.events-in_order.ensures.log.in_order in
     let changed : AreSameOutside c.args.time c.args.time log c.wire.new.self = λ start end apart.
     c.log_laws.ensures.window_added (record { time = c.args.time; kind = Wire; line = c.args.line; byte = c.args.level }) start end log c.wire.new.self in_order
     (c.in_ok-place.ensures {u = tt}).log (outside c.args.time c.args.time c.args.time start end (omega arith) (omega arith) apart) in (
