@@ -5,7 +5,7 @@ ghost use Rattle.r3k_word.specs.declared.layout.TheConstants.{MAX_RAM_PAGES};
 ghost use Rattle.r3k_pages.specs.Pages.{SameOutside};
 ghost use Rattle.checkpoints.specs.Kept.{span_at};
 
-use crate::running::{FIRST, LOOP, Running, SECOND, Then, echo, plays, record_of, shared};
+use crate::running::{FIRST, LOOP, Running, SECOND, Then, echo, plays, record_of};
 use crate::same::{same, same_at};
 use checkpoints::Kept;
 use input_log::{Event, Kind, Log};
@@ -299,7 +299,7 @@ fn one_other_word_applies<const PAGES: u32, const SPAN: u32>(
     requires { PAGES ≤ MAX_RAM_PAGES }
 {
     let mut machine = Running::<PAGES, SPAN>::boot(alloc)?;
-    let start = shared(alloc, &machine)?;
+    let start = machine.live.keep(alloc)?;
     let fact = record_of(alloc, &mut machine, &start, 0, &Log::new(alloc))?;
     let mut kept = Kept::<PAGES, SPAN>::new(alloc);
     kept.put(fact)?;
@@ -345,7 +345,7 @@ fn nearly_and_not_applies<const PAGES: u32, const SPAN: u32>(
     requires { PAGES ≤ MAX_RAM_PAGES }
 {
     let mut machine = Running::<PAGES, SPAN>::boot(alloc)?;
-    let start = shared(alloc, &machine)?;
+    let start = machine.live.keep(alloc)?;
     let fact = record_of(alloc, &mut machine, &start, 0, &Log::new(alloc))?;
     let mut kept = Kept::<PAGES, SPAN>::new(alloc);
     assert!(rt; !is_near(&kept, 0, &start, &[]));
@@ -387,7 +387,7 @@ fn tied_records_continue<const PAGES: u32, const SPAN: u32>(
     requires { PAGES ≤ MAX_RAM_PAGES }
 {
     let mut machine = Running::<PAGES, SPAN>::boot(alloc)?;
-    let start = shared(alloc, &machine)?;
+    let start = machine.live.keep(alloc)?;
     let mut kept = Kept::<PAGES, SPAN>::new(alloc);
     for later in [false, true] {
         put_and_tie(rt, alloc, &mut machine, &start, &mut kept)?;
@@ -542,7 +542,7 @@ fn refused_memory_changes_nothing<const PAGES: u32, const SPAN: u32>(
     requires { PAGES ≤ MAX_RAM_PAGES }
 {
     let mut machine = Running::<PAGES, SPAN>::boot(alloc)?;
-    let start = shared(alloc, &machine)?;
+    let start = machine.live.keep(alloc)?;
     let fact = first_or_again(rt, alloc, &mut machine, &start)?;
     tells_the_first_span(rt, &fact);
     let mut kept = Kept::<PAGES, SPAN>::new(alloc);

@@ -1,3 +1,4 @@
+pub mod Ascending
 pub mod Kept
 pub mod Set
 pub mod Marked
