@@ -131,7 +131,8 @@ fn kept<const PAGES: u32>(rt: &impl Abort, alloc: Global) -> Result<(), Fail>
     holds(rt, &snapshot, &[]);
     words.fill(7);
     holds(rt, &snapshot, &[]);
-    snapshot.copy_to(&mut words);
+    let sevens = Snapshot::<PAGES>::capture(alloc, &words, None, &[])?;
+    snapshot.copy_to(&mut words, &sevens, &PageMarks::new(alloc)?);
     assert!(rt; words == before);
     Ok(())
 }
@@ -153,9 +154,10 @@ fn changed<const PAGES: u32>(rt: &impl Abort, alloc: Global, dirty: &[u32]) -> R
     assert!(rt; words == before);
     differ_in(rt, &earlier, &back, &[]);
     differ_in(rt, &later, &back, dirty);
-    later.copy_to(&mut words);
+    let none = PageMarks::new(alloc)?;
+    later.copy_to(&mut words, &back, &none);
     assert!(rt; words == turned);
-    back.copy_to(&mut words);
+    back.copy_to(&mut words, &later, &none);
     assert!(rt; words == before);
     Ok(())
 }

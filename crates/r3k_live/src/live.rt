@@ -79,7 +79,8 @@ impl<const PAGES: u32> Live<PAGES> {
     pub fn load(&mut self, boundary: Rc<Boundary<PAGES>>)
         ensures { self.new ≡ record { state = boundary.entry.value; steps = self.old.steps } }
     {
-        self.memory.load(boundary.memory());
+        let held = self.base.memory();
+        self.memory.load(boundary.memory(), held, &self.changed);
         self.core.restore(boundary.core());
         self.base = boundary;
         self.changed.clear();

@@ -1,7 +1,7 @@
-use Rattle.std.proofs.Common.{◌≡◌, ℕ, ◌+◌, List, Bool, ◌++◌, ◌∷◌, [], cond, filter, sym, ap, subst, ◌∙◌, arith}
+use Rattle.std.proofs.Common.{◌≡◌, ℕ, List, Bool, ◌++◌, ◌∷◌, [], cond, filter, sym, ap, subst, ◌∙◌, arith}
 use Rattle.std.specs.List.{range_with_len}
 use Rattle.std.proofs.lemmas.List.{append-nil}
-use Rattle.r3k_pages.specs.Pages.{IsPageSet, holds, page_count_of, pages_where}
+use Rattle.r3k_pages.specs.Pages.{IsPageSet, holds, page_count_of}
 use Rattle.r3k_pages.proofs.Ascending.{kept_more, pages_set}
 use Rattle.r3k_pages.proofs.page_marks.PageMarks.ascending.Goals as goal
 
