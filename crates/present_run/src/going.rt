@@ -156,13 +156,7 @@ impl<const PAGES: u32, const SPAN: u32> Runs<PAGES, SPAN> {
 
 impl<const PAGES: u32, const SPAN: u32> Runs<PAGES, SPAN> {
     // Goes on to the next position at which the PC holds an address, or to a position, at most a span's steps away.
-    fn visit_in(
-        &mut self,
-        inputs: &Inputs,
-        time: u64,
-        address: u32,
-        last: u64,
-    ) -> Option<u64>
+    fn visit_in(&mut self, inputs: &Inputs, time: u64, address: u32, last: u64) -> Option<u64>
         requires of { AreOf {pages = PAGES} {span = SPAN} inputs.now.image inputs.now.log self.old }
         requires stands { self.old.at ≡ Some time }
         requires before { time ≤ last }
@@ -197,13 +191,7 @@ impl<const PAGES: u32, const SPAN: u32> Runs<PAGES, SPAN> {
     }
 
     // Goes on from a position to the next one at which the PC holds an address, if there is one up to a last one.
-    fn visit(
-        &mut self,
-        inputs: &Inputs,
-        position: u64,
-        address: u32,
-        last: u64,
-    ) -> Option<u64>
+    fn visit(&mut self, inputs: &Inputs, position: u64, address: u32, last: u64) -> Option<u64>
         requires of { AreOf {pages = PAGES} {span = SPAN} inputs.now.image inputs.now.log self.old }
         requires stands { self.old.at ≡ Some position }
         requires before { position ≤ last }

@@ -99,7 +99,7 @@ impl<const PAGES: u32, const SPAN: u32> Runs<PAGES, SPAN> {
         let events = inputs
             .log
             .window(index * SPAN as u64, (index + 1) * SPAN as u64);
-        let differing = self.differing.pages();
+        let differing = &self.differing;
         if index > 0 && self.kept.nearly_next(index - 1, start, events, differing) {
             return true;
         }

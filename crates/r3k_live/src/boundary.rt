@@ -6,7 +6,7 @@ ghost use Rattle.r3k_word.specs.declared.layout.TheConstants.{MAX_RAM_PAGES};
 ghost use Rattle.r3k_pages.specs.Pages.{SameOutside, overlaid};
 
 use r3k_machine::{Core, KeptCore};
-use r3k_pages::Snapshot;
+use r3k_pages::{PageMarks, Snapshot};
 use std::alloc::{AllocError, Global};
 use std::marker::Model;
 use std::rc::Rc;
@@ -27,11 +27,12 @@ impl<const PAGES: u32> Model for Boundary<PAGES> {
 }
 
 impl<const PAGES: u32> Boundary<PAGES> {
-    // A core and words.
+    // A core and words. It shares nothing, and the set says nothing.
     pub(crate) fn new(
         alloc: Global,
         core: &Core,
         words: &[u32],
+        none: &PageMarks<PAGES>,
     ) -> Result<Rc<Boundary<PAGES>>, AllocError>
         requires pages { PAGES ≤ MAX_RAM_PAGES }
         requires whole { length words.now ≡ word_count_of PAGES }
@@ -39,7 +40,7 @@ impl<const PAGES: u32> Boundary<PAGES> {
     {
         let boundary = Boundary {
             core: core.keep(alloc, None)?,
-            memory: Snapshot::capture(alloc, words, None, &[])?,
+            memory: Snapshot::capture(alloc, words, None, none)?,
         };
         Rc::new(alloc, boundary).map_err(|_| AllocError)
     }
@@ -51,7 +52,7 @@ impl<const PAGES: u32> Boundary<PAGES> {
         alloc: Global,
         core: &Core,
         words: &[u32],
-        changed: &[u32],
+        changed: &PageMarks<PAGES>,
     ) -> Result<Rc<Boundary<PAGES>>, AllocError>
         requires pages { PAGES ≤ MAX_RAM_PAGES }
         requires whole { length words.now ≡ word_count_of PAGES }
@@ -101,7 +102,7 @@ impl<const PAGES: u32> Boundary<PAGES> {
     pub fn overlay(
         &self,
         alloc: Global,
-        pages: &[u32],
+        pages: &PageMarks<PAGES>,
         other: &Boundary<PAGES>,
     ) -> Result<Boundary<PAGES>, AllocError>
         ensures { IfOk result (λ boundary. boundary ≡ record self.now { words = overlaid pages.now self.now.words other.now.words }) }

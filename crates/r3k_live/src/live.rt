@@ -65,13 +65,14 @@ impl<const PAGES: u32> Live<PAGES> {
     {
         let core = Core::reset(alloc, image)?;
         let memory = FlatMemory::<PAGES>::boot(alloc, image)?;
-        let base = Boundary::new(alloc, &core, memory.words())?;
+        let changed = PageMarks::new(alloc)?;
+        let base = Boundary::new(alloc, &core, memory.words(), &changed)?;
         Ok(Live {
             core,
             memory,
             steps: 0,
             base,
-            changed: PageMarks::new(alloc)?,
+            changed,
         })
     }
 
@@ -176,7 +177,7 @@ impl<const PAGES: u32> Live<PAGES> {
         ensures same { self.new ≡ self.old }
     {
         let words = self.memory.words();
-        let kept = self.base.after(alloc, &self.core, words, self.changed.pages())?;
+        let kept = self.base.after(alloc, &self.core, words, &self.changed)?;
         self.base = kept.clone()?;
         self.changed.clear();
         Ok(kept)

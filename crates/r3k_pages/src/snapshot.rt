@@ -1,6 +1,6 @@
 //! A snapshot: the words of RAM and ROM at a time.
 
-ghost use Rattle.std.specs.Prelude.{◌≡◌, ◌+◌, ◌*◌, ◌<◌, ◌≤◌, ◌↔◌, ℕ, All, IfOk, IfSome, IsFalse, IsTrue, [], length, map, slice_index, slice_index_or, slice_set};
+ghost use Rattle.std.specs.Prelude.{◌≡◌, ◌+◌, ◌*◌, ◌<◌, ◌≤◌, ◌↔◌, ℕ, IfOk, IfSome, IsFalse, IsTrue, [], length, map, slice_index, slice_index_or, slice_set};
 ghost use Rattle.r3k_word.specs.Layout.{page_of_place, word_count_of};
 ghost use Rattle.r3k_word.specs.declared.layout.TheConstants.{MAX_RAM_PAGES, PAGE_WORDS};
 ghost use Rattle.r3k_pages.specs.Groups.{IsGroupOf, IsPageOf, group_count_of};
@@ -54,7 +54,7 @@ impl<const PAGES: u32> Snapshot<PAGES> {
         alloc: Global,
         words: &[u32],
         previous: Option<&Snapshot<PAGES>>,
-        dirty: &[u32],
+        dirty: &PageMarks<PAGES>,
     ) -> Result<Snapshot<PAGES>, AllocError>
         requires pages { PAGES ≤ MAX_RAM_PAGES }
         requires whole { length words.now ≡ word_count_of PAGES }
@@ -92,7 +92,7 @@ impl<const PAGES: u32> Snapshot<PAGES> {
     pub fn overlay(
         &self,
         alloc: Global,
-        pages: &[u32],
+        pages: &PageMarks<PAGES>,
         other: &Snapshot<PAGES>,
     ) -> Result<Snapshot<PAGES>, AllocError>
         ensures { IfOk result (λ s. s ≡ overlaid pages.now self.now other.now) }
@@ -129,15 +129,14 @@ impl<const PAGES: u32> Snapshot<PAGES> {
     }
 
     /// Whether both have the same words, where those outside a set of pages, the differing ones, are the same.
-    pub fn same_words(&self, other: &Snapshot<PAGES>, differing: &[u32]) -> bool
-        requires pages { All (λ page. page < page_count_of PAGES) differing.now }
-        requires same { SameOutside differing.now self.now other.now }
+    pub fn same_words(&self, other: &Snapshot<PAGES>, differing: &PageMarks<PAGES>) -> bool
+        requires { SameOutside differing.now self.now other.now }
         ensures { IsTrue result ↔ (self.now ≡ other.now) }
     {
         // The groups are read, so that their number is known here.
         let _groups = &self.groups;
         let _others = &other.groups;
-        for page in differing {
+        for page in differing.pages() {
             if !self.same_page(*page, other) {
                 return false;
             }
@@ -215,7 +214,7 @@ impl<const PAGES: u32> Snapshot<PAGES> {
     fn overlaid_group(
         &self,
         alloc: Global,
-        pages: &[u32],
+        pages: &PageMarks<PAGES>,
         other: &Snapshot<PAGES>,
         group: usize,
     ) -> Result<Rc<Group>, AllocError>
