@@ -33,11 +33,27 @@ fn filled<const PAGES: u32>(alloc: Global) -> Result<Vec<u32>, AllocError>
     Ok(words)
 }
 
+// A set of pages.
+fn set_of<const PAGES: u32>(
+    rt: &impl Abort,
+    alloc: Global,
+    pages: &[u32],
+) -> Result<PageMarks<PAGES>, AllocError>
+    requires { PAGES ≤ MAX_RAM_PAGES }
+{
+    let mut set = PageMarks::new(alloc)?;
+    for page in pages {
+        assert!(rt; *page < PAGES + ROM_PAGES);
+        set.mark(*page);
+    }
+    Ok(set)
+}
+
 // Turns all bits of the word at a place of a page that is in a set: what is the same outside the set stays so.
 fn turn<const PAGES: u32>(
     rt: &impl Abort,
     earlier: &Snapshot<PAGES>,
-    set: &[u32],
+    set: &PageMarks<PAGES>,
     words: &mut Vec<u32>,
     place: usize,
 )
@@ -47,7 +63,7 @@ fn turn<const PAGES: u32>(
 {
     let page = page_of(place);
     assert!(rt; place < words.len());
-    assert!(rt; set.iter().any(|other| *other as usize == page));
+    assert!(rt; page < (PAGES + ROM_PAGES) as usize && set.holds(page as u32));
     page_laws();
     words[place] = !words[place];
 }
@@ -58,7 +74,7 @@ fn after<const PAGES: u32>(
     alloc: Global,
     words: &mut Vec<u32>,
     earlier: &Snapshot<PAGES>,
-    dirty: &[u32],
+    dirty: &PageMarks<PAGES>,
 ) -> Result<Snapshot<PAGES>, AllocError>
     requires pages { PAGES ≤ MAX_RAM_PAGES }
     requires whole { length words.old.items ≡ word_count_of PAGES }
@@ -66,7 +82,7 @@ fn after<const PAGES: u32>(
     ensures snapshot { IfOk result (λ snapshot. snapshot ≡ words.new.items) }
     ensures whole { length words.new.items ≡ word_count_of PAGES }
 {
-    for page in dirty {
+    for page in dirty.pages() {
         let first = *page as usize * PAGE_WORDS as usize;
         turn(rt, earlier, dirty, words, first);
         turn(rt, earlier, dirty, words, first + PAGE_WORDS as usize - 1);
@@ -79,7 +95,7 @@ fn again<const PAGES: u32>(
     alloc: Global,
     words: &[u32],
     earlier: &Snapshot<PAGES>,
-    set: &[u32],
+    set: &PageMarks<PAGES>,
 ) -> Result<Snapshot<PAGES>, AllocError>
     requires pages { PAGES ≤ MAX_RAM_PAGES }
     requires whole { length words.now ≡ word_count_of PAGES }
@@ -127,11 +143,13 @@ fn kept<const PAGES: u32>(rt: &impl Abort, alloc: Global) -> Result<(), Fail>
 {
     let mut words = filled::<PAGES>(alloc)?;
     let before = words.clone()?;
-    let snapshot = Snapshot::<PAGES>::capture(alloc, &words, None, &[])?;
+    let none = PageMarks::new(alloc)?;
+    let snapshot = Snapshot::<PAGES>::capture(alloc, &words, None, &none)?;
     holds(rt, &snapshot, &[]);
     words.fill(7);
     holds(rt, &snapshot, &[]);
-    snapshot.copy_to(&mut words);
+    let sevens = Snapshot::<PAGES>::capture(alloc, &words, None, &none)?;
+    snapshot.copy_to(&mut words, &sevens, &none);
     assert!(rt; words == before);
     Ok(())
 }
@@ -142,20 +160,22 @@ fn changed<const PAGES: u32>(rt: &impl Abort, alloc: Global, dirty: &[u32]) -> R
 {
     let mut words = filled::<PAGES>(alloc)?;
     let before = words.clone()?;
-    let earlier = Snapshot::<PAGES>::capture(alloc, &words, None, &[])?;
-    let later = after(rt, alloc, &mut words, &earlier, dirty)?;
+    let none = PageMarks::new(alloc)?;
+    let set = set_of(rt, alloc, dirty)?;
+    let earlier = Snapshot::<PAGES>::capture(alloc, &words, None, &none)?;
+    let later = after(rt, alloc, &mut words, &earlier, &set)?;
     holds(rt, &earlier, &[]);
     holds(rt, &later, dirty);
     differ_in(rt, &earlier, &later, dirty);
     // What is turned twice is as it was, and no page stands for another one.
     let turned = words.clone()?;
-    let back = after(rt, alloc, &mut words, &later, dirty)?;
+    let back = after(rt, alloc, &mut words, &later, &set)?;
     assert!(rt; words == before);
     differ_in(rt, &earlier, &back, &[]);
     differ_in(rt, &later, &back, dirty);
-    later.copy_to(&mut words);
+    later.copy_to(&mut words, &back, &none);
     assert!(rt; words == turned);
-    back.copy_to(&mut words);
+    back.copy_to(&mut words, &later, &none);
     assert!(rt; words == before);
     Ok(())
 }
@@ -197,13 +217,14 @@ fn many_pages_change(rt: HostRuntime) -> Result<(), Fail> {
 // A page that is handed over as changed, but did not, is the same; and so is all memory.
 #[test]
 fn set_that_is_too_large(rt: HostRuntime) -> Result<(), Fail> {
+    let none = PageMarks::new(rt.alloc())?;
     let words = filled::<16>(rt.alloc())?;
-    let earlier = Snapshot::<16>::capture(rt.alloc(), &words, None, &[])?;
-    let later = again(rt.alloc(), &words, &earlier, &[5, 40])?;
+    let earlier = Snapshot::<16>::capture(rt.alloc(), &words, None, &none)?;
+    let later = again(rt.alloc(), &words, &earlier, &set_of(&rt, rt.alloc(), &[5, 40])?)?;
     holds(&rt, &later, &[]);
     differ_in(&rt, &earlier, &later, &[]);
     // Without an earlier one the set says nothing.
-    let alone = Snapshot::<16>::capture(rt.alloc(), &words, None, &[5])?;
+    let alone = Snapshot::<16>::capture(rt.alloc(), &words, None, &set_of(&rt, rt.alloc(), &[5])?)?;
     holds(&rt, &alone, &[]);
     Ok(())
 }
@@ -211,10 +232,11 @@ fn set_that_is_too_large(rt: HostRuntime) -> Result<(), Fail> {
 // Pages of two spans, one of them in both: each snapshot stands for its own time.
 #[test]
 fn snapshots_one_behind_another(rt: HostRuntime) -> Result<(), Fail> {
+    let none = PageMarks::new(rt.alloc())?;
     let mut words = filled::<16>(rt.alloc())?;
-    let first = Snapshot::<16>::capture(rt.alloc(), &words, None, &[])?;
-    let second = after(&rt, rt.alloc(), &mut words, &first, &[3, 70])?;
-    let third = after(&rt, rt.alloc(), &mut words, &second, &[3, 4, 33])?;
+    let first = Snapshot::<16>::capture(rt.alloc(), &words, None, &none)?;
+    let second = after(&rt, rt.alloc(), &mut words, &first, &set_of(&rt, rt.alloc(), &[3, 70])?)?;
+    let third = after(&rt, rt.alloc(), &mut words, &second, &set_of(&rt, rt.alloc(), &[3, 4, 33])?)?;
     drop(first);
     differ_in(&rt, &second, &third, &[3, 4, 33]);
     holds(&rt, &second, &[3, 70]);
@@ -227,8 +249,9 @@ fn snapshots_one_behind_another(rt: HostRuntime) -> Result<(), Fail> {
 // One word of a snapshot is set, and the snapshot that it was is as before.
 #[test]
 fn one_word_is_set(rt: HostRuntime) -> Result<(), Fail> {
+    let none = PageMarks::new(rt.alloc())?;
     let words = filled::<16>(rt.alloc())?;
-    let snapshot = Snapshot::<16>::capture(rt.alloc(), &words, None, &[])?;
+    let snapshot = Snapshot::<16>::capture(rt.alloc(), &words, None, &none)?;
     for place in [0, 1023, 1024, 33 * 1024 + 5, 80 * 1024 - 1] {
         let set = snapshot.with_word(rt.alloc(), place, 7)?;
         differ_in(&rt, &snapshot, &set, &[page_of(place) as u32]);
@@ -243,19 +266,20 @@ fn one_word_is_set(rt: HostRuntime) -> Result<(), Fail> {
 // Of pages that all differ the named ones are taken from the other one.
 #[test]
 fn pages_of_another(rt: HostRuntime) -> Result<(), Fail> {
+    let empty = PageMarks::new(rt.alloc())?;
     let mut words = filled::<16>(rt.alloc())?;
-    let own = Snapshot::<16>::capture(rt.alloc(), &words, None, &[])?;
+    let own = Snapshot::<16>::capture(rt.alloc(), &words, None, &empty)?;
     let all = [0, 1, 15, 16, 31, 32, 63, 64, 79];
-    let other = after(&rt, rt.alloc(), &mut words, &own, &all)?;
-    let none = own.overlay(rt.alloc(), &[], &other)?;
+    let other = after(&rt, rt.alloc(), &mut words, &own, &set_of(&rt, rt.alloc(), &all)?)?;
+    let none = own.overlay(rt.alloc(), &empty, &other)?;
     holds(&rt, &none, &[]);
     for page in all {
-        let both = own.overlay(rt.alloc(), &[page], &other)?;
+        let both = own.overlay(rt.alloc(), &set_of(&rt, rt.alloc(), &[page])?, &other)?;
         holds(&rt, &both, &[page]);
-        let back = both.overlay(rt.alloc(), &[5, page], &own)?;
+        let back = both.overlay(rt.alloc(), &set_of(&rt, rt.alloc(), &[5, page])?, &own)?;
         holds(&rt, &back, &[]);
     }
-    let both = own.overlay(rt.alloc(), &[1, 16, 31, 79], &other)?;
+    let both = own.overlay(rt.alloc(), &set_of(&rt, rt.alloc(), &[1, 16, 31, 79])?, &other)?;
     holds(&rt, &both, &[1, 16, 31, 79]);
     holds(&rt, &own, &[]);
     holds(&rt, &other, &all);
@@ -276,14 +300,15 @@ fn memory_of(alloc: Global, image: &Image) -> Result<Vec<u32>, AllocError>
 // The first page of ROM of the echo program, with another word in it.
 #[test]
 fn page_of_the_echo_program(rt: HostRuntime) -> Result<(), Fail> {
+    let none = PageMarks::new(rt.alloc())?;
     let mut image = assemble(rt.alloc(), ECHO.as_bytes())?;
     let words = memory_of(rt.alloc(), &image)?;
-    let own = Snapshot::<16>::capture(rt.alloc(), &words, None, &[])?;
+    let own = Snapshot::<16>::capture(rt.alloc(), &words, None, &none)?;
     let patched = image.patch(0x1FC0_0010, 0x2405_0011).is_ok();
     same(&rt, &patched, &true);
     let words = memory_of(rt.alloc(), &image)?;
-    let other = Snapshot::<16>::capture(rt.alloc(), &words, None, &[])?;
-    let both = own.overlay(rt.alloc(), &[16], &other)?;
+    let other = Snapshot::<16>::capture(rt.alloc(), &words, None, &none)?;
+    let both = own.overlay(rt.alloc(), &set_of(&rt, rt.alloc(), &[16])?, &other)?;
     same(&rt, &own.word(16 * 1024 + 4), &0x2405_0001);
     same(&rt, &both.word(16 * 1024 + 4), &0x2405_0011);
     differ_in(&rt, &own, &both, &[16]);
@@ -302,6 +327,33 @@ fn marked_pages(rt: HostRuntime) -> Result<(), Fail> {
     assert!(rt; marks.pages().is_empty());
     marks.add(&[79]);
     assert!(rt; marks.pages() == [79].as_slice());
+    marks.mark(5);
+    marks.mark(79);
+    assert!(rt; marks.pages() == [79, 5].as_slice());
+    assert!(rt; marks.holds(5) && !marks.holds(6) && !marks.holds(80));
+    assert!(rt; marks.ascending(rt.alloc())?.as_slice() == [5, 79].as_slice());
+    Ok(())
+}
+
+// A page that is blank in both snapshots is brought back where it changed, and one that is blank in one of them always.
+#[test]
+fn blank_pages(rt: HostRuntime) -> Result<(), Fail> {
+    let none = PageMarks::new(rt.alloc())?;
+    let set = set_of(&rt, rt.alloc(), &[5, 9])?;
+    let mut words = vec![in rt.alloc(); 0; word_count(16)]?;
+    let blank = Snapshot::<16>::capture(rt.alloc(), &words, None, &none)?;
+    turn(&rt, &blank, &set, &mut words, 5 * 1024 + 7);
+    let other = Snapshot::<16>::capture(rt.alloc(), &words, Some(&blank), &set)?;
+    differ_in(&rt, &blank, &other, &[5]);
+    blank.copy_to(&mut words, &other, &none);
+    assert!(rt; words.iter().all(|word| *word == 0));
+    other.copy_to(&mut words, &blank, &none);
+    same(&rt, &words[5 * 1024 + 7], &0xFFFF_FFFF);
+    turn(&rt, &other, &set, &mut words, 9 * 1024);
+    same(&rt, &words[9 * 1024], &0xFFFF_FFFF);
+    other.copy_to(&mut words, &other, &set);
+    same(&rt, &words[9 * 1024], &0);
+    same(&rt, &words[5 * 1024 + 7], &0xFFFF_FFFF);
     Ok(())
 }
 
@@ -311,10 +363,13 @@ fn refused_memory(rt: HostRuntime) -> Result<(), Fail> {
     let Ok(words) = filled::<16>(rt.alloc()) else {
         return Ok(());
     };
-    let Ok(earlier) = Snapshot::<16>::capture(rt.alloc(), &words, None, &[]) else {
+    let Ok(set) = set_of(&rt, rt.alloc(), &[0, 79]) else {
         return Ok(());
     };
-    if let Ok(later) = again(rt.alloc(), &words, &earlier, &[0, 79]) {
+    let Ok(earlier) = Snapshot::<16>::capture(rt.alloc(), &words, None, &set) else {
+        return Ok(());
+    };
+    if let Ok(later) = again(rt.alloc(), &words, &earlier, &set) {
         holds(&rt, &later, &[]);
     }
     holds(&rt, &earlier, &[]);

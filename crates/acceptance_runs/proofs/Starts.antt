@@ -12,14 +12,13 @@ pub same_start : (o : Option Span) (start : State) (set words : List ℕ) → If
 same_start None start set words same outside = tt
 same_start (Some s) start set words same outside = subst (λ (state : State). SameOutside set state.words words) (sym same) outside
 
--- outside the word's page it has the same words
-pub other_word : (start other : State) (page place word : ℕ) → ((set words : List ℕ) (place word : ℕ) → IsTrue (holds set (page_of_place place))
-    → SameOutside set words (slice_set words place word)) → page ≡ page_of_place place → other ≡ record start { words = slice_set start.words place word }
-    → SameOutside (page ∷ []) start.words other.words
-other_word start other page place word stored here is =
-    subst (λ (state : State). SameOutside (page ∷ []) start.words state.words) (sym is)
-    (stored (page ∷ []) start.words place word (ap (λ (found : Bool). found || false) (eq-eqb page (page_of_place place) here)))
+-- outside a set with the word's page it has the same words
+pub other_word : (start other : State) (set : List ℕ) (place word : ℕ) → ((set words : List ℕ) (place word : ℕ) → IsTrue (holds set (page_of_place place))
+    → SameOutside set words (slice_set words place word)) → IsTrue (holds set (page_of_place place)) → other ≡ record start { words = slice_set start.words place word }
+    → SameOutside set start.words other.words
+other_word start other set place word stored held is =
+    subst (λ (state : State). SameOutside set start.words state.words) (sym is) (stored set start.words place word held)
 
 -- a record that starts where a state is has its words
-pub same_words : (o : Option Span) (start : State) → IfSome o (λ s. s.start ≡ start) → IfSome o (λ s. SameOutside [] s.start.words start.words)
-same_words o start same = same_start o start [] start.words same (λ place outside. refl)
+pub same_words : (o : Option Span) (start : State) (set : List ℕ) → IfSome o (λ s. s.start ≡ start) → IfSome o (λ s. SameOutside set s.start.words start.words)
+same_words o start set same = same_start o start set start.words same (λ place outside. refl)

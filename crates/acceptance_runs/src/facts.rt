@@ -1,17 +1,17 @@
 //! The record of a span and the records that are kept, by direct calls: values by hand. In the echo program turn i of the loop
 //! begins at step 9 + 11 * i, stores RBUF in its third step, and for a byte 0 in its seventh, and sends it in its ninth.
-ghost use Rattle.std.specs.Prelude.{◌≡◌, [], ◌∷◌, ◌≤◌, IfOk, IfSome};
+ghost use Rattle.std.specs.Prelude.{◌≡◌, ◌<◌, ◌≤◌, ℕ, All, IfOk, IfSome, List};
 ghost use Rattle.r3k_word.specs.declared.layout.TheConstants.{MAX_RAM_PAGES};
-ghost use Rattle.r3k_pages.specs.Pages.{SameOutside};
+ghost use Rattle.r3k_pages.specs.Pages.{SameOutside, page_count_of};
 ghost use Rattle.checkpoints.specs.Kept.{span_at};
 
-use crate::running::{FIRST, LOOP, Running, SECOND, Then, echo, plays, record_of, shared};
+use crate::running::{FIRST, LOOP, Running, SECOND, Then, echo, plays, record_of};
 use crate::same::{same, same_at};
 use checkpoints::Kept;
 use input_log::{Event, Kind, Log};
 use r3k_asm::assemble;
 use r3k_live::{Boundary, counted};
-use r3k_pages::page_laws;
+use r3k_pages::{PageMarks, page_laws};
 use r3k_word::layout::{ROM_PAGES, page_of, word_count};
 use span_fact::Fact;
 use std::alloc::{AllocError, Global};
@@ -247,16 +247,15 @@ fn with_word<const PAGES: u32>(
     rt: &impl Abort,
     alloc: Global,
     start: &Boundary<PAGES>,
-    page: u32,
+    set: &PageMarks<PAGES>,
     place: usize,
     word: u32,
 ) -> Result<Boundary<PAGES>, AllocError>
     requires { PAGES ≤ MAX_RAM_PAGES }
-    ensures { IfOk result (λ other. SameOutside (page ∷ []) start.now.words other.words) }
+    ensures { IfOk result (λ other. SameOutside set.now start.now.words other.words) }
 {
-    let of_place = page_of(place);
-    assert!(rt; page as usize == of_place);
     assert!(rt; place < word_count(PAGES));
+    assert!(rt; set.holds(page_of(place) as u32));
     page_laws();
     let other = start.with_word(alloc, place, word)?;
     Ok(other)
@@ -276,9 +275,10 @@ fn taken_with_word<const PAGES: u32, const SPAN: u32>(
     requires pages { PAGES ≤ MAX_RAM_PAGES }
     requires same { IfSome (span_at kept.now 0) (λ s. s.start ≡ start.now) }
 {
-    let set = [at.0];
+    let mut set = PageMarks::new(alloc)?;
     assert!(rt; at.0 < PAGES + ROM_PAGES);
-    let other = with_word(rt, alloc, start, at.0, at.1, word)?;
+    set.mark(at.0);
+    let other = with_word(rt, alloc, start, &set, at.1, word)?;
     Ok((
         kept.applies(0, &other, &[], None),
         kept.applies(0, &other, &[], Some(&set)),
@@ -299,7 +299,7 @@ fn one_other_word_applies<const PAGES: u32, const SPAN: u32>(
     requires { PAGES ≤ MAX_RAM_PAGES }
 {
     let mut machine = Running::<PAGES, SPAN>::boot(alloc)?;
-    let start = shared(alloc, &machine)?;
+    let start = machine.live.keep(alloc)?;
     let fact = record_of(alloc, &mut machine, &start, 0, &Log::new(alloc))?;
     let mut kept = Kept::<PAGES, SPAN>::new(alloc);
     kept.put(fact)?;
@@ -345,20 +345,36 @@ fn nearly_and_not_applies<const PAGES: u32, const SPAN: u32>(
     requires { PAGES ≤ MAX_RAM_PAGES }
 {
     let mut machine = Running::<PAGES, SPAN>::boot(alloc)?;
-    let start = shared(alloc, &machine)?;
+    let start = machine.live.keep(alloc)?;
     let fact = record_of(alloc, &mut machine, &start, 0, &Log::new(alloc))?;
+    let none = PageMarks::new(alloc)?;
     let mut kept = Kept::<PAGES, SPAN>::new(alloc);
-    assert!(rt; !is_near(&kept, 0, &start, &[]));
+    assert!(rt; !is_near(&kept, 0, &start, &[], &none));
     kept.put(fact)?;
-    assert!(rt; is_near(&kept, 0, &start, &[]));
-    assert!(rt; !is_near(&kept, 1, &start, &[]));
-    assert!(rt; !is_near(&kept, 0, &start, &[EARLY]));
+    assert!(rt; is_near(&kept, 0, &start, &[], &none));
+    assert!(rt; !is_near(&kept, 1, &start, &[], &none));
+    assert!(rt; !is_near(&kept, 0, &start, &[EARLY], &none));
     // Its end has the same words, and another core.
     let Some(fact) = kept.fact(0) else {
         return Err(AllocError.into());
     };
-    assert!(rt; !kept.nearly(0, fact.end(), &[], fact.dirty()));
+    let dirty = marks_of(alloc, fact.dirty())?;
+    assert!(rt; !kept.nearly(0, fact.end(), &[], &dirty));
     Ok(())
+}
+
+// A set of pages, outside which is the same what is so outside the list.
+fn marks_of<const PAGES: u32>(
+    alloc: Global,
+    pages: &[u32],
+) -> Result<PageMarks<PAGES>, AllocError>
+    requires few { PAGES ≤ MAX_RAM_PAGES }
+    requires within { All (λ page. page < page_count_of PAGES) pages.now }
+    ensures { IfOk result (λ set. (a b : List ℕ) → SameOutside pages.now a b → SameOutside set a b) }
+{
+    let mut set = PageMarks::new(alloc)?;
+    set.add(pages);
+    Ok(set)
 }
 
 // Whether the record of a span nearly applies, where its start is this one.
@@ -368,10 +384,11 @@ fn is_near<const PAGES: u32, const SPAN: u32>(
     index: u64,
     start: &Boundary<PAGES>,
     events: &[Event],
+    none: &PageMarks<PAGES>,
 ) -> bool
     requires { IfSome (span_at kept.now index) (λ s. s.start ≡ start.now) }
 {
-    kept.nearly(index, start, events, &[])
+    kept.nearly(index, start, events, none)
 }
 
 /// Two spans one behind the other are tied, until either is put anew.
@@ -387,7 +404,7 @@ fn tied_records_continue<const PAGES: u32, const SPAN: u32>(
     requires { PAGES ≤ MAX_RAM_PAGES }
 {
     let mut machine = Running::<PAGES, SPAN>::boot(alloc)?;
-    let start = shared(alloc, &machine)?;
+    let start = machine.live.keep(alloc)?;
     let mut kept = Kept::<PAGES, SPAN>::new(alloc);
     for later in [false, true] {
         put_and_tie(rt, alloc, &mut machine, &start, &mut kept)?;
@@ -542,7 +559,7 @@ fn refused_memory_changes_nothing<const PAGES: u32, const SPAN: u32>(
     requires { PAGES ≤ MAX_RAM_PAGES }
 {
     let mut machine = Running::<PAGES, SPAN>::boot(alloc)?;
-    let start = shared(alloc, &machine)?;
+    let start = machine.live.keep(alloc)?;
     let fact = first_or_again(rt, alloc, &mut machine, &start)?;
     tells_the_first_span(rt, &fact);
     let mut kept = Kept::<PAGES, SPAN>::new(alloc);

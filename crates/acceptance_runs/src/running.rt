@@ -334,7 +334,7 @@ impl<const PAGES: u32, const SPAN: u32> Running<PAGES, SPAN> {
 
     /// Keeps where it stands.
     pub fn keep(&mut self, alloc: Global) -> Result<(), AllocError> {
-        let place = shared(alloc, self)?;
+        let place = self.live.keep(alloc)?;
         self.places.push(place)?;
         Ok(())
     }
@@ -349,8 +349,7 @@ impl<const PAGES: u32, const SPAN: u32> Running<PAGES, SPAN> {
     fn keep_reset(&mut self, alloc: Global) -> Result<(), AllocError>
         requires { PAGES ≤ MAX_RAM_PAGES }
     {
-        let reset = Live::<PAGES>::new(alloc, &self.image)?.keep(alloc, None, &[])?;
-        let reset = Rc::new(alloc, reset).map_err(|_| AllocError)?;
+        let reset = Live::<PAGES>::new(alloc, &self.image)?.keep(alloc)?;
         self.places.push(reset)?;
         Ok(())
     }
@@ -358,7 +357,7 @@ impl<const PAGES: u32, const SPAN: u32> Running<PAGES, SPAN> {
     /// Stands at a place again.
     pub fn load(&mut self, rt: &impl Abort, place: usize) -> Result<(), Fail> {
         let place = self.place(rt, place)?;
-        self.live.load(&place);
+        self.live.load(place);
         Ok(())
     }
 
@@ -541,15 +540,6 @@ fn log_of(alloc: Global, events: &[Event]) -> Result<Log, Fail> {
     Ok(log)
 }
 
-/// Where a machine stands, kept for several spans.
-pub fn shared<const PAGES: u32, const SPAN: u32>(
-    alloc: Global,
-    machine: &Running<PAGES, SPAN>,
-) -> Result<Rc<Boundary<PAGES>>, AllocError> {
-    let place = machine.live.keep(alloc, None, &[])?;
-    Rc::new(alloc, place).map_err(|_| AllocError)
-}
-
 /// The record of the span of a number from a boundary on, with the events of its times.
 pub fn record_of<const PAGES: u32, const SPAN: u32>(
     alloc: Global,
@@ -564,7 +554,7 @@ pub fn record_of<const PAGES: u32, const SPAN: u32>(
     ensures start { IfOk result (λ fact. fact.start ≡ start.now.value) }
 {
     let start = start.clone()?;
-    machine.live.load(&start);
+    machine.live.load(start.clone()?);
     let events = log.window(index * SPAN as u64, (index + 1) * SPAN as u64);
     Fact::make(
         alloc,

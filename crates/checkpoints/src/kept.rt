@@ -10,7 +10,7 @@ ghost use Rattle.checkpoints.specs.Kept.{Follows, IsNear, NearlyApplies, SameOn,
 
 use input_log::{Event, same_events};
 use r3k_live::Boundary;
-use r3k_pages::Snapshot;
+use r3k_pages::{PageMarks, Snapshot};
 use span_fact::Fact;
 use std::alloc::{AllocError, Global};
 use std::marker::Model;
@@ -66,10 +66,9 @@ impl<const PAGES: u32, const SPAN: u32> Kept<PAGES, SPAN> {
         index: u64,
         start: &Boundary<PAGES>,
         events: &[Event],
-        differing: Option<&[u32]>,
+        differing: Option<&PageMarks<PAGES>>,
     ) -> bool
-        requires pages { IfSome differing (λ pages. All (λ page. page < page_count_of PAGES) pages.now) }
-        requires same { IfSome differing (λ pages. IfSome (span_at self.now index) (λ s. SameOutside pages.now s.start.words start.now.words)) }
+        requires { IfSome differing (λ pages. IfSome (span_at self.now index) (λ s. SameOutside pages.now s.start.words start.now.words)) }
         ensures { IsTrue result ↔ (span_at self.now index ≡ Some (record { index = index; start = start.now; events = events.now })) }
     {
         match self.fact(index) {
@@ -85,7 +84,7 @@ impl<const PAGES: u32, const SPAN: u32> Kept<PAGES, SPAN> {
         index: u64,
         start: &Boundary<PAGES>,
         events: &[Event],
-        differing: &[u32],
+        differing: &PageMarks<PAGES>,
     ) -> bool
         requires { IfSome (span_at self.now index) (λ s. SameOutside differing.now s.start.words start.now.words) }
         ensures { IsTrue result ↔ IsNear PAGES SPAN (span_at self.now index) start.now events.now }
@@ -104,7 +103,7 @@ impl<const PAGES: u32, const SPAN: u32> Kept<PAGES, SPAN> {
         index: u64,
         start: &Boundary<PAGES>,
         events: &[Event],
-        differing: &[u32],
+        differing: &PageMarks<PAGES>,
     ) -> bool
         requires room { index < 2 ^ 64 - 1 }
         requires core { IfSome (span_at self.now index) (λ s. (end_of PAGES SPAN s).core ≡ start.now.core) }
@@ -185,10 +184,9 @@ fn is_span<const PAGES: u32, const SPAN: u32>(
     fact: &Fact<PAGES, SPAN>,
     start: &Boundary<PAGES>,
     events: &[Event],
-    differing: Option<&[u32]>,
+    differing: Option<&PageMarks<PAGES>>,
 ) -> bool
-    requires pages { IfSome differing (λ pages. All (λ page. page < page_count_of PAGES) pages.now) }
-    requires same { IfSome differing (λ pages. SameOutside pages.now fact.now.start.words start.now.words) }
+    requires { IfSome differing (λ pages. SameOutside pages.now fact.now.start.words start.now.words) }
     ensures { IsTrue result ↔ (fact.now ≡ record { index = fact.now.index; start = start.now; events = events.now }) }
 {
     if !has_events_and_core(fact, start, events) {
@@ -218,7 +216,7 @@ fn is_near<const PAGES: u32, const SPAN: u32>(
     fact: &Fact<PAGES, SPAN>,
     start: &Boundary<PAGES>,
     events: &[Event],
-    differing: &[u32],
+    differing: &PageMarks<PAGES>,
 ) -> bool
     requires { SameOutside differing.now fact.now.start.words start.now.words }
     ensures { IsTrue result ↔ NearlyApplies PAGES SPAN fact.now start.now events.now }
@@ -234,7 +232,7 @@ fn is_near_from_core<const PAGES: u32, const SPAN: u32>(
     fact: &Fact<PAGES, SPAN>,
     start: &Boundary<PAGES>,
     events: &[Event],
-    differing: &[u32],
+    differing: &PageMarks<PAGES>,
 ) -> bool
     requires core { fact.now.start.core ≡ start.now.core }
     requires same { SameOutside differing.now fact.now.start.words start.now.words }
@@ -250,7 +248,7 @@ fn is_near_from_core<const PAGES: u32, const SPAN: u32>(
 fn same_touched<const PAGES: u32, const SPAN: u32>(
     fact: &Fact<PAGES, SPAN>,
     start: &Boundary<PAGES>,
-    differing: &[u32],
+    differing: &PageMarks<PAGES>,
 ) -> bool
     requires { SameOutside differing.now fact.now.start.words start.now.words }
     ensures { IsTrue result ↔ SameOn (touched_pages PAGES (steps_of PAGES SPAN fact.now)) fact.now.start.words start.now.words }
@@ -268,7 +266,7 @@ fn same_on<const PAGES: u32>(
     a: &Snapshot<PAGES>,
     b: &Snapshot<PAGES>,
     set: &[u32],
-    differing: &[u32],
+    differing: &PageMarks<PAGES>,
 ) -> bool
     requires pages { All (λ page. page < page_count_of PAGES) set.now }
     requires same { SameOutside differing.now a.now b.now }
@@ -287,13 +285,13 @@ fn same_page<const PAGES: u32>(
     a: &Snapshot<PAGES>,
     b: &Snapshot<PAGES>,
     page: u32,
-    differing: &[u32],
+    differing: &PageMarks<PAGES>,
 ) -> bool
     requires page { page < page_count_of PAGES }
     requires same { SameOutside differing.now a.now b.now }
     ensures { IsTrue result ↔ SamePage page a.now b.now }
 {
-    if !differing.contains(&page) {
+    if !differing.holds(page) {
         return true;
     }
     a.same_page(page, b)
@@ -303,10 +301,9 @@ fn same_page<const PAGES: u32>(
 fn same_words<const PAGES: u32>(
     a: &Snapshot<PAGES>,
     b: &Snapshot<PAGES>,
-    differing: Option<&[u32]>,
+    differing: Option<&PageMarks<PAGES>>,
 ) -> bool
-    requires pages { IfSome differing (λ pages. All (λ page. page < page_count_of PAGES) pages.now) }
-    requires same { IfSome differing (λ pages. SameOutside pages.now a.now b.now) }
+    requires { IfSome differing (λ pages. SameOutside pages.now a.now b.now) }
     ensures { IsTrue result ↔ (a.now ≡ b.now) }
 {
     match differing {

@@ -1,8 +1,6 @@
-//! The machine that runs, and its states at positions inside spans: those that were used last.
+//! States of a run at positions inside spans: those that were used last.
 #![tactic(auto)]
 
 mod landings;
-mod standing;
 
 pub use landings::Landings;
-pub use standing::Standing;

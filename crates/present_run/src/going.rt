@@ -36,7 +36,7 @@ impl<const PAGES: u32, const SPAN: u32> Runs<PAGES, SPAN> {
         let index = position / SPAN as u64;
         self.reach(alloc, inputs, index)?;
         let time = self.stand_in(inputs, index, position, near)?;
-        self.go_on(alloc, inputs, time, position);
+        self.go_on(inputs, time, position);
         Ok(())
     }
 
@@ -99,7 +99,7 @@ impl<const PAGES: u32, const SPAN: u32> Runs<PAGES, SPAN> {
     }
 
     // Goes on to a position, at most a span's steps away. The recorder then holds what these steps told.
-    fn go_on(&mut self, alloc: Global, inputs: &Inputs, time: u64, position: u64)
+    fn go_on(&mut self, inputs: &Inputs, time: u64, position: u64)
         requires of { AreOf {pages = PAGES} {span = SPAN} inputs.now.image inputs.now.log self.old }
         requires stands { self.old.at ≡ Some time }
         requires before { time ≤ position }
@@ -115,7 +115,6 @@ impl<const PAGES: u32, const SPAN: u32> Runs<PAGES, SPAN> {
         self.recorded = None;
         self.recorder.clear();
         self.live.run(
-            alloc,
             time,
             inputs.log.window(time, position),
             (position - time) as u32,
@@ -149,7 +148,7 @@ impl<const PAGES: u32, const SPAN: u32> Runs<PAGES, SPAN> {
             return Ok(index);
         }
         let time = self.stand_at_start(inputs, index)?;
-        self.go_on(alloc, inputs, time, position);
+        self.go_on(inputs, time, position);
         self.recorded = Some(position);
         Ok(index)
     }
@@ -157,14 +156,7 @@ impl<const PAGES: u32, const SPAN: u32> Runs<PAGES, SPAN> {
 
 impl<const PAGES: u32, const SPAN: u32> Runs<PAGES, SPAN> {
     // Goes on to the next position at which the PC holds an address, or to a position, at most a span's steps away.
-    fn visit_in(
-        &mut self,
-        alloc: Global,
-        inputs: &Inputs,
-        time: u64,
-        address: u32,
-        last: u64,
-    ) -> Option<u64>
+    fn visit_in(&mut self, inputs: &Inputs, time: u64, address: u32, last: u64) -> Option<u64>
         requires of { AreOf {pages = PAGES} {span = SPAN} inputs.now.image inputs.now.log self.old }
         requires stands { self.old.at ≡ Some time }
         requires before { time ≤ last }
@@ -180,7 +172,6 @@ impl<const PAGES: u32, const SPAN: u32> Runs<PAGES, SPAN> {
         self.recorded = None;
         self.recorder.clear();
         let found = self.live.visit(
-            alloc,
             time,
             inputs.log.window(time, last),
             (last - time) as u32,
@@ -200,14 +191,7 @@ impl<const PAGES: u32, const SPAN: u32> Runs<PAGES, SPAN> {
     }
 
     // Goes on from a position to the next one at which the PC holds an address, if there is one up to a last one.
-    fn visit(
-        &mut self,
-        alloc: Global,
-        inputs: &Inputs,
-        position: u64,
-        address: u32,
-        last: u64,
-    ) -> Option<u64>
+    fn visit(&mut self, inputs: &Inputs, position: u64, address: u32, last: u64) -> Option<u64>
         requires of { AreOf {pages = PAGES} {span = SPAN} inputs.now.image inputs.now.log self.old }
         requires stands { self.old.at ≡ Some position }
         requires before { position ≤ last }
@@ -222,7 +206,7 @@ impl<const PAGES: u32, const SPAN: u32> Runs<PAGES, SPAN> {
         let mut time = position;
         while time < last {
             let to = last.min(time + SPAN as u64);
-            if let Some(found) = self.visit_in(alloc, inputs, time, address, to) {
+            if let Some(found) = self.visit_in(inputs, time, address, to) {
                 return Some(found);
             }
             time = to;
@@ -253,6 +237,6 @@ impl<const PAGES: u32, const SPAN: u32> Runs<PAGES, SPAN> {
             (holding_of inputs.now.image inputs.now.log self.old) (holding_of inputs.now.image inputs.now.log self.new)) }
     {
         self.stand(alloc, inputs, position, near)?;
-        Ok(self.visit(alloc, inputs, position, address, last))
+        Ok(self.visit(inputs, position, address, last))
     }
 }

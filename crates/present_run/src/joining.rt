@@ -34,20 +34,20 @@ pub(crate) fn carry<const PAGES: u32, const SPAN: u32>(
     let _kept = fact.start();
     let _memory = start.memory();
     differing.remove(fact.touched());
-    end_with(alloc, fact, differing.pages(), start)
+    end_with(alloc, fact, differing, start)
 }
 
 // Where a record ends, with the pages of a set taken from another state.
 fn end_with<const PAGES: u32, const SPAN: u32>(
     alloc: Global,
     fact: &Fact<PAGES, SPAN>,
-    pages: &[u32],
+    pages: &PageMarks<PAGES>,
     other: &Boundary<PAGES>,
 ) -> Result<Rc<Boundary<PAGES>>, AllocError>
     ensures { IfOk result (λ end. end.value ≡
         record (end_of PAGES SPAN fact.now) { words = overlaid pages.now (end_of PAGES SPAN fact.now).words other.now.words }) }
 {
-    if pages.is_empty() {
+    if pages.pages().is_empty() {
         return fact.end().clone();
     }
     let end = fact.end().overlay(alloc, pages, other)?;

@@ -34,8 +34,7 @@ use crate::joining::{
     begin, carry, compare, compare_unless, join_up_to, meets, pass, put_end, share, start_in,
 };
 use checkpoints::Kept;
-use landings::Standing;
-use r3k_live::{Boundary, Recorder};
+use r3k_live::{Boundary, Live, Recorder};
 use r3k_pages::PageMarks;
 use span_fact::Fact;
 use span_index::SpanIndex;
@@ -45,7 +44,7 @@ use std::rc::Rc;
 /// The machine that runs, a recorder of its steps, and the records of spans, of this run and of earlier ones.
 #[derive(Drop)]
 pub struct Runs<const PAGES: u32, const SPAN: u32> {
-    pub live: Standing<PAGES>,
+    pub live: Live<PAGES>,
     pub recorder: Recorder<PAGES, SPAN>,
     pub kept: Kept<PAGES, SPAN>,
     // What the records told, by page and by line.
@@ -76,7 +75,7 @@ impl<const PAGES: u32, const SPAN: u32> Runs<PAGES, SPAN> {
         ensures spans { IfOk result (λ runs. runs.kept.spans ≡ []) }
         ensures steps { IfOk result (λ runs. runs.live.steps ≡ 0) }
     {
-        let mut live = Standing::new(alloc, &inputs.image)?;
+        let mut live = Live::new(alloc, &inputs.image)?;
         let reset = live.keep(alloc)?;
         Ok(Runs {
             live,
@@ -114,7 +113,7 @@ impl<const PAGES: u32, const SPAN: u32> Runs<PAGES, SPAN> {
         let events = inputs
             .log
             .window(index * SPAN as u64, (index + 1) * SPAN as u64);
-        let differing = self.differing.pages();
+        let differing = &self.differing;
         if index > 0 && self.kept.nearly_next(index - 1, start, events, differing) {
             return true;
         }
@@ -328,9 +327,14 @@ impl<const PAGES: u32, const SPAN: u32> Runs<PAGES, SPAN> {
         self.at = None;
         self.recorded = None;
         let events = inputs.log.window(from, to);
-        let fact = self
-            .live
-            .make_record(alloc, &mut self.recorder, start, index, events)?;
+        let fact = Fact::make(
+            alloc,
+            &mut self.live,
+            &mut self.recorder,
+            start,
+            index,
+            events,
+        )?;
         self.at = Some(to);
         Ok(fact)
     }

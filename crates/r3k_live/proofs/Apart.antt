@@ -13,7 +13,7 @@ use Rattle.r3k_machine.specs.Locality.{IsApart, is_page, is_touched, touches}
 use Rattle.r3k_machine.proofs.Within.{pages_within}
 use Rattle.r3k_pages.specs.Pages.{holds, page_count_of}
 use Rattle.r3k_live.specs.Record.{touched_pages}
-use Rattle.r3k_live.proofs.Marks.{holds_where, pages_set}
+use Rattle.r3k_pages.proofs.Ascending.{holds_where, pages_set}
 use Rattle.r3k_live.proofs.Recorded.{any_more}
 
 -- a page past the last one is no page that is told

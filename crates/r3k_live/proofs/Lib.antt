@@ -1,6 +1,5 @@
 pub mod Recorded
 pub mod Going
-pub mod Marks
 pub mod Writers
 pub mod Apart
 pub mod Overlaid

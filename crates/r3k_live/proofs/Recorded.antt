@@ -11,8 +11,10 @@ use Rattle.r3k_machine.specs.Run.{last_writer, later, stores_into}
 use Rattle.r3k_machine.specs.Told.{DifferAt, IsRamWord}
 use Rattle.r3k_machine.proofs.Splits.{writer_split}
 use Rattle.r3k_machine.specs.Locality.{is_page}
-use Rattle.r3k_live.specs.Record.{is_dirty, sent_from, stores_in, with_sent}
-use Rattle.r3k_live.specs.Recording.{kept_step, page_of_store, with_mark, with_writer}
+use Rattle.r3k_pages.specs.Pages.{SameOutside, holds}
+use Rattle.r3k_pages.proofs.Ascending.{none_where}
+use Rattle.r3k_live.specs.Record.{dirty_pages, is_dirty, sent_from, stores_in, with_sent}
+use Rattle.r3k_live.specs.Recording.{Recording, Records, kept_step, page_of_store, with_writer}
 use Rattle.r3k_live.specs.declared.recorder.SentAt.{SentAt}
 
 -- a test of one more element
@@ -41,36 +43,6 @@ sent_more first (other ∷ steps) done =
     ∙ (in_front first other.sent (sent_from (suc first) steps) (with_sent (suc first + length steps) done.sent [])
     ∙ ap (λ (n : ℕ). with_sent first other.sent (sent_from (suc first) steps) ++ with_sent n done.sent [])
     (let e : suc first + length steps ≡ first + suc (length steps) = omega arith in e))
-
--- the marks
-pub mark_more : (marks : List Bool) (marked : Option ℕ) (page : ℕ) → page < length marks
-    → slice_index_or (with_mark marks marked) page false ≡ (slice_index_or marks page false || is_page page marked)
-mark_more marks None page within = sym (or-false (slice_index_or marks page false))
-mark_more marks (Some other) page within =
-    elim (cases_Bool (nat_eq other page)) [
-      | inl here ↦
-          let same : other ≡ page = eqb-true other page here in
-          ap (λ (n : ℕ). slice_index_or (slice_set marks n true) page false) same
-          ∙ (get_or-set_same marks page true false within
-          ∙ sym (ap (λ (b : Bool). slice_index_or marks page false || b) here ∙ or-true (slice_index_or marks page false)))
-      | inr apart ↦
-          get_or-set_other marks other page true false (λ same. true≢false (sym (eq-eqb other page (sym same)) ∙ apart))
-          ∙ sym (ap (λ (b : Bool). slice_index_or marks page false || b) apart ∙ or-false (slice_index_or marks page false))
-    ]
-  where
-    or-true : (a : Bool) → (a || true) ≡ true
-    or-true true = refl
-    or-true false = refl
-
-pub mark_kept : (marks : List Bool) (marked : Option ℕ) → length (with_mark marks marked) ≡ length marks
-mark_kept marks None = refl
-mark_kept marks (Some page) = length-set marks page true
-  where
-    length-set : (xs : List Bool) (i : ℕ) (x : Bool) → length (slice_set xs i x) ≡ length xs
-    length-set [] zero x = refl
-    length-set [] (suc i) x = refl
-    length-set (y ∷ xs) zero x = refl
-    length-set (y ∷ xs) (suc i) x = ap suc (length-set xs i x)
 
 -- the last writers
 pub last_more : (pages place : ℕ) (last : List ℕ) (steps : List Done) (done : Done) → length last ≡ pages * PAGE_WORDS → place < pages * PAGE_WORDS
@@ -120,6 +92,16 @@ stayed steps done first old new differ so_far place clean =
         sym (ap (λ (words : List ℕ). slice_index words place) change.1
         ∙ get_or-set_other old (address / 4) place change.0 0
         (λ same. true≢false (sym (eq-eqb (address / 4096) (page_of_place place) (omega (arith, same))) ∙ clean)))
+
+-- the pages that may have changed, after more steps
+pub widened : (pages : ℕ) (steps : List Done) (r : Recording) (before dirty after : List ℕ) (base old new : List ℕ) → Records pages steps r → dirty ≡ r.dirty
+    → ((page : ℕ) → holds after page ≡ (holds before page || holds dirty page))
+    → SameOutside before base old → SameOutside (dirty_pages pages steps) old new → SameOutside after base new
+widened pages steps r before dirty after base old new recorded same wider so_far stayed place free =
+    let page = page_of_place place in
+    let parts = neither (holds before page) (holds dirty page) (sym (wider page) ∙ free) in
+    let clean : is_dirty steps page ≡ false = sym (recorded.dirty page) ∙ (ap (λ (set : List ℕ). holds set page) (sym same) ∙ parts.1) in
+    so_far place parts.0 ∙ stayed place (none_where pages (is_dirty steps) page clean)
 
 -- no step stores into what is no word of RAM
 pub ram_more : (pages address : ℕ) (steps : List Done) (done : Done) → IfSome done.stored (IsRamWord pages) → ¬ IsRamWord pages address

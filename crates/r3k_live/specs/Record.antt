@@ -1,7 +1,7 @@
 -- What the steps of a run told, taken together (own): the bytes that they sent, the pages that they stored into, and those that
 -- they touched. The last step that stored into a word is told by the last writer.
-use Rattle.std.specs.Prelude.{◌≡◌, ℕ, suc, ◌*◌, ◌/◌, ◌<◌, Bool, false, List, [], ◌∷◌, Option, Some, None, All, Contains, IsSome, filter, map, nat_eq}
-use Rattle.std.specs.List.{list_any, range_with_len}
+use Rattle.std.specs.Prelude.{◌≡◌, ℕ, suc, ◌*◌, ◌/◌, ◌<◌, Bool, false, List, [], ◌∷◌, Option, Some, None, All, Contains, IsSome, map, nat_eq}
+use Rattle.std.specs.List.{list_any}
 use Rattle.std.specs.List.Sorted.{IsStrictlyIncreasing}
 use Rattle.r3k_word.specs.declared.layout.TheConstants.{PAGE_BYTES, PAGE_WORDS}
 use Rattle.dz_serial.specs.declared.write.Sent.{Sent}
@@ -9,7 +9,7 @@ use Rattle.r3k_machine.specs.declared.step.Done.{Done}
 use Rattle.r3k_machine.specs.Run.{last_writer}
 use Rattle.r3k_machine.specs.Told.{IsRamWord}
 use Rattle.r3k_machine.specs.Locality.{is_touched}
-use Rattle.r3k_pages.specs.Pages.{page_count_of}
+use Rattle.r3k_pages.specs.Pages.{pages_where}
 use Rattle.r3k_live.specs.declared.recorder.SentAt.{SentAt}
 use Rattle.r3k_live.specs.declared.recorder.Written.{Written}
 
@@ -31,10 +31,6 @@ stores_in page (Some address) = nat_eq (address / PAGE_BYTES) page
 -- whether steps stored into a page
 abbrev pub is_dirty : List Done → ℕ → Bool
 is_dirty steps page = list_any (λ done. stores_in page done.stored) steps
-
--- the pages for which a test holds, in ascending order
-abbrev pub pages_where : ℕ → (ℕ → Bool) → List ℕ
-pages_where pages test = filter test (range_with_len 0 (page_count_of pages))
 
 -- the pages that steps stored into, and those that they touched
 abbrev pub dirty_pages : ℕ → List Done → List ℕ

@@ -1,11 +1,11 @@
 -- How a recorder keeps what steps told (own).
-use Rattle.std.specs.Prelude.{◌≡◌, ℕ, ◌+◌, ◌*◌, ◌/◌, ◌<◌, ◌≤◌, Bool, true, false, List, length, All, Contains, Option, Some, None, nat_eq, slice_index, slice_index_or, slice_set}
+use Rattle.std.specs.Prelude.{◌≡◌, ℕ, ◌+◌, ◌*◌, ◌/◌, ◌<◌, ◌≤◌, List, length, All, Contains, Option, Some, None, nat_eq, slice_index, slice_set}
 use Rattle.std.specs.List.{IsDistinct}
 use Rattle.r3k_word.specs.declared.layout.TheConstants.{MAX_RAM_PAGES, PAGE_BYTES, PAGE_WORDS}
 use Rattle.r3k_machine.specs.declared.step.Done.{Done}
 use Rattle.r3k_machine.specs.Run.{last_writer}
 use Rattle.r3k_machine.specs.Told.{IsRamWord}
-use Rattle.r3k_pages.specs.Pages.{page_count_of}
+use Rattle.r3k_pages.specs.Pages.{holds}
 use Rattle.r3k_machine.specs.Locality.{is_touched}
 use Rattle.r3k_live.specs.Record.{is_dirty, sent_from}
 use Rattle.r3k_live.specs.declared.recorder.SentAt.{SentAt}
@@ -14,8 +14,8 @@ pub record Recording : Type 0 where
   pub steps : ℕ
   pub last : List ℕ
   pub stored : List ℕ
-  pub dirty : List Bool
-  pub touched : List Bool
+  pub dirty : List ℕ
+  pub touched : List ℕ
   pub sent : List SentAt
 
 -- a step as it is kept with a word: one more than its number, and 0 where there is none
@@ -33,11 +33,6 @@ abbrev pub page_of_store : Option ℕ → Option ℕ
 page_of_store None = None
 page_of_store (Some address) = Some (address / PAGE_BYTES)
 
--- marks with one more, if there is one
-abbrev pub with_mark : List Bool → Option ℕ → List Bool
-with_mark marks None = marks
-with_mark marks (Some page) = slice_set marks page true
-
 -- the places of the words that a step is kept with
 pub record AreStored (last stored : List ℕ) : Type 0 where
   pub within : All (λ place. (place < length last) × (0 < slice_index last place)) stored
@@ -48,8 +43,6 @@ pub record IsRecording (pages span stored_room sent_room : ℕ) (r : Recording) 
   pub few : pages ≤ MAX_RAM_PAGES
   pub steps : r.steps ≤ span
   pub last : length r.last ≡ pages * PAGE_WORDS
-  pub dirty : length r.dirty ≡ page_count_of pages
-  pub touched : length r.touched ≡ page_count_of pages
   pub stored : length r.stored ≤ r.steps
   pub sent : length r.sent ≤ r.steps
   pub stored_fits : span ≤ stored_room
@@ -62,6 +55,6 @@ pub record Records (pages : ℕ) (steps : List Done) (r : Recording) : Type 0 wh
   pub count : r.steps ≡ length steps
   pub last : (place : ℕ) → place < pages * PAGE_WORDS → slice_index r.last place ≡ kept_step (last_writer (4 * place) steps)
   pub ram : (address : ℕ) → ¬ IsRamWord pages address → last_writer address steps ≡ None
-  pub dirty : (page : ℕ) → page < page_count_of pages → slice_index_or r.dirty page false ≡ is_dirty steps page
-  pub touched : (page : ℕ) → page < page_count_of pages → slice_index_or r.touched page false ≡ is_touched steps page
+  pub dirty : (page : ℕ) → holds r.dirty page ≡ is_dirty steps page
+  pub touched : (page : ℕ) → holds r.touched page ≡ is_touched steps page
   pub sent : r.sent ≡ sent_from 0 steps

@@ -1,14 +1,15 @@
 //! Where a run stood, to be gone back to.
 
-ghost use Rattle.std.specs.Prelude.{◌≡◌, ◌<◌, ◌≤◌, IfOk, IfSome, length, slice_set};
+ghost use Rattle.std.specs.Prelude.{◌≡◌, ◌<◌, ◌≤◌, IfOk, length, slice_set};
 ghost use Rattle.r3k_word.specs.Layout.{word_count_of};
 ghost use Rattle.r3k_word.specs.declared.layout.TheConstants.{MAX_RAM_PAGES};
 ghost use Rattle.r3k_pages.specs.Pages.{SameOutside, overlaid};
 
 use r3k_machine::{Core, KeptCore};
-use r3k_pages::Snapshot;
+use r3k_pages::{PageMarks, Snapshot};
 use std::alloc::{AllocError, Global};
 use std::marker::Model;
+use std::rc::Rc;
 
 /// A state of the machine, kept: the core, and a snapshot of memory. It shares with earlier ones what is known to be equal.
 #[derive(Drop)]
@@ -26,29 +27,43 @@ impl<const PAGES: u32> Model for Boundary<PAGES> {
 }
 
 impl<const PAGES: u32> Boundary<PAGES> {
-    // Keeps a core and words.
-    pub(crate) fn keep(
+    // A core and words. It shares nothing, and the set says nothing.
+    pub(crate) fn new(
         alloc: Global,
         core: &Core,
         words: &[u32],
-        previous: Option<&Boundary<PAGES>>,
-        dirty: &[u32],
-    ) -> Result<Boundary<PAGES>, AllocError>
+        none: &PageMarks<PAGES>,
+    ) -> Result<Rc<Boundary<PAGES>>, AllocError>
         requires pages { PAGES ≤ MAX_RAM_PAGES }
         requires whole { length words.now ≡ word_count_of PAGES }
-        requires same { IfSome previous (λ previous. SameOutside dirty.now previous.now.words words.now) }
-        ensures { IfOk result (λ boundary. boundary ≡ record { core = core.now; words = words.now }) }
+        ensures { IfOk result (λ boundary. boundary.value ≡ record { core = core.now; words = words.now }) }
     {
-        match previous {
-            Some(previous) => Ok(Boundary {
-                core: core.keep(alloc, Some(&previous.core))?,
-                memory: Snapshot::capture(alloc, words, Some(&previous.memory), dirty)?,
-            }),
-            None => Ok(Boundary {
-                core: core.keep(alloc, None)?,
-                memory: Snapshot::capture(alloc, words, None, dirty)?,
-            }),
-        }
+        let boundary = Boundary {
+            core: core.keep(alloc, None)?,
+            memory: Snapshot::capture(alloc, words, None, none)?,
+        };
+        Rc::new(alloc, boundary).map_err(|_| AllocError)
+    }
+
+    // A core, and words that are those of this state but for a set of pages. It shares these, and the cache arrays where they are
+    // equal.
+    pub(crate) fn after(
+        &self,
+        alloc: Global,
+        core: &Core,
+        words: &[u32],
+        changed: &PageMarks<PAGES>,
+    ) -> Result<Rc<Boundary<PAGES>>, AllocError>
+        requires pages { PAGES ≤ MAX_RAM_PAGES }
+        requires whole { length words.now ≡ word_count_of PAGES }
+        requires same { SameOutside changed.now self.now.words words.now }
+        ensures { IfOk result (λ boundary. boundary.value ≡ record { core = core.now; words = words.now }) }
+    {
+        let boundary = Boundary {
+            core: core.keep(alloc, Some(&self.core))?,
+            memory: Snapshot::capture(alloc, words, Some(&self.memory), changed)?,
+        };
+        Rc::new(alloc, boundary).map_err(|_| AllocError)
     }
 
     /// The core.
@@ -87,7 +102,7 @@ impl<const PAGES: u32> Boundary<PAGES> {
     pub fn overlay(
         &self,
         alloc: Global,
-        pages: &[u32],
+        pages: &PageMarks<PAGES>,
         other: &Boundary<PAGES>,
     ) -> Result<Boundary<PAGES>, AllocError>
         ensures { IfOk result (λ boundary. boundary ≡ record self.now { words = overlaid pages.now self.now.words other.now.words }) }

@@ -3,11 +3,12 @@
 ghost use Rattle.std.specs.Prelude.{◌≡◌, ◌≤◌, IfOk, length};
 ghost use Rattle.r3k_word.specs.Layout.{word_count_of};
 ghost use Rattle.r3k_word.specs.declared.layout.TheConstants.{MAX_RAM_PAGES};
+ghost use Rattle.r3k_pages.specs.Pages.{SameOutside};
 ghost use Rattle.r3k_machine.specs.Reset.{reset_words};
 
 use r3k_image::Image;
 use r3k_machine::Mem;
-use r3k_pages::Snapshot;
+use r3k_pages::{PageMarks, Snapshot};
 use r3k_word::layout::{address_of, word_count};
 use std::alloc::{AllocError, Global};
 
@@ -42,11 +43,17 @@ impl<const PAGES: u32> FlatMemory<PAGES> {
         &self.words
     }
 
-    // Makes it hold the words of a snapshot.
-    pub(crate) fn load(&mut self, snapshot: &Snapshot<PAGES>)
+    // Makes it hold the words of a snapshot, where it holds those of another one but for a set of pages.
+    pub(crate) fn load(
+        &mut self,
+        snapshot: &Snapshot<PAGES>,
+        held: &Snapshot<PAGES>,
+        changed: &PageMarks<PAGES>,
+    )
+        requires { SameOutside changed.now held.now self.old.words.items }
         ensures { self.new.words.items ≡ snapshot.now }
     {
-        snapshot.copy_to(&mut self.words);
+        snapshot.copy_to(&mut self.words, held, changed);
     }
 }
 

@@ -1,6 +1,6 @@
 //! The machine that runs.
 
-ghost use Rattle.std.specs.Prelude.{◌≡◌, ◌+◌, ◌-◌, ◌^◌, ◌<◌, ◌≤◌, ℕ, [], IfOk, IfSome, None, length, min, slice_index, unwrap_or};
+ghost use Rattle.std.specs.Prelude.{◌≡◌, ◌+◌, ◌-◌, ◌^◌, ◌<◌, ◌≤◌, ℕ, [], IfOk, None, length, min, slice_index, unwrap_or};
 ghost use Rattle.r3k_word.specs.Layout.{word_count_of};
 ghost use Rattle.r3k_word.specs.declared.layout.TheConstants.{MAX_RAM_PAGES};
 ghost use Rattle.input_log.specs.Log.{AreInOrder, AreWithin};
@@ -19,8 +19,10 @@ use input_log::{Cursor, Event};
 use r3k_image::Image;
 use r3k_machine::step::step;
 use r3k_machine::{Core, Mem};
+use r3k_pages::PageMarks;
 use std::alloc::{AllocError, Global};
 use std::marker::Model;
+use std::rc::Rc;
 
 /// The machine that runs, with `PAGES` pages of RAM: its core, one flat memory, and the count of all steps that it has made.
 #[derive(Drop)]
@@ -28,14 +30,21 @@ pub struct Live<const PAGES: u32> {
     core: Core,
     memory: FlatMemory<PAGES>,
     steps: u64,
+    // A state at which it stood, and the pages that it may have changed since: where it stands is kept with the pages of that one,
+    // but for these.
+    base: Rc<Boundary<PAGES>>,
+    changed: PageMarks<PAGES>,
 }
 
 impl<const PAGES: u32> Model for Live<PAGES> {
     ghost use Rattle.r3k_live.specs.Living.{Living};
+    ghost use Rattle.r3k_pages.specs.Pages.{SameOutside};
 
     ghost Value = { Living };
 
     ghost view = { λ live. record { state = record { core = live.core; words = live.memory.words.items }; steps = live.steps } };
+
+    ghost invariant = { λ live. SameOutside live.changed live.base.value.words live.memory.words.items };
 }
 
 /// A count of steps after so many more. It stands still at the greatest number.
@@ -54,19 +63,28 @@ impl<const PAGES: u32> Live<PAGES> {
         requires { PAGES ≤ MAX_RAM_PAGES }
         ensures { IfOk result (λ live. live ≡ record { state = reset PAGES image.now; steps = 0 }) }
     {
+        let core = Core::reset(alloc, image)?;
+        let memory = FlatMemory::<PAGES>::boot(alloc, image)?;
+        let changed = PageMarks::new(alloc)?;
+        let base = Boundary::new(alloc, &core, memory.words(), &changed)?;
         Ok(Live {
-            core: Core::reset(alloc, image)?,
-            memory: FlatMemory::<PAGES>::boot(alloc, image)?,
+            core,
+            memory,
             steps: 0,
+            base,
+            changed,
         })
     }
 
     /// Makes it stand at a boundary. It takes no memory and makes no step.
-    pub fn load(&mut self, boundary: &Boundary<PAGES>)
-        ensures { self.new ≡ record { state = boundary.now; steps = self.old.steps } }
+    pub fn load(&mut self, boundary: Rc<Boundary<PAGES>>)
+        ensures { self.new ≡ record { state = boundary.entry.value; steps = self.old.steps } }
     {
-        self.memory.load(boundary.memory());
+        let held = self.base.memory();
+        self.memory.load(boundary.memory(), held, &self.changed);
         self.core.restore(boundary.core());
+        self.base = boundary;
+        self.changed.clear();
     }
 
     /// Runs so many steps, at most `SPAN`, from a time on, with the events of their times, and records what they tell in a
@@ -149,21 +167,20 @@ impl<const PAGES: u32> Live<PAGES> {
             recorder,
         );
         self.steps = counted(self.steps, stopped.unwrap_or(steps));
+        self.changed.add(recorder.dirty_marks().pages());
         stopped
     }
 
-    /// Keeps where it stands. With an earlier boundary it shares that one's pages outside a set of pages, `dirty`, outside which
-    /// both have the same words, and its cache arrays where they are equal.
-    pub fn keep(
-        &self,
-        alloc: Global,
-        previous: Option<&Boundary<PAGES>>,
-        dirty: &[u32],
-    ) -> Result<Boundary<PAGES>, AllocError>
-        requires { IfSome previous (λ previous. SameOutside dirty.now previous.now.words self.now.state.words) }
-        ensures { IfOk result (λ boundary. boundary ≡ self.now.state) }
+    /// Keeps where it stands. It copies only the pages that may have changed since it last stood at a state that is kept.
+    pub fn keep(&mut self, alloc: Global) -> Result<Rc<Boundary<PAGES>>, AllocError>
+        ensures kept { IfOk result (λ boundary. boundary.value ≡ self.old.state) }
+        ensures same { self.new ≡ self.old }
     {
-        Boundary::keep(alloc, &self.core, self.memory.words(), previous, dirty)
+        let words = self.memory.words();
+        let kept = self.base.after(alloc, &self.core, words, &self.changed)?;
+        self.base = kept.clone()?;
+        self.changed.clear();
+        Ok(kept)
     }
 
     /// All words of RAM and ROM, RAM first.

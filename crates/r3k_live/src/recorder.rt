@@ -1,18 +1,20 @@
 //! A record of what steps told: bytes sent, words stored into, and pages touched.
 
-ghost use Rattle.std.specs.Prelude.{◌≡◌, ◌+◌, ◌-◌, ◌*◌, ◌/◌, ◌^◌, ◌<◌, ◌≤◌, [], ◌∷◌, ◌++◌, All, IfOk, IfSome, List, false, filter, length, map, nat_eq, slice_index, slice_index_or, slice_set, vec_capacity, vec_len, ℕ};
-ghost use Rattle.std.specs.List.{IsDistinct, range_with_len};
+ghost use Rattle.std.specs.Prelude.{◌≡◌, ◌+◌, ◌-◌, ◌*◌, ◌/◌, ◌^◌, ◌<◌, ◌≤◌, [], ◌∷◌, ◌++◌, All, ◌||◌, IfOk, IfSome, List, length, map, nat_eq, slice_index, slice_set, vec_capacity, vec_len, ℕ};
+ghost use Rattle.std.specs.List.{IsDistinct};
 ghost use Rattle.r3k_word.specs.declared.layout.TheConstants.{MAX_RAM_PAGES, PAGE_WORDS};
-ghost use Rattle.r3k_pages.specs.Pages.{IsPageSet, page_count_of};
+ghost use Rattle.r3k_pages.specs.Pages.{IsPageSet, holds, page_count_of};
 ghost use Rattle.r3k_machine.specs.declared.step.Done.{Done};
+ghost use Rattle.r3k_machine.specs.Locality.{is_page};
 ghost use Rattle.r3k_machine.specs.Run.{last_writer};
 ghost use Rattle.r3k_machine.specs.Told.{IsPage, IsRamWord};
 ghost use Rattle.r3k_live.specs.Record.{AreWriters, dirty_pages, sent_from, touched_pages, with_sent};
-ghost use Rattle.r3k_live.specs.Recording.{AreStored, Records, page_of_store, with_mark, with_writer};
+ghost use Rattle.r3k_live.specs.Recording.{AreStored, Records, page_of_store, with_writer};
 
 use dz_serial::Sent;
 use r3k_machine::Done;
-use r3k_word::layout::{PAGE_BYTES, PAGE_WORDS, ROM_PAGES};
+use r3k_pages::PageMarks;
+use r3k_word::layout::{PAGE_BYTES, PAGE_WORDS};
 use std::alloc::{AllocError, Global};
 use std::marker::Model;
 
@@ -39,8 +41,8 @@ pub struct Recorder<const PAGES: u32, const SPAN: u32> {
     last: Vec<u32>,
     // The places of these words, each once, in the order of their first stores.
     stored: Vec<u32>,
-    dirty: Vec<bool>,
-    touched: Vec<bool>,
+    dirty: PageMarks<PAGES>,
+    touched: PageMarks<PAGES>,
     sent: Vec<SentAt>,
 }
 
@@ -54,8 +56,8 @@ impl<const PAGES: u32, const SPAN: u32> Model for Recorder<PAGES, SPAN> {
       steps = r.steps;
       last = r.last.items;
       stored = r.stored.items;
-      dirty = r.dirty.items;
-      touched = r.touched.items;
+      dirty = r.dirty;
+      touched = r.touched;
       sent = r.sent.items;
     } };
 
@@ -63,8 +65,8 @@ impl<const PAGES: u32, const SPAN: u32> Model for Recorder<PAGES, SPAN> {
       steps = r.steps;
       last = r.last.items;
       stored = r.stored.items;
-      dirty = r.dirty.items;
-      touched = r.touched.items;
+      dirty = r.dirty;
+      touched = r.touched;
       sent = r.sent.items;
     }) };
 }
@@ -75,13 +77,12 @@ impl<const PAGES: u32, const SPAN: u32> Recorder<PAGES, SPAN> {
         requires { PAGES ≤ MAX_RAM_PAGES }
         ensures { IfOk result (Records PAGES []) }
     {
-        let pages = PAGES as usize + ROM_PAGES as usize;
         Ok(Recorder {
             steps: 0,
             last: vec![in alloc; 0; PAGES as usize * PAGE_WORDS as usize]?,
             stored: Vec::with_capacity(alloc, SPAN as usize)?,
-            dirty: vec![in alloc; false; pages]?,
-            touched: vec![in alloc; false; pages]?,
+            dirty: PageMarks::new(alloc)?,
+            touched: PageMarks::new(alloc)?,
             sent: Vec::with_capacity(alloc, SPAN as usize)?,
         })
     }
@@ -92,8 +93,8 @@ impl<const PAGES: u32, const SPAN: u32> Recorder<PAGES, SPAN> {
     {
         forget(&mut self.last, &self.stored);
         self.stored.clear();
-        self.dirty.fill(false);
-        self.touched.fill(false);
+        self.dirty.clear();
+        self.touched.clear();
         self.sent.clear();
         self.steps = 0;
     }
@@ -130,7 +131,7 @@ impl<const PAGES: u32, const SPAN: u32> Recorder<PAGES, SPAN> {
         ensures pages { (steps : List Done) → Records PAGES steps self.now → IfOk result (λ pages. pages.items ≡ dirty_pages PAGES steps) }
         ensures set { IfOk result (λ pages. IsPageSet PAGES pages.items) }
     {
-        marked(alloc, &self.dirty)
+        self.dirty.ascending(alloc)
     }
 
     /// The pages that were touched, in ascending order: fetched from, loaded from or stored into.
@@ -138,7 +139,14 @@ impl<const PAGES: u32, const SPAN: u32> Recorder<PAGES, SPAN> {
         ensures pages { (steps : List Done) → Records PAGES steps self.now → IfOk result (λ pages. pages.items ≡ touched_pages PAGES steps) }
         ensures set { IfOk result (λ pages. IsPageSet PAGES pages.items) }
     {
-        marked(alloc, &self.touched)
+        self.touched.ascending(alloc)
+    }
+
+    /// The pages that were stored into.
+    pub(crate) fn dirty_marks(&self) -> &PageMarks<PAGES>
+        ensures { result.now ≡ self.now.dirty }
+    {
+        &self.dirty
     }
 
     // Records what one more step told.
@@ -213,12 +221,12 @@ fn page_of_store(address: Option<u32>) -> Option<u32>
 
 // Marks a page, if there is one.
 #[inline]
-fn mark(marks: &mut Vec<bool>, page: Option<u32>)
-    requires { IfSome page (λ page. page < length marks.old.items) }
-    ensures { marks.new.items ≡ with_mark marks.old.items page }
+fn mark<const PAGES: u32>(marks: &mut PageMarks<PAGES>, page: Option<u32>)
+    requires { IfSome page (λ page. page < page_count_of PAGES) }
+    ensures { (other : ℕ) → holds marks.new other ≡ (holds marks.old other || is_page other page) }
 {
     if let Some(page) = page {
-        marks[page as usize] = true;
+        marks.mark(page);
     }
 }
 
@@ -237,21 +245,6 @@ fn writers_of(alloc: Global, last: &[u32], places: &[u32]) -> Result<Vec<Written
         })?;
     }
     Ok(writers)
-}
-
-// The numbers of the marks that are set, in ascending order.
-fn marked(alloc: Global, marks: &[bool]) -> Result<Vec<u32>, AllocError>
-    requires { length marks.now ≤ 2 ^ 32 }
-    ensures { IfOk result (λ pages. pages.items ≡ filter (λ page. slice_index_or marks.now page false) (range_with_len 0 (length marks.now))) }
-{
-    let mut pages = Vec::new(alloc);
-    for page in 0..marks.len() {
-        if !marks[page] {
-            continue;
-        }
-        pages.push(page as u32)?;
-    }
-    Ok(pages)
 }
 
 // Forgets the steps that are noted for these words.

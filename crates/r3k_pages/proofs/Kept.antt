@@ -3,12 +3,12 @@ use Rattle.std.proofs.Common.{◌≡◌, ℕ, suc, ◌*◌, ◌/◌, ◌%◌, �
 use Rattle.std.proofs.lemmas.List.{get_or-map, get_or-take, get_or-drop}
 use Rattle.std.proofs.lemmas.List.FromFn.{get_or-map-range_with_len, length-map-range_with_len}
 use Rattle.std.proofs.lemmas.Grind.{same_number_lists}
-use Rattle.std.proofs.lemmas.Bool.{cases_Bool, eq-eqb, eqb-true, true≢false}
+use Rattle.std.proofs.lemmas.Bool.{cases_Bool, eqb-true, true≢false}
 use Rattle.std.proofs.Common.{Bool, true, false, ◌||◌, nat_eq}
 use Rattle.r3k_word.specs.Layout.{page_of_place, word_count_of}
 use Rattle.r3k_word.specs.declared.layout.TheConstants.{PAGE_WORDS}
 use Rattle.r3k_pages.specs.declared.group.TheConstants.{GROUP_PAGES}
-use Rattle.r3k_pages.specs.Groups.{touches, word_in, words_in}
+use Rattle.r3k_pages.specs.Groups.{word_in, words_in}
 use Rattle.r3k_pages.specs.Pages.{SameOutside, SamePage, holds, page_count_of}
 
 -- what holds of an answer, where something else does
@@ -54,19 +54,10 @@ page_copied words page place of =
     ∙ (get_or-drop (page * PAGE_WORDS) words (place % PAGE_WORDS) 0
     ∙ ap (slice_index words) (omega (arith, of)))
 
--- a set that has no page of a group
+-- a test of two that fails
 pub neither : (a b : Bool) → IsFalse (a || b) → (a ≡ false) × (b ≡ false)
 neither true b h = absurd (true≢false h)
 neither false b h = (refl, h)
-
-pub untouched : (set : List ℕ) (page group : ℕ) → page / GROUP_PAGES ≡ group → IsFalse (touches set group) → IsFalse (holds set page)
-untouched [] page group of none = refl
-untouched (other ∷ set) page group of none =
-    let parts = neither (nat_eq (other / GROUP_PAGES) group) (touches set group) none in
-    elim (cases_Bool (nat_eq other page)) [
-      | inl here ↦ absurd (true≢false (sym (eq-eqb (other / GROUP_PAGES) group (ap (λ (n : ℕ). n / GROUP_PAGES) (eqb-true other page here) ∙ of)) ∙ parts.0))
-      | inr apart ↦ rw apart (untouched set page group of parts.1)
-    ]
 
 -- a page that is in a set has a place in it
 pub held_at : (set : List ℕ) (page : ℕ) → holds set page ≡ true → (k : ℕ) × (k < length set) × (slice_index set k ≡ page)

@@ -1,3 +1,5 @@
+pub mod Ascending
+mod Blank
 pub mod Kept
 pub mod Set
 pub mod Marked

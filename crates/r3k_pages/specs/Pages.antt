@@ -1,5 +1,5 @@
 -- Pages of memory (own): the words of RAM and ROM by pages of 1,024 words. Pages of RAM come first, then those of ROM.
-use Rattle.std.specs.Prelude.{◌≡◌, ℕ, ◌+◌, ◌<◌, Bool, IsFalse, List, All, if◌then◌else◌, length, map, nat_eq, slice_index}
+use Rattle.std.specs.Prelude.{◌≡◌, ℕ, ◌+◌, ◌<◌, Bool, IsFalse, List, All, filter, if◌then◌else◌, length, map, nat_eq, slice_index}
 use Rattle.std.specs.List.{list_any, range_with_len}
 use Rattle.std.specs.List.Sorted.{IsStrictlyIncreasing}
 use Rattle.r3k_word.specs.Layout.{page_of_place}
@@ -13,6 +13,10 @@ page_count_of pages = pages + ROM_PAGES
 pub record IsPageSet (pages : ℕ) (set : List ℕ) : Type 0 where
   pub ascending : IsStrictlyIncreasing set
   pub within : All (λ page. page < page_count_of pages) set
+
+-- the pages for which a test holds, in ascending order
+abbrev pub pages_where : ℕ → (ℕ → Bool) → List ℕ
+pages_where pages test = filter test (range_with_len 0 (page_count_of pages))
 
 -- whether a page is in a set
 abbrev pub holds : List ℕ → ℕ → Bool

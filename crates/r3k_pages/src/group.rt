@@ -1,12 +1,13 @@
 //! Pages by groups: a snapshot that changes one page shares all groups but that page's.
 
-ghost use Rattle.std.specs.Prelude.{◌≡◌, ◌+◌, ◌^◌, ◌<◌, ◌≤◌, ℕ, IfOk, IfSome, IsTrue, if◌then◌else◌, length, map, not, slice_index_or, slice_set, []};
+ghost use Rattle.std.specs.Prelude.{◌≡◌, ◌+◌, ◌/◌, ◌^◌, ◌<◌, ◌≤◌, ℕ, IfOk, IfSome, IsFalse, if◌then◌else◌, length, map, not, slice_index_or, slice_set, []};
 ghost use Rattle.r3k_word.specs.Layout.{word_count_of};
 ghost use Rattle.r3k_word.specs.declared.layout.TheConstants.{MAX_RAM_PAGES, PAGE_WORDS};
-ghost use Rattle.r3k_pages.specs.Groups.{IsGroupOf, IsPageOf, group_count_of, touches};
+ghost use Rattle.r3k_pages.specs.Groups.{IsGroupOf, IsPageOf, group_count_of};
 ghost use Rattle.r3k_pages.specs.Pages.{SameOutside, holds, page_count_of};
 
 use crate::page::{Page, shared};
+use crate::page_marks::PageMarks;
 use crate::snapshot::{Snapshot, page_count};
 use r3k_word::layout::PAGE_WORDS;
 use std::alloc::{AllocError, Global};
@@ -37,20 +38,20 @@ impl Group {
     ghost use Rattle.r3k_pages.specs.declared.group.TheConstants.{GROUP_PAGES};
 
     /// The group with the pages of a set taken from another one, where its own first page has this number. It copies no words.
-    pub(crate) fn overlay(
+    pub(crate) fn overlay<const PAGES: u32>(
         &self,
         alloc: Global,
-        set: &[u32],
+        set: &PageMarks<PAGES>,
         other: &Group,
         first: usize,
     ) -> Result<Rc<Group>, AllocError>
-        requires { first + GROUP_PAGES < 2 ^ 64 }
+        requires { first + GROUP_PAGES < 2 ^ 32 }
         ensures { IfOk result (λ group. (index : ℕ) → index < GROUP_PAGES →
             slice_index_or group.value index [] ≡ slice_index_or (if holds set.now (first + index) then other.now else self.now) index []) }
     {
         let mut pages = Vec::with_capacity(alloc, GROUP_PAGES)?;
         for index in 0..GROUP_PAGES {
-            let page = if holds(set, first + index) {
+            let page = if set.holds((first + index) as u32) {
                 other.page(index)
             } else {
                 self.page(index)
@@ -96,18 +97,17 @@ impl Group {
     }
 }
 
-// Whether a page is in a set.
-fn holds(set: &[u32], page: usize) -> bool
-    ensures { result ≡ holds set.now page }
-{
-    set.iter().any(|other| *other as usize == page)
-}
-
 /// Whether a page of a group is in a set of pages.
-pub(crate) fn touches(set: &[u32], group: usize) -> bool
-    ensures { result ≡ touches set.now group }
+pub(crate) fn touches<const PAGES: u32>(set: &PageMarks<PAGES>, group: usize) -> bool
+    requires { group < 2 ^ 26 }
+    ensures { IsFalse result → (page : ℕ) → page / GROUP_PAGES ≡ group → IsFalse (holds set.now page) }
 {
-    set.iter().any(|page| *page as usize / GROUP_PAGES == group)
+    for index in 0..GROUP_PAGES {
+        if set.holds((group * GROUP_PAGES + index) as u32) {
+            return true;
+        }
+    }
+    false
 }
 
 // A page of memory: the earlier one where it stayed, or else a copy.
@@ -115,7 +115,7 @@ fn page_of<const PAGES: u32>(
     alloc: Global,
     words: &[u32],
     previous: Option<&Snapshot<PAGES>>,
-    dirty: &[u32],
+    dirty: &PageMarks<PAGES>,
     page: usize,
 ) -> Result<Rc<Page>, AllocError>
     requires pages { PAGES ≤ MAX_RAM_PAGES }
@@ -125,7 +125,7 @@ fn page_of<const PAGES: u32>(
     ensures { IfOk result (λ result. IsPageOf words.now page result.value) }
 {
     match previous {
-        Some(previous) if !dirty.contains(&(page as u32)) => previous.page(page).clone(),
+        Some(previous) if !dirty.holds(page as u32) => previous.page(page).clone(),
         _ => {
             let start = page * PAGE_WORDS as usize;
             Page::new(alloc, &words[start..start + PAGE_WORDS as usize])
@@ -139,7 +139,7 @@ pub(crate) fn group_of<const PAGES: u32>(
     alloc: Global,
     words: &[u32],
     previous: Option<&Snapshot<PAGES>>,
-    dirty: &[u32],
+    dirty: &PageMarks<PAGES>,
     group: usize,
 ) -> Result<Rc<Group>, AllocError>
     requires pages { PAGES ≤ MAX_RAM_PAGES }
@@ -159,7 +159,7 @@ fn copied_group<const PAGES: u32>(
     alloc: Global,
     words: &[u32],
     previous: Option<&Snapshot<PAGES>>,
-    dirty: &[u32],
+    dirty: &PageMarks<PAGES>,
     group: usize,
 ) -> Result<Rc<Group>, AllocError>
     requires pages { PAGES ≤ MAX_RAM_PAGES }

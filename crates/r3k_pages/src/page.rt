@@ -1,7 +1,8 @@
 //! A page of a snapshot: 1,024 words that stay as they are.
 
-ghost use Rattle.std.specs.Prelude.{◌≡◌, ◌<◌, IfOk, length, map, slice_set};
+ghost use Rattle.std.specs.Prelude.{◌≡◌, ◌<◌, ◌↔◌, IfOk, IsTrue, length, map, slice_set};
 ghost use Rattle.r3k_word.specs.declared.layout.TheConstants.{PAGE_WORDS};
+ghost use Rattle.r3k_pages.specs.Groups.{is_blank};
 
 use std::alloc::{AllocError, Global};
 use std::marker::Model;
@@ -11,17 +12,20 @@ use std::rc::Rc;
 #[derive(Drop)]
 pub(crate) struct Page {
     words: Vec<u32>,
+    // Whether all of them are 0.
+    blank: bool,
 }
 
 impl Model for Page {
     ghost use Rattle.std.specs.Prelude.{◌≡◌, List, ℕ, length};
     ghost use Rattle.r3k_word.specs.declared.layout.TheConstants.{PAGE_WORDS};
+    ghost use Rattle.r3k_pages.specs.Groups.{is_blank};
 
     ghost Value = { List ℕ };
 
     ghost view = { λ page. page.words.items };
 
-    ghost invariant = { λ page. length page.words.items ≡ PAGE_WORDS };
+    ghost invariant = { λ page. (length page.words.items ≡ PAGE_WORDS) × (page.blank ≡ is_blank page.words.items) };
 }
 
 impl Page {
@@ -30,10 +34,16 @@ impl Page {
         requires { length words.now ≡ PAGE_WORDS }
         ensures { IfOk result (λ page. page.value ≡ words.now) }
     {
-        let page = Page {
-            words: Vec::from_slice(alloc, words)?,
-        };
-        Rc::new(alloc, page).map_err(|_| AllocError)
+        Page::of(alloc, Vec::from_slice(alloc, words)?)
+    }
+
+    // A page of these words.
+    fn of(alloc: Global, words: Vec<u32>) -> Result<Rc<Page>, AllocError>
+        requires { length words.items ≡ PAGE_WORDS }
+        ensures { IfOk result (λ page. page.value ≡ words.items) }
+    {
+        let blank = is_blank(&words);
+        Rc::new(alloc, Page { words, blank }).map_err(|_| AllocError)
     }
 
     /// The page with the word at a place of it set.
@@ -49,7 +59,22 @@ impl Page {
     {
         let mut words = Vec::from_slice(alloc, &self.words)?;
         words[place] = word;
-        Rc::new(alloc, Page { words }).map_err(|_| AllocError)
+        Page::of(alloc, words)
+    }
+
+    /// Whether another page has the same words. Of blank ones it looks at no word.
+    pub(crate) fn is_same(&self, other: &Page) -> bool
+        ensures same { IsTrue result ↔ (self.now ≡ other.now) }
+        ensures whole { (length self.now ≡ PAGE_WORDS) × (length other.now ≡ PAGE_WORDS) }
+    {
+        self.is_known_same(other) || self.words == other.words
+    }
+
+    /// Whether it is known without a look at the words that another page has the same ones: both are blank.
+    pub(crate) fn is_known_same(&self, other: &Page) -> bool
+        ensures { IsTrue result → self.now ≡ other.now }
+    {
+        self.blank && other.blank
     }
 
     /// Its words.
@@ -59,6 +84,13 @@ impl Page {
     {
         &self.words
     }
+}
+
+// Whether all words are 0.
+fn is_blank(words: &[u32]) -> bool
+    ensures { result ≡ is_blank words.now }
+{
+    words.iter().all(|word| *word == 0)
 }
 
 /// The same pointers once more.

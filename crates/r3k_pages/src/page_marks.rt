@@ -4,7 +4,7 @@ ghost use Rattle.std.specs.Prelude.{◌≡◌, ◌<◌, ◌≤◌, ◌||◌, ◌
 ghost use Rattle.std.specs.List.{IsDistinct};
 ghost use Rattle.r3k_word.specs.declared.layout.TheConstants.{MAX_RAM_PAGES};
 ghost use Rattle.r3k_pages.specs.Marking.{AreMarked};
-ghost use Rattle.r3k_pages.specs.Pages.{SameOutside, SamePage, holds, page_count_of};
+ghost use Rattle.r3k_pages.specs.Pages.{IsPageSet, SameOutside, SamePage, holds, page_count_of, pages_where};
 
 use crate::snapshot::{Snapshot, page_count};
 use r3k_word::layout::ROM_PAGES;
@@ -50,6 +50,15 @@ impl<const PAGES: u32> PageMarks<PAGES> {
         self.pages.clear();
     }
 
+    /// Adds a page, which may be there.
+    #[inline]
+    pub fn mark(&mut self, page: u32)
+        requires { page < page_count_of PAGES }
+        ensures { (other : ℕ) → holds self.new other ≡ (holds self.old other || nat_eq page other) }
+    {
+        mark::<PAGES>(&mut self.marks, &mut self.pages, page);
+    }
+
     /// Adds pages, of which some may be there.
     pub fn add(&mut self, pages: &[u32])
         requires { All (λ page. page < page_count_of PAGES) pages.now }
@@ -75,6 +84,31 @@ impl<const PAGES: u32> PageMarks<PAGES> {
         keep_marked(&self.marks, &mut self.pages);
     }
 
+    /// Whether a page is there.
+    #[inline]
+    pub fn holds(&self, page: u32) -> bool
+        ensures { result ≡ holds self.now page }
+    {
+        is_marked(&self.marks, page)
+    }
+
+    /// The pages in ascending order.
+    pub fn ascending(&self, alloc: Global) -> Result<Vec<u32>, AllocError>
+        ensures pages { IfOk result (λ pages. pages.items ≡ pages_where PAGES (holds self.now)) }
+        ensures set { IfOk result (λ pages. IsPageSet PAGES pages.items) }
+    {
+        // The marks are read, so that the number of pages is known here.
+        let _marks = &self.marks;
+        let mut pages = Vec::new(alloc);
+        for page in 0..PAGES + ROM_PAGES {
+            if !self.holds(page) {
+                continue;
+            }
+            pages.push(page)?;
+        }
+        Ok(pages)
+    }
+
     /// The pages.
     pub fn pages(&self) -> &[u32]
         ensures pages { result.now ≡ self.now }
@@ -98,6 +132,7 @@ fn mark_all<const PAGES: u32>(marks: &mut Vec<bool>, pages: &mut Vec<u32>, added
 }
 
 // Adds a page, unless it is marked.
+#[inline]
 fn mark<const PAGES: u32>(marks: &mut Vec<bool>, pages: &mut Vec<u32>, page: u32)
     requires within { page < page_count_of PAGES }
     requires marked { AreMarked PAGES (vec_capacity pages.old) marks.old.items pages.old.items }

@@ -1,13 +1,14 @@
 //! A snapshot: the words of RAM and ROM at a time.
 
-ghost use Rattle.std.specs.Prelude.{◌≡◌, ◌+◌, ◌*◌, ◌<◌, ◌≤◌, ◌↔◌, All, IfOk, IfSome, IsTrue, [], length, map, slice_index, slice_index_or, slice_set};
+ghost use Rattle.std.specs.Prelude.{◌≡◌, ◌+◌, ◌*◌, ◌<◌, ◌≤◌, ◌↔◌, ℕ, IfOk, IfSome, IsFalse, IsTrue, [], length, map, slice_index, slice_index_or, slice_set};
 ghost use Rattle.r3k_word.specs.Layout.{page_of_place, word_count_of};
 ghost use Rattle.r3k_word.specs.declared.layout.TheConstants.{MAX_RAM_PAGES, PAGE_WORDS};
 ghost use Rattle.r3k_pages.specs.Groups.{IsGroupOf, IsPageOf, group_count_of};
-ghost use Rattle.r3k_pages.specs.Pages.{SameOutside, SamePage, overlaid, page_count_of};
+ghost use Rattle.r3k_pages.specs.Pages.{SameOutside, SamePage, holds, overlaid, page_count_of};
 
 use crate::group::{GROUP_PAGES, Group, group_of, touches};
 use crate::page::{Page, shared};
+use crate::page_marks::PageMarks;
 use r3k_word::layout::{PAGE_WORDS, ROM_PAGES, page_of};
 use std::alloc::{AllocError, Global};
 use std::marker::Model;
@@ -53,7 +54,7 @@ impl<const PAGES: u32> Snapshot<PAGES> {
         alloc: Global,
         words: &[u32],
         previous: Option<&Snapshot<PAGES>>,
-        dirty: &[u32],
+        dirty: &PageMarks<PAGES>,
     ) -> Result<Snapshot<PAGES>, AllocError>
         requires pages { PAGES ≤ MAX_RAM_PAGES }
         requires whole { length words.now ≡ word_count_of PAGES }
@@ -91,7 +92,7 @@ impl<const PAGES: u32> Snapshot<PAGES> {
     pub fn overlay(
         &self,
         alloc: Global,
-        pages: &[u32],
+        pages: &PageMarks<PAGES>,
         other: &Snapshot<PAGES>,
     ) -> Result<Snapshot<PAGES>, AllocError>
         ensures { IfOk result (λ s. s ≡ overlaid pages.now self.now other.now) }
@@ -124,19 +125,18 @@ impl<const PAGES: u32> Snapshot<PAGES> {
         requires { page < page_count_of PAGES }
         ensures { IsTrue result ↔ SamePage page self.now other.now }
     {
-        self.page(page as usize).words() == other.page(page as usize).words()
+        self.page(page as usize).is_same(other.page(page as usize))
     }
 
     /// Whether both have the same words, where those outside a set of pages, the differing ones, are the same.
-    pub fn same_words(&self, other: &Snapshot<PAGES>, differing: &[u32]) -> bool
-        requires pages { All (λ page. page < page_count_of PAGES) differing.now }
-        requires same { SameOutside differing.now self.now other.now }
+    pub fn same_words(&self, other: &Snapshot<PAGES>, differing: &PageMarks<PAGES>) -> bool
+        requires { SameOutside differing.now self.now other.now }
         ensures { IsTrue result ↔ (self.now ≡ other.now) }
     {
         // The groups are read, so that their number is known here.
         let _groups = &self.groups;
         let _others = &other.groups;
-        for page in differing {
+        for page in differing.pages() {
             if !self.same_page(*page, other) {
                 return false;
             }
@@ -159,24 +159,62 @@ impl<const PAGES: u32> Snapshot<PAGES> {
         true
     }
 
-    /// Makes a memory hold its words.
-    pub fn copy_to(&self, words: &mut [u32])
-        requires { length words.old ≡ word_count_of PAGES }
+    /// Makes a memory hold its words, which holds those of another snapshot but for a set of pages, `changed`. Outside the set it
+    /// copies no page that is blank in both.
+    pub fn copy_to(&self, words: &mut [u32], held: &Snapshot<PAGES>, changed: &PageMarks<PAGES>)
+        requires whole { length words.old ≡ word_count_of PAGES }
+        requires held { SameOutside changed.now held.now words.old }
         ensures { words.new ≡ self.now }
     {
         // The groups are read, so that their number is known here.
         let _groups = &self.groups;
         for page in 0..page_count(PAGES) {
-            let start = page * PAGE_WORDS as usize;
-            words[start..start + PAGE_WORDS as usize].copy_from_slice(self.page(page).words());
+            self.bring(page, words, held, changed);
         }
+    }
+
+    // Makes a page of a memory hold its words, unless it is known to hold them.
+    fn bring(
+        &self,
+        page: usize,
+        words: &mut [u32],
+        held: &Snapshot<PAGES>,
+        changed: &PageMarks<PAGES>,
+    )
+        requires page { page < page_count_of PAGES }
+        requires whole { length words.old ≡ word_count_of PAGES }
+        requires held { IsFalse (holds changed.now page) → SamePage page held.now words.old }
+        ensures whole { length words.new ≡ word_count_of PAGES }
+        ensures same { (place : ℕ) → page_of_place place ≡ page → slice_index words.new place ≡ slice_index self.now place }
+        ensures others { (place : ℕ) → ¬ (page_of_place place ≡ page) → slice_index words.new place ≡ slice_index words.old place }
+    {
+        // The groups are read, so that their number is known here.
+        let _groups = &self.groups;
+        if !changed.holds(page as u32) && self.page(page).is_known_same(held.page(page)) {
+            return;
+        }
+        self.copy_page(page, words);
+    }
+
+    // Makes a page of a memory hold its words.
+    fn copy_page(&self, page: usize, words: &mut [u32])
+        requires page { page < page_count_of PAGES }
+        requires whole { length words.old ≡ word_count_of PAGES }
+        ensures whole { length words.new ≡ word_count_of PAGES }
+        ensures same { (place : ℕ) → page_of_place place ≡ page → slice_index words.new place ≡ slice_index self.now place }
+        ensures others { (place : ℕ) → ¬ (page_of_place place ≡ page) → slice_index words.new place ≡ slice_index words.old place }
+    {
+        // The groups are read, so that their number is known here.
+        let _groups = &self.groups;
+        let start = page * PAGE_WORDS as usize;
+        words[start..start + PAGE_WORDS as usize].copy_from_slice(self.page(page).words());
     }
 
     // A group with the pages of a set taken from another snapshot.
     fn overlaid_group(
         &self,
         alloc: Global,
-        pages: &[u32],
+        pages: &PageMarks<PAGES>,
         other: &Snapshot<PAGES>,
         group: usize,
     ) -> Result<Rc<Group>, AllocError>

@@ -204,7 +204,9 @@ fn show_run<const PAGES: u32, const SPAN: u32, W: Sink>(
     log: &Log,
     show: &mut Show<W>,
 ) {
-    machine.live.load(&machine.start);
+    if let Ok(start) = machine.start.clone() {
+        machine.live.load(start);
+    }
     machine.recorder.clear();
     let events = log.window(0, SPAN as u64);
     machine.live.run(0, events, SPAN, &mut machine.recorder);
@@ -216,7 +218,9 @@ fn show_run<const PAGES: u32, const SPAN: u32, W: Sink>(
         show.number(b"sent", sent.step as u64);
     }
     show.number(b"steps", machine.live.steps());
-    machine.live.load(&machine.start);
+    if let Ok(start) = machine.start.clone() {
+        machine.live.load(start);
+    }
 }
 
 // Looks for the last span that stored into page 0, and for the first byte of line 0.

@@ -26,12 +26,12 @@ pub fn machine_of<const PAGES: u32, const SPAN: u32>(
 ) -> Result<Machine<PAGES, SPAN>, AllocError>
     requires pages { PAGES ≤ MAX_RAM_PAGES }
 {
-    let live = Live::<PAGES>::new(alloc, image)?;
-    let start = live.keep(alloc, None, &[])?;
+    let mut live = Live::<PAGES>::new(alloc, image)?;
+    let start = live.keep(alloc)?;
     Ok(Machine {
         live,
         recorder: Recorder::<PAGES, SPAN>::new(alloc)?,
-        start: Rc::new(alloc, start).map_err(|_| AllocError)?,
+        start,
     })
 }
 
@@ -41,7 +41,7 @@ pub fn record_of<const PAGES: u32, const SPAN: u32>(
     machine: &mut Machine<PAGES, SPAN>,
 ) -> Result<Fact<PAGES, SPAN>, AllocError> {
     let start = machine.start.clone()?;
-    machine.live.load(&start);
+    machine.live.load(start.clone()?);
     Fact::make(
         alloc,
         &mut machine.live,

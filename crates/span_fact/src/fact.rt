@@ -67,16 +67,14 @@ impl<const PAGES: u32, const SPAN: u32> Fact<PAGES, SPAN> {
     {
         recorder.clear();
         live.run(index * SPAN as u64, events, SPAN, recorder);
-        let dirty = recorder.dirty(alloc)?;
-        let end = live.keep(alloc, Some(&start), &dirty)?;
         Ok(Fact {
             index,
             start,
-            end: share(alloc, end)?,
+            end: live.keep(alloc)?,
             events: Vec::from_slice(alloc, events)?,
             writers: recorder.writers(alloc)?,
             sent: Vec::from_slice(alloc, recorder.sent())?,
-            dirty,
+            dirty: recorder.dirty(alloc)?,
             touched: recorder.touched(alloc)?,
         })
     }
@@ -144,16 +142,6 @@ impl<const PAGES: u32, const SPAN: u32> Fact<PAGES, SPAN> {
     {
         &self.touched
     }
-}
-
-// A boundary that several spans can hold.
-fn share<const PAGES: u32>(
-    alloc: Global,
-    boundary: Boundary<PAGES>,
-) -> Result<Rc<Boundary<PAGES>>, AllocError>
-    ensures { IfOk result (λ shared. shared.value ≡ boundary.entry) }
-{
-    Rc::new(alloc, boundary).map_err(|_| AllocError)
 }
 
 // The last step that stored into the word at an address, among those of all words of RAM that were stored into.

@@ -13,7 +13,7 @@ use Rattle.r3k_machine.specs.Told.{IsPage}
 use Rattle.r3k_machine.proofs.Within.{store_within}
 use Rattle.r3k_pages.specs.Pages.{holds, page_count_of}
 use Rattle.r3k_live.specs.Record.{dirty_pages, is_dirty, stores_in}
-use Rattle.r3k_live.proofs.Marks.{holds_where}
+use Rattle.r3k_pages.proofs.Ascending.{holds_where}
 use Rattle.r3k_live.proofs.Recorded.{any_more}
 use Rattle.span_fact.specs.Span.{Span}
 use Rattle.span_index.specs.Index.{steps_in}

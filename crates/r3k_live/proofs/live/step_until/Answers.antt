@@ -12,7 +12,7 @@ use Rattle.r3k_live.specs.Visits.{first_visit}
 use Rattle.r3k_live.proofs.Going.{left_later, run_more, trace_more, visit_here, visit_on}
 use Rattle.r3k_word.specs.Layout.{page_of_place}
 use Rattle.r3k_live.specs.Record.{is_dirty}
-use Rattle.r3k_live.proofs.Marks.{outside_pages}
+use Rattle.r3k_pages.proofs.Ascending.{outside_pages}
 use Rattle.r3k_live.proofs.Recorded.{stayed}
 use Rattle.r3k_live.proofs.live.step_until.Goals as goal
 

@@ -1,8 +1,8 @@
-use Rattle.std.proofs.Common.{List, ℕ, ap, sym, ◌∙◌, slice_index, slice_index_or, [], ◌%◌}
+use Rattle.std.proofs.Common.{List, ℕ, ap, ◌∙◌, slice_index, slice_index_or, [], ◌%◌}
 use Rattle.r3k_word.specs.Layout.{page_of_place}
 use Rattle.r3k_word.specs.declared.layout.TheConstants.{PAGE_WORDS}
 use Rattle.r3k_pages.specs.declared.group.TheConstants.{GROUP_PAGES}
-use Rattle.r3k_pages.proofs.Kept.{if_ok, if_some, untouched}
+use Rattle.r3k_pages.proofs.Kept.{if_ok, if_some}
 use Rattle.r3k_pages.proofs.group.group_of.Goals as goal
 
 pub returns-in-Some : goal.returns-in-Some
@@ -12,4 +12,4 @@ returns-in-Some g c =
     ap (λ (kept : List (List ℕ)). slice_index (slice_index_or kept (page_of_place place % GROUP_PAGES) []) (place % PAGE_WORDS)) same
     ∙ (c.group.ensures place within of
     ∙ if_some _ c.args.previous c.in-Some.previous c.in-Some.is c.requires.same place
-    (untouched c.args.dirty.now (page_of_place place) c.args.group of (sym c.touches.ensures ∙ c.if-not-touches.true))))
+    (c.touches.ensures c.if-not-touches.true (page_of_place place) of)))

@@ -11,4 +11,4 @@ returns-in-Some g c =
     ap (λ (words : List ℕ). slice_index words (place % PAGE_WORDS)) same
     ∙ (c.page.ensures place of
     ∙ if_some _ c.args.previous c.in-Some.previous c.in-Some.is c.requires.same place
-    (ap (holds c.args.dirty.now) of ∙ (sym c.contains.ensures.value ∙ c.if-not-contains.true))))
+    (ap (holds c.args.dirty.now) of ∙ (sym c.holds.ensures ∙ c.if-not-holds.true))))

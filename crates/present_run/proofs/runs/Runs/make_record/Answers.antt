@@ -55,17 +55,17 @@ returns-clause-made g c =
     (in_span span c.valid-index.result c.in_ok-from.from c.args.inputs.now.log c.window-events.result.now (c.in_ok-from.ensures {u = tt}).start c.window-events.ensures.events)
 
 pub returns-in_err-fact-clause-least : goal.returns-in_err-fact-clause-least
-returns-in_err-fact-clause-least g c = let steps = ap (λ (h : Holding). h.steps) c.stand_at_start.ensures.same in omega (arith, steps, c.make_record.ensures.least)
+returns-in_err-fact-clause-least g c = let steps = ap (λ (h : Holding). h.steps) c.stand_at_start.ensures.same in omega (arith, steps, c.make.ensures.least)
 
 pub returns-in_err-fact-clause-most : goal.returns-in_err-fact-clause-most
-returns-in_err-fact-clause-most g c = let steps = ap (λ (h : Holding). h.steps) c.stand_at_start.ensures.same in omega (arith, steps, c.make_record.ensures.most)
+returns-in_err-fact-clause-most g c = let steps = ap (λ (h : Holding). h.steps) c.stand_at_start.ensures.same in omega (arith, steps, c.make.ensures.most)
 
 pub returns-clause-count : goal.returns-clause-count
 returns-clause-count g c =
     (c.in_ok-fact.ensures {u = tt}).count ∙ ap (λ (n : ℕ). counted n g.row.SPAN) (ap (λ (h : Holding). h.steps) c.stand_at_start.ensures.same)
 
 pub returns-clause-least : goal.returns-clause-least
-returns-clause-least g c = let steps = ap (λ (h : Holding). h.steps) c.stand_at_start.ensures.same in omega (arith, steps, c.make_record.ensures.least)
+returns-clause-least g c = let steps = ap (λ (h : Holding). h.steps) c.stand_at_start.ensures.same in omega (arith, steps, c.make.ensures.least)
 
 pub returns-clause-most : goal.returns-clause-most
 returns-clause-most g c = let steps = ap (λ (h : Holding). h.steps) c.stand_at_start.ensures.same in omega (arith, (c.in_ok-fact.ensures {u = tt}).count, steps)

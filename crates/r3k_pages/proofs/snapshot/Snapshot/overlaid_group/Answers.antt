@@ -2,7 +2,7 @@ use Rattle.std.proofs.Common.{List, ℕ, ap, arith, length, sym, ◌∙◌, slic
 use Rattle.r3k_word.specs.Layout.{page_of_place}
 use Rattle.r3k_word.specs.declared.layout.TheConstants.{PAGE_WORDS}
 use Rattle.r3k_pages.specs.declared.group.TheConstants.{GROUP_PAGES}
-use Rattle.r3k_pages.proofs.Kept.{if_ok, untouched, words_long}
+use Rattle.r3k_pages.proofs.Kept.{if_ok, words_long}
 use Rattle.r3k_pages.proofs.Overlaid.{group_overlaid, overlaid_outside}
 use Rattle.r3k_pages.proofs.snapshot.Snapshot.overlaid_group.Goals as goal
 
@@ -13,7 +13,7 @@ returns-then-not-touches g c =
     ap (λ (kept : List (List ℕ)). slice_index (slice_index_or kept (page_of_place place % GROUP_PAGES) []) (place % PAGE_WORDS)) same
     ∙ (c.group-own.ensures place within of
     ∙ overlaid_outside c.args.pages.now c.args.self.now c.args.other.now place
-    (untouched c.args.pages.now (page_of_place place) c.args.group of (sym c.touches.ensures ∙ c.if-not-touches.true))))
+    (c.touches.ensures c.if-not-touches.true (page_of_place place) of)))
 
 pub returns : goal.returns
 returns g c =

@@ -1,4 +1,4 @@
-use Rattle.r3k_live.proofs.Marks.{pages_set}
+use Rattle.r3k_pages.proofs.Ascending.{pages_set}
 use Rattle.span_fact.proofs.fact.Fact.dirty.Goals as goal
 
 pub returns-clause-set : goal.returns-clause-set

@@ -17,11 +17,11 @@ invariant_of-result g c =
     let stood = c.args.live.now.state in
     let steps = trace pages events from stood span in
     let here = c.requires.stands in
-    let ends = c.in_ok-share.ensures {u = tt} ∙ c.in_ok-end.ensures {u = tt} in
+    let ends = (c.in_ok-keep.ensures {u = tt}).kept in
     let stored = (c.in_ok-dirty.ensures {u = tt}).pages steps c.run.ensures.recorded in
     let recorded = c.run.ensures.recorded in
     subst (λ (kept : List LogEvent). Holds pages span (record { index = index; start = c.args.start.value; events = kept })
-    c.in_ok-share.field-0.value c.in_ok-writers.field-0.items c.in_ok-from_slice-2.field-0.items c.in_ok-dirty.dirty.items c.in_ok-touched.field-0.items)
+    c.in_ok-keep.field-0.value c.in_ok-writers.field-0.items c.in_ok-from_slice-2.field-0.items c.in_ok-dirty.field-0.items c.in_ok-touched.field-0.items)
     (sym (c.in_ok-from_slice.ensures {u = tt}).items)
     (record {
       in_order = c.requires.in_order;
@@ -30,8 +30,8 @@ invariant_of-result g c =
       written = subst (λ (s : State). AreWriters pages (trace pages events from s span) c.in_ok-writers.field-0.items) here (c.in_ok-writers.ensures {u = tt} steps recorded);
       told = (c.in_ok-from_slice-2.ensures {u = tt}).items ∙ (c.sent.ensures.sent steps recorded ∙ ap (λ (s : State). sent_from 0 (trace pages events from s span)) here);
       stayed =
-          subst (λ (set : List ℕ). SameOutside set c.args.start.value.words c.in_ok-share.field-0.value.words) (sym stored)
-          (subst (λ (s : State). SameOutside (dirty_pages pages steps) s.words c.in_ok-share.field-0.value.words) here
+          subst (λ (set : List ℕ). SameOutside set c.args.start.value.words c.in_ok-keep.field-0.value.words) (sym stored)
+          (subst (λ (s : State). SameOutside (dirty_pages pages steps) s.words c.in_ok-keep.field-0.value.words) here
           (subst (λ (e : State). SameOutside (dirty_pages pages steps) stood.words e.words) (sym ends) c.run.ensures.dirty));
       stored = stored ∙ ap (λ (s : State). dirty_pages pages (trace pages events from s span)) here;
       seen = (c.in_ok-touched.ensures {u = tt}).pages steps recorded ∙ ap (λ (s : State). touched_pages pages (trace pages events from s span)) here;

@@ -1,5 +1,5 @@
--- The pages that are marked.
-use Rattle.std.proofs.Common.{◌≡◌, ℕ, zero, suc, ◌+◌, ◌<◌, ◌≤◌, Bool, false, List, [], ◌∷◌, ◌++◌, filter, length, slice_index, slice_index_or, Result, Ok, Err, IfOk, MatchResult, IsFalse, nat_eq, inl, inr, cond, refl, sym, ap, subst, ◌∙◌, arith}
+-- The pages of a set in ascending order.
+use Rattle.std.proofs.Common.{◌≡◌, ℕ, zero, suc, ◌+◌, ◌<◌, ◌≤◌, Bool, false, List, [], ◌∷◌, ◌++◌, filter, length, slice_index, Result, Ok, Err, IfOk, MatchResult, IsFalse, nat_eq, inl, inr, cond, refl, sym, ap, subst, ◌∙◌, arith}
 use Rattle.std.proofs.Math.Path.{ap₂}
 use Rattle.std.specs.List.{range_with_len}
 use Rattle.std.proofs.lemmas.List.FromFn.{get_or-range_with_len, length-range_with_len}
@@ -8,8 +8,7 @@ use Rattle.std.proofs.lemmas.List.Kept.{IsStrictlyIncreasing-filter}
 use Rattle.std.proofs.lemmas.Bool.{cases_Bool, cases_lt, eq-eqb, eqb-true, true≢false}
 use Rattle.std.proofs.lemmas.List.{get_or_past}
 use Rattle.r3k_word.specs.Layout.{page_of_place, word_count_of}
-use Rattle.r3k_pages.specs.Pages.{IsPageSet, SameOutside, holds, page_count_of}
-use Rattle.r3k_live.specs.Record.{pages_where}
+use Rattle.r3k_pages.specs.Pages.{IsPageSet, SameOutside, holds, page_count_of, pages_where}
 
 -- what holds of an answer, where something else does
 pub if_ok : {A E : Type 0} {R : A → Type 0} (P : A → Type 0) (Q : E → Type 0) (r : Result A E) → MatchResult r P Q → ((x : A) → P x → R x) → IfOk r R
@@ -51,16 +50,26 @@ pages_set pages test =
           (λ k d within. omega (arith, inside k within, get_or-range_with_len 0 count k d (inside k within)));
     }
 
--- marks that tell a test
-pub marked_pages : (pages : ℕ) (marks : List Bool) (test : ℕ → Bool) → length marks ≡ page_count_of pages
-    → ((page : ℕ) → page < page_count_of pages → slice_index_or marks page false ≡ test page)
-    → filter (λ page. slice_index_or marks page false) (range_with_len 0 (length marks)) ≡ pages_where pages test
-marked_pages pages marks test long same =
-    ap (λ (n : ℕ). filter (λ page. slice_index_or marks page false) (range_with_len 0 n)) long
-    ∙ same_kept (λ page. slice_index_or marks page false) test 0 (page_count_of pages) (λ page within. same page (omega (arith, within)))
-
 not_equal : (a b : ℕ) → ¬ (a ≡ b) → nat_eq a b ≡ false
 not_equal a b other = elim (cases_Bool (nat_eq a b)) [ inl same ↦ absurd (other (eqb-true a b same)) | inr apart ↦ apart ]
+
+-- tests that agree on all pages keep the same ones
+pub same_where : (pages : ℕ) (p q : ℕ → Bool) → ((page : ℕ) → page < page_count_of pages → p page ≡ q page) → pages_where pages p ≡ pages_where pages q
+same_where pages p q same = same_kept p q 0 (page_count_of pages) (λ page within. same page (omega (arith, within)))
+
+-- what a test keeps passes it
+pub none_where : (pages : ℕ) (test : ℕ → Bool) (page : ℕ) → test page ≡ false → holds (pages_where pages test) page ≡ false
+none_where pages test page fails = none test 0 (page_count_of pages) page fails
+  where
+    none : (test : ℕ → Bool) (first n page : ℕ) → test page ≡ false → holds (filter test (range_with_len first n)) page ≡ false
+    none test first zero page fails = refl
+    none test first (suc n) page fails =
+        elim (cases_Bool (test first)) [
+          | inl passes ↦
+              let apart : nat_eq first page ≡ false = not_equal first page (λ same. true≢false (sym passes ∙ (ap test same ∙ fails))) in
+              rw (passes, apart) (none test (first + 1) n page fails)
+          | inr out ↦ rw out (none test (first + 1) n page fails)
+        ]
 
 -- whether a page is among those that pass a test
 none_before : (test : ℕ → Bool) (first n page : ℕ) → page < first → holds (filter test (range_with_len first n)) page ≡ false
