@@ -24,7 +24,7 @@ use r3k_word::field::field;
 impl Core {
     // The values that an instruction reads.
     #[inline]
-    fn operands(&self, insn: &Insn) -> Operands
+    pub(crate) fn operands(&self, insn: &Insn) -> Operands
         ensures { result ≡ operands_of self.now insn.now }
     {
         Operands {
@@ -38,7 +38,7 @@ impl Core {
 
     // Whether the word is one of coprocessor 0, and that is not usable.
     #[inline]
-    fn is_unusable(&self, word: u32) -> bool
+    pub(crate) fn is_unusable(&self, word: u32) -> bool
         ensures { result ≡ is_unusable self.now word }
     {
         field::<31, 26>(word) == 16 && !self.processor.cop0.is_usable()
@@ -124,7 +124,7 @@ impl Core {
 // Performs the effect of the instruction at the PC, which was fetched from a page. An exception leaves the words as they were, and the processor as
 // the access left it.
 #[inline]
-fn perform_effect<M: Mem>(
+pub(crate) fn perform_effect<M: Mem>(
     core: &mut Core,
     memory: &mut M,
     page: u32,

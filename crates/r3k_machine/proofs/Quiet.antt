@@ -1,0 +1,302 @@
+-- Steps that are quiet and quick, before ticks and falls of Random and after them.
+use Rattle.std.proofs.Common.{◌≡◌, ℕ, suc, ◌+◌, ◌*◌, ◌/◌, ◌%◌, ◌^◌, ◌<◌, ◌≤◌, Bool, true, false, not, ◌&&◌, ◌||◌, nat_le, nat_lt, List, [], IsFalse, Option, Some, None, Ok, slice_index, refl, sym, subst, ap, ◌∙◌, arith}
+use Rattle.std.specs.Prelude.{◌==◌, if◌then◌else◌}
+use Rattle.std.specs.Option.{is_some}
+use Rattle.std.proofs.lemmas.Bool.{eq-eqb, true≢false}
+use Rattle.std.proofs.lemmas.Bool.Decides.{nat_tests}
+use Rattle.r3k_word.specs.Layout.{page_of_place, place_of_word}
+use Rattle.cop0.specs.Registers.{Registers}
+use Rattle.cop0.specs.Changes as control
+use Rattle.cop0.specs.Status.{in_user_mode}
+use Rattle.kn02_bus.specs.declared.bus.Lines.{Lines}
+use Rattle.kn02_bus.specs.Lines.{lines_of}
+use Rattle.kn02_bus.specs.Quiet.{after}
+use Rattle.r3k_decode.specs.Operation.{Operation}
+use Rattle.r3k_decode.specs.Decoding.{operation_of}
+use Rattle.r3k_exec.specs.Access.{is_aligned_load, is_aligned_store, stored}
+use Rattle.r3k_exec.specs.Effects.{effect_of}
+use Rattle.r3k_exec.specs.declared.access.LoadKind.{LoadKind}
+use Rattle.r3k_exec.specs.declared.access.StoreKind.{StoreKind}
+use Rattle.r3k_exec.specs.declared.operands.Effect.{Effect}
+use Rattle.r3k_exec.specs.declared.operands.Effect.TheVariants.{Write, WriteHi, WriteLo, WriteHiLo, Jump, JumpAndLink, Trap, Load, Store, MoveFromControl, MoveToControl, ReadEntry, WriteIndexedEntry, WriteRandomEntry, ProbeEntry, ReturnFromException}
+use Rattle.r3k_machine.specs.declared.address.Physical.{Physical}
+use Rattle.r3k_machine.specs.declared.address.Segment.TheVariants.{Forbidden, Unmapped, Mapped}
+use Rattle.r3k_machine.specs.declared.address.TheConstants.{KSEG0, KSEG1, KSEG2}
+use Rattle.r3k_machine.specs.declared.address.Use.{Use}
+use Rattle.r3k_machine.specs.declared.address.Use.TheVariants.{Fetch}
+use Rattle.r3k_machine.specs.declared.address.Use.TheVariants as access
+use Rattle.r3k_machine.specs.declared.exception.Exception.TheVariants.{BusErrorFetch}
+use Rattle.r3k_machine.specs.declared.load_store.Word.{Word}
+use Rattle.r3k_machine.specs.Address.{Meaning, meaning, meaning_in, met, segment_of}
+use Rattle.r3k_machine.specs.Core.{Core}
+use Rattle.r3k_machine.specs.State.{State}
+use Rattle.r3k_machine.specs.Isolated.{is_isolated}
+use Rattle.r3k_machine.specs.Exceptions.{is_unusable}
+use Rattle.r3k_machine.specs.LoadStore.{after_load, after_store, loaded_at, meaning_of_fetch, meaning_of_load, meaning_of_store, ram_word, stored_at, word_at, word_of_place, word_read, words_after, words_with}
+use Rattle.r3k_machine.specs.Step.{Completion, Outcome, arrived, completion_of_effect, completion_of_load, completion_of_store, completion_of_word, operands_of, outcome_of_completion, outcome_of_fetch, outcome_of_instruction, outcome_of_interrupt_or_instruction, outcome_of_step, sampled, ticked, with_fall}
+use Rattle.r3k_machine.specs.declared.quick.CodePage.{CodePage}
+use Rattle.r3k_machine.specs.Quiet.{IsCodePage, IsPlain, IsQuick, IsQuickEffect, IsQuietFor, elapsed, outcome_elapsed, state_elapsed}
+
+-- after ticks and falls of Random
+abbrev pub aged : (ticks falls : ℕ) → Core → Core
+aged ticks falls core = record core { bus = after ticks core.bus; cop0 = control.fallen_by falls core.cop0 }
+
+abbrev pub state_aged : (ticks falls : ℕ) → State → State
+state_aged ticks falls s = record { core = aged ticks falls s.core; words = s.words }
+
+abbrev pub outcome_aged : (ticks falls : ℕ) → Outcome → Outcome
+outcome_aged ticks falls o = record { state = state_aged ticks falls o.state; done = o.done }
+
+-- what an instruction leaves as it is
+pub record Keeps (old new : Core) : Type 0 where
+  pub bus : new.bus ≡ old.bus
+  pub cop0 : new.cop0 ≡ old.cop0
+  pub entries : new.entries ≡ old.entries
+
+-- steps stay quiet, and the page that is run in what it is
+pub quiet_kept : (n : ℕ) (old new : Core) → Keeps old new → IsQuietFor n old → IsQuietFor n new
+quiet_kept n old new keeps quiet = record {
+  counts = rw keeps.bus quiet.counts;
+  sampled = rw (keeps.bus, keeps.cop0) quiet.sampled;
+  unwanted = rw keeps.cop0 quiet.unwanted;
+}
+
+pub code_kept : (pages : ℕ) (page : CodePage) (old new : Core) → Keeps old new → IsCodePage pages old page → IsCodePage pages new page
+unfolding meaning
+code_kept pages page old new keeps code = λ address here aligned. rw (keeps.entries, keeps.cop0) (code address here aligned)
+
+-- an address means the same
+meaning_aged : (ticks falls : ℕ) (core : Core) (access : Use) (aligned : Bool) (address : ℕ)
+    → meaning (aged ticks falls core) access aligned address ≡ meaning core access aligned address
+unfolding meaning
+meaning_aged ticks falls core access aligned address = refl
+
+-- a load and a store, by the meaning of the address
+abbrev load_by : ℕ → State → ℕ → LoadKind → (number address : ℕ) → Meaning → Completion
+load_by pages s page kind number address m =
+    completion_of_load (record { core = after_load pages (met s.core m) m.answer; words = s.words }) page kind number address
+    (loaded_at pages s.words (met s.core m) m.answer)
+
+abbrev store_by : ℕ → State → ℕ → StoreKind → (address value : ℕ) → Meaning → Completion
+store_by pages s page kind address value m =
+    let told = stored_at pages (met s.core m) (stored kind (address % 4) value) m.answer in
+    completion_of_store (record { core = after_store pages (met s.core m) kind address value m.answer; words = s.words }) page
+    (words_after s.words told (stored kind (address % 4) value)) told
+
+plain_load : (pages : ℕ) (s : State) (page : ℕ) (kind : LoadKind) (number address : ℕ) (m : Meaning) (physical : Physical) (place : ℕ)
+    → IsPlain s.core m physical → place_of_word pages (physical.address / 4 * 4) ≡ Some place
+    → load_by pages s page kind number address m
+    ≡ completion_of_load s page kind number address (Ok (record { word = slice_index s.words place; page = Some (page_of_place place) }))
+plain_load pages s page kind number address m physical place plain stands = rw (plain.means, plain.shared, stands) refl
+
+plain_store : (pages : ℕ) (s : State) (page : ℕ) (kind : StoreKind) (address value : ℕ) (m : Meaning) (physical : Physical) (word : ℕ)
+    → IsPlain s.core m physical → ram_word pages physical.address ≡ Some word
+    → store_by pages s page kind address value m
+    ≡ completion_of_store s page (words_with s.words (Some word) (stored kind (address % 4) value)) (Ok (record { address = Some word; sent = None }))
+plain_store pages s page kind address value m physical word plain stands = rw (plain.means, plain.shared, stands) refl
+
+-- a completion after ticks and falls is that before them, and it leaves what they change
+pub record Ages (ticks falls : ℕ) (s : State) (now later : Completion) : Type 0 where
+  pub outcome : Outcome
+  pub is : now ≡ Ok outcome
+  pub later_is : later ≡ Ok (outcome_aged ticks falls outcome)
+  pub keeps : Keeps s.core outcome.state.core
+
+pub effect_ages : (pages ticks falls : ℕ) (s : State) (page : ℕ) (effect : Effect) → IsQuickEffect pages s.core effect
+    → Ages ticks falls s (completion_of_effect pages s page effect) (completion_of_effect pages (state_aged ticks falls s) page effect)
+effect_ages pages ticks falls s page (Write number value) quick = record { outcome = _; is = refl; later_is = refl; keeps = record { bus = refl; cop0 = refl; entries = refl } }
+effect_ages pages ticks falls s page (WriteHi value) quick = record { outcome = _; is = refl; later_is = refl; keeps = record { bus = refl; cop0 = refl; entries = refl } }
+effect_ages pages ticks falls s page (WriteLo value) quick = record { outcome = _; is = refl; later_is = refl; keeps = record { bus = refl; cop0 = refl; entries = refl } }
+effect_ages pages ticks falls s page (WriteHiLo hi lo) quick = record { outcome = _; is = refl; later_is = refl; keeps = record { bus = refl; cop0 = refl; entries = refl } }
+effect_ages pages ticks falls s page (Jump target) quick = record { outcome = _; is = refl; later_is = refl; keeps = record { bus = refl; cop0 = refl; entries = refl } }
+effect_ages pages ticks falls s page (JumpAndLink target number value) quick = record { outcome = _; is = refl; later_is = refl; keeps = record { bus = refl; cop0 = refl; entries = refl } }
+effect_ages pages ticks falls s page (Trap trap) quick = absurd quick
+effect_ages pages ticks falls s page (Load kind number address) (physical, place, plain, stands) = record {
+  outcome = _;
+  is = plain_load pages s page kind number address (meaning_of_load s.core kind address) physical place plain stands;
+  later_is =
+      plain_load pages (state_aged ticks falls s) page kind number address (meaning_of_load (aged ticks falls s.core) kind address) physical place
+      (record { means = meaning_aged ticks falls s.core _ _ address ∙ plain.means; shared = plain.shared }) stands;
+  keeps = record { bus = refl; cop0 = refl; entries = refl };
+}
+effect_ages pages ticks falls s page (Store kind address value) (physical, word, plain, stands) = record {
+  outcome = _;
+  is = plain_store pages s page kind address value (meaning_of_store s.core kind address) physical word plain stands;
+  later_is =
+      plain_store pages (state_aged ticks falls s) page kind address value (meaning_of_store (aged ticks falls s.core) kind address) physical word
+      (record { means = meaning_aged ticks falls s.core _ _ address ∙ plain.means; shared = plain.shared }) stands;
+  keeps = record { bus = refl; cop0 = refl; entries = refl };
+}
+effect_ages pages ticks falls s page (MoveFromControl number control) quick = absurd quick
+effect_ages pages ticks falls s page (MoveToControl control value) quick = absurd quick
+effect_ages pages ticks falls s page ReturnFromException quick = absurd quick
+effect_ages pages ticks falls s page ReadEntry quick = absurd quick
+effect_ages pages ticks falls s page WriteIndexedEntry quick = absurd quick
+effect_ages pages ticks falls s page WriteRandomEntry quick = absurd quick
+effect_ages pages ticks falls s page ProbeEntry quick = absurd quick
+
+-- the instruction at PC, by the meaning of its address
+abbrev instruction_by : ℕ → State → Meaning → Outcome
+instruction_by pages s m = outcome_of_fetch pages (record { core = met s.core m; words = s.words }) (word_read pages s.words BusErrorFetch m.answer)
+
+pub plain_fetch : (pages : ℕ) (s : State) (m : Meaning) (physical : Physical) (w : Word)
+    → m ≡ record { several = false; answer = Ok physical } → word_at pages s.words physical.address ≡ Some w
+    → instruction_by pages s m ≡ outcome_of_completion s w.page (completion_of_word pages s w)
+plain_fetch pages s m physical w means stands = rw (means, stands) refl
+
+-- so is the word's effect
+pub quick_word : (pages : ℕ) (s : State) (quick : IsQuick pages s)
+    → completion_of_word pages s quick.fetched
+    ≡ completion_of_effect pages s quick.fetched.page (effect_of quick.operation (operands_of s.core quick.operation))
+quick_word pages s quick = rw (quick.usable, quick.decoded) refl
+
+aged_word : (pages ticks falls : ℕ) (s : State) (quick : IsQuick pages s)
+    → completion_of_word pages (state_aged ticks falls s) quick.fetched
+    ≡ completion_of_effect pages (state_aged ticks falls s) quick.fetched.page (effect_of quick.operation (operands_of s.core quick.operation))
+aged_word pages ticks falls s quick = rw (quick.usable, quick.decoded) refl
+
+pub record InstructionAges (pages ticks falls : ℕ) (s : State) : Type 0 where
+  pub later_is : outcome_of_instruction pages (state_aged ticks falls s) ≡ outcome_aged ticks falls (outcome_of_instruction pages s)
+  pub keeps : Keeps s.core (outcome_of_instruction pages s).state.core
+
+pub instruction_ages : (pages ticks falls : ℕ) (s : State) → IsQuick pages s → InstructionAges pages ticks falls s
+instruction_ages pages ticks falls s quick =
+    let w = quick.fetched in
+    let effect = effect_of quick.operation (operands_of s.core quick.operation) in
+    let ages = effect_ages pages ticks falls s w.page effect quick.effect in
+    let now = plain_fetch pages s (meaning_of_fetch s.core) quick.physical w quick.means quick.stands
+        ∙ ap (outcome_of_completion s w.page) (quick_word pages s quick ∙ ages.is) in
+    let later = plain_fetch pages (state_aged ticks falls s) (meaning_of_fetch (aged ticks falls s.core)) quick.physical w
+        (meaning_aged ticks falls s.core _ _ s.core.pc ∙ quick.means) quick.stands
+        ∙ ap (outcome_of_completion (state_aged ticks falls s) w.page) (aged_word pages ticks falls s quick ∙ ages.later_is) in record {
+      later_is = later ∙ ap (outcome_aged ticks falls) (sym now);
+      keeps = subst (λ (o : Outcome). Keeps s.core o.state.core) (sym now) ages.keeps;
+    }
+
+-- before the instruction of a quiet step there is a tick alone
+before : (n : ℕ) (core : Core) (lines : Lines) → lines_of (after (suc n) core.bus) ≡ lines
+    → control.sampled core.cop0 lines.board lines.clock ≡ core.cop0
+    → sampled (ticked (arrived [] (elapsed n core))) ≡ aged (suc n) n core
+unfolding arrived ticked sampled after
+before n core lines same is =
+    ap (λ (l : Lines). record core { bus = after (suc n) core.bus; cop0 = control.sampled (control.fallen_by n core.cop0) l.board l.clock }) same
+    ∙ ap (λ (c : Registers). record core { bus = after (suc n) core.bus; cop0 = control.fallen_by n c }) is
+
+-- the fall of Random behind it
+falls : (n : ℕ) (o : Outcome) → with_fall (outcome_aged (suc n) n o) ≡ outcome_elapsed (suc n) o
+unfolding control.random_after
+falls n o = refl
+
+unwanted_runs : (pages : ℕ) (s : State) → IsFalse (control.is_wanted s.core.cop0)
+    → outcome_of_interrupt_or_instruction pages s ≡ outcome_of_instruction pages s
+unwanted_runs pages s unwanted = rw unwanted refl
+
+pub alone : (pages n : ℕ) (s : State) → IsQuietFor (suc n) s.core → lines_of (after (suc n) s.core.bus) ≡ lines_of s.core.bus
+    → outcome_of_step pages [] (state_elapsed n s) ≡ with_fall (outcome_of_instruction pages (state_aged (suc n) n s))
+unfolding outcome_of_step
+alone pages n s quiet same =
+    ap (λ (core : Core). with_fall (outcome_of_interrupt_or_instruction pages (record { core = core; words = s.words })))
+    (before n s.core (lines_of s.core.bus) same quiet.sampled)
+    ∙ ap with_fall (unwanted_runs pages (state_aged (suc n) n s) quiet.unwanted)
+
+pub at_once : (pages n : ℕ) (s : State) → IsQuietFor (suc n) s.core → lines_of (after (suc n) s.core.bus) ≡ lines_of s.core.bus
+    → IsQuick pages s → outcome_of_step pages [] (state_elapsed n s) ≡ outcome_elapsed (suc n) (outcome_of_instruction pages s)
+at_once pages n s quiet same quick =
+    alone pages n s quiet same
+    ∙ (ap with_fall (instruction_ages pages (suc n) n s quick).later_is ∙ falls n (outcome_of_instruction pages s))
+
+-- an address of kseg0 or kseg1 that is aligned and not forbidden: the mode is the kernel's
+kernel_alone : (user aligned : Bool) (at : ℕ) (physical : Physical)
+    → (if not aligned || (user && nat_le KSEG0 at) then Forbidden
+    else (if nat_le KSEG0 at && nat_lt at KSEG2 then Unmapped (record { address = at % 2 ^ 29; cacheable = nat_lt at KSEG1 }) else Mapped)) ≡ Unmapped physical
+    → (IsFalse user × (KSEG0 ≤ at)) × ((at < KSEG2) × (physical.address ≡ at % 2 ^ 29))
+kernel_alone user aligned at physical is = grind (arith, nat_tests)
+
+unmapped_there : (user : Bool) (address : ℕ) → IsFalse user → KSEG0 ≤ address → address < KSEG2
+    → (if not true || (user && nat_le KSEG0 address) then Forbidden
+    else (if nat_le KSEG0 address && nat_lt address KSEG2 then Unmapped (record { address = address % 2 ^ 29; cacheable = nat_lt address KSEG1 }) else Mapped))
+    ≡ Unmapped (record { address = address % 2 ^ 29; cacheable = nat_lt address KSEG1 })
+unmapped_there user address kernel least most = grind (arith, nat_tests)
+
+-- an aligned address of the page of another one, and the physical addresses
+same_page : (at address : ℕ) → address / 4096 ≡ at / 4096 → address % 2 ^ 29 / 4096 ≡ at % 2 ^ 29 / 4096
+same_page at address same = omega arith
+
+place_in_page : (pages at address place : ℕ) → address % 4 ≡ 0 → address / 4096 ≡ at / 4096
+    → place_of_word pages (at / 4 * 4) ≡ Some place
+    → place_of_word pages (address / 4 * 4) ≡ Some (place / 1024 * 1024 + address % 4096 / 4)
+place_in_page pages at address place aligned same stands = grind (arith, nat_tests)
+
+pub unmapped_page : (core : Core) (pages at place : ℕ) (physical : Physical) → segment_of core.cop0 (at % 4 == 0) at ≡ Unmapped physical
+    → place_of_word pages (physical.address / 4 * 4) ≡ Some place
+    → IsCodePage pages core (record { number = at / 4096; page = place / 1024 })
+unfolding meaning
+unmapped_page core pages at place physical is stands = λ address same aligned.
+    let lies = kernel_alone (in_user_mode core.cop0) (at % 4 == 0) at physical is in
+    let there = unmapped_there (in_user_mode core.cop0) address lies.0.0 (omega (arith, lies.0.1)) (omega (arith, lies.1.0)) in
+    let here = subst (λ (n : ℕ). place_of_word pages (n / 4 * 4) ≡ Some place) lies.1.1 stands in
+    let place_is = place_in_page pages (at % 2 ^ 29) (address % 2 ^ 29) place (omega arith) (same_page at address same) here in (
+      record { address = address % 2 ^ 29; cacheable = nat_lt address KSEG1 },
+      ap (meaning_in core Fetch address) there,
+      place_is ∙ ap (λ (n : ℕ). Some (place / 1024 * 1024 + n / 4)) (let e : address % 2 ^ 29 % 4096 ≡ address % 4096 = omega arith in e),
+    )
+
+-- an access of kseg0 or kseg1 that is not isolated
+plain_unmapped : (core : Core) (access : Use) (aligned : Bool) (address : ℕ) (physical : Physical)
+    → segment_of core.cop0 aligned address ≡ Unmapped physical → is_isolated core physical ≡ false
+    → IsPlain core (meaning core access aligned address) physical
+unfolding meaning
+plain_unmapped core access aligned address physical is shared = record { means = ap (meaning_in core access address) is; shared = shared }
+
+some_of : (o : Option ℕ) → is_some o ≡ true → (n : ℕ) × (o ≡ Some n)
+some_of None some = absurd (true≢false (sym some))
+some_of (Some n) some = (n, refl)
+
+pub quick_load : (pages : ℕ) (core : Core) (kind : LoadKind) (number address : ℕ) (physical : Physical)
+    → segment_of core.cop0 (is_aligned_load kind address) address ≡ Unmapped physical → is_isolated core physical ≡ false
+    → is_some (place_of_word pages (physical.address / 4 * 4)) ≡ true → IsQuickEffect pages core (Load kind number address)
+quick_load pages core kind number address physical is shared some =
+    let place = some_of (place_of_word pages (physical.address / 4 * 4)) some in
+    (physical, place.0, plain_unmapped core access.Load (is_aligned_load kind address) address physical is shared, place.1)
+
+pub quick_store : (pages : ℕ) (core : Core) (kind : StoreKind) (address value : ℕ) (physical : Physical)
+    → segment_of core.cop0 (is_aligned_store kind address) address ≡ Unmapped physical → is_isolated core physical ≡ false
+    → physical.address / 4096 < pages → IsQuickEffect pages core (Store kind address value)
+quick_store pages core kind address value physical is shared within =
+    (physical, physical.address / 4 * 4, plain_unmapped core access.Store (is_aligned_store kind address) address physical is shared, grind (arith, nat_tests))
+
+-- the word of the page that is run in is fetched
+pub fetched_from : (pages : ℕ) (words : List ℕ) (page offset physical : ℕ) → offset < 1024
+    → place_of_word pages (physical / 4 * 4) ≡ Some (page * 1024 + offset)
+    → word_at pages words physical ≡ Some (record { word = slice_index words (page * 1024 + offset); page = page })
+fetched_from pages words page offset physical within stands =
+    ap (word_of_place words) stands
+    ∙ ap (λ (p : ℕ). Some (record { word = slice_index words (page * 1024 + offset); page = p })) (let e : page_of_place (page * 1024 + offset) ≡ page = omega arith in e)
+
+pub aligned_fetch : (core : Core) → core.pc % 4 ≡ 0 → meaning_of_fetch core ≡ meaning core Fetch true core.pc
+aligned_fetch core aligned = ap (λ (b : Bool). meaning core Fetch b core.pc) (eq-eqb (core.pc % 4) 0 aligned)
+
+abbrev pub quick_in_page : (pages : ℕ) (s : State) (page : CodePage) (word : ℕ) (operation : Operation) → IsCodePage pages s.core page
+    → s.core.pc / 4096 ≡ page.number → s.core.pc % 4 ≡ 0 → word ≡ slice_index s.words (page.page * 1024 + s.core.pc % 4096 / 4)
+    → is_unusable s.core word ≡ false → operation_of word ≡ Some operation
+    → IsQuickEffect pages s.core (effect_of operation (operands_of s.core operation)) → IsQuick pages s
+quick_in_page pages s page word operation code here aligned is usable decoded effect =
+    let found = code s.core.pc here aligned in record {
+      physical = found.0;
+      fetched = record { word = word; page = page.page };
+      operation = operation;
+      means = aligned_fetch s.core aligned ∙ found.1;
+      stands =
+          fetched_from pages s.words page.page (s.core.pc % 4096 / 4) found.0.address (omega arith) found.2
+          ∙ ap (λ (n : ℕ). Some (record { word = n; page = page.page })) (sym is);
+      usable = usable;
+      decoded = decoded;
+      effect = effect;
+    }
+
+pub quick_ran : (pages : ℕ) (s : State) (quick : IsQuick pages s) (o : Outcome)
+    → completion_of_effect pages s quick.fetched.page (effect_of quick.operation (operands_of s.core quick.operation)) ≡ Ok o
+    → outcome_of_instruction pages s ≡ o
+quick_ran pages s quick o completes =
+    plain_fetch pages s (meaning_of_fetch s.core) quick.physical quick.fetched quick.means quick.stands
+    ∙ ap (outcome_of_completion s quick.fetched.page) (quick_word pages s quick ∙ completes)
