@@ -1,10 +1,19 @@
 -- Steps that are quiet and quick, before ticks and falls of Random and after them.
-use Rattle.std.proofs.Common.{◌≡◌, ℕ, suc, ◌+◌, ◌*◌, ◌/◌, ◌%◌, ◌^◌, ◌<◌, ◌≤◌, Bool, true, false, not, ◌&&◌, ◌||◌, nat_le, nat_lt, List, [], IsFalse, Option, Some, None, Ok, slice_index, refl, sym, subst, ap, ◌∙◌, arith}
+use Rattle.std.proofs.Math.Path.{ap₂}
+use Rattle.std.proofs.Common.{Err, ◌≡◌, ℕ, suc, ◌+◌, ◌*◌, ◌/◌, ◌%◌, ◌^◌, ◌<◌, ◌≤◌, Bool, true, false, not, ◌&&◌, ◌||◌, nat_le, nat_lt, List, [], IsFalse, Option, Some, None, Ok, slice_index, refl, sym, subst, ap, ◌∙◌, arith}
 use Rattle.std.specs.Prelude.{◌==◌, if◌then◌else◌}
-use Rattle.std.specs.Option.{is_some}
+use Rattle.std.specs.Prelude.{nat_eq, slice_index_or, position, count_by, bit_and, bit_or}
+use Rattle.std.specs.Option.{is_some, option_map}
+use Rattle.std.proofs.lemmas.Nat.{and_block, and_le_l, and_le_r, and_mask, or_disjoint}
+use Rattle.std.proofs.lemmas.Nat.Bits.{and_high}
 use Rattle.std.proofs.lemmas.Bool.{eq-eqb, true≢false}
 use Rattle.std.proofs.lemmas.Bool.Decides.{nat_tests}
+use Rattle.r3k_word.specs.Word.{has, merged}
 use Rattle.r3k_word.specs.Layout.{page_of_place, place_of_word}
+use Rattle.tlb64.specs.Entries.{empty_entry, page_of, process_of}
+use Rattle.tlb64.specs.declared.entry.Entry.{Entry}
+use Rattle.tlb64.specs.declared.entry.Found.{Found}
+use Rattle.tlb64.specs.declared.entry.TheConstants.{GLOBAL}
 use Rattle.cop0.specs.Registers.{Registers}
 use Rattle.cop0.specs.Changes as control
 use Rattle.cop0.specs.Status.{in_user_mode}
@@ -13,21 +22,22 @@ use Rattle.kn02_bus.specs.Lines.{lines_of}
 use Rattle.kn02_bus.specs.Quiet.{after}
 use Rattle.r3k_decode.specs.Operation.{Operation}
 use Rattle.r3k_decode.specs.Decoding.{operation_of}
-use Rattle.r3k_exec.specs.Access.{is_aligned_load, is_aligned_store, stored}
+use Rattle.r3k_exec.specs.Access.{stored}
 use Rattle.r3k_exec.specs.Effects.{effect_of}
 use Rattle.r3k_exec.specs.declared.access.LoadKind.{LoadKind}
 use Rattle.r3k_exec.specs.declared.access.StoreKind.{StoreKind}
 use Rattle.r3k_exec.specs.declared.operands.Effect.{Effect}
 use Rattle.r3k_exec.specs.declared.operands.Effect.TheVariants.{Write, WriteHi, WriteLo, WriteHiLo, Jump, JumpAndLink, Trap, Load, Store, MoveFromControl, MoveToControl, ReadEntry, WriteIndexedEntry, WriteRandomEntry, ProbeEntry, ReturnFromException}
 use Rattle.r3k_machine.specs.declared.address.Physical.{Physical}
+use Rattle.r3k_machine.specs.declared.address.Segment.{Segment}
 use Rattle.r3k_machine.specs.declared.address.Segment.TheVariants.{Forbidden, Unmapped, Mapped}
-use Rattle.r3k_machine.specs.declared.address.TheConstants.{KSEG0, KSEG1, KSEG2}
+use Rattle.r3k_machine.specs.declared.address.TheConstants.{KSEG0, KSEG1, KSEG2, UNCACHED, VALID}
 use Rattle.r3k_machine.specs.declared.address.Use.{Use}
 use Rattle.r3k_machine.specs.declared.address.Use.TheVariants.{Fetch}
-use Rattle.r3k_machine.specs.declared.address.Use.TheVariants as access
-use Rattle.r3k_machine.specs.declared.exception.Exception.TheVariants.{BusErrorFetch}
+use Rattle.r3k_machine.specs.declared.exception.Exception.{Exception}
+use Rattle.r3k_machine.specs.declared.exception.Exception.TheVariants.{AddressErrorLoad, BusErrorFetch, TlbLoad}
 use Rattle.r3k_machine.specs.declared.load_store.Word.{Word}
-use Rattle.r3k_machine.specs.Address.{Meaning, meaning, meaning_in, met, segment_of}
+use Rattle.r3k_machine.specs.Address.{Meaning, found_for, meaning, meaning_in, meaning_of_found, met, segment_of}
 use Rattle.r3k_machine.specs.Core.{Core}
 use Rattle.r3k_machine.specs.State.{State}
 use Rattle.r3k_machine.specs.Isolated.{is_isolated}
@@ -227,7 +237,7 @@ place_in_page : (pages at address place : ℕ) → address % 4 ≡ 0 → address
     → place_of_word pages (address / 4 * 4) ≡ Some (place / 1024 * 1024 + address % 4096 / 4)
 place_in_page pages at address place aligned same stands = grind (arith, nat_tests)
 
-pub unmapped_page : (core : Core) (pages at place : ℕ) (physical : Physical) → segment_of core.cop0 (at % 4 == 0) at ≡ Unmapped physical
+unmapped_page : (core : Core) (pages at place : ℕ) (physical : Physical) → segment_of core.cop0 (at % 4 == 0) at ≡ Unmapped physical
     → place_of_word pages (physical.address / 4 * 4) ≡ Some place
     → IsCodePage pages core (record { number = at / 4096; page = place / 1024 })
 unfolding meaning
@@ -241,29 +251,128 @@ unmapped_page core pages at place physical is stands = λ address same aligned.
       place_is ∙ ap (λ (n : ℕ). Some (place / 1024 * 1024 + n / 4)) (let e : address % 2 ^ 29 % 4096 ≡ address % 4096 = omega arith in e),
     )
 
--- an access of kseg0 or kseg1 that is not isolated
-plain_unmapped : (core : Core) (access : Use) (aligned : Bool) (address : ℕ) (physical : Physical)
-    → segment_of core.cop0 aligned address ≡ Unmapped physical → is_isolated core physical ≡ false
-    → IsPlain core (meaning core access aligned address) physical
+-- a mapped address, and others of its page
+mapped_there : (user aligned : Bool) (at address : ℕ) → address / 4096 ≡ at / 4096
+    → (if not aligned || (user && nat_le KSEG0 at) then Forbidden
+    else (if nat_le KSEG0 at && nat_lt at KSEG2 then Unmapped (record { address = at % 2 ^ 29; cacheable = nat_lt at KSEG1 }) else Mapped)) ≡ Mapped
+    → (if not true || (user && nat_le KSEG0 address) then Forbidden
+    else (if nat_le KSEG0 address && nat_lt address KSEG2 then Unmapped (record { address = address % 2 ^ 29; cacheable = nat_lt address KSEG1 }) else Mapped))
+    ≡ Mapped
+mapped_there user aligned at address same is = grind (arith, nat_tests)
+
+-- the entry that is for a page and a process
+abbrev is_for : ℕ → ℕ → Entry → Bool
+is_for page process entry = nat_eq (page_of entry.hi) page && (has entry.lo GLOBAL || nat_eq (process_of entry.hi) process)
+
+abbrev lookup_by : List Entry → (page process : ℕ) → Option Found
+lookup_by entries page process =
+    option_map (λ place. record { index = place; entry = slice_index_or entries place empty_entry; several = nat_lt 1 (count_by (is_for page process) entries) })
+    (position (is_for page process) entries)
+
+found_same : (core : Core) (at address : ℕ) → address / 4096 ≡ at / 4096 → found_for core address ≡ found_for core at
+found_same core at address same = ap (λ (n : ℕ). lookup_by core.entries (n % 2 ^ 20) (process_of core.cop0.entry_hi)) same
+
+-- the frame of an entry, with the offset in the page
+merged_is : (lo address : ℕ) → merged 0xFFF lo address ≡ lo / 4096 % 2 ^ 20 * 4096 + address % 4096
+merged_is lo address =
+    let high = lo / 4096 % 2 ^ 20 in
+    let low = address % 4096 in
+    let apart : bit_and (high * 4096) low ≡ 0 =
+        ap₂ bit_and (let e : high * 4096 ≡ high * 2 ^ 12 + 0 = omega arith in e) (let e : low ≡ 0 * 2 ^ 12 + low = omega arith in e)
+        ∙ (and_block 12 high 0 0 low (omega arith) (omega arith) ∙ omega (arith, and_le_r high 0, and_le_l 0 low)) in
+    ap (λ (n : ℕ). bit_or n (bit_and address 0xFFF)) (and_high lo 20 12)
+    ∙ (ap (bit_or (high * 4096)) (and_mask address 12) ∙ or_disjoint (high * 4096) low apart)
+
+abbrev means : Physical → Meaning
+means physical = record { several = false; answer = Ok physical }
+
+record IsFramed (found : Option Found) (at address : ℕ) (physical : Physical) : Type 0 where
+  lo : ℕ
+  other : Physical
+  here : physical.address ≡ merged 0xFFF lo at
+  there : other.address ≡ merged 0xFFF lo address
+  is : meaning_of_found Fetch address found ≡ means other
+
+not_an_exception : (several : Bool) (e : Exception) (physical : Physical) → ¬ ((let m : Meaning = record { several = several; answer = Err e } in m) ≡ means physical)
+not_an_exception several e physical is = true≢false (let same : true ≡ false = cc (ap (λ (m : Meaning). m.answer) is) in same)
+
+framed_by : (lo at address : ℕ) (valid : Bool) (physical : Physical) (several : Bool)
+    → (let m : Meaning = record {
+      several = several;
+      answer = if not valid then Err (TlbLoad at false) else Ok (record { address = merged 0xFFF lo at; cacheable = not (has lo UNCACHED) });
+    } in m) ≡ means physical
+    → (several ≡ false) × ((valid ≡ true) × (physical.address ≡ merged 0xFFF lo at))
+framed_by lo at address true physical several is =
+    (ap (λ (m : Meaning). m.several) is, (refl, ap (λ (p : Physical). p.address) (let same : physical ≡ record { address = merged 0xFFF lo at; cacheable = not (has lo UNCACHED) } = cc (ap (λ (m : Meaning). m.answer) is) in same)))
+framed_by lo at address false physical several is = absurd (not_an_exception several (TlbLoad at false) physical is)
+
+framed : (found : Option Found) (at address : ℕ) (physical : Physical) → meaning_of_found Fetch at found ≡ means physical
+    → IsFramed found at address physical
+framed None at address physical is = absurd (not_an_exception false (TlbLoad at (nat_lt at KSEG0)) physical is)
+framed (Some found) at address physical is =
+    let lo = found.entry.lo in
+    let parts = framed_by lo at address (has lo VALID) physical found.several is in record {
+      lo = lo;
+      other = record { address = merged 0xFFF lo address; cacheable = not (has lo UNCACHED) };
+      here = parts.1.1;
+      there = refl;
+      is = rw (parts.0, parts.1.0) refl;
+    }
+
+mapped_page : (core : Core) (pages at place : ℕ) (physical : Physical) → segment_of core.cop0 (at % 4 == 0) at ≡ Mapped
+    → meaning_of_found Fetch at (found_for core at) ≡ means physical → at % 4 ≡ 0
+    → place_of_word pages (physical.address / 4 * 4) ≡ Some place
+    → IsCodePage pages core (record { number = at / 4096; page = place / 1024 })
 unfolding meaning
-plain_unmapped core access aligned address physical is shared = record { means = ap (meaning_in core access address) is; shared = shared }
+mapped_page core pages at place physical mapped is at_word stands = λ address same aligned.
+    let frame = framed (found_for core at) at address physical is in
+    let there = mapped_there (in_user_mode core.cop0) (at % 4 == 0) at address same mapped in
+    let at_is = frame.here ∙ merged_is frame.lo at in
+    let other_is = frame.there ∙ merged_is frame.lo address in
+    let here = subst (λ (n : ℕ). place_of_word pages (n / 4 * 4) ≡ Some place) at_is stands in
+    let place_is = place_in_page pages (frame.lo / 4096 % 2 ^ 20 * 4096 + at % 4096) (frame.lo / 4096 % 2 ^ 20 * 4096 + address % 4096) place (omega arith) (omega arith) here in (
+      frame.other,
+      ap (meaning_in core Fetch address) there ∙ (ap (meaning_of_found Fetch address) (found_same core at address same) ∙ frame.is),
+      ap (λ (n : ℕ). place_of_word pages (n / 4 * 4)) other_is
+      ∙ (place_is ∙ ap (λ (n : ℕ). Some (place / 1024 * 1024 + n / 4)) (let e : (frame.lo / 4096 % 2 ^ 20 * 4096 + address % 4096) % 4096 ≡ address % 4096 = omega arith in e)),
+    )
+
+-- an address that is fetched from with one meaning
+aligned_if : (cop0 : Registers) (at : ℕ) → segment_of cop0 (at % 4 == 0) at ≡ Mapped → at % 4 ≡ 0
+aligned_if cop0 at is = grind (arith, nat_tests)
+
+pub code_of : (core : Core) (pages at place : ℕ) (physical : Physical) (segment : Segment) → segment_of core.cop0 (at % 4 == 0) at ≡ segment
+    → meaning_in core Fetch at segment ≡ means physical → place_of_word pages (physical.address / 4 * 4) ≡ Some place
+    → IsCodePage pages core (record { number = at / 4096; page = place / 1024 })
+code_of core pages at place physical Forbidden lies is stands = absurd (not_an_exception false (AddressErrorLoad at) physical is)
+code_of core pages at place physical (Unmapped other) lies is stands =
+    let same : other ≡ physical = cc (ap (λ (m : Meaning). m.answer) is) in
+    unmapped_page core pages at place physical (lies ∙ ap Unmapped same) stands
+code_of core pages at place physical Mapped lies is stands =
+    mapped_page core pages at place physical lies is (aligned_if core.cop0 at lies) stands
+
+pub code_at : (core : Core) (pages at place : ℕ) (physical : Physical) → meaning core Fetch (at % 4 == 0) at ≡ means physical
+    → place_of_word pages (physical.address / 4 * 4) ≡ Some place
+    → IsCodePage pages core (record { number = at / 4096; page = place / 1024 })
+unfolding meaning
+code_at core pages at place physical is stands = code_of core pages at place physical (segment_of core.cop0 (at % 4 == 0) at) refl is stands
 
 some_of : (o : Option ℕ) → is_some o ≡ true → (n : ℕ) × (o ≡ Some n)
 some_of None some = absurd (true≢false (sym some))
 some_of (Some n) some = (n, refl)
 
 pub quick_load : (pages : ℕ) (core : Core) (kind : LoadKind) (number address : ℕ) (physical : Physical)
-    → segment_of core.cop0 (is_aligned_load kind address) address ≡ Unmapped physical → is_isolated core physical ≡ false
+    → meaning_of_load core kind address ≡ means physical → is_isolated core physical ≡ false
     → is_some (place_of_word pages (physical.address / 4 * 4)) ≡ true → IsQuickEffect pages core (Load kind number address)
 quick_load pages core kind number address physical is shared some =
     let place = some_of (place_of_word pages (physical.address / 4 * 4)) some in
-    (physical, place.0, plain_unmapped core access.Load (is_aligned_load kind address) address physical is shared, place.1)
+    (physical, place.0, record { means = is; shared = shared }, place.1)
 
 pub quick_store : (pages : ℕ) (core : Core) (kind : StoreKind) (address value : ℕ) (physical : Physical)
-    → segment_of core.cop0 (is_aligned_store kind address) address ≡ Unmapped physical → is_isolated core physical ≡ false
+    → meaning_of_store core kind address ≡ means physical → is_isolated core physical ≡ false
     → physical.address / 4096 < pages → IsQuickEffect pages core (Store kind address value)
 quick_store pages core kind address value physical is shared within =
-    (physical, physical.address / 4 * 4, plain_unmapped core access.Store (is_aligned_store kind address) address physical is shared, grind (arith, nat_tests))
+    (physical, physical.address / 4 * 4, record { means = is; shared = shared }, grind (arith, nat_tests))
 
 -- the word of the page that is run in is fetched
 pub fetched_from : (pages : ℕ) (words : List ℕ) (page offset physical : ℕ) → offset < 1024

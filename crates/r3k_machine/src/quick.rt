@@ -6,7 +6,7 @@ ghost use Rattle.r3k_machine.specs.Quiet.{IsCodePage, IsQuick, IsQuickEffect, Is
 ghost use Rattle.r3k_machine.specs.Step.{outcome_of_instruction};
 ghost use Rattle.r3k_machine.specs.Told.{IsPage, IsTold};
 
-use crate::address::Segment;
+use crate::address::Use;
 use crate::execute::perform_effect;
 use crate::memory::Mem;
 use crate::state::Core;
@@ -51,16 +51,12 @@ pub fn code_page<M: Mem>(core: &Core, memory: &M) -> Option<CodePage>
     ensures page { IfSome result (λ page. IsPage (M.ram memory.now) page.page) }
 {
     let address = core.pc();
-    match core.segment(address % 4 == 0, address) {
-        Segment::Unmapped(physical) => {
-            let place = place_of(memory.ram_pages(), physical.address / 4 * 4)?;
-            Some(CodePage {
-                number: address / PAGE_BYTES,
-                page: page_of(place) as u32,
-            })
-        }
-        _ => None,
-    }
+    let physical = core.known(Use::Fetch, address % 4 == 0, address)?;
+    let place = place_of(memory.ram_pages(), physical.address / 4 * 4)?;
+    Some(CodePage {
+        number: address / PAGE_BYTES,
+        page: page_of(place) as u32,
+    })
 }
 
 // Whether an effect is on registers, PC and memory alone, and that is known without a search.
@@ -76,20 +72,20 @@ fn is_quick<M: Mem>(core: &Core, memory: &M, effect: Effect) -> bool
         | Effect::Jump { .. }
         | Effect::JumpAndLink { .. } => true,
         Effect::Load { kind, address, .. } => {
-            match core.segment(kind.is_aligned(address), address) {
-                Segment::Unmapped(physical) => {
+            match core.known(Use::Load, kind.is_aligned(address), address) {
+                Some(physical) => {
                     !core.is_isolated(physical)
                         && place_of(memory.ram_pages(), physical.address / 4 * 4).is_some()
                 }
-                _ => false,
+                None => false,
             }
         }
         Effect::Store { kind, address, .. } => {
-            match core.segment(kind.is_aligned(address), address) {
-                Segment::Unmapped(physical) => {
+            match core.known(Use::Store, kind.is_aligned(address), address) {
+                Some(physical) => {
                     !core.is_isolated(physical) && physical.address / PAGE_BYTES < memory.ram_pages()
                 }
-                _ => false,
+                None => false,
             }
         }
         _ => false,

@@ -1,11 +1,9 @@
 use Rattle.std.proofs.Common.{sym}
-use Rattle.r3k_machine.proofs.Quiet.{unmapped_page}
+use Rattle.r3k_machine.proofs.Quiet.{code_at}
 use Rattle.r3k_machine.proofs.quick.code_page.Goals as goal
 
-pub returns-in_ok-place-in-Unmapped-clause-code : goal.returns-in_ok-place-in-Unmapped-clause-code
-returns-in_ok-place-in-Unmapped-clause-code g c =
-    let pages = g.M.Mem.ram c.args.memory.now in
-    let at = c.pc-address.result in
-    let place = c.in_ok-place-in-Unmapped.place in
-    let stands = rw c.ram_pages.ensures at c.in_ok-place-in-Unmapped.ensures in
-    rw c.page_of.ensures (unmapped_page c.args.core.now pages at place c.in-Unmapped.physical (sym c.in-Unmapped.ensures) (sym stands))
+pub returns-clause-code : goal.returns-clause-code
+returns-clause-code g c =
+    let stands = rw c.ram_pages.ensures at c.in_ok-place.ensures in
+    rw c.page_of.ensures
+    (code_at c.args.core.now (g.M.Mem.ram c.args.memory.now) c.pc-address.result c.in_ok-place.place c.in_ok-physical.physical c.in_ok-physical.ensures (sym stands))
