@@ -1,9 +1,9 @@
 -- Steps that are quiet and quick, before ticks and falls of Random and after them.
 use Rattle.std.proofs.Math.Path.{ap₂}
-use Rattle.std.proofs.Common.{Err, ◌≡◌, ℕ, suc, ◌+◌, ◌*◌, ◌/◌, ◌%◌, ◌^◌, ◌<◌, ◌≤◌, Bool, true, false, not, ◌&&◌, ◌||◌, nat_le, nat_lt, List, [], IsFalse, Option, Some, None, Ok, slice_index, refl, sym, subst, ap, ◌∙◌, arith}
+use Rattle.std.proofs.Common.{Err, IfSome, ◌≡◌, ℕ, suc, ◌+◌, ◌*◌, ◌/◌, ◌%◌, ◌^◌, ◌<◌, ◌≤◌, Bool, true, false, not, ◌&&◌, ◌||◌, nat_le, nat_lt, List, [], IsFalse, Option, Some, None, Ok, slice_index, refl, sym, subst, ap, ◌∙◌, arith}
 use Rattle.std.specs.Prelude.{◌==◌, if◌then◌else◌}
 use Rattle.std.specs.Prelude.{nat_eq, slice_index_or, position, count_by, bit_and, bit_or}
-use Rattle.std.specs.Option.{is_some, option_map}
+use Rattle.std.specs.Option.{option_map}
 use Rattle.std.proofs.lemmas.Nat.{and_block, and_le_l, and_le_r, and_mask, or_disjoint}
 use Rattle.std.proofs.lemmas.Nat.Bits.{and_high}
 use Rattle.std.proofs.lemmas.Bool.{eq-eqb, true≢false}
@@ -37,10 +37,10 @@ use Rattle.r3k_machine.specs.declared.address.Use.TheVariants.{Fetch}
 use Rattle.r3k_machine.specs.declared.exception.Exception.{Exception}
 use Rattle.r3k_machine.specs.declared.exception.Exception.TheVariants.{AddressErrorLoad, BusErrorFetch, TlbLoad}
 use Rattle.r3k_machine.specs.declared.load_store.Word.{Word}
+use Rattle.r3k_machine.specs.declared.step.Done.{Done}
 use Rattle.r3k_machine.specs.Address.{Meaning, found_for, meaning, meaning_in, meaning_of_found, met, segment_of}
 use Rattle.r3k_machine.specs.Core.{Core}
 use Rattle.r3k_machine.specs.State.{State}
-use Rattle.r3k_machine.specs.Isolated.{is_isolated}
 use Rattle.r3k_machine.specs.Exceptions.{is_unusable}
 use Rattle.r3k_machine.specs.LoadStore.{after_load, after_store, loaded_at, meaning_of_fetch, meaning_of_load, meaning_of_store, ram_word, stored_at, word_at, word_of_place, word_read, words_after, words_with}
 use Rattle.r3k_machine.specs.Step.{Completion, Outcome, arrived, completion_of_effect, completion_of_load, completion_of_store, completion_of_word, operands_of, outcome_of_completion, outcome_of_fetch, outcome_of_instruction, outcome_of_interrupt_or_instruction, outcome_of_step, sampled, ticked, with_fall}
@@ -93,13 +93,13 @@ store_by pages s page kind address value m =
     completion_of_store (record { core = after_store pages (met s.core m) kind address value m.answer; words = s.words }) page
     (words_after s.words told (stored kind (address % 4) value)) told
 
-plain_load : (pages : ℕ) (s : State) (page : ℕ) (kind : LoadKind) (number address : ℕ) (m : Meaning) (physical : Physical) (place : ℕ)
+pub plain_load : (pages : ℕ) (s : State) (page : ℕ) (kind : LoadKind) (number address : ℕ) (m : Meaning) (physical : Physical) (place : ℕ)
     → IsPlain s.core m physical → place_of_word pages (physical.address / 4 * 4) ≡ Some place
     → load_by pages s page kind number address m
     ≡ completion_of_load s page kind number address (Ok (record { word = slice_index s.words place; page = Some (page_of_place place) }))
 plain_load pages s page kind number address m physical place plain stands = rw (plain.means, plain.shared, stands) refl
 
-plain_store : (pages : ℕ) (s : State) (page : ℕ) (kind : StoreKind) (address value : ℕ) (m : Meaning) (physical : Physical) (word : ℕ)
+pub plain_store : (pages : ℕ) (s : State) (page : ℕ) (kind : StoreKind) (address value : ℕ) (m : Meaning) (physical : Physical) (word : ℕ)
     → IsPlain s.core m physical → ram_word pages physical.address ≡ Some word
     → store_by pages s page kind address value m
     ≡ completion_of_store s page (words_with s.words (Some word) (stored kind (address % 4) value)) (Ok (record { address = Some word; sent = None }))
@@ -175,10 +175,10 @@ instruction_ages pages ticks falls s quick =
     let effect = effect_of quick.operation (operands_of s.core quick.operation) in
     let ages = effect_ages pages ticks falls s w.page effect quick.effect in
     let now = plain_fetch pages s (meaning_of_fetch s.core) quick.physical w quick.means quick.stands
-        ∙ ap (outcome_of_completion s w.page) (quick_word pages s quick ∙ ages.is) in
+    ∙ ap (outcome_of_completion s w.page) (quick_word pages s quick ∙ ages.is) in
     let later = plain_fetch pages (state_aged ticks falls s) (meaning_of_fetch (aged ticks falls s.core)) quick.physical w
-        (meaning_aged ticks falls s.core _ _ s.core.pc ∙ quick.means) quick.stands
-        ∙ ap (outcome_of_completion (state_aged ticks falls s) w.page) (aged_word pages ticks falls s quick ∙ ages.later_is) in record {
+    (meaning_aged ticks falls s.core _ _ s.core.pc ∙ quick.means) quick.stands
+    ∙ ap (outcome_of_completion (state_aged ticks falls s) w.page) (aged_word pages ticks falls s quick ∙ ages.later_is) in record {
       later_is = later ∙ ap (outcome_aged ticks falls) (sym now);
       keeps = subst (λ (o : Outcome). Keeps s.core o.state.core) (sym now) ages.keeps;
     }
@@ -278,8 +278,8 @@ merged_is lo address =
     let high = lo / 4096 % 2 ^ 20 in
     let low = address % 4096 in
     let apart : bit_and (high * 4096) low ≡ 0 =
-        ap₂ bit_and (let e : high * 4096 ≡ high * 2 ^ 12 + 0 = omega arith in e) (let e : low ≡ 0 * 2 ^ 12 + low = omega arith in e)
-        ∙ (and_block 12 high 0 0 low (omega arith) (omega arith) ∙ omega (arith, and_le_r high 0, and_le_l 0 low)) in
+    ap₂ bit_and (let e : high * 4096 ≡ high * 2 ^ 12 + 0 = omega arith in e) (let e : low ≡ 0 * 2 ^ 12 + low = omega arith in e)
+    ∙ (and_block 12 high 0 0 low (omega arith) (omega arith) ∙ omega (arith, and_le_r high 0, and_le_l 0 low)) in
     ap (λ (n : ℕ). bit_or n (bit_and address 0xFFF)) (and_high lo 20 12)
     ∙ (ap (bit_or (high * 4096)) (and_mask address 12) ∙ or_disjoint (high * 4096) low apart)
 
@@ -334,7 +334,7 @@ mapped_page core pages at place physical mapped is at_word stands = λ address s
       frame.other,
       ap (meaning_in core Fetch address) there ∙ (ap (meaning_of_found Fetch address) (found_same core at address same) ∙ frame.is),
       ap (λ (n : ℕ). place_of_word pages (n / 4 * 4)) other_is
-      ∙ (place_is ∙ ap (λ (n : ℕ). Some (place / 1024 * 1024 + n / 4)) (let e : (frame.lo / 4096 % 2 ^ 20 * 4096 + address % 4096) % 4096 ≡ address % 4096 = omega arith in e)),
+          ∙ (place_is ∙ ap (λ (n : ℕ). Some (place / 1024 * 1024 + n / 4)) (let e : (frame.lo / 4096 % 2 ^ 20 * 4096 + address % 4096) % 4096 ≡ address % 4096 = omega arith in e)),
     )
 
 -- an address that is fetched from with one meaning
@@ -356,23 +356,6 @@ pub code_at : (core : Core) (pages at place : ℕ) (physical : Physical) → mea
     → IsCodePage pages core (record { number = at / 4096; page = place / 1024 })
 unfolding meaning
 code_at core pages at place physical is stands = code_of core pages at place physical (segment_of core.cop0 (at % 4 == 0) at) refl is stands
-
-some_of : (o : Option ℕ) → is_some o ≡ true → (n : ℕ) × (o ≡ Some n)
-some_of None some = absurd (true≢false (sym some))
-some_of (Some n) some = (n, refl)
-
-pub quick_load : (pages : ℕ) (core : Core) (kind : LoadKind) (number address : ℕ) (physical : Physical)
-    → meaning_of_load core kind address ≡ means physical → is_isolated core physical ≡ false
-    → is_some (place_of_word pages (physical.address / 4 * 4)) ≡ true → IsQuickEffect pages core (Load kind number address)
-quick_load pages core kind number address physical is shared some =
-    let place = some_of (place_of_word pages (physical.address / 4 * 4)) some in
-    (physical, place.0, record { means = is; shared = shared }, place.1)
-
-pub quick_store : (pages : ℕ) (core : Core) (kind : StoreKind) (address value : ℕ) (physical : Physical)
-    → meaning_of_store core kind address ≡ means physical → is_isolated core physical ≡ false
-    → physical.address / 4096 < pages → IsQuickEffect pages core (Store kind address value)
-quick_store pages core kind address value physical is shared within =
-    (physical, physical.address / 4 * 4, record { means = is; shared = shared }, grind (arith, nat_tests))
 
 -- the word of the page that is run in is fetched
 pub fetched_from : (pages : ℕ) (words : List ℕ) (page offset physical : ℕ) → offset < 1024
@@ -409,3 +392,8 @@ pub quick_ran : (pages : ℕ) (s : State) (quick : IsQuick pages s) (o : Outcome
 quick_ran pages s quick o completes =
     plain_fetch pages s (meaning_of_fetch s.core) quick.physical quick.fetched quick.means quick.stands
     ∙ ap (outcome_of_completion s quick.fetched.page) (quick_word pages s quick ∙ completes)
+
+-- what holds of what a quick step tells, if it is one
+pub if_both : {P Q R : Done → Type 0} (o : Option Done) → IfSome o P → IfSome o Q → ((done : Done) → P done → Q done → R done) → IfSome o R
+if_both None p q f = tt
+if_both (Some done) p q f = f done p q

@@ -1,13 +1,13 @@
 //! Quick steps: those before which nothing happens but counting, and whose instruction touches registers, PC and memory alone.
 
-ghost use Rattle.std.specs.Prelude.{◌≡◌, ◌<◌, IfSome, IsTrue, None};
-ghost use Rattle.r3k_machine.specs.LoadStore.{meaning_of_load, meaning_of_store, ram_word};
+ghost use Rattle.std.specs.Prelude.{◌≡◌, ◌<◌, IfSome, None, Ok};
+ghost use Rattle.r3k_exec.specs.Effects.{NamesRegisters};
 ghost use Rattle.r3k_machine.specs.Quiet.{IsCodePage, IsQuick, IsQuickEffect, IsQuietFor, elapsed};
-ghost use Rattle.r3k_machine.specs.Step.{outcome_of_instruction};
+ghost use Rattle.r3k_machine.specs.Step.{completion_of_effect, outcome_of_instruction};
 ghost use Rattle.r3k_machine.specs.Told.{IsPage, IsTold};
 
 use crate::address::Use;
-use crate::execute::perform_effect;
+use crate::load_store::{Stored, put};
 use crate::memory::Mem;
 use crate::state::Core;
 use crate::step::Done;
@@ -59,41 +59,92 @@ pub fn code_page<M: Mem>(core: &Core, memory: &M) -> Option<CodePage>
     })
 }
 
-// Whether an effect is on registers, PC and memory alone, and that is known without a search.
+// Performs the effect of the instruction at the PC, which was fetched from a page, if it is on registers, PC and memory alone and
+// that is known without a search. Else it changes nothing.
 #[inline(always)]
-fn is_quick<M: Mem>(core: &Core, memory: &M, effect: Effect) -> bool
-    ensures { IsTrue result → IsQuickEffect (M.ram memory.now) core.now effect }
+fn perform_quick<M: Mem>(core: &mut Core, memory: &mut M, page: u32, effect: Effect) -> Option<Done>
+    requires registers { NamesRegisters effect }
+    requires page { IsPage (M.ram memory.old) page }
+    ensures quick { IfSome result (λ done. IsQuickEffect (M.ram memory.old) core.old effect) }
+    ensures ran { IfSome result (λ done.
+        completion_of_effect (M.ram memory.old) (record { core = core.old; words = M.words memory.old }) page effect
+        ≡ Ok (record { state = record { core = core.new; words = M.words memory.new }; done = done })) }
+    ensures within { IfSome result (IsTold (M.ram memory.old) (M.words memory.old) (M.words memory.new)) }
+    ensures core { result ≡ None → core.new ≡ core.old }
+    ensures words { result ≡ None → M.words memory.new ≡ M.words memory.old }
+    ensures same { M.ram memory.new ≡ M.ram memory.old }
 {
     match effect {
-        Effect::Write { .. }
-        | Effect::WriteHi { .. }
-        | Effect::WriteLo { .. }
-        | Effect::WriteHiLo { .. }
-        | Effect::Jump { .. }
-        | Effect::JumpAndLink { .. } => true,
-        Effect::Load { kind, address, .. } => {
-            match core.known(Use::Load, kind.is_aligned(address), address) {
-                Some(physical) => {
-                    !core.is_isolated(physical)
-                        && place_of(memory.ram_pages(), physical.address / 4 * 4).is_some()
-                }
-                None => false,
-            }
+        Effect::Write { register, value } => {
+            core.complete();
+            core.set_register(register, value);
         }
-        Effect::Store { kind, address, .. } => {
-            match core.known(Use::Store, kind.is_aligned(address), address) {
-                Some(physical) => {
-                    !core.is_isolated(physical) && physical.address / PAGE_BYTES < memory.ram_pages()
-                }
-                None => false,
-            }
+        Effect::WriteHi { value } => {
+            core.complete();
+            core.set_hi(value);
         }
-        _ => false,
+        Effect::WriteLo { value } => {
+            core.complete();
+            core.set_lo(value);
+        }
+        Effect::WriteHiLo { hi, lo } => {
+            core.complete();
+            core.set_hi(hi);
+            core.set_lo(lo);
+        }
+        Effect::Jump { target } => {
+            core.complete();
+            core.branch(target);
+        }
+        Effect::JumpAndLink {
+            target,
+            register,
+            value,
+        } => {
+            core.complete();
+            core.branch(target);
+            core.set_register(register, value);
+        }
+        Effect::Load {
+            kind,
+            register,
+            address,
+        } => {
+            let physical = core.known(Use::Load, kind.is_aligned(address), address)?;
+            if core.is_isolated(physical) {
+                return None;
+            }
+            let place = place_of(memory.ram_pages(), physical.address / 4 * 4)?;
+            let word = memory.word(place);
+            core.complete();
+            let kept = core.registers()[register as usize];
+            core.set_slot(register, kind.loaded(address, word, kept));
+            return Some(Done::loading(page, Some(page_of(place) as u32)));
+        }
+        Effect::Store {
+            kind,
+            address,
+            value,
+        } => {
+            let physical = core.known(Use::Store, kind.is_aligned(address), address)?;
+            if core.is_isolated(physical) {
+                return None;
+            }
+            let address = put(memory, physical.address, kind.stored(address, value))?;
+            core.complete();
+            let stored = Stored {
+                address: Some(address),
+                sent: None,
+            };
+            return Some(Done::storing(page, stored));
+        }
+        _ => return None,
     }
+    Some(Done::fetching(Some(page)))
 }
 
 /// Runs the instruction at the PC if that lies in this page and the instruction is quick. Else it changes nothing.
-#[inline]
+#[inline(always)]
 pub fn quick_step<M: Mem>(core: &mut Core, memory: &mut M, page: CodePage) -> Option<Done>
     requires code { IsCodePage (M.ram memory.old) core.old page }
     requires page { IsPage (M.ram memory.old) page.page }
@@ -116,11 +167,5 @@ pub fn quick_step<M: Mem>(core: &mut Core, memory: &mut M, page: CodePage) -> Op
     }
     let insn = decode(word)?;
     let effect = effect(&insn, core.operands(&insn));
-    if !is_quick(core, memory, effect) {
-        return None;
-    }
-    match perform_effect(core, memory, page.page, effect) {
-        Ok(done) => Some(done),
-        Err(_) => None,
-    }
+    perform_quick(core, memory, page.page, effect)
 }
