@@ -1,5 +1,5 @@
 -- What interrupts, translation and the isolated cache do to the registers (Kane and Heinrich, chapters 4 to 6).
-use Rattle.std.specs.Prelude.{ℕ, ◌+◌, ◌-◌, ◌*◌, ◌^◌, Bool, Option, Some, None, ◌==◌, ◌&&◌, if◌then◌else◌, bit_and, bit_or}
+use Rattle.std.specs.Prelude.{ℕ, zero, suc, ◌+◌, ◌-◌, ◌*◌, ◌^◌, Bool, Option, Some, None, ◌==◌, ◌&&◌, if◌then◌else◌, bit_and, bit_or}
 use Rattle.r3k_word.specs.Word.{with_field_of, has, flag, merged}
 use Rattle.cop0.specs.declared.number.TheConstants.{ENTRY_HI_MASK, ENTRY_LO_MASK}
 use Rattle.cop0.specs.declared.status.TheConstants.{TS, CM, IEC, INTERRUPTS}
@@ -15,8 +15,19 @@ abbrev pub is_wanted : Registers → Bool
 is_wanted c = has c.status IEC && has (bit_and c.cause c.status) INTERRUPTS
 
 -- Random falls by one, from 8 to 63
+abbrev pub random_below : ℕ → ℕ
+random_below random = if random == 8 then 63 else random - 1
+
 abbrev pub fallen : Registers → Registers
-fallen c = record c { random = if c.random == 8 then 63 else c.random - 1 }
+fallen c = record c { random = random_below c.random }
+
+-- and so many times
+unfoldable pub random_after : ℕ → ℕ → ℕ
+random_after zero random = random
+random_after (suc n) random = random_below (random_after n random)
+
+abbrev pub fallen_by : ℕ → Registers → Registers
+fallen_by n c = record c { random = random_after n c.random }
 
 -- rfe: the previous mode and enable become the present ones, and the old ones the previous
 abbrev pub returned : Registers → Registers

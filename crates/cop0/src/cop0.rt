@@ -1,10 +1,10 @@
 //! The registers: reading, writing, and what translation and exceptions do to them.
 
-ghost use Rattle.std.specs.Prelude.{◌≡◌, ◌≤◌, IfSome};
+ghost use Rattle.std.specs.Prelude.{◌≡◌, ◌↔◌, ◌≤◌, IfSome, IsTrue};
 ghost use Rattle.cop0.specs.Registers.{reset_registers, register_of, written};
 ghost use Rattle.cop0.specs.Exception.{entered, vector_of};
 ghost use Rattle.cop0.specs.Status.{in_user_mode, is_isolated, is_swapped, is_usable, page_loaded};
-ghost use Rattle.cop0.specs.Changes.{sampled, is_wanted, fallen, returned, with_ts, with_cm, probed, loaded};
+ghost use Rattle.cop0.specs.Changes.{sampled, is_wanted, fallen, fallen_by, returned, with_ts, with_cm, probed, loaded};
 
 use crate::exception::Exc;
 use crate::number::*;
@@ -192,6 +192,16 @@ impl Cop0 {
         self.cause = with_field::<11, 10>(self.cause, 2 * u32::from(clock) + u32::from(board));
     }
 
+    /// Whether Cause holds these levels of the interrupt lines of the board and of the clock, so that sampling them changes
+    /// nothing.
+    #[inline]
+    pub fn is_sampled(&self, board: bool, clock: bool) -> bool
+        ensures { IsTrue result ↔ (sampled self.now board clock ≡ self.now) }
+    {
+        let lines = 2 * u32::from(clock) + u32::from(board);
+        with_field::<11, 10>(self.cause, lines) == self.cause
+    }
+
     /// Whether an interrupt is to be taken: one is pending whose mask bit is set, and interrupts are enabled.
     #[inline]
     pub fn wanted(&self) -> bool
@@ -210,6 +220,14 @@ impl Cop0 {
         } else {
             self.random - 1
         };
+    }
+
+    /// Random falls so many times.
+    #[tactic(auto, using(crate::proofs::Falls::random_after_is))]
+    pub fn fall_by(&mut self, falls: u32)
+        ensures { self.new ≡ fallen_by falls self.old }
+    {
+        self.random = 8 + (self.random - 8 + (56 - falls % 56)) % 56;
     }
 
     /// Sets TS: several entries matched an address.

@@ -29,7 +29,7 @@ impl<'a> Model for Cursor<'a> {
 }
 
 impl<'a> Cursor<'a> {
-    ghost use Rattle.std.specs.Prelude.{◌≡◌, ◌+◌, ◌<◌, ◌≤◌, ℕ, List};
+    ghost use Rattle.std.specs.Prelude.{◌≡◌, ◌+◌, ◌<◌, ◌≤◌, [], ℕ, List};
     ghost use Rattle.input_log.specs.Event.{LogEvent};
     ghost use Rattle.input_log.specs.Log.{AreInOrder, window_of, later_than};
 
@@ -61,7 +61,15 @@ impl<'a> Cursor<'a> {
         self.take(time)
     }
 
-    // The same where an event may be of this time or before it.
+    /// How many times from this one on have no event that is left, as far as it sees.
+    #[inline]
+    pub fn free(&self, time: u64) -> u64
+        ensures { (k : ℕ) → k < result → window_of (time + k) (time + k + 1) self.now ≡ [] }
+    {
+        self.next_time.saturating_sub(time)
+    }
+
+    // The events of a time where an event may be of this time or before it.
     #[cold]
     fn take(&mut self, time: u64) -> &'a [Event]
         ensures events { result.now ≡ window_of time (time + 1) self.old }

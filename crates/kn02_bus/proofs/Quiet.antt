@@ -1,5 +1,5 @@
 -- Ticks of the bus are ticks of its parts, and they are counted from the schedule.
-use Rattle.std.proofs.Common.{◌≡◌, ◌≢◌, ℕ, zero, suc, ◌-◌, ◌≤◌, ap, refl, arith}
+use Rattle.std.proofs.Common.{◌≡◌, ◌≢◌, ℕ, zero, suc, ◌+◌, ◌-◌, ◌≤◌, ap, refl, arith, ◌∙◌}
 use Rattle.dz_serial.specs.Quiet as serial_quiet
 use Rattle.mc146818.specs.Second as clock_second
 use Rattle.kn02_bus.specs.declared.schedule.Schedule.{Schedule}
@@ -34,3 +34,11 @@ owes_nothing bus schedule e =
 pub owes_one_more : (bus : BusState) (planned left : ℕ) → left ≤ planned → left ≢ 0
     → after (planned - (left - 1)) bus ≡ ticked (after (planned - left) bus)
 owes_one_more bus planned left within some = after_one_more (planned - (left - 1)) (planned - left) bus (omega arith)
+
+-- and so are as many less as there are
+pub owes_more : (bus : BusState) (planned left n : ℕ) → n ≤ left → left ≤ planned
+    → after (planned - (left - n)) bus ≡ after n (after (planned - left) bus)
+unfolding after
+owes_more bus planned left zero some within = ap (λ (m : ℕ). after m bus) (omega arith)
+owes_more bus planned left (suc n) some within =
+    after_one_more (planned - (left - suc n)) (planned - (left - n)) bus (omega arith) ∙ ap ticked (owes_more bus planned left n (omega arith) within)

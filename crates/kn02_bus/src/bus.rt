@@ -3,6 +3,7 @@
 ghost use Rattle.std.specs.Prelude.{◌≡◌, ◌≤◌, ◌<◌, ◌%◌, slice_index};
 ghost use Rattle.kn02_bus.specs.State.{reset_bus};
 ghost use Rattle.kn02_bus.specs.Tick.{arrived, arrived_framing, wired, ticked};
+ghost use Rattle.kn02_bus.specs.Quiet.{after, quiet_of};
 
 use crate::laws::quiet_laws;
 use crate::parts::Parts;
@@ -108,6 +109,26 @@ impl Bus {
             self.schedule.left -= 1;
         } else {
             self.end_quiet_ticks();
+        }
+    }
+
+    /// How many ticks from now only count, as far as they are planned.
+    #[inline]
+    pub fn quiet(&self) -> u32
+        ensures { result ≤ quiet_of self.now }
+    {
+        quiet_laws();
+        self.schedule.left
+    }
+
+    /// Clock and serial part advance by so many ticks. Those that are planned pass at once.
+    pub fn pass(&mut self, ticks: u32)
+        ensures { self.new ≡ after ticks self.old }
+    {
+        let quiet = self.schedule.left.min(ticks);
+        self.schedule.left -= quiet;
+        for _ in quiet..ticks {
+            self.tick();
         }
     }
 

@@ -26,11 +26,13 @@ pub fn region_laws()
         place_of_word pages (address / 4 * 4) ≡ None }
 {}
 
-/// In quiet ticks the parts do nothing but count. The interrupt lines and CSR stay as they are, and a
-/// byte that arrives, with a framing error or without, an external line that gets its level and a read
-/// of the serial part neither see those ticks nor end them.
+/// In quiet ticks the parts do nothing but count. Ticks may be taken in parts, and of quiet ticks a part leaves
+/// the rest quiet. The interrupt lines and CSR stay as they are, and a byte that arrives, with a framing error or
+/// without, an external line that gets its level and a read of the serial part neither see those ticks nor end them.
 pub fn quiet_laws()
     ensures passes { (bus : BusState) (n : ℕ) → n ≤ quiet_of bus → after n bus ≡ passed n bus }
+    ensures in_parts { (bus : BusState) (m n : ℕ) → after (m + n) bus ≡ after m (after n bus) }
+    ensures stays_quiet { (bus : BusState) (m n : ℕ) → m + n ≤ quiet_of bus → m ≤ quiet_of (after n bus) }
     ensures lines { (bus : BusState) (n : ℕ) → n ≤ quiet_of bus → lines_of (after n bus) ≡ lines_of bus }
     ensures csr { (bus : BusState) (n : ℕ) → n ≤ quiet_of bus → csr_of (after n bus) ≡ csr_of bus }
     ensures arrival { (bus : BusState) (n line byte : ℕ) → n ≤ quiet_of bus →

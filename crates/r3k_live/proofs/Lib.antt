@@ -3,3 +3,4 @@ pub mod Going
 pub mod Writers
 pub mod Apart
 pub mod Overlaid
+pub mod Gone

@@ -6,3 +6,4 @@ pub mod Record
 pub mod Recording
 pub mod Visits
 pub mod Living
+pub mod Going

@@ -6,6 +6,7 @@ mod flat;
 mod laws;
 mod live;
 mod recorder;
+mod stretch;
 
 pub use boundary::Boundary;
 pub use flat::FlatMemory;

@@ -15,9 +15,9 @@ ghost use Rattle.r3k_live.specs.Visits.{first_visit};
 use crate::boundary::Boundary;
 use crate::flat::FlatMemory;
 use crate::recorder::Recorder;
+use crate::stretch::advance;
 use input_log::{Cursor, Event};
 use r3k_image::Image;
-use r3k_machine::step::step;
 use r3k_machine::{Core, Mem};
 use r3k_pages::PageMarks;
 use std::alloc::{AllocError, Global};
@@ -214,7 +214,7 @@ impl<const PAGES: u32> Live<PAGES> {
     }
 }
 
-// The one loop that steps: so many steps, or until the PC holds an address, each of which tells the recorder.
+// The one loop that steps: so many steps, or until the PC holds an address, all of which are recorded.
 #[inline(never)]
 fn step_until<const PAGES: u32, const SPAN: u32>(
     core: &mut Core,
@@ -238,9 +238,8 @@ fn step_until<const PAGES: u32, const SPAN: u32>(
 {
     let mut made = 0;
     while made < steps {
-        let done = step(core, memory, events.next(from + made as u64));
-        recorder.note(done);
-        made += 1;
+        let time = from + made as u64;
+        made += advance(core, memory, time, &mut events, steps - made, stop, recorder);
         if core.pc() as u64 == stop {
             return Some(made);
         }

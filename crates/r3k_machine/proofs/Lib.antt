@@ -4,3 +4,4 @@ mod Fetched
 mod Untouched
 pub mod Elsewhere
 pub mod Within
+pub mod Quiet

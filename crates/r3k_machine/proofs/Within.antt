@@ -111,7 +111,7 @@ record IsWithin (pages : ℕ) (done : Done) : Type 0 where
 
 -- where it was only fetched from one, if from any
 only_fetched : (pages : ℕ) (page : Option ℕ) → IsIn pages page → IsWithin pages (fetching page)
-only_fetched pages page here = record { touched = two pages page None here tt; stored = tt; }
+only_fetched pages page here = record { touched = two pages page None here tt; stored = tt }
 
 -- what an instruction tells, where it completes
 abbrev CompletesIn : ℕ → Completion → Type 0
@@ -120,12 +120,12 @@ CompletesIn pages completion = IfOk completion (λ outcome. IsWithin pages outco
 load_completes : (pages : ℕ) (s : State) (page : ℕ) (kind : LoadKind) (number address : ℕ) (r : Result Loaded Exception) → IsPage pages page
     → IfOk r (λ loaded. IsIn pages loaded.page) → CompletesIn pages (completion_of_load s page kind number address r)
 load_completes pages s page kind number address (Err e) here there = tt
-load_completes pages s page kind number address (Ok a) here there = record { touched = two pages (Some page) a.page here there; stored = tt; }
+load_completes pages s page kind number address (Ok a) here there = record { touched = two pages (Some page) a.page here there; stored = tt }
 
 store_completes : (pages : ℕ) (s : State) (page : ℕ) (words : List ℕ) (r : Result Stored Exception) → IsPage pages page
     → IfOk r (λ stored. IsIn pages (page_stored stored.address)) → CompletesIn pages (completion_of_store s page words r)
 store_completes pages s page words (Err e) here there = tt
-store_completes pages s page words (Ok a) here there = record { touched = two pages (Some page) (page_stored a.address) here there; stored = there; }
+store_completes pages s page words (Ok a) here there = record { touched = two pages (Some page) (page_stored a.address) here there; stored = there }
 
 effect_completes : (pages : ℕ) (s : State) (page : ℕ) (effect : Effect) → IsPage pages page → CompletesIn pages (completion_of_effect pages s page effect)
 effect_completes pages s page (Write number value) here = only_fetched pages (Some page) here

@@ -1,6 +1,6 @@
 //! The meaning of an address.
 
-ghost use Rattle.std.specs.Prelude.{◌≡◌, true};
+ghost use Rattle.std.specs.Prelude.{◌≡◌, false, true, IfSome, Ok};
 ghost use Rattle.r3k_machine.specs.Address.{address_error, answer_of_entry, answer_of_low, found_for, lets_through, low_of, meaning, met, miss, segment_of, several_of, where_at, with_several};
 
 use crate::exception::Exception;
@@ -206,6 +206,23 @@ impl Core {
             Segment::Forbidden => Err(access.address_error(address)),
             Segment::Unmapped(physical) => Ok(physical),
             Segment::Mapped => self.mapped(access, address),
+        }
+    }
+
+    /// The physical address that an address means, where that takes no search and is no exception. It changes nothing.
+    #[tactic(auto, unfolding(crate::specs::Address::meaning))]
+    #[inline(always)]
+    pub(crate) fn known(&self, access: Use, aligned: bool, address: u32) -> Option<Physical>
+        ensures { IfSome result (λ physical. meaning self.now access aligned address ≡ record { several = false; answer = Ok physical }) }
+    {
+        match self.segment(aligned, address) {
+            Segment::Forbidden => None,
+            Segment::Unmapped(physical) => Some(physical),
+            Segment::Mapped => {
+                let hi = self.processor.cop0.read(ENTRY_HI);
+                let lo = self.tlb.kept(access == Use::Fetch, address, hi)?;
+                by_entry(access, address, lo).ok()
+            }
         }
     }
 

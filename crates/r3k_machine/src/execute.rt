@@ -24,7 +24,7 @@ use r3k_word::field::field;
 impl Core {
     // The values that an instruction reads.
     #[inline]
-    fn operands(&self, insn: &Insn) -> Operands
+    pub(crate) fn operands(&self, insn: &Insn) -> Operands
         ensures { result ≡ operands_of self.now insn.now }
     {
         Operands {
@@ -38,7 +38,7 @@ impl Core {
 
     // Whether the word is one of coprocessor 0, and that is not usable.
     #[inline]
-    fn is_unusable(&self, word: u32) -> bool
+    pub(crate) fn is_unusable(&self, word: u32) -> bool
         ensures { result ≡ is_unusable self.now word }
     {
         field::<31, 26>(word) == 16 && !self.processor.cop0.is_usable()
@@ -46,7 +46,7 @@ impl Core {
 
     // Completes an instruction, but for what it writes: the pending load lands, and the next instruction follows.
     #[inline]
-    fn complete(&mut self)
+    pub(crate) fn complete(&mut self)
         ensures { self.new ≡ passed self.old }
     {
         self.land();
@@ -57,7 +57,7 @@ impl Core {
 
     // Writes a register. r0 stays 0.
     #[inline]
-    fn set_register(&mut self, number: u8, value: u32)
+    pub(crate) fn set_register(&mut self, number: u8, value: u32)
         requires { number < 32 }
         ensures { self.new ≡ record self.old { registers = with_register self.old.registers number value } }
     {
@@ -67,14 +67,14 @@ impl Core {
     }
 
     #[inline]
-    fn set_hi(&mut self, value: u32)
+    pub(crate) fn set_hi(&mut self, value: u32)
         ensures { self.new ≡ record self.old { hi = value } }
     {
         self.processor.hi = value;
     }
 
     #[inline]
-    fn set_lo(&mut self, value: u32)
+    pub(crate) fn set_lo(&mut self, value: u32)
         ensures { self.new ≡ record self.old { lo = value } }
     {
         self.processor.lo = value;
@@ -98,7 +98,7 @@ impl Core {
 
     // Fills the load slot. A load into r0 leaves it empty.
     #[inline]
-    fn set_slot(&mut self, number: u8, value: u32)
+    pub(crate) fn set_slot(&mut self, number: u8, value: u32)
         requires { number < 32 }
         ensures { self.new ≡ record self.old { load = slot_after_load number value } }
     {
@@ -111,7 +111,7 @@ impl Core {
 
     // Marks the next instruction as one in a delay slot, with the target behind it.
     #[inline]
-    fn branch(&mut self, target: Option<u32>)
+    pub(crate) fn branch(&mut self, target: Option<u32>)
         ensures { self.new ≡ branched self.old target }
     {
         self.processor.delay = true;

@@ -1,15 +1,18 @@
 //! Laws of the run: nothing runs here.
 
-ghost use Rattle.std.specs.Prelude.{◌≡◌, ℕ, ◌+◌, ◌/◌, ◌++◌, All, Bool, IfSome, List, length};
+ghost use Rattle.std.specs.Prelude.{◌≡◌, ℕ, ◌+◌, ◌/◌, [], ◌++◌, All, Bool, IfSome, List, length};
 ghost use Rattle.input_log.specs.Event.{LogEvent};
 ghost use Rattle.input_log.specs.Log.{window_of};
 ghost use Rattle.r3k_word.specs.declared.layout.TheConstants.{PAGE_BYTES};
 ghost use Rattle.r3k_machine.specs.declared.step.Done.{Done};
 ghost use Rattle.r3k_machine.specs.State.{State};
 ghost use Rattle.r3k_machine.specs.Run.{run, trace, console_of, senders_of, last_writer, later};
-ghost use Rattle.r3k_machine.specs.Step.{next, told};
+ghost use Rattle.r3k_machine.specs.Step.{next, outcome_of_instruction, outcome_of_step, ticked, told, with_fall};
+ghost use Rattle.r3k_machine.specs.Quiet.{IsCodePage, IsQuick, IsQuietFor, elapsed, outcome_elapsed, state_elapsed};
 ghost use Rattle.r3k_machine.specs.Told.{IsPage};
 ghost use Rattle.r3k_machine.specs.Locality.{IsApart, IsWithPages, is_touched, touches};
+
+use crate::quick::CodePage;
 
 /// A run and its trace split at any point, and so do the console, the steps that sent its bytes, and the last writer. They
 /// depend on the events of their own times alone.
@@ -31,6 +34,24 @@ pub fn run_laws()
     ensures own_times_of_trace { (pages : ℕ) (log : List LogEvent) (time : ℕ) (s : State) (n : ℕ) →
         trace pages (window_of time (time + n) log) time s n ≡ trace pages log time s n }
 {}
+
+/// In a quiet step a tick is all that comes before the instruction. An instruction that is quick then does the same before the ticks
+/// and falls of Random of any steps as after them, so that these may come behind it, and it leaves the steps quiet and the page
+/// that is run in what it is.
+pub fn quiet_laws()
+    ensures none { (s : State) → state_elapsed 0 s ≡ s }
+    ensures alone { (pages n : ℕ) (s : State) → IsQuietFor (n + 1) s.core →
+        outcome_of_step pages [] (state_elapsed n s)
+        ≡ with_fall (outcome_of_instruction pages (record { core = ticked (elapsed n s.core); words = s.words })) }
+    ensures at_once { (pages n : ℕ) (s : State) → IsQuietFor (n + 1) s.core → IsQuick pages s →
+        outcome_of_step pages [] (state_elapsed n s) ≡ outcome_elapsed (n + 1) (outcome_of_instruction pages s) }
+    ensures stays_quiet { (pages n : ℕ) (s : State) → IsQuick pages s → IsQuietFor n s.core →
+        IsQuietFor n (outcome_of_instruction pages s).state.core }
+    ensures stays_code { (pages : ℕ) (s : State) (page : CodePage) → IsQuick pages s → IsCodePage pages s.core page →
+        IsCodePage pages (outcome_of_instruction pages s).state.core page }
+{
+    kn02_bus::laws::quiet_laws();
+}
 
 /// A step that touches no page of a set tells the same from the state with any other words in these pages, and the next
 /// state is the same with these words in them. So it is with the trace and the end of a run. There is one such state alone.

@@ -10,13 +10,15 @@ mod kept;
 mod laws;
 mod load_store;
 mod memory;
+mod quick;
 mod state;
 pub mod step;
 mod translation;
 
 pub use address::Where;
 pub use kept::KeptCore;
-pub use laws::{locality, run_laws};
+pub use laws::{locality, quiet_laws, run_laws};
 pub use memory::Mem;
+pub use quick::{CodePage, code_page, quick_step};
 pub use state::{Core, DelayedLoad};
 pub use step::Done;

@@ -64,7 +64,7 @@ fn lane_mask(lanes: u8) -> u32
 
 // Stores into the word of RAM that a physical address lies in, and gives the address of that word, if there is one.
 #[inline]
-fn put<M: Mem>(memory: &mut M, physical: u32, covered: Covered) -> Option<u32>
+pub(crate) fn put<M: Mem>(memory: &mut M, physical: u32, covered: Covered) -> Option<u32>
     ensures address { result ≡ ram_word (M.ram memory.old) physical }
     ensures words { M.words memory.new ≡ words_with (M.words memory.old) (ram_word (M.ram memory.old) physical) covered }
     ensures within { IfSome result (IsRamWord (M.ram memory.old)) }

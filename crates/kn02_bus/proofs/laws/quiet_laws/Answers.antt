@@ -1,5 +1,5 @@
 -- What is so of both parts is so of the bus.
-use Rattle.std.proofs.Common.{◌≡◌, ℕ, ◌+◌, ◌*◌, ◌≤◌, sym, ap, arith, ◌∙◌}
+use Rattle.std.proofs.Common.{◌≡◌, ℕ, ◌+◌, ◌*◌, ◌≤◌, sym, ap, arith, subst, ◌∙◌}
 use Rattle.std.specs.Prelude.{min}
 use Rattle.r3k_word.specs.Word.{has}
 use Rattle.dz_serial.specs.Serial.{Serial}
@@ -7,13 +7,14 @@ use Rattle.dz_serial.specs.Bits.{flag_of}
 use Rattle.dz_serial.specs.Quiet as serial_quiet
 use Rattle.dz_serial.specs.Reads.{word_read}
 use Rattle.mc146818.specs.Quiet as clock_quiet
+use Rattle.mc146818.specs.Second as clock_second
 use Rattle.kn02_bus.specs.declared.csr.TheConstants.{SERIAL_LINE, ENABLE}
 use Rattle.kn02_bus.specs.declared.region.Device.TheVariants as device
 use Rattle.kn02_bus.specs.State.{BusState}
 use Rattle.kn02_bus.specs.Lines.{external_lines, lines_of}
 use Rattle.kn02_bus.specs.Access.{after_load, csr_of}
 use Rattle.kn02_bus.specs.Tick.{arrived, arrived_framing, wired}
-use Rattle.kn02_bus.specs.Quiet.{quiet_of}
+use Rattle.kn02_bus.specs.Quiet.{after, passed, quiet_of}
 use Rattle.kn02_bus.proofs.Quiet.{after_parts}
 use Rattle.kn02_bus.proofs.Unseen.{arrived_is_quiet, passed_arrived, framing_is_quiet, passed_framing, read_is_quiet, passed_read, word_of_passed}
 use Rattle.kn02_bus.proofs.laws.quiet_laws.Goals as goal
@@ -26,6 +27,25 @@ returns-clause-passes c = λ bus n h.
       serial = c.quiet_laws.ensures.passes bus.serial n serial i;
       clock = c.quiet_laws-2.ensures.passes bus.clock n clock i;
     })
+
+pub returns-clause-in_parts : goal.returns-clause-in_parts
+returns-clause-in_parts c = λ bus m n.
+    after_parts (m + n) bus
+    ∙ ((λ i. record bus {
+      serial = c.quiet_laws.ensures.in_parts bus.serial m n i;
+      clock = c.quiet_laws-2.ensures.in_parts bus.clock m n i;
+    })
+    ∙ (sym (after_parts m (record bus { serial = serial_quiet.after n bus.serial; clock = clock_second.after n bus.clock }))
+    ∙ sym (ap (after m) (after_parts n bus))))
+
+pub returns-clause-stays_quiet : goal.returns-clause-stays_quiet
+returns-clause-stays_quiet c = λ bus m n h.
+    let serial : m + n ≤ serial_quiet.quiet_of bus.serial = omega arith in
+    let clock : m + n ≤ clock_quiet.quiet_of bus.clock = omega arith in
+    let serial_left = c.quiet_laws.ensures.stays_quiet bus.serial m n serial in
+    let clock_left = c.quiet_laws-2.ensures.stays_quiet bus.clock m n clock in
+    let left : m ≤ quiet_of (passed n bus) = omega (arith, serial_left, clock_left) in
+    subst (λ (b : BusState). m ≤ quiet_of b) (sym (returns-clause-passes c bus n (omega arith))) left
 
 pub returns-clause-lines : goal.returns-clause-lines
 returns-clause-lines c = λ bus n h.

@@ -1,0 +1,65 @@
+-- A run goes on.
+use Rattle.std.proofs.Common.{◌≡◌, ℕ, ◌+◌, ◌<◌, ◌≤◌, List, [], ◌∷◌, ◌++◌, IsFalse, slice_index, sym, ap, subst, ◌∙◌, arith, ◌⊎◌, inl, inr}
+use Rattle.input_log.specs.Event.{LogEvent}
+use Rattle.r3k_word.specs.Layout.{page_of_place}
+use Rattle.r3k_machine.specs.declared.step.Done.{Done}
+use Rattle.r3k_machine.specs.Run.{arriving, run, trace}
+use Rattle.r3k_machine.specs.State.{State}
+use Rattle.r3k_machine.specs.Step.{Outcome, outcome_of_instruction, outcome_of_step}
+use Rattle.r3k_machine.specs.Told.{DifferAt}
+use Rattle.r3k_machine.specs.Quiet.{outcome_elapsed, state_elapsed}
+use Rattle.r3k_live.specs.Going.{HasGone, IsFreeFor, PassesBy}
+use Rattle.r3k_live.specs.Record.{is_dirty}
+use Rattle.r3k_live.specs.Recording.{Recording, Records}
+use Rattle.r3k_live.proofs.Going.{run_more, trace_more}
+use Rattle.r3k_live.proofs.Recorded.{stayed}
+
+-- one more step is made and recorded
+pub one_more : (pages : ℕ) (log : List LogEvent) (from : ℕ) (start : State) (made : ℕ) (s t : State) (done : Done) (r later : Recording)
+    → HasGone pages log from start made s r → outcome_of_step pages (arriving log (from + made)) s ≡ record { state = t; done = done }
+    → ((steps : List Done) → Records pages steps r → Records pages (steps ++ done ∷ []) later) → DifferAt done.stored s.words t.words
+    → HasGone pages log from start (made + 1) t later
+one_more pages log from start made s t done r later gone step records differ =
+    let here = run pages log from start made in
+    let so_far = trace pages log from start made in
+    let outcome = ap (outcome_of_step pages (arriving log (from + made))) (sym gone.state) ∙ step in
+    let steps = ap (λ (o : Outcome). so_far ++ o.done ∷ []) (sym outcome) ∙ trace_more pages log from start made in record {
+      state = ap (λ (o : Outcome). o.state) (sym outcome) ∙ run_more pages log from start made;
+      recorded = subst (λ (steps : List Done). Records pages steps later) steps (records so_far gone.recorded);
+      stayed =
+          subst (λ (steps : List Done). (place : ℕ) → IsFalse (is_dirty steps (page_of_place place)) → slice_index start.words place ≡ slice_index t.words place) steps
+          (stayed so_far done start.words s.words t.words differ gone.stayed);
+    }
+
+-- a quick one, whose ticks and fall of Random are still to come
+pub quick_more : (pages : ℕ) (log : List LogEvent) (from : ℕ) (start : State) (before made : ℕ) (s t : State) (done : Done) (r later : Recording)
+    → arriving log (from + before + made) ≡ [] → HasGone pages log from start (before + made) (state_elapsed made s) r
+    → outcome_of_step pages [] (state_elapsed made s) ≡ outcome_elapsed (made + 1) (outcome_of_instruction pages s)
+    → outcome_of_instruction pages s ≡ record { state = t; done = done }
+    → ((steps : List Done) → Records pages steps r → Records pages (steps ++ done ∷ []) later) → DifferAt done.stored s.words t.words
+    → HasGone pages log from start (before + (made + 1)) (state_elapsed (made + 1) t) later
+quick_more pages log from start before made s t done r later free gone at_once ran records differ =
+    let none = ap (arriving log) (let e : from + (before + made) ≡ from + before + made = omega arith in e) ∙ free in
+    let step = ap (λ (events : List LogEvent). outcome_of_step pages events (state_elapsed made s)) none ∙ (at_once ∙ ap (outcome_elapsed (made + 1)) ran) in
+    subst (λ (n : ℕ). HasGone pages log from start n (state_elapsed (made + 1) t) later) (let e : before + made + 1 ≡ before + (made + 1) = omega arith in e)
+    (one_more pages log from start (before + made) (state_elapsed made s) (state_elapsed (made + 1) t) done r later gone step records differ)
+
+-- no step to here came to an address
+pub passes_more : (pages : ℕ) (log : List LogEvent) (from : ℕ) (start : State) (address above below : ℕ)
+    → PassesBy pages log from start address above below → ¬ ((run pages log from start below).core.pc ≡ address)
+    → PassesBy pages log from start address above (below + 1)
+passes_more pages log from start address above below passed here = λ k after within there.
+    elim (earlier_or k below within) [
+      | inl earlier ↦ passed k after earlier there
+      | inr same ↦ here (ap (λ (n : ℕ). (run pages log from start n).core.pc) (sym same) ∙ there)
+    ]
+  where
+    earlier_or : (k below : ℕ) → k < below + 1 → (k < below) ⊎ (k ≡ below)
+    earlier_or k below within = grind arith
+
+-- times that have no event of what is left have none of the log
+pub free_of : (left log : List LogEvent) (time since free n : ℕ) → time ≡ since → n ≤ free
+    → ((later : ℕ) → time ≤ later → arriving left later ≡ arriving log later)
+    → ((k : ℕ) → k < free → arriving left (time + k) ≡ []) → IsFreeFor n log since
+free_of left log time since free n is within same none = λ k before.
+    ap (λ (t : ℕ). arriving log (t + k)) (sym is) ∙ (sym (same (time + k) (omega arith)) ∙ none k (omega arith))

@@ -1,0 +1,66 @@
+use Rattle.std.proofs.Common.{ℕ, ◌+◌, List, refl, sym, ap, subst, ◌∙◌, arith}
+use Rattle.input_log.specs.Event.{LogEvent}
+use Rattle.r3k_machine.specs.Core.{Core}
+use Rattle.r3k_machine.specs.State.{State}
+use Rattle.r3k_machine.specs.Step.{Outcome}
+use Rattle.r3k_machine.specs.Quiet.{IsQuietFor, IsCodePage}
+use Rattle.r3k_live.specs.Going.{HasGone, IsFreeFor, PassesBy}
+use Rattle.r3k_live.specs.Living.{state_of}
+use Rattle.r3k_live.proofs.Gone.{passes_more, quick_more}
+use Rattle.r3k_live.proofs.stretch.quick_steps.Goals as goal
+
+pub loop-made-init : goal.loop-made-init
+loop-made-init g c =
+    let s = state_of c.args.core.now c.args.memory.now in record {
+      gone = λ log from start before free gone.
+          subst (λ (t : State). HasGone g.row.PAGES log from start (before + 0) t c.args.recorder.now) (sym (c.quiet_laws.ensures.none s))
+          (subst (λ (n : ℕ). HasGone g.row.PAGES log from start n s c.args.recorder.now) (omega arith) gone);
+      passed = λ log from start before free gone k after within there. omega (arith, after, within);
+      quiet = c.requires.quiet;
+      code = c.requires.code;
+      steps = omega arith;
+      bound = omega arith;
+    }
+
+pub returns-in_default-clause-gone : goal.returns-in_default-clause-gone
+returns-in_default-clause-gone g c = λ log from start before free gone.
+    rw (c.in_default.ensures.core refl, c.in_default.ensures.words refl) (c.loop-made.invariant.gone log from start before free gone)
+
+pub returns-then-pc-stop-clause-gone : goal.returns-then-pc-stop-clause-gone
+returns-then-pc-stop-clause-gone g c = λ log from start before free gone.
+    let made = c.loop-made.made in
+    let s = state_of c.loop-made.core c.loop-made.memory in
+    let quiet : IsQuietFor (made + 1) s.core = record {
+      counts = omega (arith, c.loop-made.invariant.quiet.counts, c.loop-made-test.true);
+      sampled = c.loop-made.invariant.quiet.sampled;
+      unwanted = c.loop-made.invariant.quiet.unwanted;
+    } in
+    quick_more g.row.PAGES log from start before made s (state_of c.quick_step.new.core c.quick_step.new.memory) c.in-Some.done c.loop-made.recorder c.note.new.self
+    (free made c.loop-made-test.true) (c.loop-made.invariant.gone log from start before free gone)
+    (c.quiet_laws.ensures.at_once g.row.PAGES made s quiet c.in-Some.ensures.quick) c.in-Some.ensures.ran c.note.ensures.records c.in-Some.ensures.within.words
+
+pub loop-made-preserved : goal.loop-made-preserved
+loop-made-preserved g c =
+    let made = c.loop-made.made in
+    let s = state_of c.loop-made.core c.loop-made.memory in
+    let t = state_of c.quick_step.new.core c.quick_step.new.memory in
+    let new = ap (λ (o : Outcome). o.state.core) c.in-Some.ensures.ran in
+    let quiet : IsQuietFor (made + 1) s.core = record {
+      counts = omega (arith, c.loop-made.invariant.quiet.counts, c.loop-made-test.true);
+      sampled = c.loop-made.invariant.quiet.sampled;
+      unwanted = c.loop-made.invariant.quiet.unwanted;
+    } in
+    let goes = λ (log : List LogEvent) (from : ℕ) (start : State) (before : ℕ) (free : IsFreeFor c.args.most log (from + before)) (gone : HasGone g.row.PAGES log from start before (state_of c.args.core.now c.args.memory.now) c.args.recorder.now).
+    quick_more g.row.PAGES log from start before made s t c.in-Some.done c.loop-made.recorder c.note.new.self
+    (free made c.loop-made-test.true) (c.loop-made.invariant.gone log from start before free gone)
+    (c.quiet_laws.ensures.at_once g.row.PAGES made s quiet c.in-Some.ensures.quick) c.in-Some.ensures.ran c.note.ensures.records c.in-Some.ensures.within.words in record {
+      gone = goes;
+      passed = λ log from start before free gone.
+          passes_more g.row.PAGES log from start c.args.stop before (before + (made + 1))
+          (subst (λ (n : ℕ). PassesBy g.row.PAGES log from start c.args.stop before n) (omega arith) (c.loop-made.invariant.passed log from start before free gone))
+          (λ here. c.if-pc-stop.false (c.pc.ensures ∙ (ap (λ (u : State). u.core.pc) (goes log from start before free gone).state ∙ here)));
+      quiet = subst (λ (core : Core). IsQuietFor c.args.most core) new (c.quiet_laws.ensures.stays_quiet g.row.PAGES c.args.most s c.in-Some.ensures.quick c.loop-made.invariant.quiet);
+      code = subst (λ (core : Core). IsCodePage g.row.PAGES core c.args.page) new (c.quiet_laws.ensures.stays_code g.row.PAGES s c.args.page c.in-Some.ensures.quick c.loop-made.invariant.code);
+      steps = omega (arith, c.note.ensures.steps, c.loop-made.invariant.steps);
+      bound = omega (arith, c.loop-made-test.true);
+    }

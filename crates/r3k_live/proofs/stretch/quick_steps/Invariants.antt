@@ -1,0 +1,25 @@
+use Rattle.std.proofs.Common.{◌≡◌, ℕ, ◌+◌, ◌-◌, ◌≤◌, List}
+use Rattle.input_log.specs.Event.{LogEvent}
+use Rattle.r3k_machine.specs.Quiet.{IsCodePage, IsQuietFor, state_elapsed}
+use Rattle.r3k_machine.specs.State.{State}
+use Rattle.r3k_live.specs.Going.{HasGone, IsFreeFor, PassesBy}
+use Rattle.r3k_live.specs.Living.{state_of}
+use Rattle.r3k_live.proofs.stretch.quick_steps.Given as goal
+
+-- so many steps more are made and recorded, and none came to the address
+abbrev pub invariant-loop-made : goal.invariant-loop-made
+invariant-loop-made g l = record {
+  gone : (log : List LogEvent) (from : ℕ) (start : State) (before : ℕ) → IsFreeFor l.most log (from + before) →
+      HasGone g.row.PAGES log from start before (state_of l.fn.core l.fn.memory) l.fn.recorder →
+      HasGone g.row.PAGES log from start (before + l.made) (state_elapsed l.made (state_of l.core l.memory)) l.recorder;
+  passed : (log : List LogEvent) (from : ℕ) (start : State) (before : ℕ) → IsFreeFor l.most log (from + before) →
+      HasGone g.row.PAGES log from start before (state_of l.fn.core l.fn.memory) l.fn.recorder →
+      PassesBy g.row.PAGES log from start l.stop before (before + l.made + 1);
+  quiet : IsQuietFor l.most l.core;
+  code : IsCodePage g.row.PAGES l.core l.page;
+  steps : l.recorder.steps ≡ l.fn.recorder.steps + l.made;
+  bound : l.made ≤ l.most;
+}
+
+abbrev pub decreases-loop-made : goal.decreases-loop-made
+decreases-loop-made g l = l.most - l.made

@@ -1,0 +1,119 @@
+//! Stretches of quick steps.
+
+ghost use Rattle.std.specs.Prelude.{◌≡◌, ◌+◌, ◌^◌, ◌<◌, ◌≤◌, ℕ, List};
+ghost use Rattle.input_log.specs.Event.{LogEvent};
+ghost use Rattle.r3k_machine.specs.Quiet.{IsCodePage, IsQuietFor, state_elapsed};
+ghost use Rattle.r3k_machine.specs.Run.{arriving};
+ghost use Rattle.r3k_machine.specs.State.{State};
+ghost use Rattle.r3k_machine.specs.Told.{IsPage};
+ghost use Rattle.r3k_live.specs.Going.{HasGone, IsFreeFor, PassesBy};
+ghost use Rattle.r3k_live.specs.Living.{state_of};
+
+use crate::flat::FlatMemory;
+use crate::recorder::Recorder;
+use input_log::Cursor;
+use r3k_machine::step::step;
+use r3k_machine::{CodePage, Core, code_page, quick_step, quiet_laws};
+
+// Makes quick steps in a page, at most so many, and ends after one that comes to an address. Their ticks and falls of Random are
+// still to come.
+#[inline(never)]
+fn quick_steps<const PAGES: u32, const SPAN: u32>(
+    core: &mut Core,
+    memory: &mut FlatMemory<PAGES>,
+    page: CodePage,
+    most: u32,
+    stop: u64,
+    recorder: &mut Recorder<PAGES, SPAN>,
+) -> u32
+    requires quiet { IsQuietFor most core.old }
+    requires code { IsCodePage PAGES core.old page }
+    requires page { IsPage PAGES page.page }
+    requires room { recorder.old.steps + most ≤ SPAN }
+    ensures bound { result ≤ most }
+    ensures steps { recorder.new.steps ≡ recorder.old.steps + result }
+    ensures gone { (log : List LogEvent) (from : ℕ) (start : State) (made : ℕ) → IsFreeFor most log (from + made) →
+        HasGone PAGES log from start made (state_of core.old memory.old) recorder.old →
+        HasGone PAGES log from start (made + result) (state_elapsed result (state_of core.new memory.new)) recorder.new }
+    ensures before { (log : List LogEvent) (from : ℕ) (start : State) (made : ℕ) → IsFreeFor most log (from + made) →
+        HasGone PAGES log from start made (state_of core.old memory.old) recorder.old →
+        PassesBy PAGES log from start stop made (made + result) }
+{
+    quiet_laws();
+    let mut made = 0;
+    while made < most {
+        let Some(done) = quick_step(core, memory, page) else {
+            return made;
+        };
+        recorder.note(done);
+        made += 1;
+        if core.pc() as u64 == stop {
+            return made;
+        }
+    }
+    made
+}
+
+// Makes quick steps as long as they stay in the page where they begin, at most so many, and ends after one that comes to an address.
+fn stretch<const PAGES: u32, const SPAN: u32>(
+    core: &mut Core,
+    memory: &mut FlatMemory<PAGES>,
+    most: u32,
+    stop: u64,
+    recorder: &mut Recorder<PAGES, SPAN>,
+) -> u32
+    requires room { recorder.old.steps + most ≤ SPAN }
+    ensures bound { result ≤ most }
+    ensures steps { recorder.new.steps ≡ recorder.old.steps + result }
+    ensures gone { (log : List LogEvent) (from : ℕ) (start : State) (made : ℕ) → IsFreeFor most log (from + made) →
+        HasGone PAGES log from start made (state_of core.old memory.old) recorder.old →
+        HasGone PAGES log from start (made + result) (state_of core.new memory.new) recorder.new }
+    ensures before { (log : List LogEvent) (from : ℕ) (start : State) (made : ℕ) → IsFreeFor most log (from + made) →
+        HasGone PAGES log from start made (state_of core.old memory.old) recorder.old →
+        PassesBy PAGES log from start stop made (made + result) }
+{
+    let Some(quiet) = core.quiet() else {
+        return 0;
+    };
+    let Some(page) = code_page(core, memory) else {
+        return 0;
+    };
+    let made = quick_steps(core, memory, page, most.min(quiet), stop, recorder);
+    core.elapse(made);
+    made
+}
+
+/// Makes quick steps, at most so many, up to one that comes to an address; or one step, where the next one is not quick.
+pub(crate) fn advance<const PAGES: u32, const SPAN: u32>(
+    core: &mut Core,
+    memory: &mut FlatMemory<PAGES>,
+    time: u64,
+    events: &mut Cursor,
+    most: u32,
+    stop: u64,
+    recorder: &mut Recorder<PAGES, SPAN>,
+) -> u32
+    requires some { 0 < most }
+    requires room { recorder.old.steps + most ≤ SPAN }
+    requires time { time + most < 2 ^ 64 }
+    ensures some { 0 < result }
+    ensures bound { result ≤ most }
+    ensures gone { (log : List LogEvent) (from : ℕ) (start : State) (made : ℕ) → time ≡ from + made →
+        ((later : ℕ) → time ≤ later → arriving events.old later ≡ arriving log later) →
+        HasGone PAGES log from start made (state_of core.old memory.old) recorder.old →
+        HasGone PAGES log from start (made + result) (state_of core.new memory.new) recorder.new }
+    ensures before { (log : List LogEvent) (from : ℕ) (start : State) (made : ℕ) → time ≡ from + made →
+        ((later : ℕ) → time ≤ later → arriving events.old later ≡ arriving log later) →
+        HasGone PAGES log from start made (state_of core.old memory.old) recorder.old →
+        PassesBy PAGES log from start stop made (made + result) }
+    ensures left { (later : ℕ) → time + result ≤ later → arriving events.new later ≡ arriving events.old later }
+{
+    let free = u64::from(most).min(events.free(time)) as u32;
+    let made = stretch(core, memory, free, stop, recorder);
+    if made > 0 {
+        return made;
+    }
+    let done = step(core, memory, events.next(time));
+    recorder.note(done);
+    1
+}

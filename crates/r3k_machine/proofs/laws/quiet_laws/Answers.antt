@@ -1,0 +1,33 @@
+use Rattle.std.proofs.Common.{◌≡◌, ℕ, suc, ◌+◌, ap, arith, refl, sym, subst, ◌∙◌}
+use Rattle.kn02_bus.specs.Quiet.{after}
+use Rattle.cop0.specs.Changes.{random_after}
+use Rattle.r3k_machine.specs.Step.{ticked, outcome_of_instruction}
+use Rattle.r3k_machine.specs.Quiet.{IsQuietFor, outcome_elapsed}
+use Rattle.r3k_machine.proofs.Quiet.{alone, at_once, code_kept, instruction_ages, quiet_kept}
+use Rattle.r3k_machine.proofs.laws.quiet_laws.Goals as goal
+
+pub returns-clause-none : goal.returns-clause-none
+unfolding after random_after
+returns-clause-none c = λ s. refl
+
+pub returns-clause-alone : goal.returns-clause-alone
+unfolding ticked after
+returns-clause-alone c = λ pages n s quiet.
+    let steps : n + 1 ≡ suc n = omega arith in
+    let now = subst (λ (m : ℕ). IsQuietFor m s.core) steps quiet in
+    alone pages n s now (c.quiet_laws.ensures.lines s.core.bus (suc n) now.counts)
+
+pub returns-clause-at_once : goal.returns-clause-at_once
+returns-clause-at_once c = λ pages n s quiet quick.
+    let steps : n + 1 ≡ suc n = omega arith in
+    let now = subst (λ (m : ℕ). IsQuietFor m s.core) steps quiet in
+    at_once pages n s now (c.quiet_laws.ensures.lines s.core.bus (suc n) now.counts) quick
+    ∙ ap (λ (m : ℕ). outcome_elapsed m (outcome_of_instruction pages s)) (sym steps)
+
+pub returns-clause-stays_quiet : goal.returns-clause-stays_quiet
+returns-clause-stays_quiet c = λ pages n s quick quiet.
+    quiet_kept n s.core (outcome_of_instruction pages s).state.core (instruction_ages pages 0 0 s quick).keeps quiet
+
+pub returns-clause-stays_code : goal.returns-clause-stays_code
+returns-clause-stays_code c = λ pages s page quick code.
+    code_kept pages page s.core (outcome_of_instruction pages s).state.core (instruction_ages pages 0 0 s quick).keeps code

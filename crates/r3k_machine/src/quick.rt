@@ -1,0 +1,171 @@
+//! Quick steps: those before which nothing happens but counting, and whose instruction touches registers, PC and memory alone.
+
+ghost use Rattle.std.specs.Prelude.{◌≡◌, ◌<◌, IfSome, None, Ok};
+ghost use Rattle.r3k_exec.specs.Effects.{NamesRegisters};
+ghost use Rattle.r3k_machine.specs.Quiet.{IsCodePage, IsQuick, IsQuickEffect, IsQuietFor, elapsed};
+ghost use Rattle.r3k_machine.specs.Step.{completion_of_effect, outcome_of_instruction};
+ghost use Rattle.r3k_machine.specs.Told.{IsPage, IsTold};
+
+use crate::address::Use;
+use crate::load_store::{Stored, put};
+use crate::memory::Mem;
+use crate::state::Core;
+use crate::step::Done;
+use r3k_decode::decode;
+use r3k_exec::{Effect, effect};
+use r3k_word::layout::{PAGE_BYTES, PAGE_WORDS, page_of, place_of};
+
+/// A page that is run in: the number of the virtual page, and the page of RAM or ROM that its words are fetched from.
+#[derive(Clone, Copy, Debug)]
+pub struct CodePage {
+    pub number: u32,
+    pub page: u32,
+}
+
+impl Core {
+    /// How many steps may be made of which each is quiet as long as its instruction is quick.
+    #[inline]
+    pub fn quiet(&self) -> Option<u32>
+        ensures { IfSome result (λ steps. IsQuietFor steps self.now) }
+    {
+        let lines = self.bus.lines();
+        let cop0 = self.cop0();
+        if cop0.wanted() || !cop0.is_sampled(lines.board, lines.clock) {
+            return None;
+        }
+        Some(self.bus.quiet())
+    }
+
+    /// So many ticks and falls of Random pass at once.
+    pub fn elapse(&mut self, steps: u32)
+        ensures { self.new ≡ elapsed steps self.old }
+    {
+        self.bus.pass(steps);
+        self.processor.cop0.fall_by(steps);
+    }
+}
+
+/// The page of the PC, where its words are fetched without an exception and without a search.
+pub fn code_page<M: Mem>(core: &Core, memory: &M) -> Option<CodePage>
+    ensures code { IfSome result (λ page. IsCodePage (M.ram memory.now) core.now page) }
+    ensures page { IfSome result (λ page. IsPage (M.ram memory.now) page.page) }
+{
+    let address = core.pc();
+    let physical = core.known(Use::Fetch, address % 4 == 0, address)?;
+    let place = place_of(memory.ram_pages(), physical.address / 4 * 4)?;
+    Some(CodePage {
+        number: address / PAGE_BYTES,
+        page: page_of(place) as u32,
+    })
+}
+
+// Performs the effect of the instruction at the PC, which was fetched from a page, if it is on registers, PC and memory alone and
+// that is known without a search. Else it changes nothing.
+#[inline(always)]
+fn perform_quick<M: Mem>(core: &mut Core, memory: &mut M, page: u32, effect: Effect) -> Option<Done>
+    requires registers { NamesRegisters effect }
+    requires page { IsPage (M.ram memory.old) page }
+    ensures quick { IfSome result (λ done. IsQuickEffect (M.ram memory.old) core.old effect) }
+    ensures ran { IfSome result (λ done.
+        completion_of_effect (M.ram memory.old) (record { core = core.old; words = M.words memory.old }) page effect
+        ≡ Ok (record { state = record { core = core.new; words = M.words memory.new }; done = done })) }
+    ensures within { IfSome result (IsTold (M.ram memory.old) (M.words memory.old) (M.words memory.new)) }
+    ensures core { result ≡ None → core.new ≡ core.old }
+    ensures words { result ≡ None → M.words memory.new ≡ M.words memory.old }
+    ensures same { M.ram memory.new ≡ M.ram memory.old }
+{
+    match effect {
+        Effect::Write { register, value } => {
+            core.complete();
+            core.set_register(register, value);
+        }
+        Effect::WriteHi { value } => {
+            core.complete();
+            core.set_hi(value);
+        }
+        Effect::WriteLo { value } => {
+            core.complete();
+            core.set_lo(value);
+        }
+        Effect::WriteHiLo { hi, lo } => {
+            core.complete();
+            core.set_hi(hi);
+            core.set_lo(lo);
+        }
+        Effect::Jump { target } => {
+            core.complete();
+            core.branch(target);
+        }
+        Effect::JumpAndLink {
+            target,
+            register,
+            value,
+        } => {
+            core.complete();
+            core.branch(target);
+            core.set_register(register, value);
+        }
+        Effect::Load {
+            kind,
+            register,
+            address,
+        } => {
+            let physical = core.known(Use::Load, kind.is_aligned(address), address)?;
+            if core.is_isolated(physical) {
+                return None;
+            }
+            let place = place_of(memory.ram_pages(), physical.address / 4 * 4)?;
+            let word = memory.word(place);
+            core.complete();
+            let kept = core.registers()[register as usize];
+            core.set_slot(register, kind.loaded(address, word, kept));
+            return Some(Done::loading(page, Some(page_of(place) as u32)));
+        }
+        Effect::Store {
+            kind,
+            address,
+            value,
+        } => {
+            let physical = core.known(Use::Store, kind.is_aligned(address), address)?;
+            if core.is_isolated(physical) {
+                return None;
+            }
+            let address = put(memory, physical.address, kind.stored(address, value))?;
+            core.complete();
+            let stored = Stored {
+                address: Some(address),
+                sent: None,
+            };
+            return Some(Done::storing(page, stored));
+        }
+        _ => return None,
+    }
+    Some(Done::fetching(Some(page)))
+}
+
+/// Runs the instruction at the PC if that lies in this page and the instruction is quick. Else it changes nothing.
+#[inline(always)]
+pub fn quick_step<M: Mem>(core: &mut Core, memory: &mut M, page: CodePage) -> Option<Done>
+    requires code { IsCodePage (M.ram memory.old) core.old page }
+    requires page { IsPage (M.ram memory.old) page.page }
+    ensures quick { IfSome result (λ done. IsQuick (M.ram memory.old) (record { core = core.old; words = M.words memory.old })) }
+    ensures ran { IfSome result (λ done. outcome_of_instruction (M.ram memory.old) (record { core = core.old; words = M.words memory.old })
+        ≡ record { state = record { core = core.new; words = M.words memory.new }; done = done }) }
+    ensures within { IfSome result (IsTold (M.ram memory.old) (M.words memory.old) (M.words memory.new)) }
+    ensures core { result ≡ None → core.new ≡ core.old }
+    ensures words { result ≡ None → M.words memory.new ≡ M.words memory.old }
+    ensures same { M.ram memory.new ≡ M.ram memory.old }
+{
+    let address = core.pc();
+    if address / PAGE_BYTES != page.number || address % 4 != 0 {
+        return None;
+    }
+    let place = page.page as usize * PAGE_WORDS as usize + (address % PAGE_BYTES / 4) as usize;
+    let word = memory.word(place);
+    if core.is_unusable(word) {
+        return None;
+    }
+    let insn = decode(word)?;
+    let effect = effect(&insn, core.operands(&insn));
+    perform_quick(core, memory, page.page, effect)
+}
