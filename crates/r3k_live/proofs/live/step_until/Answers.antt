@@ -8,7 +8,6 @@ use Rattle.r3k_live.specs.Record.{is_dirty}
 use Rattle.r3k_pages.proofs.Ascending.{outside_pages}
 use Rattle.r3k_live.specs.Visits.{first_visit}
 use Rattle.r3k_live.proofs.Going.{visits_here, visits_on}
-use Rattle.r3k_live.proofs.Recorded.{stayed}
 use Rattle.r3k_live.proofs.live.step_until.Goals as goal
 
 pub loop-made-init : goal.loop-made-init
