@@ -160,20 +160,22 @@ pub(crate) fn start_in<'a, const PAGES: u32>(
     }
 }
 
-/// Whether the end of a span is where that span ended before, and spans go on from there that can be joined again.
+/// Whether the end of a span is known to be where that span ended before, and spans go on from there that can be joined again. The states
+/// are looked at only where they are one and the same boundary, so that it costs nothing where they differ.
 pub(crate) fn meets<const PAGES: u32>(
     ends: &[Rc<Boundary<PAGES>>],
     again: u64,
     index: u64,
-    end: &Boundary<PAGES>,
+    end: &Rc<Boundary<PAGES>>,
 ) -> bool
     requires { index < 2 ^ 64 - 1 }
-    ensures { IsTrue result ↔ ((again ≤ index) × (index + 1 < length ends.now) × (slice_get (map (λ end. end.value) ends.now) index ≡ Some end.now)) }
+    ensures { IsTrue result → ((again ≤ index) × (index + 1 < length ends.now) × (slice_get (map (λ end. end.value) ends.now) index ≡ Some end.now.value)) }
 {
     if index < again || index + 1 >= ends.len() as u64 {
         return false;
     }
-    is_same(&ends[index as usize], end)
+    let before = &ends[index as usize];
+    Rc::ptr_eq(before, end) && is_same(before, end)
 }
 
 // Whether two states are the same.

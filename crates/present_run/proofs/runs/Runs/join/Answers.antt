@@ -13,10 +13,10 @@ join_again-requires g c =
     let kept = c.args.self.now.kept in
     let all = map (λ end. end.value) c.args.self.now.ends.items in
     let joined = c.in_ok-join_one.ensures {u = tt} in
-    let met = c.meets-met.ensures.0 c.if-met.true in
+    let met = c.meets-met.ensures c.if-met.true in
     let same = joined.met
     (subst (λ ends. slice_get (map (λ end. end.value) ends) kept.valid ≡ Some c.args.end.value) c.deref.ensures.value
-    (ap (slice_get (map (λ end. end.value) c.deref.result.now)) (sym c.valid.ensures) ∙ (met.2 ∙ ap (λ (s : State). Some s) c.deref-2.ensures))) in (
+    (ap (slice_get (map (λ end. end.value) c.deref.result.now)) (sym c.valid.ensures) ∙ met.2)) in (
       omega arith,
       (
         c.join_one.ensures.of,
