@@ -18,10 +18,7 @@ returns-clause-end g c =
     let long = ap (λ (words : List ℕ). length words) (sym c.memory-memory.ensures.words) ∙ (c.memory-memory.ensures.whole ∙ sym c.start-kept.ensures.whole) in
     let is = end_carried g.row.PAGES g.row.SPAN s start old new c.requires.near loses c.requires.same long in
     map_ok _ _ c.end_with.result
-    (λ end at.
-    at
-    ∙ (ap (λ (set : List ℕ). let r : State = record (end_of g.row.PAGES g.row.SPAN s) { words = overlaid set (end_of g.row.PAGES g.row.SPAN s).words start.words } in r) c.pages.ensures.pages ∙ sym is))
-    c.end_with.ensures
+    (λ end at. at ∙ sym is) c.end_with.ensures
 
 pub returns-clause-start : goal.returns-clause-start
 returns-clause-start g c =
