@@ -20,9 +20,9 @@ returns-clause-gone g c = λ log from start made now same gone.
     let free = free_of c.args.events.now log c.args.time (from + made) c.free.result c.min-free.result now (omega (arith, c.min-free.ensures)) same c.free.ensures in
     let here = c.stretch-made.ensures.gone log from start made free gone in
     let events = ap (arriving log) (let e : from + (made + more) ≡ c.args.time + more = omega (arith, now) in e)
-        ∙ (sym (same (c.args.time + more) (omega arith)) ∙ sym c.next.ensures.events) in
+    ∙ (sym (same (c.args.time + more) (omega arith)) ∙ sym c.next.ensures.events) in
     let outcome : outcome_of_step g.row.PAGES c.next.result.now s ≡ record { state = t; done = c.step-done.result } =
-        λ i. record { state = sym c.step-done.ensures.state i; done = sym c.step-done.ensures.told i } in
+    λ i. record { state = sym c.step-done.ensures.state i; done = sym c.step-done.ensures.told i } in
     subst (λ (n : ℕ). HasGone g.row.PAGES log from start n t c.note.new.self) (let e : made + more + 1 ≡ made + (more + 1) = omega arith in e)
     (one_more g.row.PAGES log from start (made + more) s t c.step-done.result c.stretch-made.new.recorder c.note.new.self here
     (ap (λ (e : List LogEvent). outcome_of_step g.row.PAGES e s) events ∙ outcome) c.note.ensures.records c.step-done.ensures.within.words)
