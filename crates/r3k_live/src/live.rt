@@ -239,7 +239,15 @@ fn step_until<const PAGES: u32, const SPAN: u32>(
     let mut made = 0;
     while made < steps {
         let time = from + made as u64;
-        made += advance(core, memory, time, &mut events, steps - made, stop, recorder);
+        made += advance(
+            core,
+            memory,
+            time,
+            &mut events,
+            steps - made,
+            stop,
+            recorder,
+        );
         if core.pc() as u64 == stop {
             return Some(made);
         }

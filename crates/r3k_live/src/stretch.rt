@@ -83,7 +83,7 @@ fn stretch<const PAGES: u32, const SPAN: u32>(
     made
 }
 
-/// Makes quick steps, at most so many, up to one that comes to an address; or one step, where the next one is not quick.
+/// Makes steps, at most so many: quick ones, and then one more, be it quick or not. It ends after a step that comes to an address.
 pub(crate) fn advance<const PAGES: u32, const SPAN: u32>(
     core: &mut Core,
     memory: &mut FlatMemory<PAGES>,
@@ -110,10 +110,10 @@ pub(crate) fn advance<const PAGES: u32, const SPAN: u32>(
 {
     let free = u64::from(most).min(events.free(time)) as u32;
     let made = stretch(core, memory, free, stop, recorder);
-    if made > 0 {
+    if made == most || (made > 0 && core.pc() as u64 == stop) {
         return made;
     }
-    let done = step(core, memory, events.next(time));
+    let done = step(core, memory, events.next(time + made as u64));
     recorder.note(done);
-    1
+    made + 1
 }
