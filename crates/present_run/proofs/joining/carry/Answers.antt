@@ -1,8 +1,7 @@
 use Rattle.std.proofs.Common.{◌≡◌, ◌&&◌, ℕ, not, List, length, sym, ap, ◌∙◌}
-use Rattle.r3k_machine.specs.State.{State}
-use Rattle.r3k_pages.specs.Pages.{holds, overlaid}
+use Rattle.r3k_pages.specs.Pages.{holds}
 use Rattle.r3k_live.specs.Record.{touched_pages}
-use Rattle.span_fact.specs.Span.{end_of, steps_of}
+use Rattle.span_fact.specs.Span.{steps_of}
 use Rattle.present_run.proofs.Carry.{behind_carried, end_carried, exactly, start_carried}
 use Rattle.present_run.proofs.Spans.{map_ok}
 use Rattle.present_run.proofs.joining.carry.Goals as goal
@@ -18,10 +17,7 @@ returns-clause-end g c =
     let long = ap (λ (words : List ℕ). length words) (sym c.memory-memory.ensures.words) ∙ (c.memory-memory.ensures.whole ∙ sym c.start-kept.ensures.whole) in
     let is = end_carried g.row.PAGES g.row.SPAN s start old new c.requires.near loses c.requires.same long in
     map_ok _ _ c.end_with.result
-    (λ end at.
-    at
-    ∙ (ap (λ (set : List ℕ). let r : State = record (end_of g.row.PAGES g.row.SPAN s) { words = overlaid set (end_of g.row.PAGES g.row.SPAN s).words start.words } in r) c.pages.ensures.pages ∙ sym is))
-    c.end_with.ensures
+    (λ end at. at ∙ sym is) c.end_with.ensures
 
 pub returns-clause-start : goal.returns-clause-start
 returns-clause-start g c =
