@@ -220,7 +220,12 @@ fn set_that_is_too_large(rt: HostRuntime) -> Result<(), Fail> {
     let none = PageMarks::new(rt.alloc())?;
     let words = filled::<16>(rt.alloc())?;
     let earlier = Snapshot::<16>::capture(rt.alloc(), &words, None, &none)?;
-    let later = again(rt.alloc(), &words, &earlier, &set_of(&rt, rt.alloc(), &[5, 40])?)?;
+    let later = again(
+        rt.alloc(),
+        &words,
+        &earlier,
+        &set_of(&rt, rt.alloc(), &[5, 40])?,
+    )?;
     holds(&rt, &later, &[]);
     differ_in(&rt, &earlier, &later, &[]);
     // Without an earlier one the set says nothing.
@@ -235,8 +240,20 @@ fn snapshots_one_behind_another(rt: HostRuntime) -> Result<(), Fail> {
     let none = PageMarks::new(rt.alloc())?;
     let mut words = filled::<16>(rt.alloc())?;
     let first = Snapshot::<16>::capture(rt.alloc(), &words, None, &none)?;
-    let second = after(&rt, rt.alloc(), &mut words, &first, &set_of(&rt, rt.alloc(), &[3, 70])?)?;
-    let third = after(&rt, rt.alloc(), &mut words, &second, &set_of(&rt, rt.alloc(), &[3, 4, 33])?)?;
+    let second = after(
+        &rt,
+        rt.alloc(),
+        &mut words,
+        &first,
+        &set_of(&rt, rt.alloc(), &[3, 70])?,
+    )?;
+    let third = after(
+        &rt,
+        rt.alloc(),
+        &mut words,
+        &second,
+        &set_of(&rt, rt.alloc(), &[3, 4, 33])?,
+    )?;
     drop(first);
     differ_in(&rt, &second, &third, &[3, 4, 33]);
     holds(&rt, &second, &[3, 70]);
@@ -270,7 +287,13 @@ fn pages_of_another(rt: HostRuntime) -> Result<(), Fail> {
     let mut words = filled::<16>(rt.alloc())?;
     let own = Snapshot::<16>::capture(rt.alloc(), &words, None, &empty)?;
     let all = [0, 1, 15, 16, 31, 32, 63, 64, 79];
-    let other = after(&rt, rt.alloc(), &mut words, &own, &set_of(&rt, rt.alloc(), &all)?)?;
+    let other = after(
+        &rt,
+        rt.alloc(),
+        &mut words,
+        &own,
+        &set_of(&rt, rt.alloc(), &all)?,
+    )?;
     let none = own.overlay(rt.alloc(), &empty, &other)?;
     holds(&rt, &none, &[]);
     for page in all {
@@ -279,7 +302,11 @@ fn pages_of_another(rt: HostRuntime) -> Result<(), Fail> {
         let back = both.overlay(rt.alloc(), &set_of(&rt, rt.alloc(), &[5, page])?, &own)?;
         holds(&rt, &back, &[]);
     }
-    let both = own.overlay(rt.alloc(), &set_of(&rt, rt.alloc(), &[1, 16, 31, 79])?, &other)?;
+    let both = own.overlay(
+        rt.alloc(),
+        &set_of(&rt, rt.alloc(), &[1, 16, 31, 79])?,
+        &other,
+    )?;
     holds(&rt, &both, &[1, 16, 31, 79]);
     holds(&rt, &own, &[]);
     holds(&rt, &other, &all);

@@ -364,10 +364,7 @@ fn nearly_and_not_applies<const PAGES: u32, const SPAN: u32>(
 }
 
 // A set of pages, outside which is the same what is so outside the list.
-fn marks_of<const PAGES: u32>(
-    alloc: Global,
-    pages: &[u32],
-) -> Result<PageMarks<PAGES>, AllocError>
+fn marks_of<const PAGES: u32>(alloc: Global, pages: &[u32]) -> Result<PageMarks<PAGES>, AllocError>
     requires few { PAGES ≤ MAX_RAM_PAGES }
     requires within { All (λ page. page < page_count_of PAGES) pages.now }
     ensures { IfOk result (λ set. (a b : List ℕ) → SameOutside pages.now a b → SameOutside set a b) }

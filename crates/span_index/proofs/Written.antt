@@ -1,8 +1,7 @@
 -- The pages that are recorded of a run as stored into are all that it stored into: where the page of a word is not among them, no
 -- step stored into the word.
-use Rattle.std.proofs.Common.{◌≡◌, ℕ, zero, suc, ◌+◌, ◌*◌, ◌/◌, ◌<◌, ◌≤◌, ◌==◌, false, List, [], ◌∷◌, length, All, Option, Some, None, IfSome, nat_eq, slice_index_or, inl, inr, refl, sym, ap, ◌∙◌, arith}
+use Rattle.std.proofs.Common.{◌≡◌, ℕ, zero, suc, ◌+◌, ◌*◌, ◌/◌, ◌≤◌, ◌==◌, false, List, [], ◌∷◌, Option, Some, None, IfSome, nat_eq, inl, inr, refl, sym, ap, ◌∙◌, arith}
 use Rattle.std.proofs.lemmas.Bool.{cases_Bool, cases_lt, eq-eqb, eqb-true, or_from, or_parts, true≢false}
-use Rattle.std.proofs.lemmas.List.{get_or_past}
 use Rattle.input_log.specs.Event.{LogEvent}
 use Rattle.r3k_word.specs.declared.layout.TheConstants.{PAGE_BYTES}
 use Rattle.r3k_machine.specs.declared.step.Done.{Done}

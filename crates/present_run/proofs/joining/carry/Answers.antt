@@ -1,8 +1,7 @@
 use Rattle.std.proofs.Common.{◌≡◌, ◌&&◌, ℕ, not, List, length, sym, ap, ◌∙◌}
-use Rattle.r3k_machine.specs.State.{State}
-use Rattle.r3k_pages.specs.Pages.{holds, overlaid}
+use Rattle.r3k_pages.specs.Pages.{holds}
 use Rattle.r3k_live.specs.Record.{touched_pages}
-use Rattle.span_fact.specs.Span.{end_of, steps_of}
+use Rattle.span_fact.specs.Span.{steps_of}
 use Rattle.present_run.proofs.Carry.{behind_carried, end_carried, exactly, start_carried}
 use Rattle.present_run.proofs.Spans.{map_ok}
 use Rattle.present_run.proofs.joining.carry.Goals as goal

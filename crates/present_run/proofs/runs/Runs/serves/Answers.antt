@@ -1,4 +1,4 @@
-use Rattle.std.proofs.Common.{◌≡◌, ℕ, ◌+◌, ◌-◌, ◌*◌, List, IfSome, refl, sym, ap, subst, ◌∙◌, arith}
+use Rattle.std.proofs.Common.{◌≡◌, ℕ, ◌+◌, ◌-◌, ◌*◌, IfSome, refl, sym, ap, subst, ◌∙◌, arith}
 use Rattle.input_log.specs.Log.{window_of}
 use Rattle.r3k_machine.specs.State.{State}
 use Rattle.r3k_machine.specs.Run.{state_at}
@@ -24,13 +24,13 @@ nearly_next-requires g c =
         (
           omega arith,
           (
-          omega (arith, next, c.requires.time),
-          (
-            subst (λ (s : State). IfSome (span_at kept before) (λ r. (end_of pages span r).core ≡ s.core)) start
-                (core_behind pages span image log before (span_at kept before) (c.requires.of.joined before (omega (arith, next)))),
-            subst (λ (n : ℕ). IfSome (span_at kept n) (λ s. SameOutside c.args.self.now.differing s.start.words c.args.start.now.words)) (sym next)
-                (subst (λ (start : State). IfSome (span_at kept kept.valid) (λ s. SameOutside c.args.self.now.differing s.start.words start.words)) (sym c.requires.start) c.requires.of.differ),
-          ),
+            omega (arith, next, c.requires.time),
+            (
+              subst (λ (s : State). IfSome (span_at kept before) (λ r. (end_of pages span r).core ≡ s.core)) start
+                  (core_behind pages span image log before (span_at kept before) (c.requires.of.joined before (omega (arith, next)))),
+              subst (λ (n : ℕ). IfSome (span_at kept n) (λ s. SameOutside c.args.self.now.differing s.start.words c.args.start.now.words)) (sym next)
+                  (subst (λ (start : State). IfSome (span_at kept kept.valid) (λ s. SameOutside c.args.self.now.differing s.start.words start.words)) (sym c.requires.start) c.requires.of.differ),
+            ),
           ),
         ),
       ),

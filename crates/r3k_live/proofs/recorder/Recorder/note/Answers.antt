@@ -1,4 +1,4 @@
-use Rattle.std.proofs.Common.{◌≡◌, ℕ, ◌+◌, ◌<◌, ◌++◌, ◌∷◌, [], Bool, false, None, ◌||◌, List, sym, ap, ◌∙◌, length, slice_index, slice_index_or, length-append, zero-add}
+use Rattle.std.proofs.Common.{◌≡◌, ℕ, ◌+◌, ◌++◌, ◌∷◌, [], Bool, None, ◌||◌, List, sym, ap, ◌∙◌, length, slice_index, slice_index_or, length-append, zero-add}
 use Rattle.std.proofs.Math.Path.{ap₂}
 use Rattle.r3k_pages.specs.Pages.{holds}
 use Rattle.r3k_machine.specs.Locality.{is_page, is_touched, touches}
