@@ -17,5 +17,3 @@ mod reply_texts;
 mod same;
 #[cfg(test)]
 mod script_lines;
-#[cfg(test)]
-mod sources;
