@@ -17,3 +17,5 @@ mod reply_texts;
 mod same;
 #[cfg(test)]
 mod script_lines;
+#[cfg(test)]
+mod sources;

@@ -1,65 +1,121 @@
-//! Edits of a log that a session can't make, or would make one by one. Others are in the dialogues of `acceptance`.
-use crate::log_format::{MIXED, mixed_events};
+//! Edits of a log.
+use crate::log_format::{FIRST, MIXED, MIXED_EVENTS, SECOND, THIRD, THREE};
 use crate::same::{same, same_at};
-use input_log::{Log, MAX_POSITION, MAX_TIME, read_log};
+use input_log::{Kind, Log, MAX_POSITION, MAX_TIME, read_log};
 use refusal::Fault;
 use std::test::Fail;
 
-// The events are of the times 4, 5, 5 and 4,294,967,294. A range that ends before it begins, or past the last position, is refused.
+// Whether a log has just these bytes: of each its time, its line and itself.
+fn has(log: &Log, events: &[(u64, u8, u8)]) -> bool {
+    let same = log.events().iter().zip(events).all(|(a, b)| {
+        a.kind == Kind::Byte && a.time == b.0 && a.line == b.1 && a.byte == b.2
+    });
+    same && log.events().len() == events.len()
+}
+
+// Whether a log has just these events: of each its time, its kind, its line and its byte.
+fn holds(log: &Log, events: &[(u64, Kind, u8, u8)]) -> bool {
+    let same = log.events().iter().zip(events).all(|(a, b)| a.time == b.0
+        && a.kind == b.1
+        && a.line == b.2
+        && a.byte == b.3);
+    same && log.events().len() == events.len()
+}
+
 #[test]
-fn erases(rt: HostRuntime) -> Result<(), Fail> {
-    let all = mixed_events();
-    let [first, second, third, last] = all;
-    for (from, to, left) in [
-        (0, 0, all.as_slice()),
-        (5, 5, &all),
-        (MAX_POSITION, MAX_POSITION, &all),
-        (0, 4, &all),
-        (6, 4_294_967_294, &all),
-        (4, 5, &[second, third, last]),
-        (5, 6, &[first, last]),
-        (0, 6, &[last]),
-        (4, 4_294_967_294, &[last]),
-        (5, 4_294_967_294, &[first, last]),
-        (5, MAX_POSITION, &[first]),
-        (4_294_967_294, MAX_POSITION, &[first, second, third]),
-        (0, MAX_POSITION, &[]),
-        (4, MAX_POSITION, &[]),
-        (0, 4_294_967_295, &[]),
-    ] {
-        let mut log = read_log(rt.alloc(), &MIXED)?;
-        log.erase(from, to)?;
-        same_at(&rt, &(from, to), &log.events(), &left);
-    }
-    for (from, to) in [
-        (1, 0),
-        (6, 5),
-        (MAX_POSITION, 0),
-        (0, MAX_POSITION + 1),
-        (MAX_POSITION + 1, MAX_POSITION + 1),
-        (0, u64::MAX),
-        (u64::MAX, u64::MAX),
-        (u64::MAX, 0),
-    ] {
-        let mut log = read_log(rt.alloc(), &MIXED)?;
-        same_at(
-            &rt,
-            &(from, to),
-            &log.erase(from, to).err(),
-            &Some(Fault::Range),
-        );
-        same_at(&rt, &(from, to), &log.events(), &all.as_slice());
-    }
-    let mut empty = Log::new(rt.alloc());
-    empty.erase(0, MAX_POSITION)?;
-    same(&rt, &empty.events().len(), &0);
+fn adds_behind_its_time(rt: HostRuntime) -> Result<(), Fail> {
+    let mut log = Log::new(rt.alloc());
+    same(&rt, &log.add(5, 0, 1)?, &0);
+    same(&rt, &log.add(5, 3, 2)?, &1);
+    same(&rt, &log.add(4, 0, 3)?, &0);
+    same(&rt, &log.add(4_294_967_294, 0, 255)?, &3);
+    same(&rt, &log.add(0, 1, 0)?, &0);
+    same(&rt, &log.add(5, 0, 4)?, &4);
+    assert!(rt;
+        has(
+            &log,
+            &[
+                (0, 1, 0),
+                (4, 0, 3),
+                (5, 0, 1),
+                (5, 3, 2),
+                (5, 0, 4),
+                (4_294_967_294, 0, 255),
+            ]
+        )
+    );
     Ok(())
 }
 
-// What the words of a command can't say: lines, levels and times out of their ranges. The range of a time comes before an event that
-// is not there, and of an event's byte after it. Events 1 and 3 are levels.
 #[test]
-fn refused_edits(rt: HostRuntime) -> Result<(), Fail> {
+fn adds_each_kind(rt: HostRuntime) -> Result<(), Fail> {
+    let mut log = Log::new(rt.alloc());
+    same(&rt, &log.add(5, 0, 0xff)?, &0);
+    same(&rt, &log.ferr(5, 3, 0xff)?, &1);
+    same(&rt, &log.wire(5, 2, 1)?, &2);
+    same(&rt, &log.wire(4, 0, 0)?, &0);
+    same(&rt, &log.ferr(MAX_TIME, 0, 0)?, &4);
+    same(&rt, &log.wire(MAX_TIME, 1, 0)?, &5);
+    same(&rt, &log.ferr(0, 1, 2)?, &0);
+    assert!(rt;
+        holds(
+            &log,
+            &[
+                (0, Kind::Framing, 1, 2),
+                (4, Kind::Wire, 0, 0),
+                (5, Kind::Byte, 0, 0xff),
+                (5, Kind::Framing, 3, 0xff),
+                (5, Kind::Wire, 2, 1),
+                (MAX_TIME, Kind::Framing, 0, 0),
+                (MAX_TIME, Kind::Wire, 1, 0),
+            ]
+        )
+    );
+    Ok(())
+}
+
+// An event is set, moved and deleted as a byte is, and keeps its kind.
+#[test]
+fn edits_of_each_kind(rt: HostRuntime) -> Result<(), Fail> {
+    let mut log = Log::new(rt.alloc());
+    log.add(4, 3, 1)?;
+    log.ferr(5, 3, 2)?;
+    log.wire(6, 2, 1)?;
+    log.set(0, 255)?;
+    log.set(1, 255)?;
+    log.set(2, 0)?;
+    assert!(rt;
+        holds(
+            &log,
+            &[
+                (4, Kind::Byte, 3, 255),
+                (5, Kind::Framing, 3, 255),
+                (6, Kind::Wire, 2, 0),
+            ]
+        )
+    );
+    log.set(2, 1)?;
+    same(&rt, &log.move_to(2, 4)?, &1);
+    same(&rt, &log.move_to(2, 3)?, &0);
+    same(&rt, &log.move_to(1, 9)?, &2);
+    assert!(rt;
+        holds(
+            &log,
+            &[
+                (3, Kind::Framing, 3, 255),
+                (4, Kind::Wire, 2, 1),
+                (9, Kind::Byte, 3, 255),
+            ]
+        )
+    );
+    log.del(1)?;
+    log.del(0)?;
+    assert!(rt; has(&log, &[(9, 3, 255)]));
+    Ok(())
+}
+
+#[test]
+fn refused_edits_of_each_kind(rt: HostRuntime) -> Result<(), Fail> {
     let mut log = read_log(rt.alloc(), &MIXED)?;
     for (time, line, byte) in [
         (0, 3, 0),
@@ -72,14 +128,10 @@ fn refused_edits(rt: HostRuntime) -> Result<(), Fail> {
         same_at(&rt, &(time, line, byte), &fault, &Some(Fault::Range));
     }
     for (time, line) in [(0, 4), (MAX_TIME + 1, 0), (u64::MAX, 255)] {
-        let found = (log.ferr(time, line, 0).err(), log.add(time, line, 0).err());
-        same_at(
-            &rt,
-            &(time, line),
-            &found,
-            &(Some(Fault::Range), Some(Fault::Range)),
-        );
+        let fault = log.ferr(time, line, 0).err();
+        same_at(&rt, &(time, line), &fault, &Some(Fault::Range));
     }
+    // Events 1 and 3 are levels.
     for (place, byte, fault) in [
         (1, 2, Fault::Range),
         (3, 255, Fault::Range),
@@ -87,34 +139,144 @@ fn refused_edits(rt: HostRuntime) -> Result<(), Fail> {
         (4, 2, Fault::NoEvent),
         (u64::MAX, 255, Fault::NoEvent),
     ] {
-        same_at(
-            &rt,
-            &(place, byte),
-            &log.set(place, byte).err(),
-            &Some(fault),
-        );
+        let found = log.set(place, byte).err();
+        same_at(&rt, &(place, byte), &found, &Some(fault));
     }
-    for place in [4, 4_294_967_296, u64::MAX] {
+    same(&rt, &log.events(), &MIXED_EVENTS.as_slice());
+    Ok(())
+}
+
+// The events are of the times 4, 5, 5 and 4,294,967,294.
+#[test]
+fn erases(rt: HostRuntime) -> Result<(), Fail> {
+    let [first, second, third, last] = MIXED_EVENTS;
+    for (from, to, left) in [
+        (0, 0, MIXED_EVENTS.as_slice()),
+        (5, 5, &MIXED_EVENTS),
+        (MAX_POSITION, MAX_POSITION, &MIXED_EVENTS),
+        (0, 4, &MIXED_EVENTS),
+        (6, 4_294_967_294, &MIXED_EVENTS),
+        (4, 5, &[second, third, last]),
+        (5, 6, &[first, last]),
+        (0, 6, &[last]),
+        (4, 4_294_967_294, &[last]),
+        (5, 4_294_967_294, &[first, last]),
+        (5, MAX_POSITION, &[first]),
+        (4_294_967_294, MAX_POSITION, &[first, second, third]),
+    ] {
+        let mut log = read_log(rt.alloc(), &MIXED)?;
+        log.erase(from, to)?;
+        same_at(&rt, &(from, to), &log.events(), &left);
+    }
+    Ok(())
+}
+
+#[test]
+fn erases_all(rt: HostRuntime) -> Result<(), Fail> {
+    for (from, to) in [(0, MAX_POSITION), (4, MAX_POSITION), (0, 4_294_967_295)] {
+        let mut log = read_log(rt.alloc(), &MIXED)?;
+        log.erase(from, to)?;
+        same_at(&rt, &(from, to), &log.events().len(), &0);
+    }
+    Ok(())
+}
+
+#[test]
+fn refused_erasing(rt: HostRuntime) -> Result<(), Fail> {
+    let mut log = read_log(rt.alloc(), &MIXED)?;
+    for (from, to) in [
+        (1, 0),
+        (6, 5),
+        (MAX_POSITION, 0),
+        (0, MAX_POSITION + 1),
+        (MAX_POSITION + 1, MAX_POSITION + 1),
+        (0, u64::MAX),
+        (u64::MAX, u64::MAX),
+        (u64::MAX, 0),
+    ] {
+        let fault = log.erase(from, to).err();
+        same_at(&rt, &(from, to), &fault, &Some(Fault::Range));
+    }
+    same(&rt, &log.events(), &MIXED_EVENTS.as_slice());
+    let mut empty = Log::new(rt.alloc());
+    empty.erase(0, MAX_POSITION)?;
+    same(&rt, &empty.events().len(), &0);
+    Ok(())
+}
+
+#[test]
+fn takes_out_and_changes(rt: HostRuntime) -> Result<(), Fail> {
+    let mut log = read_log(rt.alloc(), &THREE)?;
+    log.set(1, 255)?;
+    assert!(rt; has(&log, &[(4, 3, 255), (5, 0, 255), (5, 1, 2)]));
+    log.del(2)?;
+    assert!(rt; has(&log, &[(4, 3, 255), (5, 0, 255)]));
+    log.del(0)?;
+    assert!(rt; has(&log, &[(5, 0, 255)]));
+    log.del(0)?;
+    assert!(rt; has(&log, &[]));
+    Ok(())
+}
+
+// The events of the times 1, 2, 2, 3 are moved, one at a time, each from where the move before left them.
+#[test]
+fn moves(rt: HostRuntime) -> Result<(), Fail> {
+    let mut log = Log::new(rt.alloc());
+    for (time, byte) in [(1, 10), (2, 20), (2, 21), (3, 30)] {
+        log.add(time, 0, byte)?;
+    }
+    // The last of its time stays.
+    same(&rt, &log.move_to(2, 2)?, &2);
+    assert!(rt; has(&log, &[(1, 0, 10), (2, 0, 20), (2, 0, 21), (3, 0, 30)]));
+    // The first of its time comes behind the other.
+    same(&rt, &log.move_to(1, 2)?, &2);
+    assert!(rt; has(&log, &[(1, 0, 10), (2, 0, 21), (2, 0, 20), (3, 0, 30)]));
+    // Forward to the end.
+    same(&rt, &log.move_to(0, 4_294_967_294)?, &3);
+    assert!(rt;
+        has(
+            &log,
+            &[(2, 0, 21), (2, 0, 20), (3, 0, 30), (4_294_967_294, 0, 10)]
+        )
+    );
+    // Backward, behind the events of the new time.
+    same(&rt, &log.move_to(3, 2)?, &2);
+    assert!(rt; has(&log, &[(2, 0, 21), (2, 0, 20), (2, 0, 10), (3, 0, 30)]));
+    // To another time between the same neighbours.
+    same(&rt, &log.move_to(3, 7)?, &3);
+    // To the front.
+    same(&rt, &log.move_to(3, 0)?, &0);
+    assert!(rt; has(&log, &[(0, 0, 30), (2, 0, 21), (2, 0, 20), (2, 0, 10)]));
+    Ok(())
+}
+
+#[test]
+fn refused_edits(rt: HostRuntime) -> Result<(), Fail> {
+    let mut log = read_log(rt.alloc(), &THREE)?;
+    same(&rt, &log.add(0, 4, 0).err(), &Some(Fault::Range));
+    same(&rt, &log.add(MAX_TIME + 1, 0, 0).err(), &Some(Fault::Range));
+    same(&rt, &log.add(u64::MAX, 255, 0).err(), &Some(Fault::Range));
+    for place in [3, 4_294_967_296, u64::MAX] {
         same(&rt, &log.del(place).err(), &Some(Fault::NoEvent));
         same(&rt, &log.set(place, 0).err(), &Some(Fault::NoEvent));
-    }
-    for (place, time, fault) in [
-        (4, MAX_TIME, Fault::NoEvent),
-        (4_294_967_296, MAX_TIME, Fault::NoEvent),
-        (u64::MAX, MAX_TIME, Fault::NoEvent),
-        (4, MAX_TIME + 1, Fault::Range),
-        (4_294_967_296, MAX_TIME + 1, Fault::Range),
-        (u64::MAX, MAX_TIME + 1, Fault::Range),
-        (0, MAX_TIME + 1, Fault::Range),
-    ] {
-        same_at(
+        same(
             &rt,
-            &(place, time),
-            &log.move_to(place, time).err(),
-            &Some(fault),
+            &log.move_to(place, MAX_TIME).err(),
+            &Some(Fault::NoEvent),
+        );
+        // The range comes first.
+        same(
+            &rt,
+            &log.move_to(place, MAX_TIME + 1).err(),
+            &Some(Fault::Range),
         );
     }
-    same(&rt, &log.events(), &mixed_events().as_slice());
+    same(
+        &rt,
+        &log.move_to(0, MAX_TIME + 1).err(),
+        &Some(Fault::Range),
+    );
+    same(&rt, &log.events(), &[FIRST, SECOND, THIRD].as_slice());
     Ok(())
 }
 

@@ -1,26 +1,21 @@
 //! The versions of the log format, and windows of a log.
-ghost use Rattle.std.specs.Prelude.{◌≤◌};
-ghost use Rattle.input_log.specs.Event.{max_byte, max_line};
-
 use crate::same::{same, same_at};
-use input_log::LogKind::{Count, Extra, Kind as NoKind, Line, Magic, Short, Time, Value};
 use input_log::{Cursor, Event, Kind, Log, LogFault, LogKind, MAX_TIME, read_log, write_log};
 use std::test::Fail;
 
-// In step 70 line 0 gets 0x41, in each version; and with a framing error.
-const ONE: &[u8] = b"R3KLOG1\n\x01\0\0\0\x46\0\0\0\0\x41";
-
-const ONE_IN_TWO: &[u8] = b"R3KLOG2\n\x01\0\0\0\x46\0\0\0\0\0\0\0\0\0\x41";
-
-const FRAMING: &[u8] = b"R3KLOG2\n\x01\0\0\0\x46\0\0\0\0\0\0\0\x01\0\x41";
-
-const NONE: &[u8] = b"R3KLOG1\n\0\0\0\0";
+// One event: in step 70 line 0 gets 0x41.
+const ONE: [u8; 18] = *b"R3KLOG1\n\x01\0\0\0\x46\0\0\0\0\x41";
 
 // In step 4 line 3 gets 0xff; in step 5 line 0 gets 1, and then line 1 gets 2.
-const THREE: [u8; 30] = *b"R3KLOG1\n\x03\0\0\0\
+pub const THREE: [u8; 30] = *b"R3KLOG1\n\x03\0\0\0\
 \x04\0\0\0\x03\xff\
 \x05\0\0\0\0\x01\
 \x05\0\0\0\x01\x02";
+
+// The same event in version two, and as a framing error.
+const ONE_IN_TWO: [u8; 23] = *b"R3KLOG2\n\x01\0\0\0\x46\0\0\0\0\0\0\0\0\0\x41";
+
+const FRAMING: [u8; 23] = *b"R3KLOG2\n\x01\0\0\0\x46\0\0\0\0\0\0\0\x01\0\x41";
 
 /// In step 4 line 3 gets 0xff with a framing error; in step 5 external line 2 gets level 1, and then line 3 gets 2; in step
 /// 4,294,967,294 external line 0 gets level 0.
@@ -30,82 +25,156 @@ pub const MIXED: [u8; 56] = *b"R3KLOG2\n\x04\0\0\0\
 \x05\0\0\0\0\0\0\0\0\x03\x02\
 \xfe\xff\xff\xff\0\0\0\0\x02\0\0";
 
-fn event(time: u64, kind: Kind, line: u8, byte: u8) -> Event
-    requires line { line ≤ max_line kind }
-    requires byte { byte ≤ max_byte kind }
-{
-    Event {
-        time,
-        kind,
-        line,
-        byte,
-    }
-}
-
 /// Its events.
-pub fn mixed_events() -> [Event; 4] {
-    [
-        event(4, Kind::Framing, 3, 0xff),
-        event(5, Kind::Wire, 2, 1),
-        event(5, Kind::Byte, 3, 2),
-        event(4_294_967_294, Kind::Wire, 0, 0),
-    ]
-}
+pub const MIXED_EVENTS: [Event; 4] = [
+    Event {
+        time: 4,
+        kind: Kind::Framing,
+        line: 3,
+        byte: 0xff,
+    },
+    Event {
+        time: 5,
+        kind: Kind::Wire,
+        line: 2,
+        byte: 1,
+    },
+    Event {
+        time: 5,
+        kind: Kind::Byte,
+        line: 3,
+        byte: 2,
+    },
+    Event {
+        time: 4_294_967_294,
+        kind: Kind::Wire,
+        line: 0,
+        byte: 0,
+    },
+];
 
-fn three_events() -> [Event; 3] {
-    [
-        event(4, Kind::Byte, 3, 0xff),
-        event(5, Kind::Byte, 0, 1),
-        event(5, Kind::Byte, 1, 2),
-    ]
+pub const FIRST: Event = Event {
+    time: 4,
+    kind: Kind::Byte,
+    line: 3,
+    byte: 0xff,
+};
+
+pub const SECOND: Event = Event {
+    time: 5,
+    kind: Kind::Byte,
+    line: 0,
+    byte: 1,
+};
+
+pub const THIRD: Event = Event {
+    time: 5,
+    kind: Kind::Byte,
+    line: 1,
+    byte: 2,
+};
+
+#[test]
+fn one_event(rt: HostRuntime) -> Result<(), Fail> {
+    let log = read_log(rt.alloc(), &ONE)?;
+    let event = Event {
+        time: 70,
+        kind: Kind::Byte,
+        line: 0,
+        byte: 0x41,
+    };
+    same(&rt, &log.events(), &[event].as_slice());
+    same(
+        &rt,
+        &write_log(rt.alloc(), &log)?.as_slice(),
+        &ONE.as_slice(),
+    );
+    Ok(())
 }
 
 #[test]
-fn events(rt: HostRuntime) -> Result<(), Fail> {
-    let none: &[Event] = &[];
-    for (bytes, events) in [
-        (NONE, none),
-        (ONE, &[event(70, Kind::Byte, 0, 0x41)]),
-        (FRAMING, &[event(70, Kind::Framing, 0, 0x41)]),
-        (&THREE, &three_events()),
-        (&MIXED, &mixed_events()),
+fn written_again(rt: HostRuntime) -> Result<(), Fail> {
+    let log = read_log(rt.alloc(), &THREE)?;
+    same(&rt, &log.events(), &[FIRST, SECOND, THIRD].as_slice());
+    same(
+        &rt,
+        &write_log(rt.alloc(), &log)?.as_slice(),
+        &THREE.as_slice(),
+    );
+    let none = *b"R3KLOG1\n\0\0\0\0";
+    let log = read_log(rt.alloc(), &none)?;
+    same(&rt, &log.events().len(), &0);
+    same(
+        &rt,
+        &write_log(rt.alloc(), &log)?.as_slice(),
+        &none.as_slice(),
+    );
+    let empty = Log::new(rt.alloc());
+    same(
+        &rt,
+        &write_log(rt.alloc(), &empty)?.as_slice(),
+        &none.as_slice(),
+    );
+    Ok(())
+}
+
+// Each kind of event is read, and written as it was.
+#[test]
+fn each_kind(rt: HostRuntime) -> Result<(), Fail> {
+    let log = read_log(rt.alloc(), &MIXED)?;
+    same(&rt, &log.events(), &MIXED_EVENTS.as_slice());
+    same(
+        &rt,
+        &write_log(rt.alloc(), &log)?.as_slice(),
+        &MIXED.as_slice(),
+    );
+    let log = read_log(rt.alloc(), &FRAMING)?;
+    let event = Event {
+        time: 70,
+        kind: Kind::Framing,
+        line: 0,
+        byte: 0x41,
+    };
+    same(&rt, &log.events(), &[event].as_slice());
+    same(
+        &rt,
+        &write_log(rt.alloc(), &log)?.as_slice(),
+        &FRAMING.as_slice(),
+    );
+    Ok(())
+}
+
+// A log of version two that version one has room for is written in version one.
+#[test]
+fn written_in_version_one(rt: HostRuntime) -> Result<(), Fail> {
+    let none = *b"R3KLOG1\n\0\0\0\0";
+    let last = *b"R3KLOG1\n\x01\0\0\0\xfe\xff\xff\xff\x03\0";
+    for (bytes, written) in [
+        (ONE_IN_TWO.as_slice(), ONE.as_slice()),
+        (b"R3KLOG2\n\0\0\0\0", &none),
+        (
+            b"R3KLOG2\n\x01\0\0\0\xfe\xff\xff\xff\0\0\0\0\0\x03\0",
+            &last,
+        ),
     ] {
-        same_at(&rt, &bytes, &read_log(rt.alloc(), bytes)?.events(), &events);
+        let log = read_log(rt.alloc(), bytes)?;
+        same(&rt, &write_log(rt.alloc(), &log)?.as_slice(), &written);
     }
     Ok(())
 }
 
-// A log is written as it was, but one of version two that version one has room for in version one.
+// A byte after the last time of version one is written in version two.
 #[test]
-fn written_again(rt: HostRuntime) -> Result<(), Fail> {
-    for (bytes, written) in [
-        (NONE, NONE),
-        (ONE, ONE),
-        (FRAMING, FRAMING),
-        (&THREE, &THREE),
-        (&MIXED, &MIXED),
-        (ONE_IN_TWO, ONE),
-        (b"R3KLOG2\n\0\0\0\0", NONE),
-        (
-            b"R3KLOG2\n\x01\0\0\0\xfe\xff\xff\xff\0\0\0\0\0\x03\0",
-            b"R3KLOG1\n\x01\0\0\0\xfe\xff\xff\xff\x03\0",
-        ),
-        // A byte after the last time of version one.
-        (
-            b"R3KLOG2\n\x01\0\0\0\xff\xff\xff\xff\0\0\0\0\0\0\x01",
-            b"R3KLOG2\n\x01\0\0\0\xff\xff\xff\xff\0\0\0\0\0\0\x01",
-        ),
-    ] {
-        let log = read_log(rt.alloc(), bytes)?;
-        same_at(
-            &rt,
-            &bytes,
-            &write_log(rt.alloc(), &log)?.as_slice(),
-            &written,
-        );
-    }
-    let empty = write_log(rt.alloc(), &Log::new(rt.alloc()))?;
-    same(&rt, &empty.as_slice(), &NONE);
+fn late_byte(rt: HostRuntime) -> Result<(), Fail> {
+    let mut log = Log::new(rt.alloc());
+    log.add(4_294_967_295, 0, 1)?;
+    let late = *b"R3KLOG2\n\x01\0\0\0\xff\xff\xff\xff\0\0\0\0\0\0\x01";
+    same(
+        &rt,
+        &write_log(rt.alloc(), &log)?.as_slice(),
+        &late.as_slice(),
+    );
+    same(&rt, &read_log(rt.alloc(), &late)?.events(), &log.events());
     Ok(())
 }
 
@@ -114,12 +183,20 @@ fn written_again(rt: HostRuntime) -> Result<(), Fail> {
 fn version_of_an_edited_log(rt: HostRuntime) -> Result<(), Fail> {
     let mut log = Log::new(rt.alloc());
     log.ferr(70, 0, 0x41)?;
-    same(&rt, &write_log(rt.alloc(), &log)?.as_slice(), &FRAMING);
+    same(
+        &rt,
+        &write_log(rt.alloc(), &log)?.as_slice(),
+        &FRAMING.as_slice(),
+    );
     log.add(70, 0, 0x41)?;
     log.del(0)?;
-    same(&rt, &write_log(rt.alloc(), &log)?.as_slice(), &ONE);
+    same(
+        &rt,
+        &write_log(rt.alloc(), &log)?.as_slice(),
+        &ONE.as_slice(),
+    );
     log.wire(71, 1, 1)?;
-    let both = b"R3KLOG2\n\x02\0\0\0\x46\0\0\0\0\0\0\0\0\0\x41\
+    let both = *b"R3KLOG2\n\x02\0\0\0\x46\0\0\0\0\0\0\0\0\0\x41\
 \x47\0\0\0\0\0\0\0\x02\x01\x01";
     same(
         &rt,
@@ -131,141 +208,139 @@ fn version_of_an_edited_log(rt: HostRuntime) -> Result<(), Fail> {
 
 #[test]
 fn too_few_bytes_and_too_many(rt: HostRuntime) -> Result<(), Fail> {
-    for bytes in [ONE, &THREE, FRAMING, &MIXED] {
+    for bytes in [
+        ONE.as_slice(),
+        THREE.as_slice(),
+        FRAMING.as_slice(),
+        MIXED.as_slice(),
+    ] {
         for end in 0..bytes.len() {
             let fault = read_log(rt.alloc(), &bytes[..end]).err();
-            same_at(&rt, &end, &fault, &Some(LogFault::Bad(Short)));
+            same_at(&rt, &end, &fault, &Some(LogFault::Bad(LogKind::Short)));
         }
         let mut longer = bytes.to_vec(rt.alloc())?;
         longer.push(0)?;
         let fault = read_log(rt.alloc(), &longer).err();
-        same(&rt, &fault, &Some(LogFault::Bad(Extra)));
+        same(&rt, &fault, &Some(LogFault::Bad(LogKind::Extra)));
     }
     Ok(())
 }
 
-// Of three events the place of a byte, the byte that stands there, and where they are cut; and the first fault.
-const ONE_BYTE: [(usize, u8, usize, Option<LogKind>); 24] = [
-    (0, b'R', 30, None),
-    (7, b'\r', 30, Some(Magic)),
-    (7, b'\r', 8, Some(Magic)),
-    (7, b'\r', 7, Some(Short)),
-    (10, 0x10, 30, Some(Count)),
-    (10, 0x10, 12, Some(Count)),
-    (10, 0x10, 11, Some(Short)),
-    (8, 0, 30, Some(Extra)),
-    (8, 2, 30, Some(Extra)),
-    (8, 4, 30, Some(Short)),
-    (15, 0xff, 30, Some(Time)),
-    (16, 4, 30, Some(Line)),
-    (16, 4, 17, Some(Line)),
-    (16, 4, 16, Some(Short)),
-    (12, 5, 30, None),
-    (12, 6, 30, Some(Time)),
-    (18, 4, 30, None),
-    (18, 3, 30, Some(Time)),
-    (18, 3, 22, Some(Time)),
-    (18, 3, 21, Some(Short)),
-    (22, 4, 30, Some(Line)),
-    (22, 4, 23, Some(Line)),
-    (24, 4, 30, Some(Time)),
-    (28, 4, 29, Some(Line)),
-];
-
-// The same of four events in version two.
-const ONE_BYTE_IN_TWO: [(usize, u8, usize, Option<LogKind>); 36] = [
-    (6, b'3', 56, Some(Magic)),
-    (6, b'3', 8, Some(Magic)),
-    (6, b'3', 7, Some(Short)),
-    // In version one byte 22 is the line of the second event.
-    (6, b'1', 56, Some(Line)),
-    (10, 0x10, 56, Some(Count)),
-    (10, 0x10, 12, Some(Count)),
-    (10, 0x10, 11, Some(Short)),
-    (8, 3, 56, Some(Extra)),
-    (8, 5, 56, Some(Short)),
-    (12, 5, 56, None),
-    (12, 6, 56, Some(Time)),
-    (12, 6, 31, Some(Time)),
-    (12, 6, 30, Some(Short)),
-    (17, 1, 56, Some(Time)),
-    (19, 1, 20, Some(Time)),
-    (19, 1, 19, Some(Short)),
-    (20, 3, 56, Some(NoKind)),
-    (20, 0xff, 56, Some(NoKind)),
-    (20, 3, 21, Some(NoKind)),
-    (20, 3, 20, Some(Short)),
-    (20, 0, 56, None),
-    // An external line 3.
-    (20, 2, 56, Some(Line)),
-    (20, 2, 22, Some(Line)),
-    (20, 2, 21, Some(Short)),
-    (21, 4, 56, Some(Line)),
-    (32, 3, 56, Some(Line)),
-    (32, 3, 33, Some(Line)),
-    (32, 3, 32, Some(Short)),
-    (32, 1, 56, None),
-    (33, 0, 56, None),
-    (33, 2, 56, Some(Value)),
-    (33, 2, 34, Some(Value)),
-    (33, 2, 33, Some(Short)),
-    (31, 1, 56, None),
-    (43, 4, 56, Some(Line)),
-    (55, 0xff, 56, Some(Value)),
-];
-
+// Three events with one byte replaced, and cut short.
 #[test]
 fn first_fault(rt: HostRuntime) -> Result<(), Fail> {
-    for (log, rows) in [
-        (THREE.as_slice(), ONE_BYTE.as_slice()),
-        (&MIXED, &ONE_BYTE_IN_TWO),
+    for (place, byte, end, kind) in [
+        (0, b'R', 30, None),
+        (7, b'\r', 30, Some(LogKind::Magic)),
+        (7, b'\r', 8, Some(LogKind::Magic)),
+        (7, b'\r', 7, Some(LogKind::Short)),
+        (10, 0x10, 30, Some(LogKind::Count)),
+        (10, 0x10, 12, Some(LogKind::Count)),
+        (10, 0x10, 11, Some(LogKind::Short)),
+        (8, 0, 30, Some(LogKind::Extra)),
+        (8, 2, 30, Some(LogKind::Extra)),
+        (8, 4, 30, Some(LogKind::Short)),
+        (15, 0xff, 30, Some(LogKind::Time)),
+        (16, 4, 30, Some(LogKind::Line)),
+        (16, 4, 17, Some(LogKind::Line)),
+        (16, 4, 16, Some(LogKind::Short)),
+        (12, 5, 30, None),
+        (12, 6, 30, Some(LogKind::Time)),
+        (18, 4, 30, None),
+        (18, 3, 30, Some(LogKind::Time)),
+        (18, 3, 22, Some(LogKind::Time)),
+        (18, 3, 21, Some(LogKind::Short)),
+        (22, 4, 30, Some(LogKind::Line)),
+        (22, 4, 23, Some(LogKind::Line)),
+        (24, 4, 30, Some(LogKind::Time)),
+        (28, 4, 29, Some(LogKind::Line)),
     ] {
-        for (place, byte, end, kind) in rows {
-            let mut bytes = log.to_vec(rt.alloc())?;
-            *bytes.get_mut(*place).ok_or("no byte there")? = *byte;
-            let fault = read_log(rt.alloc(), &bytes[..(*end).min(bytes.len())]).err();
-            same_at(&rt, &(place, byte, end), &fault, &kind.map(LogFault::Bad));
-        }
+        let mut bytes = THREE;
+        *bytes.get_mut(place).ok_or("no byte there")? = byte;
+        let fault = read_log(rt.alloc(), &bytes[..end.min(bytes.len())]).err();
+        same_at(&rt, &(byte, place, end), &fault, &kind.map(LogFault::Bad));
     }
     Ok(())
 }
 
-// Of one event with several faults the time is judged first, then the kind, the line and the value, and a log of 1,048,577 events
-// before any of them.
+// The same in version two: four events with one byte replaced, and cut short.
+#[test]
+fn first_fault_in_version_two(rt: HostRuntime) -> Result<(), Fail> {
+    for (place, byte, end, kind) in [
+        (6, b'3', 56, Some(LogKind::Magic)),
+        (6, b'3', 8, Some(LogKind::Magic)),
+        (6, b'3', 7, Some(LogKind::Short)),
+        // In version one byte 22 is the line of the second event.
+        (6, b'1', 56, Some(LogKind::Line)),
+        (10, 0x10, 56, Some(LogKind::Count)),
+        (10, 0x10, 12, Some(LogKind::Count)),
+        (10, 0x10, 11, Some(LogKind::Short)),
+        (8, 3, 56, Some(LogKind::Extra)),
+        (8, 5, 56, Some(LogKind::Short)),
+        (12, 5, 56, None),
+        (12, 6, 56, Some(LogKind::Time)),
+        (12, 6, 31, Some(LogKind::Time)),
+        (12, 6, 30, Some(LogKind::Short)),
+        (17, 1, 56, Some(LogKind::Time)),
+        (19, 1, 20, Some(LogKind::Time)),
+        (19, 1, 19, Some(LogKind::Short)),
+        (20, 3, 56, Some(LogKind::Kind)),
+        (20, 0xff, 56, Some(LogKind::Kind)),
+        (20, 3, 21, Some(LogKind::Kind)),
+        (20, 3, 20, Some(LogKind::Short)),
+        (20, 0, 56, None),
+        // An external line 3.
+        (20, 2, 56, Some(LogKind::Line)),
+        (20, 2, 22, Some(LogKind::Line)),
+        (20, 2, 21, Some(LogKind::Short)),
+        (21, 4, 56, Some(LogKind::Line)),
+        (32, 3, 56, Some(LogKind::Line)),
+        (32, 3, 33, Some(LogKind::Line)),
+        (32, 3, 32, Some(LogKind::Short)),
+        (32, 1, 56, None),
+        (33, 0, 56, None),
+        (33, 2, 56, Some(LogKind::Value)),
+        (33, 2, 34, Some(LogKind::Value)),
+        (33, 2, 33, Some(LogKind::Short)),
+        (31, 1, 56, None),
+        (43, 4, 56, Some(LogKind::Line)),
+        (55, 0xff, 56, Some(LogKind::Value)),
+    ] {
+        let mut bytes = MIXED;
+        *bytes.get_mut(place).ok_or("no byte there")? = byte;
+        let fault = read_log(rt.alloc(), &bytes[..end.min(bytes.len())]).err();
+        same_at(&rt, &(byte, place, end), &fault, &kind.map(LogFault::Bad));
+    }
+    Ok(())
+}
+
+// Of one event with several faults the time is judged first, then the kind, the line and the value.
 #[test]
 fn order_of_faults(rt: HostRuntime) {
     for (bytes, kind) in [
         (
             b"R3KLOG2\n\x01\0\0\0\xff\xff\xff\xff\xff\xff\xff\xff\x03\x04\x02\0".as_slice(),
-            Some(Time),
+            LogKind::Time,
         ),
         (
             b"R3KLOG2\n\x01\0\0\0\xfe\xff\xff\xff\0\0\0\0\x03\x04\x02\0",
-            Some(NoKind),
+            LogKind::Kind,
         ),
         (
             b"R3KLOG2\n\x01\0\0\0\xfe\xff\xff\xff\0\0\0\0\x02\x03\x02\0",
-            Some(Line),
+            LogKind::Line,
         ),
         (
             b"R3KLOG2\n\x01\0\0\0\xfe\xff\xff\xff\0\0\0\0\x02\x02\x02\0",
-            Some(Value),
+            LogKind::Value,
         ),
         (
             b"R3KLOG2\n\x01\0\0\0\xfe\xff\xff\xff\0\0\0\0\x02\x02\x01\0",
-            Some(Extra),
+            LogKind::Extra,
         ),
-        (b"R3KLOG1\n\x01\0\x10\0", Some(Count)),
-        (b"R3KLOG1\n\0\0\x10\0", Some(Short)),
-        (b"R3KLOG2\n\x01\0\x10\0", Some(Count)),
-        (b"R3KLOG2\n\0\0\x10\0", Some(Short)),
-        (b"R3KLOG1\n\x01\0\0\0\xff\xff\xff\xff\x04\0", Some(Time)),
-        (b"R3KLOG1\n\x01\0\0\0\xff\xff\xff\xff", Some(Time)),
-        (b"R3KLOG1\n\x01\0\0\0\xfe\xff\xff\xff\x04\0", Some(Line)),
-        (b"R3KLOG1\n\x01\0\0\0\xfe\xff\xff\xff\x03\0", None),
     ] {
         let fault = read_log(rt.alloc(), bytes).err();
-        same_at(&rt, &bytes, &fault, &kind.map(LogFault::Bad));
+        same_at(&rt, &bytes, &fault, &Some(LogFault::Bad(kind)));
     }
 }
 
@@ -277,9 +352,9 @@ fn last_time(rt: HostRuntime) -> Result<(), Fail> {
         (4_294_967_294, None),
         (4_294_967_295, None),
         (MAX_TIME, None),
-        (MAX_TIME + 1, Some(Time)),
-        (1 << 40, Some(Time)),
-        (u64::MAX, Some(Time)),
+        (MAX_TIME + 1, Some(LogKind::Time)),
+        (1 << 40, Some(LogKind::Time)),
+        (u64::MAX, Some(LogKind::Time)),
     ] {
         let mut bytes = b"R3KLOG2\n\x01\0\0\0".to_vec(rt.alloc())?;
         bytes.extend_from_slice(&u64::to_le_bytes(time))?;
@@ -290,35 +365,56 @@ fn last_time(rt: HostRuntime) -> Result<(), Fail> {
     Ok(())
 }
 
-// What is before the time that was asked for is left behind.
+#[test]
+fn limits(rt: HostRuntime) {
+    for (bytes, kind) in [
+        // 1,048,577 events, and one less.
+        (b"R3KLOG1\n\x01\0\x10\0".as_slice(), Some(LogKind::Count)),
+        (b"R3KLOG1\n\0\0\x10\0", Some(LogKind::Short)),
+        (b"R3KLOG2\n\x01\0\x10\0", Some(LogKind::Count)),
+        (b"R3KLOG2\n\0\0\x10\0", Some(LogKind::Short)),
+        // The time is judged before the line.
+        (
+            b"R3KLOG1\n\x01\0\0\0\xff\xff\xff\xff\x04\0",
+            Some(LogKind::Time),
+        ),
+        (b"R3KLOG1\n\x01\0\0\0\xff\xff\xff\xff", Some(LogKind::Time)),
+        (
+            b"R3KLOG1\n\x01\0\0\0\xfe\xff\xff\xff\x04\0",
+            Some(LogKind::Line),
+        ),
+        (b"R3KLOG1\n\x01\0\0\0\xfe\xff\xff\xff\x03\0", None),
+    ] {
+        let fault = read_log(rt.alloc(), bytes).err();
+        same_at(&rt, &bytes, &fault, &kind.map(LogFault::Bad));
+    }
+}
+
 #[test]
 fn windows(rt: HostRuntime) -> Result<(), Fail> {
     let log = read_log(rt.alloc(), &THREE)?;
-    let [first, second, third] = three_events();
-    for (from, to, events) in [
-        (4, 5, [first].as_slice()),
-        (5, 6, &[second, third]),
-        (5, 5, &[]),
-        (6, 4, &[]),
-        (0, u64::MAX, &[first, second, third]),
-    ] {
-        same_at(&rt, &(from, to), &log.window(from, to), &events);
-    }
+    same(&rt, &log.window(4, 5), &[FIRST].as_slice());
+    same(&rt, &log.window(5, 6), &[SECOND, THIRD].as_slice());
+    same(&rt, &log.window(5, 5).len(), &0);
+    same(&rt, &log.window(6, 4).len(), &0);
+    same(&rt, &log.window(0, u64::MAX), &log.events());
+    Ok(())
+}
+
+#[test]
+fn way_along_a_window(rt: HostRuntime) -> Result<(), Fail> {
+    let log = read_log(rt.alloc(), &THREE)?;
     let mut cursor = Cursor::new(log.window(2, 9));
-    let none: &[Event] = &[];
-    for (time, events) in [
-        (2, none),
-        (3, &[]),
-        (4, &[first]),
-        (5, &[second, third]),
-        (5, &[]),
-        (6, &[]),
-        (u64::MAX, &[]),
-    ] {
-        same_at(&rt, &time, &cursor.next(time), &events);
-    }
+    same(&rt, &cursor.next(2).len(), &0);
+    same(&rt, &cursor.next(3).len(), &0);
+    same(&rt, &cursor.next(4), &[FIRST].as_slice());
+    same(&rt, &cursor.next(5), &[SECOND, THIRD].as_slice());
+    same(&rt, &cursor.next(5).len(), &0);
+    same(&rt, &cursor.next(6).len(), &0);
+    same(&rt, &cursor.next(u64::MAX).len(), &0);
+    // What is before the time is left behind.
     let mut cursor = Cursor::new(log.events());
-    same(&rt, &cursor.next(5), &[second, third].as_slice());
+    same(&rt, &cursor.next(5), &[SECOND, THIRD].as_slice());
     same(&rt, &cursor.next(4).len(), &0);
     Ok(())
 }

@@ -6,16 +6,15 @@ use Rattle.std.specs.Option.{is_some}
 use Rattle.std.proofs.lemmas.Bool.{cases_eq, cases_lt, false≢true}
 use Rattle.input_log.specs.Event.{LogEvent}
 use Rattle.r3k_image.specs.Boot.{Boot}
-use Rattle.r3k_machine.specs.declared.step.Done.{Done}
 use Rattle.r3k_machine.specs.Reset.{reset}
-use Rattle.r3k_machine.specs.Run.{run, state_at, trace}
+use Rattle.r3k_machine.specs.Run.{run, state_at}
 use Rattle.r3k_machine.specs.State.{State}
-use Rattle.r3k_machine.proofs.Splits.{run_own, trace_own}
+use Rattle.r3k_machine.proofs.Splits.{run_own}
 use Rattle.span_fact.specs.Span.{Span, end_of}
 use Rattle.present_run.specs.Ends.{AreEnds, GoesOn, IsJoined, IsJoinedFrom, IsPut}
 use Rattle.present_run.specs.Reuse.{span_from, span_of}
-use Rattle.present_run.specs.Runs.{AreSameOutside, steps_between}
-use Rattle.present_run.proofs.Spans.{ends, if_some, next_start, some_is}
+use Rattle.present_run.specs.Runs.{AreSameOutside}
+use Rattle.present_run.proofs.Spans.{ends, next_start, some_is}
 
 -- ---- a list of ends
 
@@ -201,15 +200,6 @@ span_before pages span image log changed from to index same before =
     (same_before pages image log changed from to (index * span) same (omega (arith, before, next_start index span)))
     (same (index * span) ((index + 1) * span) (inl before))
 
-pub steps_before : (pages : ℕ) (image : Boot) (log changed : List LogEvent) (from to time position : ℕ) → AreSameOutside from to log changed → time ≤ position → position ≤ from
-    → steps_between pages image changed time position ≡ steps_between pages image log time position
-steps_before pages image log changed from to time position same first before =
-    let n : ℕ = position - time in
-    ap (λ (s : State). trace pages changed time s n) (same_before pages image log changed from to time same (omega (arith, first, before)))
-    ∙ (sym (trace_own pages changed time (state_at pages image log time) n)
-    ∙ (ap (λ (l : List LogEvent). trace pages l time (state_at pages image log time) n) (same time (time + n) (inl (omega (arith, first, before))))
-    ∙ trace_own pages log time (state_at pages image log time) n))
-
 pub goes_on_after : (pages span : ℕ) (log changed : List LogEvent) (spans : List (Option Span)) (all : List State) (from to index : ℕ) → AreSameOutside from to log changed
     → to < (index + 1) * span → GoesOn pages span log spans all index → GoesOn pages span changed spans all index
 goes_on_after pages span log changed spans all from to index same after goes start end start_is end_is =
@@ -282,12 +272,6 @@ goes_on_over pages span image log changed spans all from to valid again now inde
 goes_on_over pages span image log changed spans all from to valid again now index some same are joined goes (inr later) after past =
     goes_on_after pages span log changed spans all from to index same (ends_after to span index some (omega (arith, after, past)))
     (goes index (omega (arith, later.0, past)) (omega (arith, later.1, past)))
-
--- what is so of the position of a run, if there is one up to a time
-pub up_to_time : (time : ℕ) (P Q : ℕ → Type 0) (position result : Option ℕ) → ((p : ℕ) → p ≤ time → P p → Q p)
-    → IfSome result (λ p. (position ≡ Some p) × (p ≤ time)) → IfSome position P → IfSome result Q
-up_to_time time P Q position None over is was = tt
-up_to_time time P Q position (Some p) over is was = over p is.1 (if_some P position p is.0 was)
 
 pub there_is : (pages span index : ℕ) (o : Option Span) (s : Span) → IsJoined pages span index o s → IsSome o
 there_is pages span index None s joined = absurd joined.near

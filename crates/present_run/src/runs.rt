@@ -362,8 +362,8 @@ impl<const PAGES: u32, const SPAN: u32> Runs<PAGES, SPAN> {
         Ok(())
     }
 
-    /// The events of the times from one to another have changed. The spans before them stay joined. Where a span after them ends where
-    /// it ended before, those that go on from there are joined again.
+    /// The events of the times from one to another have changed. The machine stands nowhere in the run. The spans before these times stay
+    /// joined. Where a span after them ends where it ended before, those that go on from there are joined again.
     pub fn forget(&mut self, from: u64, last: u64)
         requires { 0 < SPAN }
         ensures of { (image : Boot) (log changed : List LogEvent) → AreOf {pages = PAGES} {span = SPAN} image log self.old →
@@ -375,8 +375,8 @@ impl<const PAGES: u32, const SPAN: u32> Runs<PAGES, SPAN> {
         let last = last / SPAN as u64;
         let joined = self.kept.valid();
         self.again = again_from(self.again, last, joined, self.ends.len() as u64);
-        self.at = up_to(from, self.at);
-        self.recorded = up_to(from, self.recorded);
+        self.at = None;
+        self.recorded = None;
         if joined <= index {
             return;
         }
@@ -427,16 +427,6 @@ impl<const PAGES: u32, const SPAN: u32> Runs<PAGES, SPAN> {
         self.reset = start;
         self.patched.add(&[page]);
         self.forget_all();
-    }
-}
-
-// Where a run stands, if that is not after a time.
-fn up_to(time: u64, position: Option<u64>) -> Option<u64>
-    ensures { IfSome result (λ p. (position ≡ Some p) × (p ≤ time)) }
-{
-    match position {
-        Some(position) if position <= time => Some(position),
-        _ => None,
     }
 }
 

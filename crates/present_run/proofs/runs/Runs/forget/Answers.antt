@@ -2,19 +2,17 @@ use Rattle.std.proofs.Common.{◌≡◌, ℕ, ◌+◌, ◌-◌, ◌*◌, ◌/◌
 use Rattle.std.proofs.lemmas.Bool.{cases_eq, false≢true}
 use Rattle.input_log.specs.Event.{LogEvent}
 use Rattle.r3k_image.specs.Boot.{Boot}
-use Rattle.r3k_machine.specs.declared.step.Done.{Done}
 use Rattle.r3k_machine.specs.State.{State}
 use Rattle.r3k_machine.specs.Reset.{reset}
 use Rattle.r3k_machine.specs.Run.{state_at}
 use Rattle.r3k_pages.specs.Pages.{SameOutside}
-use Rattle.r3k_live.specs.Recording.{Records}
 use Rattle.span_fact.specs.Span.{Span}
 use Rattle.checkpoints.specs.Kept.{Kept, span_at}
 use Rattle.span_index.specs.Index.{Agrees, IsSettled}
 use Rattle.present_run.specs.Ends.{AreEnds, GoesOn, IsJoined}
 use Rattle.present_run.specs.Reuse.{span_of}
-use Rattle.present_run.specs.Runs.{AreSameOutside, steps_between}
-use Rattle.present_run.proofs.Again.{ends_before, goes_on_over, joined_before, same_before, span_before, starts_before, steps_before, up_to_time}
+use Rattle.present_run.specs.Runs.{AreSameOutside}
+use Rattle.present_run.proofs.Again.{ends_before, goes_on_over, joined_before, same_before, span_before, starts_before}
 use Rattle.present_run.proofs.Next.{map_some, value_count}
 use Rattle.present_run.proofs.Spans.{at_reset}
 use Rattle.present_run.proofs.runs.Runs.forget.Goals as goal
@@ -34,12 +32,8 @@ returns-then-joined-index-clause-of g c =
     let whole : c.len.result ≡ length all = c.len.ensures ∙ c.args.self.now.ends.ok.0 ∙ sym (value_count (λ end. end.value) c.args.self.now.ends.items) in record {
       sizes = of.sizes;
       start = of.start;
-      stands = up_to_time from _ _ c.args.self.now.at c.up_to-self.result (λ p before is. is ∙ sym (same_before pages image log changed from to p same before)) c.up_to-self.ensures of.stands;
-      recorded =
-          up_to_time from _ _ c.args.self.now.recorded c.up_to-self-2.result
-          (λ p before is. subst (λ (steps : List Done). Records pages steps c.args.self.now.recorder)
-          (sym (steps_before pages image log changed from to (p / span * span) p same (starts_before p span (p / span) (omega arith)) before)) is)
-          c.up_to-self-2.ensures of.recorded;
+      stands = tt;
+      recorded = tt;
       joined = λ i below. joined_before pages span image log changed from to valid i (span_at kept i) same few below (of.joined i below);
       ends = ends_before pages span image log changed from to valid valid all same few (omega arith) of.ends;
       again = λ index first past.
@@ -91,12 +85,8 @@ returns-clause-of g c =
     ] in record {
       sizes = of.sizes;
       start = of.start;
-      stands = up_to_time from _ _ c.args.self.now.at c.up_to-self.result (λ p before is. is ∙ sym (same_before pages image log changed from to p same before)) c.up_to-self.ensures of.stands;
-      recorded =
-          up_to_time from _ _ c.args.self.now.recorded c.up_to-self-2.result
-          (λ p before is. subst (λ (steps : List Done). Records pages steps c.args.self.now.recorder)
-          (sym (steps_before pages image log changed from to (p / span * span) p same (starts_before p span (p / span) (omega arith)) before)) is)
-          c.up_to-self-2.ensures of.recorded;
+      stands = tt;
+      recorded = tt;
       joined = λ i below.
           subst (λ (o : Option Span). IsJoined pages span i o (span_of pages span image changed i)) (sym (at i))
           (joined_before pages span image log changed from to index i (span_at kept i) same (omega arith) (omega (arith, below, is)) (of.joined i (omega (arith, below, is, less))));
