@@ -8,7 +8,6 @@ use Rattle.r3k_machine.specs.declared.step.Done.{Done}
 use Rattle.r3k_machine.specs.Run.{state_at, trace}
 use Rattle.r3k_pages.specs.Pages.{SameOutside}
 use Rattle.r3k_machine.specs.State.{State}
-use Rattle.span_fact.specs.Span.{Span}
 use Rattle.checkpoints.specs.Kept.{span_at}
 use Rattle.r3k_live.specs.Recording.{Records}
 use Rattle.span_index.specs.Index.{Agrees, IsSettled}

@@ -1,4 +1,4 @@
-use Rattle.std.proofs.Common.{◌≡◌, ℕ, ◌-◌, ◌≤◌}
+use Rattle.std.proofs.Common.{◌≡◌, ◌-◌, ◌≤◌}
 use Rattle.checkpoints.specs.Kept.{Kept}
 use Rattle.present_run.proofs.joining.join_up_to.Given as goal
 

@@ -1,5 +1,4 @@
-use Rattle.std.proofs.Common.{◌≡◌, ℕ, ◌+◌, ◌<◌, Some, length, map, slice_get, sym, ap, ◌∙◌, arith}
-use Rattle.std.proofs.lemmas.Bool.{true≢false}
+use Rattle.std.proofs.Common.{◌+◌, ◌<◌, Some, length, sym, ap, ◌∙◌, arith}
 use Rattle.r3k_machine.specs.State.{State}
 use Rattle.present_run.proofs.Again.{got}
 use Rattle.present_run.proofs.joining.meets.Goals as goal

@@ -1,4 +1,4 @@
-use Rattle.std.proofs.Common.{◌≡◌, ◌++◌, ◌∷◌, [], ℕ, List, map, slice_set, length, sym, ap, subst, ◌∙◌, arith}
+use Rattle.std.proofs.Common.{ℕ, List, map, length, sym, ap, subst, ◌∙◌, arith}
 use Rattle.r3k_machine.specs.State.{State}
 use Rattle.present_run.specs.Ends.{IsPut}
 use Rattle.present_run.proofs.Again.{map_last, map_put, put_in_place, put_last}

@@ -1,4 +1,4 @@
-use Rattle.std.proofs.Common.{◌≡◌, ℕ, ◌-◌, Some, length, map, slice_get, ap, sym, ◌∙◌, subst, arith}
+use Rattle.std.proofs.Common.{◌-◌, map, arith}
 use Rattle.present_run.proofs.Again.{within}
 use Rattle.present_run.proofs.Next.{end_at, value_count}
 use Rattle.present_run.proofs.joining.start_in.Goals as goal

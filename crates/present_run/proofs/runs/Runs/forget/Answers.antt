@@ -1,7 +1,5 @@
 use Rattle.std.proofs.Common.{◌≡◌, ℕ, ◌+◌, ◌-◌, ◌*◌, ◌/◌, ◌<◌, ◌≤◌, inl, inr, map, length, slice_get, slice_index_or, IfSome, List, None, Option, Some, min, sym, ap, subst, ◌∙◌, arith}
 use Rattle.std.proofs.lemmas.Bool.{cases_eq, false≢true}
-use Rattle.input_log.specs.Event.{LogEvent}
-use Rattle.r3k_image.specs.Boot.{Boot}
 use Rattle.r3k_machine.specs.State.{State}
 use Rattle.r3k_machine.specs.Reset.{reset}
 use Rattle.r3k_machine.specs.Run.{state_at}
@@ -11,7 +9,6 @@ use Rattle.checkpoints.specs.Kept.{Kept, span_at}
 use Rattle.span_index.specs.Index.{Agrees, IsSettled}
 use Rattle.present_run.specs.Ends.{AreEnds, GoesOn, IsJoined}
 use Rattle.present_run.specs.Reuse.{span_of}
-use Rattle.present_run.specs.Runs.{AreSameOutside}
 use Rattle.present_run.proofs.Again.{ends_before, goes_on_over, joined_before, same_before, span_before, starts_before}
 use Rattle.present_run.proofs.Next.{map_some, value_count}
 use Rattle.present_run.proofs.Spans.{at_reset}

@@ -1,5 +1,5 @@
-use Rattle.std.proofs.Common.{◌≡◌, ℕ, ◌+◌, ◌-◌, ◌*◌, ◌<◌, ◌≤◌, inl, inr, map, length, slice_get, slice_index_or, IfSome, List, None, Option, Some, sym, ap, subst, ◌∙◌, arith}
-use Rattle.std.proofs.lemmas.Bool.{cases_lt, false≢true}
+use Rattle.std.proofs.Common.{◌≡◌, ℕ, ◌+◌, ◌-◌, ◌*◌, ◌<◌, map, length, slice_get, slice_index_or, IfSome, List, None, Option, Some, sym, ap, subst, ◌∙◌, arith}
+use Rattle.std.proofs.lemmas.Bool.{false≢true}
 use Rattle.r3k_machine.specs.State.{State}
 use Rattle.r3k_machine.specs.Reset.{reset}
 use Rattle.r3k_machine.specs.Run.{state_at}
@@ -7,7 +7,7 @@ use Rattle.r3k_pages.specs.Pages.{SameOutside}
 use Rattle.span_fact.specs.Span.{Span}
 use Rattle.checkpoints.specs.Kept.{Kept, span_at}
 use Rattle.span_index.specs.Index.{Agrees}
-use Rattle.present_run.specs.Ends.{AreEnds, GoesOn, IsJoined}
+use Rattle.present_run.specs.Ends.{AreEnds, IsJoined}
 use Rattle.present_run.specs.Reuse.{span_of}
 use Rattle.present_run.proofs.Again.{all_ends, all_joined, there_is, within}
 use Rattle.present_run.proofs.Next.{settled_none, value_count}

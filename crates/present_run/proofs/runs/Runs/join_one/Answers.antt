@@ -1,4 +1,4 @@
-use Rattle.std.proofs.Common.{◌≡◌, ℕ, ◌+◌, ◌-◌, ◌*◌, ◌<◌, [], ◌∷◌, ◌++◌, IfSome, List, Option, None, Some, map, slice_get, slice_index_or, sym, ap, subst, ◌∙◌, arith}
+use Rattle.std.proofs.Common.{◌≡◌, ℕ, ◌+◌, ◌-◌, ◌*◌, ◌<◌, IfSome, List, Option, None, Some, map, slice_get, slice_index_or, sym, ap, subst, ◌∙◌, arith}
 use Rattle.r3k_machine.specs.State.{State}
 use Rattle.r3k_machine.specs.Run.{state_at}
 use Rattle.r3k_machine.specs.Reset.{reset}
