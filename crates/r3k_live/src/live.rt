@@ -54,6 +54,12 @@ pub fn counted(before: u64, steps: u32) -> u64
     before.saturating_add(steps as u64)
 }
 
+// A stretch of fewer steps costs more than these steps one by one.
+const SHORT: u32 = 8;
+
+// After such a stretch this many steps are made one by one.
+const ALONE: u32 = 128;
+
 // No address of an instruction.
 const NOWHERE: u64 = u64::MAX;
 
@@ -237,20 +243,39 @@ fn step_until<const PAGES: u32, const SPAN: u32>(
     ensures bound { unwrap_or result steps ≤ steps }
 {
     let mut made = 0;
+    // How many steps are made one by one, as the last stretch was too short to pay.
+    let mut alone = 0;
     while made < steps {
         let time = from + made as u64;
-        made += advance(
+        let more = advance(
             core,
             memory,
+            alone == 0,
             time,
             &mut events,
             steps - made,
             stop,
             recorder,
         );
+        alone = alone_after(alone, more);
+        made += more;
         if core.pc() as u64 == stop {
             return Some(made);
         }
     }
     None
+}
+
+// How many steps are to be made one by one after so many were made at once: one less, or some where a stretch was short.
+#[inline(always)]
+fn alone_after(alone: u32, made: u32) -> u32
+    ensures { result < 2 ^ 32 }
+{
+    if alone > 0 {
+        return alone - 1;
+    }
+    if made < SHORT {
+        return ALONE;
+    }
+    0
 }

@@ -55,9 +55,11 @@ fn quick_steps<const PAGES: u32, const SPAN: u32>(
 }
 
 // Makes quick steps as long as they stay in the page where they begin, at most so many, and ends after one that comes to an address.
+// It makes none where none are wanted.
 fn stretch<const PAGES: u32, const SPAN: u32>(
     core: &mut Core,
     memory: &mut FlatMemory<PAGES>,
+    wanted: bool,
     most: u32,
     stop: u64,
     recorder: &mut Recorder<PAGES, SPAN>,
@@ -72,6 +74,9 @@ fn stretch<const PAGES: u32, const SPAN: u32>(
         HasGone PAGES log from start made (state_of core.old memory.old) recorder.old →
         PassesBy PAGES log from start stop made (made + result) }
 {
+    if !wanted {
+        return 0;
+    }
     let Some(quiet) = core.quiet() else {
         return 0;
     };
@@ -83,10 +88,13 @@ fn stretch<const PAGES: u32, const SPAN: u32>(
     made
 }
 
-/// Makes steps, at most so many: quick ones, and then one more, be it quick or not. It ends after a step that comes to an address.
+/// Makes steps, at most so many: quick ones, where these are wanted, and then one more, be it quick or not. It ends after a step that
+/// comes to an address.
+#[inline(always)]
 pub(crate) fn advance<const PAGES: u32, const SPAN: u32>(
     core: &mut Core,
     memory: &mut FlatMemory<PAGES>,
+    wanted: bool,
     time: u64,
     events: &mut Cursor,
     most: u32,
@@ -109,7 +117,7 @@ pub(crate) fn advance<const PAGES: u32, const SPAN: u32>(
     ensures left { (later : ℕ) → time + result ≤ later → arriving events.new later ≡ arriving events.old later }
 {
     let free = u64::from(most).min(events.free(time)) as u32;
-    let made = stretch(core, memory, free, stop, recorder);
+    let made = stretch(core, memory, wanted, free, stop, recorder);
     if made == most || (made > 0 && core.pc() as u64 == stop) {
         return made;
     }

@@ -3,7 +3,7 @@
 ghost use Rattle.std.specs.Prelude.{◌≡◌, ◌+◌, ◌/◌, ◌^◌, ◌<◌, ◌≤◌, ℕ, IfOk, IfSome, IsFalse, if◌then◌else◌, length, map, not, slice_index_or, slice_set, []};
 ghost use Rattle.r3k_word.specs.Layout.{word_count_of};
 ghost use Rattle.r3k_word.specs.declared.layout.TheConstants.{MAX_RAM_PAGES, PAGE_WORDS};
-ghost use Rattle.r3k_pages.specs.Groups.{IsGroupOf, IsPageOf, group_count_of};
+ghost use Rattle.r3k_pages.specs.Groups.{IsGroupOf, IsPageOf, group_count_of, lists};
 ghost use Rattle.r3k_pages.specs.Pages.{SameOutside, holds, page_count_of};
 
 use crate::page::{Page, shared};
@@ -102,12 +102,24 @@ pub(crate) fn touches<const PAGES: u32>(set: &PageMarks<PAGES>, group: usize) ->
     requires { group < 2 ^ 26 }
     ensures { IsFalse result → (page : ℕ) → page / GROUP_PAGES ≡ group → IsFalse (holds set.now page) }
 {
+    if set.pages().len() < GROUP_PAGES {
+        return lists(set.pages(), group);
+    }
     for index in 0..GROUP_PAGES {
         if set.holds((group * GROUP_PAGES + index) as u32) {
             return true;
         }
     }
     false
+}
+
+// Whether a page of a group is in a list of pages.
+fn lists(pages: &[u32], group: usize) -> bool
+    ensures { result ≡ lists pages.now group }
+{
+    pages
+        .iter()
+        .any(|page| *page as usize / GROUP_PAGES == group)
 }
 
 // A page of memory: the earlier one where it stayed, or else a copy.

@@ -19,8 +19,8 @@ loop-made-init g c = record {
   bound = omega arith;
 }
 
-pub advance-made-requires : goal.advance-made-requires
-advance-made-requires g c =
+pub advance-more-requires : goal.advance-more-requires
+advance-more-requires g c =
     let start = state_of c.args.core.now c.args.memory.now in
     let count = c.loop-made.invariant.gone.recorded.count ∙ trace_count g.row.PAGES c.args.events c.args.from start c.loop-made.made in
     (omega arith, (omega (arith, c.loop-made-test.true), (omega (arith, count, c.requires.steps, c.loop-made-test.true), omega (arith, c.requires.time, c.loop-made-test.true))))
@@ -30,12 +30,12 @@ returns-then-pc-stop-clause-found g c =
     let log = c.args.events in
     let start = state_of c.args.core.now c.args.memory.now in
     let made = c.loop-made.made in
-    let more = c.advance-made.result in
-    let gone = c.advance-made.ensures.gone log c.args.from start made refl c.loop-made.invariant.left c.loop-made.invariant.gone in
+    let more = c.advance-more.result in
+    let gone = c.advance-more.ensures.gone log c.args.from start made refl c.loop-made.invariant.left c.loop-made.invariant.gone in
     sym (c.loop-made.invariant.found
-    ∙ visits_here g.row.PAGES log c.args.from start c.args.stop made more c.args.steps c.advance-made.ensures.some
-    (omega (arith, c.advance-made.ensures.bound, c.loop-made-test.true))
-    (c.advance-made.ensures.before log c.args.from start made refl c.loop-made.invariant.left c.loop-made.invariant.gone)
+    ∙ visits_here g.row.PAGES log c.args.from start c.args.stop made more c.args.steps c.advance-more.ensures.some
+    (omega (arith, c.advance-more.ensures.bound, c.loop-made-test.true))
+    (c.advance-more.ensures.before log c.args.from start made refl c.loop-made.invariant.left c.loop-made.invariant.gone)
     (sym (ap (λ (s : State). s.core.pc) gone.state) ∙ (sym c.pc.ensures ∙ c.if-pc-stop.true)))
 
 pub returns-then-pc-stop-clause-never : goal.returns-then-pc-stop-clause-never
@@ -43,37 +43,37 @@ returns-then-pc-stop-clause-never g c = λ high. absurd (let e : ⊥ = omega (ar
 
 pub returns-then-pc-stop-clause-state : goal.returns-then-pc-stop-clause-state
 returns-then-pc-stop-clause-state g c =
-    (c.advance-made.ensures.gone c.args.events c.args.from (state_of c.args.core.now c.args.memory.now) c.loop-made.made refl c.loop-made.invariant.left c.loop-made.invariant.gone).state
+    (c.advance-more.ensures.gone c.args.events c.args.from (state_of c.args.core.now c.args.memory.now) c.loop-made.made refl c.loop-made.invariant.left c.loop-made.invariant.gone).state
 
 pub returns-then-pc-stop-clause-recorded : goal.returns-then-pc-stop-clause-recorded
 returns-then-pc-stop-clause-recorded g c =
-    (c.advance-made.ensures.gone c.args.events c.args.from (state_of c.args.core.now c.args.memory.now) c.loop-made.made refl c.loop-made.invariant.left c.loop-made.invariant.gone).recorded
+    (c.advance-more.ensures.gone c.args.events c.args.from (state_of c.args.core.now c.args.memory.now) c.loop-made.made refl c.loop-made.invariant.left c.loop-made.invariant.gone).recorded
 
 pub returns-then-pc-stop-clause-dirty : goal.returns-then-pc-stop-clause-dirty
 returns-then-pc-stop-clause-dirty g c =
     let start = state_of c.args.core.now c.args.memory.now in
     let made = c.loop-made.made in
-    outside_pages g.row.PAGES (is_dirty (trace g.row.PAGES c.args.events c.args.from start (made + c.advance-made.result)))
-    c.args.memory.now.words.items c.advance-made.new.memory.words.items c.args.memory.now.whole c.advance-made.new.memory.whole
-    (c.advance-made.ensures.gone c.args.events c.args.from start made refl c.loop-made.invariant.left c.loop-made.invariant.gone).stayed
+    outside_pages g.row.PAGES (is_dirty (trace g.row.PAGES c.args.events c.args.from start (made + c.advance-more.result)))
+    c.args.memory.now.words.items c.advance-more.new.memory.words.items c.args.memory.now.whole c.advance-more.new.memory.whole
+    (c.advance-more.ensures.gone c.args.events c.args.from start made refl c.loop-made.invariant.left c.loop-made.invariant.gone).stayed
 
 pub loop-made-preserved : goal.loop-made-preserved
 loop-made-preserved g c =
     let log = c.args.events in
     let start = state_of c.args.core.now c.args.memory.now in
     let made = c.loop-made.made in
-    let more = c.advance-made.result in
-    let gone = c.advance-made.ensures.gone log c.args.from start made refl c.loop-made.invariant.left c.loop-made.invariant.gone in record {
+    let more = c.advance-more.result in
+    let gone = c.advance-more.ensures.gone log c.args.from start made refl c.loop-made.invariant.left c.loop-made.invariant.gone in record {
       gone = gone;
       found =
           c.loop-made.invariant.found
-          ∙ visits_on g.row.PAGES log c.args.from start c.args.stop made more c.args.steps c.advance-made.ensures.some
-          (omega (arith, c.advance-made.ensures.bound, c.loop-made-test.true))
-          (c.advance-made.ensures.before log c.args.from start made refl c.loop-made.invariant.left c.loop-made.invariant.gone)
+          ∙ visits_on g.row.PAGES log c.args.from start c.args.stop made more c.args.steps c.advance-more.ensures.some
+          (omega (arith, c.advance-more.ensures.bound, c.loop-made-test.true))
+          (c.advance-more.ensures.before log c.args.from start made refl c.loop-made.invariant.left c.loop-made.invariant.gone)
           (λ here. c.if-pc-stop.false (c.pc.ensures ∙ (ap (λ (s : State). s.core.pc) gone.state ∙ here)));
       left = λ time later.
-          c.advance-made.ensures.left time (omega (arith, later)) ∙ c.loop-made.invariant.left time (omega (arith, later));
-      bound = omega (arith, c.advance-made.ensures.bound, c.loop-made-test.true);
+          c.advance-more.ensures.left time (omega (arith, later)) ∙ c.loop-made.invariant.left time (omega (arith, later));
+      bound = omega (arith, c.advance-more.ensures.bound, c.loop-made-test.true);
     }
 
 pub returns-clause-found : goal.returns-clause-found
