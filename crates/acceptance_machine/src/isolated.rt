@@ -1,212 +1,133 @@
-//! The isolated cache step by step, and copies of the processor: values by hand from the manual's rules.
-use crate::machine::{Machine, Then, plays, plays_with};
-use cop0::number::STATUS;
-use r3k_machine::{DelayedLoad, Where};
-use std::process::Abort;
+//! The isolated cache step by step, and copies of the processor: values by hand from the manual's rules. In Status BEV is 0x00400000,
+//! CM 0x00080000, SwC 0x00020000 and IsC 0x00010000.
+use crate::machine::{Machine, plays};
+use r3k_machine::DelayedLoad;
 use std::test::Fail;
 
-const NOP: u32 = 0;
+const FIRST: &str = "
+$ isolated caches
+# The store stays in its slot, and the load, with the next tag, misses and has its word.
+lui r1, 0x8000
+lui r2, 0x41
+addiu r3, r0, 7
+mtc0 r2, c12
+sw r3, 64(r1)
+lui r4, 0x8001
+lw r5, 64(r4)
+--
+run 5, stored none, touched 16 none
+run 2, touched 16 none, load 5 7, status 0x00490000, ram 0x40 0
+";
 
-// In Status: BEV, CM, SwC and IsC.
-const BEV: u32 = 0x0040_0000;
+// Slot 16 holds 0x44332211 of address 0x40, and r5 is 0xAABBCCDD. r4 has the next tag.
+const ISOLATED: &str = "lui r1, 0x8000
+lui r3, 0x4433
+ori r3, r3, 0x2211
+lui r5, 0xaabb
+ori r5, r5, 0xccdd
+lui r2, 0x41
+mtc0 r2, c12
+sw r3, 64(r1)
+lui r4, 0x8001
+";
 
-const CM: u32 = 0x0008_0000;
-
-const SWC: u32 = 0x0002_0000;
-
-const ISC: u32 = 0x0001_0000;
-
-// lui r1, 0x8000; lui r2, 0x0041; addiu r3, r0, 7; mtc0 r2, status; sw r3, 64(r1); lui r4, 0x8001; lw r5, 64(r4): the store stays
-// in its slot, and the load, with the next tag, misses and has its word.
 #[test]
 fn isolated_caches(rt: HostRuntime) -> Result<(), Fail> {
-    plays(
-        &rt,
-        &[
-            0x3C01_8000,
-            0x3C02_0041,
-            0x2403_0007,
-            0x4082_6000,
-            0xAC23_0040,
-            0x3C04_8001,
-            0x8C85_0040,
-        ],
-        &[
-            Then::Run(5),
-            Then::Stored(None),
-            Then::Touched(Some(16), None),
-            Then::Run(2),
-            Then::Touched(Some(16), None),
-            Then::Load(5, 7),
-            Then::Cop0(STATUS, BEV | CM | ISC),
-            Then::Ram(0x40, &[0]),
-        ],
-    )
+    plays(&rt, "", FIRST)?;
+    plays(&rt, ISOLATED, LISTS)
 }
 
-// Slot 16 holds 0x44332211 of address 0x40, and r5 is 0xAABBCCDD: lui r1, 0x8000; the word into r3; r5; lui r2, 0x0041; mtc0 r2,
-// status; sw r3, 0x40(r1); lui r4, 0x8001; and then the words.
-const ISOLATED: [u32; 9] = [
-    0x3C01_8000,
-    0x3C03_4433,
-    0x3463_2211,
-    0x3C05_AABB,
-    0x34A5_CCDD,
-    0x3C02_0041,
-    0x4082_6000,
-    0xAC23_0040,
-    0x3C04_8001,
-];
+const LISTS: &str = "
+$ loads into r0
+# They set and clear CM too.
+lw r0, 64(r4)
+lw r0, 64(r1)
+--
+run 10, status 0x00490000
+run 1, status 0x00410000
 
-// Plays a list on a machine that goes on so with these words.
-fn plays_isolated(
-    rt: &(impl Abort + AllocGlobal),
-    rest: &[u32],
-    thens: &[Then],
-) -> Result<(), Fail> {
-    plays_with(rt, &ISOLATED, 9, rest, thens)
-}
+$ slot of two tags
+# The store takes the slot over: the next load by the first tag misses, and has the word. A misaligned load is AdEL.
+sw r5, 64(r4)
+lw r6, 64(r1)
+lw r6, 64(r4)
+lw r6, 65(r1)
+--
+run 11, load 6 0xaabbccdd, status 0x00490000
+run 1, status 0x00410000
+run 1, pc 0xbfc00180
 
-// Loads of r5 from 0x41(r1) or so, and what they give.
-const LOADS: [(u32, u32); 8] = [
-    // lb and lbu of byte 1, lh and lhu of byte 2, lw, lwl and lwr of byte 1
-    (0x8025_0041, 0x0000_0022),
-    (0x9025_0041, 0x0000_0022),
-    (0x8425_0042, 0x0000_4433),
-    (0x9425_0042, 0x0000_4433),
-    (0x8C25_0040, 0x4433_2211),
-    (0x8825_0041, 0x2211_CCDD),
-    (0x9825_0041, 0xAA44_3322),
-    // lb of byte 3
-    (0x8025_0043, 0x0000_0044),
-];
+$ swapped arrays
+# With SwC too the second array is empty. Without IsC it is memory; the write mask leaves CM.
+lui r2, 0x43
+mtc0 r2, c12
+lw r6, 64(r1)
+mtc0 r0, c12
+sw r5, 64(r1)
+--
+run 12, load 6 0, status 0x004b0000
+run 1, status 0x00080000
+run 1, stored 0x40, ram 0x40 0xaabbccdd
 
+$ uncached accesses and fetches
+# Uncached it is memory, and CM stays; and so is the fetch with IsC.
+lui r6, 0xa000
+lw r7, 64(r6)
+lui r8, 0x9fc0
+jr r8
+sll r0, r0, 0
+--
+run 11, touched 16 0, load 7 0, status 0x00410000, where 0x80000040 cached:0x40
+run 3, pc 0x9fc00000
+run 1, touched 16 none, pc 0x9fc00004
+";
+
+// Loads of r5 from the slot, by their names and bytes, and what they give: after a miss by the next tag, and by a hit.
 #[test]
 fn isolated_loads(rt: HostRuntime) -> Result<(), Fail> {
-    for (insn, value) in &LOADS {
-        // A miss by the next tag, of r4, and then a hit.
-        let miss = *insn & !0x03E0_0000 | 0x0080_0000;
-        for (rest, status) in [
-            ([miss, NOP, *insn], BEV | CM | ISC),
-            ([*insn, NOP, NOP], BEV | ISC),
-        ] {
-            plays_isolated(
-                &rt,
-                &rest,
-                &[
-                    Then::Run(10),
-                    Then::Load(5, *value),
-                    Then::Cop0(STATUS, status),
-                ],
-            )?;
-        }
-    }
-    // lw r0, 0x40(r4) and then lw r0, 0x40(r1): into r0 a load sets and clears CM too.
-    plays_isolated(
-        &rt,
-        &[0x8C80_0040, 0x8C20_0040],
-        &[
-            Then::Run(10),
-            Then::Cop0(STATUS, BEV | CM | ISC),
-            Then::Run(1),
-            Then::Cop0(STATUS, BEV | ISC),
-        ],
-    )
-}
-
-// sb, sh, swl of all four bytes, swr of all four bytes: the slot's word stays and is no longer valid. CM is not theirs to set.
-#[test]
-fn isolated_stores_of_a_part(rt: HostRuntime) -> Result<(), Fail> {
-    for insn in [0xA025_0041, 0xA425_0042, 0xA825_0043, 0xB825_0040] {
-        plays_isolated(
-            &rt,
-            &[insn, 0x8C26_0040],
-            &[
-                Then::Run(10),
-                Then::Stored(None),
-                Then::Cop0(STATUS, BEV | ISC),
-                Then::Run(1),
-                Then::Load(6, 0x4433_2211),
-                Then::Cop0(STATUS, BEV | CM | ISC),
-                Then::Ram(0x40, &[0]),
-            ],
+    for (load, byte, value) in [
+        ("lb", 65, "0x22"),
+        ("lbu", 65, "0x22"),
+        ("lh", 66, "0x4433"),
+        ("lhu", 66, "0x4433"),
+        ("lw", 64, "0x44332211"),
+        ("lwl", 65, "0x2211ccdd"),
+        ("lwr", 65, "0xaa443322"),
+        ("lb", 67, "0x44"),
+    ] {
+        let list = format!(in rt.alloc();
+            "\n$ a miss of {load}\n{load} r5, {byte}(r4)\nsll r0, r0, 0\n{load} r5, {byte}(r1)\n--\nrun 10, load 5 {value}, status 0x00490000\n\
+            \n$ a hit of {load}\n{load} r5, {byte}(r1)\n--\nrun 10, load 5 {value}, status 0x00410000\n"
         )?;
+        plays(&rt, ISOLATED, list.as_str())?;
     }
     Ok(())
 }
 
-// sw r5, 0x40(r4) takes the slot over: the next load by the first tag misses, and has the word. A misaligned load is AdEL.
+// The slot's word stays and is no longer valid, also where all four bytes are stored. CM is not theirs to set.
 #[test]
-fn slot_of_two_tags(rt: HostRuntime) -> Result<(), Fail> {
-    plays_isolated(
-        &rt,
-        &[0xAC85_0040, 0x8C26_0040, 0x8C86_0040, 0x8C26_0041],
-        &[
-            Then::Run(11),
-            Then::Load(6, 0xAABB_CCDD),
-            Then::Cop0(STATUS, BEV | CM | ISC),
-            Then::Run(1),
-            Then::Cop0(STATUS, BEV | ISC),
-            Then::Run(1),
-            Then::Pc(0xBFC0_0180),
-        ],
-    )
-}
-
-// With SwC too, lui r2, 0x0043; mtc0 r2, status: the second array is empty. Without IsC, mtc0 r0, status: memory.
-#[test]
-fn swapped_arrays(rt: HostRuntime) -> Result<(), Fail> {
-    plays_isolated(
-        &rt,
-        &[
-            0x3C02_0043,
-            0x4082_6000,
-            0x8C26_0040,
-            0x4080_6000,
-            0xAC25_0040,
-        ],
-        &[
-            Then::Run(12),
-            Then::Load(6, 0),
-            Then::Cop0(STATUS, BEV | CM | SWC | ISC),
-            Then::Run(1),
-            // The write mask leaves CM.
-            Then::Cop0(STATUS, CM),
-            Then::Run(1),
-            Then::Stored(Some(0x40)),
-            Then::Ram(0x40, &[0xAABB_CCDD]),
-        ],
-    )
-}
-
-// lui r6, 0xa000; lw r7, 0x40(r6), uncached: memory, and CM stays. lui r8, 0x9fc0; jr r8 with IsC: the fetch there is of memory.
-#[test]
-fn uncached_accesses_and_fetches(rt: HostRuntime) -> Result<(), Fail> {
-    plays_isolated(
-        &rt,
-        &[0x3C06_A000, 0x8CC7_0040, 0x3C08_9FC0, 0x0100_0008, NOP],
-        &[
-            Then::Run(11),
-            Then::Touched(Some(16), Some(0)),
-            Then::Load(7, 0),
-            Then::Cop0(STATUS, BEV | ISC),
-            Then::Where(0x8000_0040, Where::Cached(0x40)),
-            Then::Run(3),
-            Then::Pc(0x9FC0_0000),
-            Then::Run(1),
-            Then::Touched(Some(16), None),
-            Then::Pc(0x9FC0_0004),
-        ],
-    )
+fn isolated_stores_of_a_part(rt: HostRuntime) -> Result<(), Fail> {
+    for store in [
+        "sb r5, 65(r1)",
+        "sh r5, 66(r1)",
+        "swl r5, 67(r1)",
+        "swr r5, 64(r1)",
+    ] {
+        let list = format!(in rt.alloc();
+            "\n$ {store}\n{store}\nlw r6, 64(r1)\n--\nrun 10, stored none, status 0x00410000\n\
+            run 1, load 6 0x44332211, status 0x00490000, ram 0x40 0\n"
+        )?;
+        plays(&rt, ISOLATED, list.as_str())?;
+    }
+    Ok(())
 }
 
 // A copy is equal until one of the two makes a step, and assigned it is equal again: also its slots and its load slot. Of the
 // three steps the first is the store into a slot, and the last the load.
 #[test]
 fn copies(rt: HostRuntime) -> Result<(), Fail> {
-    let mut rom = [0x8C26_0040; 10];
-    rom[..9].copy_from_slice(&ISOLATED);
-    let mut machine = Machine::boot(rt.alloc(), &rom)?;
+    let source = [ISOLATED, "lw r6, 64(r1)\n"].concat(rt.alloc())?;
+    let mut machine = Machine::boot(rt.alloc(), source.as_str())?;
     machine.run(7);
     let mut copy = machine.core.copy(rt.alloc())?;
     for steps in [1, 2] {

@@ -1,210 +1,102 @@
 //! A machine with 16 pages of RAM and a program in ROM, and lists of what is done to it and asked of it.
 
-use cop0::number::{BAD_VADDR, CAUSE, CONTEXT, ENTRY_HI, EPC};
+use cop0::number::{BAD_VADDR, CAUSE, CONTEXT, ENTRY_HI, ENTRY_LO, EPC, INDEX, RANDOM, STATUS};
 use dz_serial::Sent;
-use input_log::{Event, Kind};
+use input_log::{Event, Log};
 use r3k_asm::assemble;
-use r3k_image::{Image, raw_rom};
 use r3k_live::FlatMemory;
 use r3k_machine::step::step;
 use r3k_machine::{Core, Done, Mem, Where};
 use r3k_word::layout::word_count;
 use std::alloc::Global;
-use std::fmt::{Debug, Write};
 use std::process::Abort;
 use std::test::Fail;
 
-/// A byte that arrives on line 0.
-pub const BYTE: Event = Event {
-    time: 0,
-    kind: Kind::Byte,
-    line: 0,
-    byte: 0x41,
-};
-
-/// What is done to a machine, or what it is asked, with the answer that is wanted.
-#[derive(Clone, Copy)]
-pub enum Then<'a> {
-    /// Runs so many steps.
-    Run(u32),
-    /// Runs a step with these events.
-    Receive(&'a [Event]),
-    /// Runs as many steps, each of which sends this byte or none.
-    Sends(&'a [Option<Sent>]),
-    /// Runs as many steps, behind each of which a register holds this, once a pending load has landed.
-    Gives(usize, &'a [u32]),
-    /// The byte that the last step told that it sent.
-    Sent(Option<Sent>),
-    /// The word of RAM that it told that it stored into.
-    Stored(Option<u32>),
-    /// The pages that it told that it fetched from and loaded from or stored into.
-    Touched(Option<u32>, Option<u32>),
-    /// The address of the next instruction.
-    Pc(u32),
-    /// The address of the one after it.
-    NextPc(u32),
-    /// Whether the next instruction stands in a delay slot.
-    Delay(bool),
-    /// What a register holds.
-    Register(usize, u32),
-    /// What the registers from one on hold, once a pending load has landed.
-    Landed(usize, &'a [u32]),
-    /// The register and the value of the pending load.
-    Load(u8, u32),
-    /// No load is pending.
-    NoLoad,
-    /// A control register.
-    Cop0(u8, u32),
-    /// A translation entry: its EntryHi and EntryLo.
-    Entry(u32, u32, u32),
-    /// Where an address leads.
-    Where(u32, Where),
-    /// An exception or an interrupt was taken: the PC at its handler, EPC and Cause.
-    Taken(u32, u32, u32),
-    /// The same of an exception of translation, and its bad address, of which Context and EntryHi tell the page.
-    Untranslated(u32, u32, u32, u32),
-    /// The words of RAM from an address on.
-    Ram(usize, &'a [u32]),
-}
-
-/// Plays a list on a machine with these words from the start of ROM on.
-pub fn plays(rt: &(impl Abort + AllocGlobal), rom: &[u32], thens: &[Then]) -> Result<(), Fail> {
-    plays_with(rt, rom, 0, &[], thens)
-}
-
-/// The same with more words, from a place in ROM on, which is counted in words.
-pub fn plays_with(
-    rt: &(impl Abort + AllocGlobal),
-    rom: &[u32],
-    place: usize,
-    more: &[u32],
-    thens: &[Then],
-) -> Result<(), Fail> {
-    let mut machine = Machine::boot_with(rt.alloc(), rom, place, more)?;
-    machine.play(rt, thens);
+/// Plays lists, each on a machine of its own. A list begins with a line of `$` and its name. The lines up to `--` are its program,
+/// after those of a source. Then comes what is done and asked, with commas between:
+///
+///     run N                       runs N steps
+///     receive E ..                runs a step with these events: L:B is a byte B on line L, fL:B one with a framing error, and wL:V a
+///                                 level of external line L
+///     sends S ..                  runs as many steps, each of which sends this byte, as L:B, or `none`
+///     gives K W ..                runs as many steps, after each of which register K holds this, once a pending load has landed
+///     sent S, stored A, touched F P      what the last step told: the byte that it sent, the word of RAM that it stored into, and the
+///                                 pages that it fetched from and loaded from or stored into
+///     pc A, next A, delay D       the next instruction's address, that of the one after it, and whether it stands in a delay slot
+///     register K W, landed K W .. what a register holds, and those from K on once a pending load has landed
+///     load K W, load none         the pending load
+///     status W, epc A ..          a control register, by its name in `cp0`
+///     tlb I H L, where A P        a translation entry, and where an address leads
+///     taken P E C                 an exception or an interrupt was taken: the PC at its handler, EPC and Cause
+///     untranslated P E C B        the same of an exception of translation, and its bad address, of which Context and EntryHi have
+///                                 the page
+///     ram A W ..                  the words of RAM from an address on
+///
+/// N*X stands for N times X, and numbers are as in a source.
+pub fn plays(rt: &(impl Abort + AllocGlobal), source: &str, lists: &str) -> Result<(), Fail> {
+    for list in lists.split("\n$ ").skip(1) {
+        let (front, asked) = list.split_once("\n--\n").ok_or("nothing is done")?;
+        let (_, own) = front.split_once('\n').unwrap_or((front, ""));
+        let program = [source, own].concat(rt.alloc())?;
+        let mut machine = Machine::boot(rt.alloc(), program.as_str())?;
+        machine.play(rt, rt.alloc(), list, asked)?;
+    }
     Ok(())
 }
 
-/// The same with the words of a source, which is given in parts.
-pub fn plays_source(
-    rt: &(impl Abort + AllocGlobal),
-    source: &[&str],
-    thens: &[Then],
-) -> Result<(), Fail> {
-    let mut machine = Machine::boot_source(rt.alloc(), source)?;
-    machine.play(rt, thens);
-    Ok(())
-}
-
-/// The processor and its memory, and what messages tell: the program, the steps that were run, and the place in the list.
+/// The processor and its memory.
 #[derive(Drop)]
 pub struct Machine {
     pub core: Core,
     memory: FlatMemory<16>,
     // What the last step told.
     done: Done,
-    program: String,
-    steps: u64,
-    row: usize,
 }
 
 impl Machine {
-    /// The machine at reset, with these words from the start of ROM on.
-    pub fn boot(alloc: Global, rom: &[u32]) -> Result<Machine, Fail> {
-        let mut bytes = Vec::new(alloc);
-        let mut program = String::new(alloc);
-        for word in rom {
-            bytes.extend_from_slice(&word.to_le_bytes())?;
-            write!(program, "{word:08x} ")?;
-        }
-        let image = raw_rom(alloc, &bytes)?;
-        Machine::of(alloc, &image, program)
-    }
-
-    /// The same with more words, from a place in ROM on.
-    pub fn boot_with(
-        alloc: Global,
-        rom: &[u32],
-        place: usize,
-        more: &[u32],
-    ) -> Result<Machine, Fail> {
-        let mut words = rom.to_vec(alloc)?;
-        for _ in rom.len()..place {
-            words.push(0)?;
-        }
-        words.extend_from_slice(more)?;
-        Machine::boot(alloc, &words)
-    }
-
     /// The machine at reset, with the words of a source.
-    pub fn boot_source(alloc: Global, source: &[&str]) -> Result<Machine, Fail> {
-        let program = source.concat(alloc)?;
-        let image = assemble(alloc, program.as_bytes())?;
-        Machine::of(alloc, &image, program)
-    }
-
-    fn of(alloc: Global, image: &Image, program: String) -> Result<Machine, Fail> {
+    pub fn boot(alloc: Global, source: &str) -> Result<Machine, Fail> {
+        let image = assemble(alloc, source.as_bytes())?;
         Ok(Machine {
-            core: Core::reset(alloc, image)?,
-            memory: FlatMemory::boot(alloc, image)?,
+            core: Core::reset(alloc, &image)?,
+            memory: FlatMemory::boot(alloc, &image)?,
             done: Done {
                 sent: None,
                 stored: None,
                 touched: [None; 2],
             },
-            program,
-            steps: 0,
-            row: 0,
         })
     }
 
-    /// Goes over a list.
-    pub fn play(&mut self, rt: &impl Abort, thens: &[Then]) {
-        for (row, then) in thens.iter().enumerate() {
-            self.row = row;
-            self.then(rt, then);
-        }
-    }
-
-    // One of them.
-    fn then(&mut self, rt: &impl Abort, then: &Then) {
-        match then {
-            Then::Run(steps) => self.run(*steps),
-            Then::Receive(events) => self.receive(events),
-            Then::Sends(wants) => self.sends(rt, wants),
-            Then::Gives(register, wants) => self.gives(rt, *register, wants),
-            Then::Sent(want) => self.same(rt, &self.done.sent, want),
-            Then::Stored(want) => self.same(rt, &self.done.stored, want),
-            Then::Touched(fetch, other) => self.same(rt, &self.done.touched, &[*fetch, *other]),
-            Then::Pc(want) => self.same(rt, &self.core.pc(), want),
-            Then::NextPc(want) => self.same(rt, &self.core.next_pc(), want),
-            Then::Delay(want) => self.same(rt, &self.core.delay(), want),
-            Then::Register(number, want) => self.register(rt, *number, *want),
-            Then::Landed(first, wants) => self.landed(rt, *first, wants),
-            Then::Load(register, value) => self.load(rt, Some((*register, *value))),
-            Then::NoLoad => self.load(rt, None),
-            Then::Cop0(number, want) => self.cop0(rt, *number, *want),
-            Then::Entry(index, hi, lo) => self.entry(rt, *index, *hi, *lo),
-            Then::Where(address, want) => self.same(rt, &self.core.where_is(*address), want),
-            Then::Taken(pc, epc, cause) => self.taken(rt, *pc, *epc, *cause),
-            Then::Untranslated(pc, epc, cause, bad) => {
-                self.taken(rt, *pc, *epc, *cause);
-                self.untranslated(rt, *bad);
+    /// Goes over a list, which messages tell by these lines.
+    pub fn play(
+        &mut self,
+        rt: &impl Abort,
+        alloc: Global,
+        list: &str,
+        asked: &str,
+    ) -> Result<(), Fail> {
+        for line in asked.lines() {
+            for clause in line.split(", ") {
+                let words: Vec<&str> = clause.split_whitespace().collect(alloc)?;
+                let holds = self.does(alloc, words.as_slice())? || self.asks(words.as_slice())?;
+                assert!(rt; holds, "{clause} of {list}");
             }
-            Then::Ram(address, wants) => self.ram(rt, *address, wants),
         }
+        Ok(())
     }
 
-    // Ends the test where two values differ.
-    fn same<T: PartialEq + Debug>(&self, rt: &impl Abort, found: &T, want: &T) {
-        assert_eq!(rt;
-            *found,
-            *want,
-            "in row {} behind {} steps of {}",
-            self.row,
-            self.steps,
-            self.program.as_str()
-        );
+    // Does what some words say, and answers whether they say so and all was as they do.
+    fn does(&mut self, alloc: Global, words: &[&str]) -> Result<bool, Fail> {
+        match words {
+            [] => {}
+            ["run", steps] => self.run(number(steps)?),
+            ["receive", events @ ..] => self.receive(events_of(alloc, events)?.events()),
+            ["sends", wants @ ..] => return self.sends(wants),
+            ["gives", register, wants @ ..] => return self.gives(number(register)?, wants),
+            _ => return Ok(false),
+        }
+        Ok(true)
     }
 
     /// Runs so many steps.
@@ -217,94 +109,232 @@ impl Machine {
     /// Runs a step with these events.
     pub fn receive(&mut self, events: &[Event]) {
         self.done = step(&mut self.core, &mut self.memory, events);
-        self.steps = self.steps.saturating_add(1);
     }
 
     // Runs as many steps, each of which sends this byte or none.
-    fn sends(&mut self, rt: &impl Abort, wants: &[Option<Sent>]) {
+    fn sends(&mut self, wants: &[&str]) -> Result<bool, Fail> {
         for want in wants {
-            self.receive(&[]);
-            self.same(rt, &self.done.sent, want);
+            let (times, want) = times(want)?;
+            for _ in 0..times {
+                self.receive(&[]);
+                if self.done.sent != sent(want)? {
+                    return Ok(false);
+                }
+            }
         }
+        Ok(true)
     }
 
-    // Runs as many steps, behind each of which a register holds this, once a pending load has landed.
-    fn gives(&mut self, rt: &impl Abort, register: usize, wants: &[u32]) {
+    // Runs as many steps, after each of which a register holds this, once a pending load has landed.
+    fn gives(&mut self, register: u32, wants: &[&str]) -> Result<bool, Fail> {
         for want in wants {
-            self.receive(&[]);
-            self.landed(rt, register, &[*want]);
+            let (times, want) = times(want)?;
+            for _ in 0..times {
+                self.receive(&[]);
+                if self.value(register) != Some(number(want)?) {
+                    return Ok(false);
+                }
+            }
         }
+        Ok(true)
+    }
+
+    // Whether all is as some words say.
+    fn asks(&self, words: &[&str]) -> Result<bool, Fail> {
+        Ok(match words {
+            ["sent", want] => self.done.sent == sent(want)?,
+            ["stored", want] => self.done.stored == option(want)?,
+            ["touched", fetch, other] => self.done.touched == [option(fetch)?, option(other)?],
+            ["pc", want] => self.core.pc() == number(want)?,
+            ["next", want] => self.core.next_pc() == number(want)?,
+            ["delay", want] => self.core.delay() == (*want == "1"),
+            ["register", register, want] => self.register(number(register)?) == Some(number(want)?),
+            ["landed", first, wants @ ..] => self.landed(number(first)?, wants)?,
+            ["load", "none"] => self.core.load().is_none(),
+            ["load", register, want] => self.loads(number(register)?, number(want)?),
+            ["tlb", index, hi, lo] => self.entry(number(index)?, number(hi)?, number(lo)?),
+            ["where", address, want] => self.core.where_is(number(address)?) == place(want)?,
+            ["taken", pc, epc, cause] => self.taken(pc, epc, cause)?,
+            ["untranslated", pc, epc, cause, bad] => {
+                self.taken(pc, epc, cause)? && self.untranslated(number(bad)?)
+            }
+            ["ram", address, wants @ ..] => self.ram(number(address)? / 4, wants)?,
+            [name, want] => self.core.cop0().read(control(name)?) == number(want)?,
+            _ => false,
+        })
     }
 
     // What a register holds.
-    fn register(&self, rt: &impl Abort, number: usize, want: u32) {
-        let found = self.core.registers().get(number).copied();
-        self.same(rt, &(number, found), &(number, Some(want)));
-    }
-
-    // What the registers from one on hold, once a pending load has landed.
-    fn landed(&self, rt: &impl Abort, first: usize, wants: &[u32]) {
-        for (number, want) in (first..).zip(wants) {
-            self.same(rt, &(number, self.value(number)), &(number, Some(*want)));
-        }
+    fn register(&self, number: u32) -> Option<u32> {
+        self.core.registers().get(number as usize).copied()
     }
 
     // What a register holds, once a pending load has landed.
-    fn value(&self, number: usize) -> Option<u32> {
+    fn value(&self, number: u32) -> Option<u32> {
         match self.core.load() {
-            Some(load) if load.register() as usize == number => Some(load.value()),
-            _ => self.core.registers().get(number).copied(),
+            Some(load) if load.register() as u32 == number => Some(load.value()),
+            _ => self.register(number),
         }
+    }
+
+    // What the registers from one on hold, once a pending load has landed.
+    fn landed(&self, first: u32, wants: &[&str]) -> Result<bool, Fail> {
+        let mut register = first;
+        for want in wants {
+            let (times, want) = times(want)?;
+            for _ in 0..times {
+                if self.value(register) != Some(number(want)?) {
+                    return Ok(false);
+                }
+                register = register.saturating_add(1);
+            }
+        }
+        Ok(true)
     }
 
     // The register and the value of the pending load.
-    fn load(&self, rt: &impl Abort, want: Option<(u8, u32)>) {
-        let load = self.core.load().map(|load| (load.register(), load.value()));
-        self.same(rt, &load, &want);
-    }
-
-    // A control register.
-    fn cop0(&self, rt: &impl Abort, number: u8, want: u32) {
-        self.same(
-            rt,
-            &(number, self.core.cop0().read(number)),
-            &(number, want),
-        );
+    fn loads(&self, register: u32, value: u32) -> bool {
+        match self.core.load() {
+            Some(load) => load.register() as u32 == register && load.value() == value,
+            None => false,
+        }
     }
 
     // A translation entry.
-    fn entry(&self, rt: &impl Abort, index: u32, hi: u32, lo: u32) {
+    fn entry(&self, index: u32, hi: u32, lo: u32) -> bool {
         let entry = self.core.entry(index % 64);
-        self.same(rt, &(entry.hi, entry.lo), &(hi, lo));
+        entry.hi == hi && entry.lo == lo
     }
 
     // An exception or an interrupt: the PC at its handler, EPC and Cause.
-    fn taken(&self, rt: &impl Abort, pc: u32, epc: u32, cause: u32) {
-        self.same(rt, &self.core.pc(), &pc);
-        self.cop0(rt, EPC, epc);
-        self.cop0(rt, CAUSE, cause);
+    fn taken(&self, pc: &str, epc: &str, cause: &str) -> Result<bool, Fail> {
+        let cop0 = self.core.cop0();
+        Ok(
+            self.core.pc() == number(pc)?
+                && cop0.read(EPC) == number(epc)?
+                && cop0.read(CAUSE) == number(cause)?,
+        )
     }
 
-    // The bad address of an exception of translation, of which Context and EntryHi tell the page.
-    fn untranslated(&self, rt: &impl Abort, bad: u32) {
-        self.cop0(rt, BAD_VADDR, bad);
-        self.cop0(rt, CONTEXT, (bad & 0x7FFF_F000) >> 10);
-        self.cop0(rt, ENTRY_HI, bad & 0xFFFF_F000);
+    // The bad address of an exception of translation, of which Context and EntryHi have the page.
+    fn untranslated(&self, bad: u32) -> bool {
+        let cop0 = self.core.cop0();
+        cop0.read(BAD_VADDR) == bad
+            && cop0.read(CONTEXT) == (bad & 0x7FFF_F000) >> 10
+            && cop0.read(ENTRY_HI) == bad & 0xFFFF_F000
     }
 
-    // The words of RAM from an address on.
-    fn ram(&self, rt: &impl Abort, address: usize, wants: &[u32]) {
-        for (place, want) in (address / 4..).zip(wants) {
-            self.same(rt, &(place, self.word(place)), &(place, Some(*want)));
+    // The words of RAM from a place on.
+    fn ram(&self, first: u32, wants: &[&str]) -> Result<bool, Fail> {
+        let mut at = first as usize;
+        for want in wants {
+            if at >= word_count(16) || self.memory.word(at) != number(want)? {
+                return Ok(false);
+            }
+            at = at.saturating_add(1);
+        }
+        Ok(true)
+    }
+}
+
+// A number as in a source.
+fn number(word: &str) -> Result<u32, Fail> {
+    Ok(match word.strip_prefix("0x") {
+        Some(digits) => u32::from_str_radix(digits, 16)?,
+        None => u32::from_str_radix(word, 10)?,
+    })
+}
+
+// A byte, written so.
+fn byte(word: &str) -> Result<u8, Fail> {
+    Ok(match word.strip_prefix("0x") {
+        Some(digits) => u8::from_str_radix(digits, 16)?,
+        None => u8::from_str_radix(word, 10)?,
+    })
+}
+
+// How many times a word stands there.
+fn times(word: &str) -> Result<(u32, &str), Fail> {
+    Ok(match word.split_once('*') {
+        Some((count, word)) => (number(count)?, word),
+        None => (1, word),
+    })
+}
+
+// A number, or `none`.
+fn option(word: &str) -> Result<Option<u32>, Fail> {
+    if word == "none" {
+        return Ok(None);
+    }
+    Ok(Some(number(word)?))
+}
+
+// A line and a byte.
+fn line_and_byte(word: &str) -> Result<(u8, u8), Fail> {
+    let (line, value) = word.split_once(':').ok_or("a line and a byte")?;
+    Ok((byte(line)?, byte(value)?))
+}
+
+// A byte that was sent, or `none`.
+fn sent(word: &str) -> Result<Option<Sent>, Fail> {
+    if word == "none" {
+        return Ok(None);
+    }
+    let (line, byte) = line_and_byte(word)?;
+    Ok(Some(Sent { line, byte }))
+}
+
+// The events of one step, in the log that has them.
+fn events_of(alloc: Global, words: &[&str]) -> Result<Log, Fail> {
+    let mut log = Log::new(alloc);
+    for word in words {
+        let (times, word) = times(word)?;
+        for _ in 0..times {
+            add(&mut log, word)?;
         }
     }
+    Ok(log)
+}
 
-    // The word at a place in memory.
-    fn word(&self, place: usize) -> Option<u32> {
-        if place < word_count(16) {
-            Some(self.memory.word(place))
-        } else {
-            None
-        }
+fn add(log: &mut Log, word: &str) -> Result<(), Fail> {
+    if let Some(word) = word.strip_prefix("f") {
+        let (line, byte) = line_and_byte(word)?;
+        log.ferr(0, line, byte)?;
+    } else if let Some(word) = word.strip_prefix("w") {
+        let (line, level) = line_and_byte(word)?;
+        log.wire(0, line, level)?;
+    } else {
+        let (line, byte) = line_and_byte(word)?;
+        log.add(0, line, byte)?;
     }
+    Ok(())
+}
+
+// The number of a control register.
+fn control(name: &str) -> Result<u8, Fail> {
+    Ok(match name {
+        "index" => INDEX,
+        "random" => RANDOM,
+        "entrylo" => ENTRY_LO,
+        "context" => CONTEXT,
+        "badvaddr" => BAD_VADDR,
+        "entryhi" => ENTRY_HI,
+        "status" => STATUS,
+        "cause" => CAUSE,
+        "epc" => EPC,
+        _ => return Err("no control register".into()),
+    })
+}
+
+// Where an address leads.
+fn place(word: &str) -> Result<Where, Fail> {
+    Ok(match word.split_once(':') {
+        Some(("cached", address)) => Where::Cached(number(address)?),
+        Some(("uncached", address)) => Where::Uncached(number(address)?),
+        _ => match word {
+            "refill" => Where::Refill,
+            "tlbl" => Where::Tlbl,
+            _ => Where::Adel,
+        },
+    })
 }

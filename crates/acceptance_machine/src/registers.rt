@@ -1,7 +1,6 @@
 //! The registers of the serial part, of the board and of the clock, read by loads of each width at each byte: values by hand
 //! from the papers of the parts.
-use crate::machine::{BYTE, Then, plays_source};
-use input_log::Event;
+use crate::machine::plays;
 use std::test::Fail;
 
 // Every load of the word at r1, in 31 steps: lw into r8, lh and lhu of bytes 0 and 2 into r9 to r12, lb and lbu of bytes 0 to 3
@@ -39,137 +38,48 @@ lwr r28, 3(r1)
 lw r29, 0(r1)
 ";
 
-// CSR with TRDY, TIE, TLINE 2, RDONE, RIE, MSE and MAINT: 0x8000 + 0x4000 + 0x0200 + 0x80 + 0x40 + 0x20 + 0x08 = 0xc2e8. Line
-// 2 may send, and a byte of line 0 is there.
-#[test]
-fn loads_of_the_serial_control(rt: HostRuntime) -> Result<(), Fail> {
-    let set_up = "lui r1, 0xbfe0
+// What stands before these loads, and what they give.
+const LOADED: [(&str, &str); 6] = [
+    // CSR with TRDY, TIE, TLINE 2, RDONE, RIE, MSE and MAINT: 0x8000 + 0x4000 + 0x0200 + 0x80 + 0x40 + 0x20 + 0x08 = 0xc2e8. Line
+    // 2 may send, and a byte of line 0 is there.
+    (
+        "lui r1, 0xbfe0
 addiu r2, r0, 0x1000
 sw r2, 8(r1)
 addiu r2, r0, 4
 sw r2, 16(r1)
 addiu r2, r0, 0x4068
 sw r2, 0(r1)
-";
-    plays_source(
-        &rt,
-        &[set_up, LOADS],
-        &[
-            Then::Run(7),
-            Then::Receive(&[BYTE]),
-            Then::Run(30),
-            Then::Landed(8, &[0x0000_C2E8]),
-            Then::Landed(9, &[0xFFFF_C2E8, 0, 0xC2E8, 0]),
-            Then::Landed(13, &[0xFFFF_FFE8, 0xFFFF_FFC2, 0, 0]),
-            Then::Landed(17, &[0xE8, 0xC2, 0, 0]),
-            Then::Landed(21, &[0xE8BB_CCDD, 0xC2E8_CCDD, 0x00C2_E8DD, 0x0000_C2E8]),
-            Then::Landed(25, &[0x0000_C2E8, 0xAA00_00C2, 0xAABB_0000, 0xAABB_CC00]),
-            Then::Landed(29, &[0x0000_C2E8]),
-        ],
-    )
-}
-
-// 21 bytes 0xc1 of line 2: each load of RBUF takes one, whatever its width and byte, and the last finds none.
-#[test]
-fn loads_of_received_bytes(rt: HostRuntime) -> Result<(), Fail> {
-    let set_up = "lui r1, 0xbfe0
+",
+        "run 7, receive 0:0x41, run 30, landed 8 0xc2e8, landed 9 0xffffc2e8 0 0xc2e8 0, landed 13 0xffffffe8 0xffffffc2 0 0
+landed 17 0xe8 0xc2 0 0, landed 21 0xe8bbccdd 0xc2e8ccdd 0x00c2e8dd 0xc2e8, landed 25 0xc2e8 0xaa0000c2 0xaabb0000 0xaabbcc00
+landed 29 0xc2e8",
+    ),
+    // 21 bytes 0xc1 of line 2: each load of RBUF takes one, whatever its width and byte, and the last finds none.
+    (
+        "lui r1, 0xbfe0
 addiu r2, r0, 0x1002
 sw r2, 8(r1)
 addiu r2, r0, 0x20
 sw r2, 0(r1)
 addiu r1, r1, 8
-";
-    let received = Event {
-        line: 2,
-        byte: 0xC1,
-        ..BYTE
-    };
-    plays_source(
-        &rt,
-        &[set_up, LOADS],
-        &[
-            Then::Run(6),
-            Then::Receive(&[received; 21]),
-            Then::Run(30),
-            Then::Landed(8, &[0x0000_82C1]),
-            Then::Landed(9, &[0xFFFF_82C1, 0, 0x82C1, 0]),
-            Then::Landed(13, &[0xFFFF_FFC1, 0xFFFF_FF82, 0, 0]),
-            Then::Landed(17, &[0xC1, 0x82, 0, 0]),
-            Then::Landed(21, &[0xC1BB_CCDD, 0x82C1_CCDD, 0x0082_C1DD, 0x0000_82C1]),
-            Then::Landed(25, &[0x0000_82C1, 0xAA00_0082, 0xAABB_0000, 0xAABB_CC00]),
-            Then::Landed(29, &[0]),
-        ],
-    )
-}
-
-// TCR gives back bits 3 to 0 of 0xfffd.
-#[test]
-fn loads_of_line_enables(rt: HostRuntime) -> Result<(), Fail> {
-    let set_up = "lui r1, 0xbfe0
+",
+        "run 6, receive 21*2:0xc1, run 30, landed 8 0x82c1, landed 9 0xffff82c1 0 0x82c1 0, landed 13 0xffffffc1 0xffffff82 0 0
+landed 17 0xc1 0x82 0 0, landed 21 0xc1bbccdd 0x82c1ccdd 0x0082c1dd 0x82c1, landed 25 0x82c1 0xaa000082 0xaabb0000 0xaabbcc00, landed 29 0",
+    ),
+    // TCR gives back bits 3 to 0 of 0xfffd.
+    (
+        "lui r1, 0xbfe0
 ori r1, r1, 16
 ori r2, r0, 0xfffd
 sw r2, 0(r1)
-";
-    plays_source(
-        &rt,
-        &[set_up, LOADS],
-        &[
-            Then::Run(4 + 31),
-            Then::Landed(8, &[0x0D]),
-            Then::Landed(9, &[0x0D, 0, 0x0D, 0]),
-            Then::Landed(13, &[0x0D, 0, 0, 0]),
-            Then::Landed(17, &[0x0D, 0, 0, 0]),
-            Then::Landed(21, &[0x0DBB_CCDD, 0x000D_CCDD, 0x0000_0DDD, 0x0000_000D]),
-            Then::Landed(25, &[0x0000_000D, 0xAA00_0000, 0xAABB_0000, 0xAABB_CC00]),
-            Then::Landed(29, &[0x0D]),
-        ],
-    )
-}
-
-// What lwl and lwr leave of 0xAABBCCDD where the word is 0.
-const LWL_OF_ZERO: [u32; 4] = [0x00BB_CCDD, 0x0000_CCDD, 0x0000_00DD, 0];
-
-const LWR_OF_ZERO: [u32; 4] = [0, 0xAA00_0000, 0xAABB_0000, 0xAABB_CC00];
-
-// MSR and the four words without a register read 0, before and after a store, and no store there changes CSR or TCR.
-#[test]
-fn words_that_read_zero(rt: HostRuntime) -> Result<(), Fail> {
-    plays_source(
-        &rt,
-        &["lui r1, 0xbfe0\nori r1, r1, 24\n", LOADS],
-        &[
-            Then::Run(2 + 31),
-            Then::Landed(8, &[0; 13]),
-            Then::Landed(21, &LWL_OF_ZERO),
-            Then::Landed(25, &LWR_OF_ZERO),
-            Then::Landed(29, &[0]),
-        ],
-    )?;
-    for word in ["4", "12", "20", "28"] {
-        plays_source(
-            &rt,
-            &[
-                "lui r2, 0xbfe0\naddiu r3, r0, 5\nsw r3, 16(r2)\naddiu r3, r0, -1\naddiu r1, r2, ",
-                word,
-                "\nsw r3, 0(r1)\nlw r30, 16(r2)\nlw r31, 0(r2)\n",
-                LOADS,
-            ],
-            &[
-                Then::Run(8 + 31),
-                Then::Landed(8, &[0; 13]),
-                Then::Landed(21, &LWL_OF_ZERO),
-                Then::Landed(25, &LWR_OF_ZERO),
-                Then::Landed(29, &[0, 5, 0]),
-            ],
-        )?;
-    }
-    Ok(())
-}
-
-// The board's word with enables 0xa5 and the line of the serial part, which has a byte, up: 0x00a50080.
-#[test]
-fn loads_of_the_board(rt: HostRuntime) -> Result<(), Fail> {
-    let set_up = "lui r1, 0xbff0
+",
+        "run 35, landed 8 0xd, landed 9 0xd 0 0xd 0, landed 13 0xd 0 0 0, landed 17 0xd 0 0 0, landed 21 0x0dbbccdd 0x000dccdd 0xddd 0xd
+landed 25 0xd 0xaa000000 0xaabb0000 0xaabbcc00, landed 29 0xd",
+    ),
+    // The board's word with enables 0xa5 and the line of the serial part, which has a byte, up: 0x00a50080.
+    (
+        "lui r1, 0xbff0
 lui r2, 0x00a5
 sw r2, 0(r1)
 lui r3, 0xbfe0
@@ -177,47 +87,49 @@ addiu r2, r0, 0x1000
 sw r2, 8(r3)
 addiu r2, r0, 0x60
 sw r2, 0(r3)
-";
-    plays_source(
-        &rt,
-        &[set_up, LOADS],
-        &[
-            Then::Run(8),
-            Then::Receive(&[BYTE]),
-            Then::Run(30),
-            Then::Landed(8, &[0x00A5_0080]),
-            Then::Landed(9, &[0x0080, 0x00A5, 0x0080, 0x00A5]),
-            Then::Landed(13, &[0xFFFF_FF80, 0, 0xFFFF_FFA5, 0]),
-            Then::Landed(17, &[0x80, 0, 0xA5, 0]),
-            Then::Landed(21, &[0x80BB_CCDD, 0x0080_CCDD, 0xA500_80DD, 0x00A5_0080]),
-            Then::Landed(25, &[0x00A5_0080, 0xAA00_A500, 0xAABB_00A5, 0xAABB_CC00]),
-            Then::Landed(29, &[0x00A5_0080]),
-        ],
-    )
-}
-
-// A byte of the clock's RAM, 0xc5 in its last register: bytes 1 to 3 of the word are 0.
-#[test]
-fn loads_of_the_clock(rt: HostRuntime) -> Result<(), Fail> {
-    let set_up = "lui r1, 0xbfe8
+",
+        "run 8, receive 0:0x41, run 30, landed 8 0x00a50080, landed 9 0x80 0xa5 0x80 0xa5, landed 13 0xffffff80 0 0xffffffa5 0
+landed 17 0x80 0 0xa5 0, landed 21 0x80bbccdd 0x0080ccdd 0xa50080dd 0x00a50080
+landed 25 0x00a50080 0xaa00a500 0xaabb00a5 0xaabbcc00, landed 29 0x00a50080",
+    ),
+    // A byte of the clock's RAM, 0xc5 in its last register: bytes 1 to 3 of the word are 0.
+    (
+        "lui r1, 0xbfe8
 ori r1, r1, 252
 addiu r2, r0, 0xc5
 sb r2, 0(r1)
-";
-    plays_source(
-        &rt,
-        &[set_up, LOADS],
-        &[
-            Then::Run(4 + 31),
-            Then::Landed(8, &[0xC5]),
-            Then::Landed(9, &[0xC5, 0, 0xC5, 0]),
-            Then::Landed(13, &[0xFFFF_FFC5, 0, 0, 0]),
-            Then::Landed(17, &[0xC5, 0, 0, 0]),
-            Then::Landed(21, &[0xC5BB_CCDD, 0x00C5_CCDD, 0x0000_C5DD, 0x0000_00C5]),
-            Then::Landed(25, &[0x0000_00C5, 0xAA00_0000, 0xAABB_0000, 0xAABB_CC00]),
-            Then::Landed(29, &[0xC5]),
-        ],
-    )
+",
+        "run 35, landed 8 0xc5, landed 9 0xc5 0 0xc5 0, landed 13 0xffffffc5 0 0 0, landed 17 0xc5 0 0 0
+landed 21 0xc5bbccdd 0x00c5ccdd 0xc5dd 0xc5, landed 25 0xc5 0xaa000000 0xaabb0000 0xaabbcc00, landed 29 0xc5",
+    ),
+    // MSR reads 0.
+    (
+        "lui r1, 0xbfe0\nori r1, r1, 24\n",
+        "run 33, landed 8 13*0, landed 21 0x00bbccdd 0xccdd 0xdd 0 0 0xaa000000 0xaabb0000 0xaabbcc00 0",
+    ),
+];
+
+#[test]
+fn loads(rt: HostRuntime) -> Result<(), Fail> {
+    for (before, asked) in &LOADED {
+        let list = format!(in rt.alloc(); "\n$ loads\n{before}{LOADS}\n--\n{asked}\n")?;
+        plays(&rt, "", list.as_str())?;
+    }
+    Ok(())
+}
+
+// The four words without a register read 0 after a store, and no store there changes CSR or TCR.
+#[test]
+fn words_that_read_zero(rt: HostRuntime) -> Result<(), Fail> {
+    for word in [4, 12, 20, 28] {
+        let list = format!(in rt.alloc();
+            "\n$ word {word}\nlui r2, 0xbfe0\naddiu r3, r0, 5\nsw r3, 16(r2)\naddiu r3, r0, -1\naddiu r1, r2, {word}\nsw r3, 0(r1)\n\
+            lw r30, 16(r2)\nlw r31, 0(r2)\n{LOADS}\n--\nrun 39, landed 8 13*0\n\
+            landed 21 0x00bbccdd 0xccdd 0xdd 0 0 0xaa000000 0xaabb0000 0xaabbcc00 0 5 0\n"
+        )?;
+        plays(&rt, "", list.as_str())?;
+    }
+    Ok(())
 }
 
 // The periodic flag is up from step 31 on: a load of any width at any byte of C takes it, and the next load finds 0. The load
@@ -225,45 +137,38 @@ sb r2, 0(r1)
 #[test]
 fn loads_of_the_flags(rt: HostRuntime) -> Result<(), Fail> {
     for (load, want) in [
-        ("lw r5, 48(r1)", 0x40),
-        ("lh r5, 48(r1)", 0x40),
-        ("lhu r5, 50(r1)", 0),
-        ("lb r5, 48(r1)", 0x40),
-        ("lbu r5, 49(r1)", 0),
-        ("lb r5, 51(r1)", 0),
-        ("lwl r5, 49(r1)", 0x0040_0000),
-        ("lwr r5, 51(r1)", 0),
+        ("lw r5, 48(r1)", "0x40"),
+        ("lh r5, 48(r1)", "0x40"),
+        ("lhu r5, 50(r1)", "0"),
+        ("lb r5, 48(r1)", "0x40"),
+        ("lbu r5, 49(r1)", "0"),
+        ("lb r5, 51(r1)", "0"),
+        ("lwl r5, 49(r1)", "0x00400000"),
+        ("lwr r5, 51(r1)", "0"),
     ] {
-        plays_source(
-            &rt,
-            &[
-                ".clock 0 0 0 0 0 0 1 1 1 0 0x21 0x02\nlui r1, 0xbfe8\n.org 0x1fc00090\n",
-                load,
-                "\nlw r6, 48(r1)\n",
-            ],
-            &[Then::Run(38), Then::Landed(5, &[want, 0])],
+        let list = format!(in rt.alloc();
+            "\n$ {load}\n.clock 0 0 0 0 0 0 1 1 1 0 0x21 0x02\nlui r1, 0xbfe8\n.org 0x1fc00090\n{load}\nlw r6, 48(r1)\n--\n\
+            run 38, landed 5 {want} 0\n"
         )?;
+        plays(&rt, "", list.as_str())?;
     }
     Ok(())
 }
 
-// UIP is up from tick 8190 on until the update, in tick 8192; step 8188 is tick 8189.
 #[test]
 fn loads_before_an_update(rt: HostRuntime) -> Result<(), Fail> {
-    plays_source(
-        &rt,
-        &[
-            "lui r1, 0xbfe8
+    plays(&rt, "", UPDATE)
+}
+
+const UPDATE: &str = "
+$ loads before an update
+# UIP is up from tick 8190 on until the update, in tick 8192; step 8188 is tick 8189.
+lui r1, 0xbfe8
 .org 0x1fc07ff0
 lw r5, 40(r1)
 lb r6, 40(r1)
 lbu r7, 40(r1)
 lhu r8, 40(r1)
-",
-        ],
-        &[
-            Then::Run(8192),
-            Then::Landed(5, &[0x20, 0xFFFF_FFA0, 0xA0, 0x20]),
-        ],
-    )
-}
+--
+run 8192, landed 5 0x20 0xffffffa0 0xa0 0x20
+";
