@@ -13,7 +13,7 @@ invariant_of-self-2 g c =
     let log = c.self.inside.inputs.log in
     let changed : AreSameOutside c.args.from c.args.to log c.erase.new.self = λ start end apart.
     c.log_laws.ensures.window_erased c.args.from c.args.to start end log c.erase.new.self (c.in_ok-erase.ensures {u = tt})
-    (elim apart [ | inl before ↦ inl before | inr after ↦ inr (omega (arith, after)) ]) in (
+    (elim apart [ inl before ↦ inl before | inr after ↦ inr (omega (arith, after)) ]) in (
       record { sizes = old.sizes; fits = old.fits },
       c.edited.ensures.of c.self.inside.inputs.image c.self.inside.inputs.log _ runs changed,
       λ e there. absurd (none _ e c.edited.ensures.landings there),
