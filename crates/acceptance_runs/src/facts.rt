@@ -1,6 +1,6 @@
 //! The record of a span and the records that are kept, by direct calls: values by hand. In the echo program turn i of the loop
 //! begins at step 9 + 11 * i, stores RBUF in its third step, and for a byte 0 in its seventh, and sends it in its ninth.
-ghost use Rattle.std.specs.Prelude.{◌≡◌, ◌<◌, ◌≤◌, ℕ, All, IfOk, IfSome, List};
+ghost use Rattle.std.specs.Prelude.{◌≡◌, ◌<◌, ◌≤◌, ℕ, All, IfOk, IfSome, List, Some};
 ghost use Rattle.r3k_word.specs.declared.layout.TheConstants.{MAX_RAM_PAGES};
 ghost use Rattle.r3k_pages.specs.Pages.{SameOutside, page_count_of};
 ghost use Rattle.checkpoints.specs.Kept.{span_at};
@@ -255,7 +255,9 @@ fn with_word<const PAGES: u32>(
     ensures { IfOk result (λ other. SameOutside set.now start.now.words other.words) }
 {
     assert!(rt; place < word_count(PAGES));
-    assert!(rt; set.holds(page_of(place) as u32));
+    if !set.holds(page_of(place) as u32) {
+        return Err(AllocError);
+    }
     page_laws();
     let other = start.with_word(alloc, place, word)?;
     Ok(other)
@@ -358,9 +360,21 @@ fn nearly_and_not_applies<const PAGES: u32, const SPAN: u32>(
     let Some(fact) = kept.fact(0) else {
         return Err(AllocError.into());
     };
-    let dirty = marks_of(alloc, fact.dirty())?;
-    assert!(rt; !kept.nearly(0, fact.end(), &[], &dirty));
+    assert!(rt; !is_near_at_its_end(alloc, &kept, fact)?);
     Ok(())
+}
+
+// Whether a record, kept as the first one, nearly applies where it ends.
+fn is_near_at_its_end<const PAGES: u32, const SPAN: u32>(
+    alloc: Global,
+    kept: &Kept<PAGES, SPAN>,
+    fact: &Fact<PAGES, SPAN>,
+) -> Result<bool, AllocError>
+    requires few { PAGES ≤ MAX_RAM_PAGES }
+    requires kept { span_at kept.now 0 ≡ Some fact.now }
+{
+    let dirty = marks_of(alloc, fact.dirty())?;
+    Ok(kept.nearly(0, fact.end(), &[], &dirty))
 }
 
 // A set of pages, outside which is the same what is so outside the list.
