@@ -63,8 +63,20 @@ impl LoadKind {
 
     /// What a load of this kind at this address gives of the aligned word there. Those that merge keep bytes of `kept`, the
     /// register's value.
-    #[inline]
+    #[inline(always)]
     pub fn loaded(self, address: u32, word: u32, kept: u32) -> u32
+        ensures { result ≡ loaded self (address % 4) word kept }
+    {
+        // Most are of words.
+        match self {
+            LoadKind::Word => word,
+            _ => self.any_loaded(address, word, kept),
+        }
+    }
+
+    // The same, for any kind.
+    #[inline(never)]
+    fn any_loaded(self, address: u32, word: u32, kept: u32) -> u32
         ensures { result ≡ loaded self (address % 4) word kept }
     {
         let byte = address % 4;
@@ -124,8 +136,19 @@ impl StoreKind {
 
     /// What a store of this kind of a register's value puts into the aligned word of this address. A byte that would stand
     /// behind the word is dropped.
-    #[inline]
+    #[inline(always)]
     pub fn stored(self, address: u32, value: u32) -> Covered
+        ensures { result ≡ stored self (address % 4) value }
+    {
+        match self {
+            StoreKind::Word => covering(value, 15),
+            _ => self.any_stored(address, value),
+        }
+    }
+
+    // The same, for any kind.
+    #[inline]
+    fn any_stored(self, address: u32, value: u32) -> Covered
         ensures { result ≡ stored self (address % 4) value }
     {
         let byte = address % 4;

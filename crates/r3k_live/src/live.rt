@@ -54,11 +54,20 @@ pub fn counted(before: u64, steps: u32) -> u64
     before.saturating_add(steps as u64)
 }
 
-// A stretch of fewer steps costs more than these steps one by one.
-const SHORT: u32 = 8;
+// A stretch that made fewer steps, with the step after it, costs more than these steps one by one.
+const SHORT: u32 = 3;
 
-// After such a stretch this many steps are made one by one.
-const ALONE: u32 = 128;
+// After two such stretches in a row this many steps are made one by one.
+const ALONE: u32 = 127;
+
+// When to try a stretch.
+#[derive(Clone, Copy)]
+struct Pace {
+    // How many steps are still to be made one by one.
+    alone: u32,
+    // Whether the last stretch was short.
+    short: bool,
+}
 
 // No address of an instruction.
 const NOWHERE: u64 = u64::MAX;
@@ -243,21 +252,23 @@ fn step_until<const PAGES: u32, const SPAN: u32>(
     ensures bound { unwrap_or result steps ≤ steps }
 {
     let mut made = 0;
-    // How many steps are made one by one, as the last stretch was too short to pay.
-    let mut alone = 0;
+    let mut pace = Pace {
+        alone: 0,
+        short: false,
+    };
     while made < steps {
         let time = from + made as u64;
         let more = advance(
             core,
             memory,
-            alone == 0,
+            pace.alone == 0,
             time,
             &mut events,
             steps - made,
             stop,
             recorder,
         );
-        alone = alone_after(alone, more);
+        pace = pace.after(more);
         made += more;
         if core.pc() as u64 == stop {
             return Some(made);
@@ -266,16 +277,25 @@ fn step_until<const PAGES: u32, const SPAN: u32>(
     None
 }
 
-// How many steps are to be made one by one after so many were made at once: one less, or some where a stretch was short.
-#[inline(always)]
-fn alone_after(alone: u32, made: u32) -> u32
-    ensures { result < 2 ^ 32 }
-{
-    if alone > 0 {
-        return alone - 1;
+impl Pace {
+    // After this many steps were made at once.
+    #[inline(always)]
+    fn after(self, made: u32) -> Pace {
+        if self.alone > 0 {
+            return Pace {
+                alone: self.alone - 1,
+                short: false,
+            };
+        }
+        if made >= SHORT {
+            return Pace {
+                alone: 0,
+                short: false,
+            };
+        }
+        Pace {
+            alone: if self.short { ALONE } else { 0 },
+            short: true,
+        }
     }
-    if made < SHORT {
-        return ALONE;
-    }
-    0
 }

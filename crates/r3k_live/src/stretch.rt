@@ -56,10 +56,13 @@ fn quick_steps<const PAGES: u32, const SPAN: u32>(
 
 // Makes quick steps as long as they stay in the page where they begin, at most so many, and ends after one that comes to an address.
 // It makes none where none are wanted.
+#[inline(always)]
 fn stretch<const PAGES: u32, const SPAN: u32>(
     core: &mut Core,
     memory: &mut FlatMemory<PAGES>,
     wanted: bool,
+    time: u64,
+    events: &Cursor,
     most: u32,
     stop: u64,
     recorder: &mut Recorder<PAGES, SPAN>,
@@ -67,10 +70,12 @@ fn stretch<const PAGES: u32, const SPAN: u32>(
     requires room { recorder.old.steps + most ≤ SPAN }
     ensures bound { result ≤ most }
     ensures steps { recorder.new.steps ≡ recorder.old.steps + result }
-    ensures gone { (log : List LogEvent) (from : ℕ) (start : State) (made : ℕ) → IsFreeFor most log (from + made) →
+    ensures gone { (log : List LogEvent) (from : ℕ) (start : State) (made : ℕ) → time ≡ from + made →
+        ((later : ℕ) → time ≤ later → arriving events.now later ≡ arriving log later) →
         HasGone PAGES log from start made (state_of core.old memory.old) recorder.old →
         HasGone PAGES log from start (made + result) (state_of core.new memory.new) recorder.new }
-    ensures before { (log : List LogEvent) (from : ℕ) (start : State) (made : ℕ) → IsFreeFor most log (from + made) →
+    ensures before { (log : List LogEvent) (from : ℕ) (start : State) (made : ℕ) → time ≡ from + made →
+        ((later : ℕ) → time ≤ later → arriving events.now later ≡ arriving log later) →
         HasGone PAGES log from start made (state_of core.old memory.old) recorder.old →
         PassesBy PAGES log from start stop made (made + result) }
 {
@@ -83,7 +88,8 @@ fn stretch<const PAGES: u32, const SPAN: u32>(
     let Some(page) = code_page(core, memory) else {
         return 0;
     };
-    let made = quick_steps(core, memory, page, most.min(quiet), stop, recorder);
+    let free = u64::from(most.min(quiet)).min(events.free(time)) as u32;
+    let made = quick_steps(core, memory, page, free, stop, recorder);
     core.elapse(made);
     made
 }
@@ -116,8 +122,7 @@ pub(crate) fn advance<const PAGES: u32, const SPAN: u32>(
         PassesBy PAGES log from start stop made (made + result) }
     ensures left { (later : ℕ) → time + result ≤ later → arriving events.new later ≡ arriving events.old later }
 {
-    let free = u64::from(most).min(events.free(time)) as u32;
-    let made = stretch(core, memory, wanted, free, stop, recorder);
+    let made = stretch(core, memory, wanted, time, events, most, stop, recorder);
     if made == most || (made > 0 && core.pc() as u64 == stop) {
         return made;
     }

@@ -45,7 +45,7 @@ use Rattle.r3k_machine.specs.Exceptions.{is_unusable}
 use Rattle.r3k_machine.specs.LoadStore.{after_load, after_store, loaded_at, meaning_of_fetch, meaning_of_load, meaning_of_store, ram_word, stored_at, word_at, word_of_place, word_read, words_after, words_with}
 use Rattle.r3k_machine.specs.Step.{Completion, Outcome, arrived, completion_of_effect, completion_of_load, completion_of_store, completion_of_word, operands_of, outcome_of_completion, outcome_of_fetch, outcome_of_instruction, outcome_of_interrupt_or_instruction, outcome_of_step, sampled, ticked, with_fall}
 use Rattle.r3k_machine.specs.declared.quick.CodePage.{CodePage}
-use Rattle.r3k_machine.specs.Quiet.{IsCodePage, IsPlain, IsQuick, IsQuickEffect, IsQuietFor, elapsed, outcome_elapsed, state_elapsed}
+use Rattle.r3k_machine.specs.Quiet.{GoesOverBus, IsCodePage, IsFetchedFrom, IsPlain, IsQuick, IsQuickEffect, IsQuietFor, elapsed, outcome_elapsed, state_elapsed}
 
 -- after ticks and falls of Random
 abbrev pub aged : (ticks falls : ℕ) → Core → Core
@@ -73,7 +73,10 @@ quiet_kept n old new keeps quiet = record {
 
 pub code_kept : (pages : ℕ) (page : CodePage) (old new : Core) → Keeps old new → IsCodePage pages old page → IsCodePage pages new page
 unfolding meaning
-code_kept pages page old new keeps code = λ address here aligned. rw (keeps.entries, keeps.cop0) (code address here aligned)
+code_kept pages page old new keeps code = record {
+  fetched = λ address here aligned. rw (keeps.entries, keeps.cop0) (code.fetched address here aligned);
+  plain = λ on. record { kernel = rw keeps.cop0 (code.plain on).kernel; shared = rw keeps.cop0 (code.plain on).shared };
+}
 
 -- an address means the same
 meaning_aged : (ticks falls : ℕ) (core : Core) (access : Use) (aligned : Bool) (address : ℕ)
@@ -228,6 +231,18 @@ unmapped_there : (user : Bool) (address : ℕ) → IsFalse user → KSEG0 ≤ ad
     ≡ Unmapped (record { address = address % 2 ^ 29; cacheable = nat_lt address KSEG1 })
 unmapped_there user address kernel least most = grind (arith, nat_tests)
 
+and_false : (a : Bool) → (a && false) ≡ false
+and_false true = refl
+and_false false = refl
+
+pub over_bus : (core : Core) (access : Use) (address : ℕ) → GoesOverBus core → KSEG0 ≤ address → address < KSEG2
+    → IsPlain core (meaning core access true address) (record { address = address % 2 ^ 29; cacheable = nat_lt address KSEG1 })
+unfolding meaning
+over_bus core access address goes least most = record {
+  means = ap (meaning_in core access address) (unmapped_there (in_user_mode core.cop0) address goes.kernel least most);
+  shared = ap (λ (b : Bool). nat_lt address KSEG1 && b) goes.shared ∙ and_false (nat_lt address KSEG1);
+}
+
 -- an aligned address of the page of another one, and the physical addresses
 same_page : (at address : ℕ) → address / 4096 ≡ at / 4096 → address % 2 ^ 29 / 4096 ≡ at % 2 ^ 29 / 4096
 same_page at address same = omega arith
@@ -239,7 +254,7 @@ place_in_page pages at address place aligned same stands = grind (arith, nat_tes
 
 unmapped_page : (core : Core) (pages at place : ℕ) (physical : Physical) → segment_of core.cop0 (at % 4 == 0) at ≡ Unmapped physical
     → place_of_word pages (physical.address / 4 * 4) ≡ Some place
-    → IsCodePage pages core (record { number = at / 4096; page = place / 1024 })
+    → IsFetchedFrom pages core (at / 4096) (place / 1024)
 unfolding meaning
 unmapped_page core pages at place physical is stands = λ address same aligned.
     let lies = kernel_alone (in_user_mode core.cop0) (at % 4 == 0) at physical is in
@@ -322,7 +337,7 @@ framed (Some found) at address physical is =
 mapped_page : (core : Core) (pages at place : ℕ) (physical : Physical) → segment_of core.cop0 (at % 4 == 0) at ≡ Mapped
     → meaning_of_found Fetch at (found_for core at) ≡ means physical → at % 4 ≡ 0
     → place_of_word pages (physical.address / 4 * 4) ≡ Some place
-    → IsCodePage pages core (record { number = at / 4096; page = place / 1024 })
+    → IsFetchedFrom pages core (at / 4096) (place / 1024)
 unfolding meaning
 mapped_page core pages at place physical mapped is at_word stands = λ address same aligned.
     let frame = framed (found_for core at) at address physical is in
@@ -343,7 +358,7 @@ aligned_if cop0 at is = grind (arith, nat_tests)
 
 pub code_of : (core : Core) (pages at place : ℕ) (physical : Physical) (segment : Segment) → segment_of core.cop0 (at % 4 == 0) at ≡ segment
     → meaning_in core Fetch at segment ≡ means physical → place_of_word pages (physical.address / 4 * 4) ≡ Some place
-    → IsCodePage pages core (record { number = at / 4096; page = place / 1024 })
+    → IsFetchedFrom pages core (at / 4096) (place / 1024)
 code_of core pages at place physical Forbidden lies is stands = absurd (not_an_exception false (AddressErrorLoad at) physical is)
 code_of core pages at place physical (Unmapped other) lies is stands =
     let same : other ≡ physical = cc (ap (λ (m : Meaning). m.answer) is) in
@@ -353,7 +368,7 @@ code_of core pages at place physical Mapped lies is stands =
 
 pub code_at : (core : Core) (pages at place : ℕ) (physical : Physical) → meaning core Fetch (at % 4 == 0) at ≡ means physical
     → place_of_word pages (physical.address / 4 * 4) ≡ Some place
-    → IsCodePage pages core (record { number = at / 4096; page = place / 1024 })
+    → IsFetchedFrom pages core (at / 4096) (place / 1024)
 unfolding meaning
 code_at core pages at place physical is stands = code_of core pages at place physical (segment_of core.cop0 (at % 4 == 0) at) refl is stands
 
@@ -373,7 +388,7 @@ abbrev pub quick_in_page : (pages : ℕ) (s : State) (page : CodePage) (word : �
     → is_unusable s.core word ≡ false → operation_of word ≡ Some operation
     → IsQuickEffect pages s.core (effect_of operation (operands_of s.core operation)) → IsQuick pages s
 quick_in_page pages s page word operation code here aligned is usable decoded effect =
-    let found = code s.core.pc here aligned in record {
+    let found = code.fetched s.core.pc here aligned in record {
       physical = found.0;
       fetched = record { word = word; page = page.page };
       operation = operation;

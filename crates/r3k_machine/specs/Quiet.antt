@@ -1,9 +1,11 @@
 -- Quiet steps (own): nothing comes before the instruction but ticks that only count, and the instruction touches registers, PC and
 -- memory alone. So all ticks and falls of Random of many such steps may come behind the last of them.
-use Rattle.std.specs.Prelude.{◌≡◌, ℕ, ◌+◌, ◌*◌, ◌/◌, ◌%◌, ◌≤◌, false, true, IsFalse, Some, Ok}
+use Rattle.std.specs.Prelude.{◌≡◌, ℕ, ◌+◌, ◌*◌, ◌/◌, ◌%◌, ◌≤◌, false, true, IsFalse, IsTrue, Some, Ok}
 use Rattle.r3k_word.specs.Layout.{place_of_word}
 use Rattle.r3k_word.specs.declared.layout.TheConstants.{PAGE_BYTES, PAGE_WORDS}
 use Rattle.cop0.specs.Changes as control
+use Rattle.cop0.specs.Status as status
+use Rattle.cop0.specs.Status.{in_user_mode}
 use Rattle.kn02_bus.specs.Lines.{lines_of}
 use Rattle.kn02_bus.specs.Quiet.{after, quiet_of}
 use Rattle.r3k_decode.specs.Operation.{Operation}
@@ -61,6 +63,11 @@ IsQuickEffect pages core (Store kind address value) =
     × (ram_word pages physical.address ≡ Some word)
 IsQuickEffect pages core effect = ⊥
 
+-- a word that is an instruction, and usable in any mode
+pub record IsDecoded (word : ℕ) (operation : Operation) : Type 0 where
+  pub decoded : operation_of word ≡ Some operation
+  pub usable : (core : Core) → IsFalse (is_unusable core word)
+
 -- the instruction at PC has such an effect
 pub record IsQuick (pages : ℕ) (s : State) : Type 0 where
   pub physical : Physical
@@ -73,7 +80,17 @@ pub record IsQuick (pages : ℕ) (s : State) : Type 0 where
   pub effect : IsQuickEffect pages s.core (effect_of operation (operands_of s.core operation))
 
 -- all words of a virtual page are fetched from a page of memory
-abbrev pub IsCodePage : ℕ → Core → CodePage → Type 0
-IsCodePage pages core page = (address : ℕ) → address / PAGE_BYTES ≡ page.number → address % 4 ≡ 0
+abbrev pub IsFetchedFrom : ℕ → Core → (number page : ℕ) → Type 0
+IsFetchedFrom pages core number page = (address : ℕ) → address / PAGE_BYTES ≡ number → address % 4 ≡ 0
     → (physical : Physical) × (meaning core Fetch true address ≡ record { several = false; answer = Ok physical })
-    × (place_of_word pages (physical.address / 4 * 4) ≡ Some (page.page * PAGE_WORDS + address % PAGE_BYTES / 4))
+    × (place_of_word pages (physical.address / 4 * 4) ≡ Some (page * PAGE_WORDS + address % PAGE_BYTES / 4))
+
+-- loads and stores of kseg0 and kseg1 go over the bus
+pub record GoesOverBus (core : Core) : Type 0 where
+  pub kernel : IsFalse (in_user_mode core.cop0)
+  pub shared : IsFalse (status.is_isolated core.cop0)
+
+-- a page that is run in
+pub record IsCodePage (pages : ℕ) (core : Core) (page : CodePage) : Type 0 where
+  pub fetched : IsFetchedFrom pages core page.number page.page
+  pub plain : IsTrue page.plain → GoesOverBus core

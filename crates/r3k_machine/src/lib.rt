@@ -2,6 +2,7 @@
 #![tactic(auto)]
 
 mod address;
+mod decoded;
 mod devices;
 mod exception;
 mod execute;
@@ -16,6 +17,7 @@ pub mod step;
 mod translation;
 
 pub use address::Where;
+pub use decoded::Decoded;
 pub use kept::KeptCore;
 pub use laws::{locality, quiet_laws, run_laws};
 pub use memory::Mem;

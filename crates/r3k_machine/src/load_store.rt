@@ -5,6 +5,7 @@ ghost use Rattle.r3k_exec.specs.Access.{stored};
 ghost use Rattle.r3k_machine.specs.Address.{met};
 ghost use Rattle.kn02_bus.specs.Region.{region_of};
 ghost use Rattle.r3k_word.specs.Layout.{place_of_word};
+ghost use Rattle.r3k_word.specs.Word.{merged};
 ghost use Rattle.r3k_machine.specs.LoadStore.{after_load_over_bus, after_store_over_bus, core_after_load, core_after_store, fetched, lane_mask, loaded_from, loaded_over_bus, meaning_of_fetch, ram_word, stored_over_bus, stored_to, word_at, words_after, words_with};
 ghost use Rattle.r3k_machine.specs.Told.{DifferAt, IsPage, IsRamWord, IsSent};
 
@@ -62,6 +63,18 @@ fn lane_mask(lanes: u8) -> u32
         + u32::from(lanes / 8 % 2) * 0xFF00_0000
 }
 
+// A word after a store into those of its bytes that these lanes cover.
+#[inline(always)]
+fn with_bytes(old: u32, lanes: u8, new: u32) -> u32
+    ensures { result ≡ merged (lane_mask lanes) old new }
+{
+    // Most stores are of words.
+    if lanes == 15 {
+        return new;
+    }
+    merge(lane_mask(lanes), old, new)
+}
+
 // Stores into the word of RAM that a physical address lies in, and gives the address of that word, if there is one.
 #[inline]
 pub(crate) fn put<M: Mem>(memory: &mut M, physical: u32, covered: Covered) -> Option<u32>
@@ -75,7 +88,7 @@ pub(crate) fn put<M: Mem>(memory: &mut M, physical: u32, covered: Covered) -> Op
         return None;
     }
     let place = (physical / 4) as usize;
-    let word = merge(lane_mask(covered.lanes), memory.word(place), covered.word);
+    let word = with_bytes(memory.word(place), covered.lanes, covered.word);
     memory.set_word(place, word);
     Some(physical / 4 * 4)
 }

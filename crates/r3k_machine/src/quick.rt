@@ -1,25 +1,27 @@
 //! Quick steps: those before which nothing happens but counting, and whose instruction touches registers, PC and memory alone.
 
-ghost use Rattle.std.specs.Prelude.{◌≡◌, ◌<◌, IfSome, None, Ok};
+ghost use Rattle.std.specs.Prelude.{◌≡◌, ◌<◌, IfSome, IsTrue, None, Ok, length};
 ghost use Rattle.r3k_exec.specs.Effects.{NamesRegisters};
-ghost use Rattle.r3k_machine.specs.Quiet.{IsCodePage, IsQuick, IsQuickEffect, IsQuietFor, elapsed};
+ghost use Rattle.r3k_machine.specs.Quiet.{GoesOverBus, IsCodePage, IsPlain, IsQuick, IsQuickEffect, IsQuietFor, elapsed};
+ghost use Rattle.r3k_machine.specs.Address.{meaning};
 ghost use Rattle.r3k_machine.specs.Step.{completion_of_effect, outcome_of_instruction};
 ghost use Rattle.r3k_machine.specs.Told.{IsPage, IsTold};
 
-use crate::address::Use;
+use crate::address::{KSEG0, KSEG1, KSEG2, Physical, Use};
 use crate::load_store::{Stored, put};
 use crate::memory::Mem;
 use crate::state::Core;
 use crate::step::Done;
-use r3k_decode::decode;
 use r3k_exec::{Effect, effect};
 use r3k_word::layout::{PAGE_BYTES, PAGE_WORDS, page_of, place_of};
 
-/// A page that is run in: the number of the virtual page, and the page of RAM or ROM that its words are fetched from.
+/// A page that is run in: the number of the virtual page, the page of RAM or ROM that its words are fetched from, and whether loads
+/// and stores of kseg0 and kseg1 go over the bus, as the mode is the kernel's and the cache is not isolated.
 #[derive(Clone, Copy, Debug)]
 pub struct CodePage {
     pub number: u32,
     pub page: u32,
+    pub plain: bool,
 }
 
 impl Core {
@@ -43,6 +45,32 @@ impl Core {
         self.bus.pass(steps);
         self.processor.cop0.fall_by(steps);
     }
+
+    // Whether loads and stores of kseg0 and kseg1 go over the bus.
+    fn goes_over_bus(&self) -> bool
+        ensures { IsTrue result → GoesOverBus self.now }
+    {
+        !self.cop0().in_user_mode() && !self.cop0().is_isolated()
+    }
+
+    // The physical address of a load or store that goes over the bus, where that takes no search and is no exception.
+    #[inline(always)]
+    fn reached(&self, access: Use, aligned: bool, address: u32, plain: bool) -> Option<Physical>
+        requires { IsTrue plain → GoesOverBus self.now }
+        ensures { IfSome result (λ physical. IsPlain self.now (meaning self.now access aligned address) physical) }
+    {
+        if plain && aligned && address >= KSEG0 && address < KSEG2 {
+            return Some(Physical {
+                address: address & 0x1FFF_FFFF,
+                cacheable: address < KSEG1,
+            });
+        }
+        let physical = self.known(access, aligned, address)?;
+        if self.is_isolated(physical) {
+            return None;
+        }
+        Some(physical)
+    }
 }
 
 /// The page of the PC, where its words are fetched without an exception and without a search.
@@ -56,15 +84,23 @@ pub fn code_page<M: Mem>(core: &Core, memory: &M) -> Option<CodePage>
     Some(CodePage {
         number: address / PAGE_BYTES,
         page: page_of(place) as u32,
+        plain: core.goes_over_bus(),
     })
 }
 
 // Performs the effect of the instruction at the PC, which was fetched from a page, if it is on registers, PC and memory alone and
 // that is known without a search. Else it changes nothing.
 #[inline(always)]
-fn perform_quick<M: Mem>(core: &mut Core, memory: &mut M, page: u32, effect: Effect) -> Option<Done>
+fn perform_quick<M: Mem>(
+    core: &mut Core,
+    memory: &mut M,
+    page: u32,
+    plain: bool,
+    effect: Effect,
+) -> Option<Done>
     requires registers { NamesRegisters effect }
     requires page { IsPage (M.ram memory.old) page }
+    requires plain { IsTrue plain → GoesOverBus core.old }
     ensures quick { IfSome result (λ done. IsQuickEffect (M.ram memory.old) core.old effect) }
     ensures ran { IfSome result (λ done.
         completion_of_effect (M.ram memory.old) (record { core = core.old; words = M.words memory.old }) page effect
@@ -110,10 +146,7 @@ fn perform_quick<M: Mem>(core: &mut Core, memory: &mut M, page: u32, effect: Eff
             register,
             address,
         } => {
-            let physical = core.known(Use::Load, kind.is_aligned(address), address)?;
-            if core.is_isolated(physical) {
-                return None;
-            }
+            let physical = core.reached(Use::Load, kind.is_aligned(address), address, plain)?;
             let place = place_of(memory.ram_pages(), physical.address / 4 * 4)?;
             let word = memory.word(place);
             core.complete();
@@ -126,10 +159,7 @@ fn perform_quick<M: Mem>(core: &mut Core, memory: &mut M, page: u32, effect: Eff
             address,
             value,
         } => {
-            let physical = core.known(Use::Store, kind.is_aligned(address), address)?;
-            if core.is_isolated(physical) {
-                return None;
-            }
+            let physical = core.reached(Use::Store, kind.is_aligned(address), address, plain)?;
             let address = put(memory, physical.address, kind.stored(address, value))?;
             core.complete();
             let stored = Stored {
@@ -141,6 +171,18 @@ fn perform_quick<M: Mem>(core: &mut Core, memory: &mut M, page: u32, effect: Eff
         _ => return None,
     }
     Some(Done::fetching(Some(page)))
+}
+
+// Decodes the word at a place, unless its instruction is known.
+#[inline(always)]
+fn decode_at<M: Mem>(memory: &mut M, place: usize)
+    requires { place < length (M.words memory.old) }
+    ensures words { M.words memory.new ≡ M.words memory.old }
+    ensures same { M.ram memory.new ≡ M.ram memory.old }
+{
+    if memory.insn(place).is_none() {
+        memory.learn(place);
+    }
 }
 
 /// Runs the instruction at the PC if that lies in this page and the instruction is quick. Else it changes nothing.
@@ -161,11 +203,8 @@ pub fn quick_step<M: Mem>(core: &mut Core, memory: &mut M, page: CodePage) -> Op
         return None;
     }
     let place = page.page as usize * PAGE_WORDS as usize + (address % PAGE_BYTES / 4) as usize;
-    let word = memory.word(place);
-    if core.is_unusable(word) {
-        return None;
-    }
-    let insn = decode(word)?;
-    let effect = effect(&insn, core.operands(&insn));
-    perform_quick(core, memory, page.page, effect)
+    decode_at(memory, place);
+    let insn = memory.insn(place)?;
+    let effect = effect(insn, core.operands(insn));
+    perform_quick(core, memory, page.page, page.plain, effect)
 }

@@ -8,7 +8,7 @@ use Rattle.r3k_machine.specs.Step.{outcome_of_step}
 use Rattle.r3k_live.specs.Going.{HasGone, PassesBy}
 use Rattle.r3k_live.specs.Living.{state_of}
 use Rattle.r3k_live.proofs.Going.{left_later}
-use Rattle.r3k_live.proofs.Gone.{free_of, one_more, passes_more}
+use Rattle.r3k_live.proofs.Gone.{one_more, passes_more}
 use Rattle.r3k_live.proofs.stretch.advance.Goals.{then-made-gt0, else-made-gt0}
 use Rattle.r3k_live.proofs.stretch.advance.Goals as goal
 
@@ -17,8 +17,7 @@ returns-clause-gone g c = λ log from start made now same gone.
     let s = state_of c.stretch-made.new.core c.stretch-made.new.memory in
     let t = state_of c.step-done.new.core c.step-done.new.memory in
     let more = c.stretch-made.result in
-    let free = free_of c.args.events.now log c.args.time (from + made) c.free.result c.min-free.result now (omega (arith, c.min-free.ensures)) same c.free.ensures in
-    let here = c.stretch-made.ensures.gone log from start made free gone in
+    let here = c.stretch-made.ensures.gone log from start made now same gone in
     let events = ap (arriving log) (let e : from + (made + more) ≡ c.args.time + more = omega (arith, now) in e)
     ∙ (sym (same (c.args.time + more) (omega arith)) ∙ sym c.next.ensures.events) in
     let outcome : outcome_of_step g.row.PAGES c.next.result.now s ≡ record { state = t; done = c.step-done.result } =
@@ -30,9 +29,8 @@ returns-clause-gone g c = λ log from start made now same gone.
 pub returns-clause-before : goal.returns-clause-before
 returns-clause-before g c = λ log from start made now same gone.
     let more = c.stretch-made.result in
-    let free = free_of c.args.events.now log c.args.time (from + made) c.free.result c.min-free.result now (omega (arith, c.min-free.ensures)) same c.free.ensures in
-    let here = c.stretch-made.ensures.gone log from start made free gone in
-    let passed = c.stretch-made.ensures.before log from start made free gone in
+    let here = c.stretch-made.ensures.gone log from start made now same gone in
+    let passed = c.stretch-made.ensures.before log from start made now same gone in
     elim c.if-made-gt0.branch [
       | then-made-gt0 w ↦
           subst (λ (n : ℕ). PassesBy g.row.PAGES log from start c.args.stop made n) (let e : made + more + 1 ≡ made + (more + 1) = omega arith in e)

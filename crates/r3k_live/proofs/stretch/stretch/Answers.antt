@@ -1,6 +1,15 @@
-use Rattle.std.proofs.Common.{arith}
+use Rattle.std.proofs.Common.{ℕ, ◌+◌, arith}
+use Rattle.r3k_live.specs.Going.{IsFreeFor}
+use Rattle.r3k_live.proofs.Gone.{free_of}
 use Rattle.r3k_live.proofs.stretch.stretch.Goals as goal
 
 pub returns-clause-gone : goal.returns-clause-gone
-returns-clause-gone g c = λ log from start made free gone.
-    rw c.elapse.ensures (c.quick_steps-made.ensures.gone log from start made (λ k within. free k (omega (arith, within, c.min.ensures))) gone)
+returns-clause-gone g c = λ log from start made now same gone.
+    rw c.elapse.ensures
+    (c.quick_steps-made.ensures.gone log from start made
+    (free_of c.args.events.now log c.args.time (from + made) c.free.result c.min-free.result now (omega (arith, c.min-free.ensures)) same c.free.ensures) gone)
+
+pub returns-clause-before : goal.returns-clause-before
+returns-clause-before g c = λ log from start made now same gone.
+    c.quick_steps-made.ensures.before log from start made
+    (free_of c.args.events.now log c.args.time (from + made) c.free.result c.min-free.result now (omega (arith, c.min-free.ensures)) same c.free.ensures) gone

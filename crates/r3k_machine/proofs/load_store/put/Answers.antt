@@ -18,7 +18,6 @@ returns-clause-words g c =
       lt-ltb c.args.physical (ram * PAGE_BYTES) below,
       place,
       c.set_word.ensures.set,
-      c.merge-word.ensures,
+      c.with_bytes-word.ensures,
       c.word.ensures,
-      c.lane_mask.ensures,
     ) refl
