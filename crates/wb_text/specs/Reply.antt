@@ -60,7 +60,7 @@ row_text registers first =
     ++ codes " " ++ word_text (slice_index registers (first + 2))
     ++ codes " " ++ word_text (slice_index registers (first + 3))
 
--- the lines of the first rows, which begin with r0, r4, r8 and so on
+-- the lines of the first rows, of which the registers begin with r0, r4, r8 and so on
 unfoldable pub rows_text : List ℕ → ℕ → List ℕ
 rows_text registers zero = []
 rows_text registers (suc row) = rows_text registers row ++ line (row_text registers (4 * row))

@@ -55,7 +55,7 @@ struct Front {
     reads_left: u32,
 }
 
-// Reads so many bytes, and no more.
+// Reads `size` bytes, and no more.
 fn read_front<R: Source>(alloc: Global, size: usize, reader: &mut R) -> Result<Front, RunFault>
     ensures { (reads : List Call)
         × Reads (R.reads reader.old) (R.reads reader.new) (R.left reader.old) (R.left reader.new) reads
@@ -99,7 +99,7 @@ fn image_of(alloc: Global, kind: Kind, bytes: &[u8]) -> Result<Image, RunFault>
     }
 }
 
-// The log that bytes spell: none at all is the empty log.
+// The log that bytes spell. No bytes are the empty log.
 fn log_of(alloc: Global, bytes: &[u8]) -> Result<Log, RunFault>
     ensures made { Makes result (log_of bytes.now) }
     ensures judged { IfErr result IsJudgement }
