@@ -14,7 +14,7 @@ pub enum AsmKind {
     /// A number is out of range.
     #[error("Number")]
     Number,
-    /// The label or the directive was there before.
+    /// The label or the directive is there already.
     #[error("Twice")]
     Twice,
     /// No word of RAM or ROM stands at the place.

@@ -17,7 +17,7 @@ use Rattle.r3k_asm.specs.declared.reference.Reference.{Reference}
 use Rattle.r3k_asm.specs.declared.source.Source.{Source}
 use Rattle.r3k_asm.specs.Reference.{LabelMap}
 
--- the place, the words that are set, of which those that have a target lack its part, the labels, and the constants
+-- the place, the set words (one with a target lacks the part of it), the labels, and the constants
 pub record State : Type 0 where
   pub place : ℕ
   pub words : map.FinMap nat_cmp ℕ

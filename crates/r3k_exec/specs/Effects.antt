@@ -33,7 +33,7 @@ write_hi_lo r = WriteHiLo r.hi r.lo
 abbrev pub has_sign_bit : ℕ → Bool
 has_sign_bit word = nat_le (2 ^ 31) word
 
--- the return address: that of the instruction behind the delay slot
+-- the return address: that of the instruction after the delay slot
 abbrev pub return_address_of : ℕ → ℕ
 return_address_of pc = sum_of pc 8
 
