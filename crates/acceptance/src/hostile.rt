@@ -85,7 +85,7 @@ fn others(rt: HostRuntime) -> Result<(), Fail> {
     Ok(())
 }
 
-// Holds a run to a fault, whose line is all that it writes.
+// Compares a run with a fault, whose line is all that it writes.
 fn is_refused(
     rt: &impl Abort,
     alloc: Global,
