@@ -221,7 +221,7 @@ static FAULTS: [(&str, u64, AsmKind); 169] = [
     ("j", 1, AsmKind::Syntax),
     ("j 1x", 1, AsmKind::Syntax),
     ("j Abcdefghijklmnopqrstuvwxyz_012345", 1, AsmKind::Syntax),
-    // numbers that are none, and signs where none may stand
+    // words that are no numbers, and signs where none may stand
     (".word 0x", 1, AsmKind::Syntax),
     (".word 0X10", 1, AsmKind::Syntax),
     (".word 0x1g", 1, AsmKind::Syntax),

@@ -49,7 +49,7 @@ pub enum Ask<'a> {
     Patch(u32, u32),
     /// A patch at an address is refused.
     RefusesPatch(u32, Fault),
-    /// An address that is none, and numbers out of their ranges, are refused.
+    /// An address of no word, and numbers out of their ranges, are refused.
     Refuses,
 }
 
@@ -220,7 +220,7 @@ impl<const PAGES: u32, const SPAN: u32> Asked<PAGES, SPAN> {
         same(rt, &erased, &Err(Fault::Range));
     }
 
-    // An address that is none, and numbers out of their ranges.
+    // An address of no word, and numbers out of their ranges.
     fn refuses(&mut self, rt: &impl Abort) {
         let far = self.timeline.word_at(MAX_POSITION + 1, 0x100).is_err();
         assert!(rt; far);

@@ -77,9 +77,9 @@ fn program(alloc: Global, makes: &str, mends: &str) -> Result<Image, Fail> {
     Ok(assemble(alloc, source.as_bytes())?)
 }
 
-// Two runs of an image, with two logs of the first span, that differ where the second one starts, and nowhere where it ends: a
+// Two runs of an image, with two logs of the first span, differ where the second span starts, and are equal where it ends. So a
 // record of the second span of one run is not taken in the other, and one of the third is. Nothing else differed, as no step looked
-// at it but to take it away.
+// at the difference except to take it away.
 fn told_apart<'a>(
     rt: &(impl Abort + AllocGlobal),
     name: &str,
@@ -610,8 +610,8 @@ fn meets_late(rt: &impl Abort, alloc: Global, mends: &str, costs: (u64, u64)) ->
     )
 }
 
-/// Runs that meet where the last span starts, which alone is taken: step 447 is the last one before it. Where step 448 takes the
-/// difference away, they meet a span later; and where no step does, they never meet.
+/// Runs that meet where the last span starts, so that only that span is taken: step 447 is the last one before it. Where step 448
+/// takes the difference away, they meet a span later. Where no step does, they never meet.
 #[test]
 fn late_meetings(rt: HostRuntime) -> Result<(), Fail> {
     let mends = ".org 0x1fc006fc\naddu r12, r0, r0\n";

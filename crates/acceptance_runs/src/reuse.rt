@@ -204,7 +204,7 @@ fn erasing_between_spans(rt: HostRuntime) -> Result<(), Fail> {
     )
 }
 
-/// A patched word that the first span overwrites costs that span alone, and so does one of the start, whose page is carried over.
+/// A patched word that the first span overwrites costs only that span. So does a word of the start, whose page is carried over.
 #[test]
 fn patches(rt: HostRuntime) -> Result<(), Fail> {
     asks(

@@ -26,7 +26,7 @@ pub enum AsmKind {
     /// The label is not defined.
     #[error("Label")]
     Label,
-    /// The target can't be reached from here.
+    /// The target is out of reach.
     #[error("Reach")]
     Reach,
 }

@@ -29,7 +29,7 @@ Follows pages span (Some a) (Some b) = b.start ≡ end_of pages span a
 abbrev pub SameOn : List ℕ → List ℕ → List ℕ → Type 0
 SameOn set a b = (page : ℕ) → IsTrue (holds set page) → SamePage page a b
 
--- a span nearly applies: its events are these, and its start differs from this one only in words of pages that it does not touch
+-- a span nearly applies: it has these events, and its start differs from this one only in words of pages that it does not touch
 pub record NearlyApplies (pages span : ℕ) (s : Span) (start : State) (events : List LogEvent) : Type 0 where
   pub same_events : s.events ≡ events
   pub same_core : s.start.core ≡ start.core

@@ -77,8 +77,8 @@ impl<const PAGES: u32, const SPAN: u32> Kept<PAGES, SPAN> {
         }
     }
 
-    /// Whether a record is kept of the span of a number with these events, whose start differs from this one only in words of pages
-    /// that the span does not touch. Outside the differing pages both starts have the same words.
+    /// Whether a record is kept of the span of a number with these events. Its start may differ from this one only in words of
+    /// pages that the span does not touch. Outside the differing pages both starts have the same words.
     pub fn nearly(
         &self,
         index: u64,
@@ -210,8 +210,8 @@ fn has_events_and_core<const PAGES: u32, const SPAN: u32>(
     kept.core() == start.core()
 }
 
-// Whether a record is that of a span with these events, whose start differs from this one only in words of pages that it does not
-// touch.
+// Whether a record is that of a span with these events. Its start may differ from this one only in words of pages that the span
+// does not touch.
 fn is_near<const PAGES: u32, const SPAN: u32>(
     fact: &Fact<PAGES, SPAN>,
     start: &Boundary<PAGES>,

@@ -1,4 +1,4 @@
--- Quiet ticks (own): those that only count, in which no device does anything that can be seen.
+-- Quiet ticks (own): those that only count, in which no device does anything visible.
 use Rattle.std.specs.Prelude.{ℕ, zero, suc, min}
 use Rattle.dz_serial.specs.Quiet as serial_quiet
 use Rattle.mc146818.specs.Quiet as clock_quiet

@@ -20,7 +20,7 @@ fits_signed n = int_le (signed (2 ^ 31)) n && int_le n (signed (2 ^ 31 - 1))
 abbrev pub write_or_overflow : ℕ → ℤ → ℕ → Effect
 write_or_overflow register exact value = if fits_signed exact then Write register value else Trap Overflow
 
--- a value is written, and where there is none it is an overflow
+-- a value is written; without one it is an overflow
 abbrev pub write_if_some : ℕ → Option ℕ → Effect
 write_if_some register None = Trap Overflow
 write_if_some register (Some value) = Write register value

@@ -28,7 +28,7 @@ steps_in pages span (Some s) = steps_of pages span s
 abbrev pub steps_at : (pages span : ℕ) → List (Option Span) → ℕ → List Done
 steps_at pages span spans i = steps_in pages span (slice_index_or spans i None)
 
--- the bytes of a line that they sent
+-- the bytes of a line that a record sent
 abbrev pub bytes_at : (pages span : ℕ) → List (Option Span) → (line i : ℕ) → List ℕ
 bytes_at pages span spans line i = bytes_on line (sent_from 0 (steps_at pages span spans i))
 

@@ -54,11 +54,11 @@ EndsWell left left' [] = left' ≡ left
 EndsWell left left' (call ∷ []) = MovesNone call → IsAtEnd left'
 EndsWell left left' (call ∷ (next ∷ calls)) = EndsWell left left' (next ∷ calls)
 
--- A reader made these further calls, and what it has left lost the bytes that they moved, where it reports what is left.
+-- A reader made these further calls. What it has left lost the bytes that they moved, if it reports what is left.
 abbrev pub Reads : (reads reads' : List Call) (left left' : Option (List ℕ)) → List Call → Type 0
 Reads reads reads' left left' made = (reads' ≡ reads ++ made) × Consumes left left' (bytes_moved made) × EndsWell left left' made
 
--- A writer made these further calls, and what it holds grew by the bytes that they moved, where it reports what it holds.
+-- A writer made these further calls. What it holds grew by the bytes that they moved, if it reports what it holds.
 abbrev pub Writes : (writes writes' : List Call) (written written' : Option (List ℕ)) → List Call → Type 0
 Writes writes writes' written written' made = (writes' ≡ writes ++ made) × Appends written written' (bytes_moved made)
 

@@ -101,7 +101,7 @@ words_text instruction address words (suc place) =
 abbrev pub all_words_text : Bool → Words → List ℕ
 all_words_text instruction w = words_text instruction w.address w.words.items (length w.words.items)
 
--- bytes, or that there is none
+-- bytes, or `none`
 unfoldable pub bytes_text : List ℕ → List ℕ
 bytes_text [] = codes "none"
 bytes_text (byte ∷ bytes) = flat_map byte_text (byte ∷ bytes)

@@ -364,7 +364,7 @@ fn first_refusal(fault: Fault, other: Fault) -> Fault
     }
 }
 
-// The number in a range that a word is: Syntax where it is none, and Range where it is out of the range.
+// The number in a range that a word is: Syntax where it is no number, and Range where it is out of the range.
 fn bounded_number<const LEAST: u64, const MOST: u64>(
     word: &[u8],
 ) -> Result<Bounded<LEAST, MOST>, Fault>

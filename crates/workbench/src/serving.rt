@@ -13,8 +13,8 @@ use std::alloc::Global;
 use wb_io::{PIECE_BYTES, Sink, Source};
 use wb_options::{Kind, Options, RunFault};
 
-/// Reads as many bytes as the options say, makes the image of their kind and the log, and runs the script that follows on a
-/// machine with that image and that log. All reads together are at most 2^20.
+/// Reads the bytes of image and log, as many as the options say, makes both, and runs the script that follows on a machine with
+/// them. All reads together are at most 2^20.
 ///
 /// Input that ends within image or log is a read fault. Both are read before they are judged: the image first, then the log,
 /// and last whether the image fits the machine. Nothing is written until they are found good.
