@@ -1,7 +1,7 @@
 //! The devices of `fast.rs`: the serial part, the clock, and the board's register. No byte arrives.
 //!
-//! Nothing is counted step by step. What the parts tell changes by itself only in ticks that are known before: the
-//! scanner offers a line, the clock sets a flag. They are sampled there, and behind each access that changes them.
+//! Nothing is counted step by step. What the parts report changes by itself only in ticks that are known before: the
+//! scanner offers a line, the clock sets a flag. They are sampled there, and after each access that changes them.
 
 const SERIAL: u32 = 0x1FE0_0000;
 const SERIAL_LAST: u32 = 0x1FE0_001F;
@@ -34,7 +34,7 @@ impl Devices {
         Devices { serial: Serial::default(), clock: Clock::new(), enables: 0 }
     }
 
-    /// The bits of Cause in a tick, which is not behind the one that is due.
+    /// The bits of Cause in a tick, which is not after the one that is due.
     pub fn sample(&mut self, tick: u64) -> u32 {
         self.clock.tick_to(tick);
         self.serial.scan(tick);
@@ -116,7 +116,7 @@ impl Serial {
         free.filter(|_| self.waits()).unwrap_or(u64::MAX)
     }
 
-    /// Offers the first line that may send and is not busy, upward from the one behind the last served.
+    /// Offers the first line that may send and is not busy, upward from the one after the last served.
     fn scan(&mut self, tick: u64) {
         if self.waits() {
             let mut lines = (1..=4).map(|step| (self.last_served + step) % 4);
@@ -162,7 +162,7 @@ impl Serial {
     }
 }
 
-// Registers of the clock. Behind each of the first three stands its alarm.
+// Registers of the clock. Each of the first three is followed by its alarm.
 const HOURS: usize = 4;
 const WEEKDAY: usize = 6;
 const DAY: usize = 7;
@@ -226,7 +226,7 @@ impl Clock {
         if self.runs() { self.tick + u64::from(count) } else { u64::MAX }
     }
 
-    /// Counts up to a tick that is not behind the one that is due.
+    /// Counts up to a tick that is not after the one that is due.
     fn tick_to(&mut self, tick: u64) {
         let count = (tick - self.tick) as u32;
         self.tick = tick;
@@ -281,7 +281,7 @@ impl Clock {
         if self.registers[B] & BINARY != 0 { number } else { number / 10 << 4 | number % 10 }
     }
 
-    /// Counts a field on, which goes from its last value to its first, and tells whether it did.
+    /// Counts a field on, which goes from its last value to its first, and reports whether it did.
     fn count(&mut self, field: usize, first: u8, last: u8) -> bool {
         let number = self.number(self.registers[field]);
         let carries = number >= last;

@@ -4,8 +4,8 @@
 //! It has all instructions, and keeps what it last looked up in the translation entries. There is no isolated cache, and
 //! no byte arrives at the serial lines.
 //!
-//! `fast ROM STEPS` runs so many steps from reset and writes what the commands `goto STEPS` and `regs` reply. How
-//! fast it was goes to standard error.
+//! `fast ROM STEPS` runs STEPS steps from reset and writes what the commands `goto STEPS` and `regs` reply. The speed
+//! goes to standard error.
 
 mod devices;
 
@@ -88,7 +88,7 @@ enum Use {
     Store,
 }
 
-/// A lookup that is kept: the page and the process, or what is none of both, and what was found.
+/// A lookup that is kept: the page and the process, or a value that is neither, and what was found.
 #[derive(Clone, Copy)]
 struct Kept {
     hi: u32,
@@ -400,7 +400,7 @@ impl Machine {
         self.registers[0] = 0;
     }
 
-    /// Goes to a target behind the delay slot, if a branch is taken.
+    /// Goes to a target after the delay slot, if a branch is taken.
     #[inline]
     fn go(&mut self, taken: bool, target: u32) {
         self.delay = true;
@@ -429,7 +429,7 @@ impl Machine {
         let (s, t) = (self.registers[w.rs()], self.registers[w.rt()]);
         let (signed_s, signed_t) = (s as i32, t as i32);
 
-        // Where control goes: behind the delay slot, or to the target of a branch or a jump.
+        // Where control goes: after the delay slot, or to the target of a branch or a jump.
         self.pc = self.next_pc;
         self.next_pc = self.pc.wrapping_add(4);
         self.delay = false;

@@ -56,7 +56,7 @@ impl Asked {
         line.split_whitespace().nth(1).and_then(|n| n.parse().ok()).expect("a number")
     }
 
-    // The seconds that so many steps take that keep nothing.
+    // The seconds that this many steps take that keep nothing.
     fn plain(&mut self, steps: u64) -> f64 {
         let mut seconds = 0.0;
         for _ in 0..steps / VISIT {

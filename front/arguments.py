@@ -13,7 +13,7 @@ class Shown(Exception):
 
 @dataclass
 class Line:
-    """The words of an argument line that are no options, and the options with their values; those without one have ''."""
+    """The words of an argument line that are no options, and the options with their values; an option without one has ''."""
 
     words: list[str] = field(default_factory=list)
     options: dict[str, str] = field(default_factory=dict)

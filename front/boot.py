@@ -12,7 +12,7 @@ _CLOCK = bytes([0, 0, 0, 0, 0, 0, 1, 1, 1, 0, 0x20, 6])
 
 
 class Boot:
-    """Words by their physical addresses, as runs of them, and the constants of the devices."""
+    """Words by their physical addresses, as runs, and the constants of the devices."""
 
     def __init__(self, byte_time: int = 16, unit: int = 1, clock: bytes = _CLOCK) -> None:
         self.byte_time = byte_time
@@ -34,7 +34,7 @@ class Boot:
         self.put(address, word.to_bytes(4, "little"))
 
     def put(self, address: int, content: bytes) -> None:
-        """Sets words from an address on: all of them were set before, or none was."""
+        """Sets words from an address on. Either all of them were set before, or none."""
         run = self._run_at(address)
         if run is not None:
             at = address - self._starts[run]
@@ -71,7 +71,7 @@ class Boot:
             start.to_bytes(4, "little") + (len(run) // 4).to_bytes(4, "little") + run for start, run in runs)
 
     def raw_rom(self) -> Optional[bytes]:
-        """The image as a raw ROM, or None where it sets words of RAM or constants that a raw ROM has not."""
+        """The image as a raw ROM, or None where it sets words of RAM, or constants that a raw ROM lacks."""
         if (self.byte_time, self.unit, self.clock) != (16, 1, _CLOCK) or any(start not in ROM for start in self._starts):
             return None
         made = bytearray()
@@ -146,5 +146,5 @@ class Source:
 
 
 def _number(word: str) -> int:
-    """A number of a source; leading zeros are good."""
+    """A number of a source; leading zeros are allowed."""
     return int(word, 16) if word.startswith("0x") else int(word)

@@ -29,7 +29,7 @@ def main(arguments: Sequence[str]) -> int:
         try:
             status = importlib.import_module(f".{_MODULES.get(name, name)}", __package__).main(rest)
         except Shown as shown:
-            sys.stdout.write(str(shown))  # in here, as it may fail as all output may
+            sys.stdout.write(str(shown))  # inside the try, since it may fail like any output
             status = 0
         if sys.stdout:
             sys.stdout.flush()
@@ -39,7 +39,7 @@ def main(arguments: Sequence[str]) -> int:
             say(str(problem))
         return problem.status
     except BrokenPipeError:
-        # Who reads the output has ended; nothing more can be said there.
+        # The reader of the output has ended, so nothing more can be written there.
         os.dup2(os.open(os.devnull, os.O_WRONLY), 1)
         return 3
     except OSError as error:

@@ -56,7 +56,7 @@ def command(usage: str, text: str, group: str, edits: bool = False) -> Callable[
 
 
 def find(name: str) -> Command:
-    """The command of a name, of a short name, or of the beginning of one name alone."""
+    """The command of a name, of a short name, or of the beginning of only one name."""
     name = SHORT.get(name, name)
     if name in COMMANDS:
         return COMMANDS[name]
@@ -72,5 +72,5 @@ _WORD = re.compile(r"""(?:'(?:[^'\\]|\\.)*'|"(?:[^"\\]|\\.)*"|[^\s'"])+|['"].*""
 
 
 def words_of(line: str) -> list[str]:
-    """The words of a line; what stands between quotes is of one word."""
+    """The words of a line; what stands between quotes is one word."""
     return _WORD.findall(line)

@@ -55,7 +55,7 @@ _ESCAPE = 0x1D
 _END = b"\x1dq"  # what the end of the input is taken for
 _TICK = 0.02
 
-# So much of what a line sent is shown again after going back.
+# How much of what a line sent is shown again after going back.
 _SHOWN_AGAIN = 1 << 16
 
 

@@ -26,7 +26,7 @@ from .replies import Registers, Where, Writer, number_of, words_of
 # A run to a far position is made in pieces of this many steps, between which it is shown, or ended.
 PIECE = 64 * SPAN
 
-# The commands that tell the position, and those that run the machine up to it.
+# The commands that show the position, and those that run the machine up to it.
 _MOVES = frozenset(("pos", "goto", "step", "back", "visit"))
 _QUERIES = frozenset(("regs", "reg", "cp0", "tlb", "where", "mem", "dis", "console", "find", "writer", "visit"))
 
@@ -160,7 +160,7 @@ class Driver:
         self.value(f"del {index}")
 
     def erase(self, first: int, end: int) -> int:
-        """Takes out the events of the steps from one on and before another, and says how many are left."""
+        """Takes out the events of the steps from one up to another, which is left out, and gives how many are left."""
         return replies.last_number(self.value(f"erase {first} {end}"))
 
     def set_byte(self, index: int, byte: int) -> int:
@@ -187,7 +187,7 @@ class Driver:
         return [replies.memory(lines)[0] for lines in answers[1:-1]]
 
     def revert(self, log: Sequence[Event], patches: Sequence[tuple[int, int]]) -> None:
-        """Makes log and patches those of an earlier moment: `patches` are the first of those that were made."""
+        """Makes the log and the patches those of an earlier moment; `patches` are the first ones of those that were made."""
         self.values(changes(self.log, log))
         undone = self.patches[len(patches):]
         if not undone:
@@ -208,7 +208,7 @@ class Driver:
     # Turns
 
     def _turn(self, commands: Sequence[str]) -> list[list[str]]:
-        """The replies to commands for which there are reads. Where it was ended early it raises Interrupted, in step."""
+        """The replies to commands for which there are reads. If it is ended early it raises Interrupted, in step."""
         program = self._started()
         lead = [f"goto {self.position}"] if program.position != self.position else []
         answers = []
@@ -292,7 +292,7 @@ class Driver:
     # Long runs
 
     def _furthest_query(self, commands: Sequence[str]) -> int:
-        """The greatest position at which commands will ask for something, as far as it can be told before."""
+        """The greatest position at which commands will ask for something, as far as that is known before."""
         position, furthest = self.position, 0
         for command in commands:
             words = words_of(command)
@@ -324,7 +324,7 @@ class Driver:
 
     @contextmanager
     def long_run(self) -> Iterator[None]:
-        """What is shown of a run within it is taken away at the end of the outermost one."""
+        """What is shown of a run inside it is removed at the end of the outermost one."""
         self._runs += 1
         try:
             yield

@@ -138,7 +138,7 @@ class _Reader:
 
 
 def _is_note(segment: Segment, sections: list[_Section]) -> bool:
-    """Whether a segment holds what tools note of a program, and nothing of the program. Linkers put it at 0x00400000."""
+    """Whether a segment holds only notes of the tools, and nothing of the program. Linkers put it at 0x00400000."""
     types = [it.type for it in sections
              if it.flags & _ALLOCATED and segment.virtual <= it.address < segment.virtual + segment.size]
     return bool(types) and _NOTES.issuperset(types)

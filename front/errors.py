@@ -3,7 +3,7 @@ from __future__ import annotations
 
 
 class Problem(Exception):
-    """Something that the user is told in one sentence, and the status with which a command ends for it."""
+    """One sentence for the user about what went wrong, and the status with which a command ends for it."""
 
     def __init__(self, message: str, status: int = 2) -> None:
         super().__init__(message)

@@ -67,7 +67,7 @@ def main(arguments: Sequence[str]) -> int:
 
 @contextmanager
 def _symbols(image: Image) -> Iterator[list[str]]:
-    """The words that give gdb an ELF: the image, or a file with names for one that is none."""
+    """The words that give gdb an ELF: the image, or a file with names for an image that is none."""
     if image.elf:
         # Without --readnow gdb finds no lines of assembler sources.
         yield ["--readnow", "--directory", str(Path(image.name).resolve().parent), image.name]

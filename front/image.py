@@ -28,7 +28,7 @@ class Image:
 
 
 def kind_of(name: str, content: bytes) -> str:
-    """The kind of an image: by its first bytes, or by the end of its name. What is none is refused with what to do."""
+    """The kind of an image: by its first bytes, or by the end of its name. Any other file is refused, with what to do instead."""
     if content.startswith(ELF_MAGIC):
         return "elf"
     if content.startswith(MAGIC):

@@ -10,7 +10,7 @@ BY_ADDRESS = ("where", "mem", "dis", "writer", "visit", "patch")  # their first 
 
 
 def flush() -> None:
-    """Lets gdb forget what it read, the values that it compares watches with too: the run has moved, or is another
+    """Makes gdb forget what it read, and also the values that it compares watches with: the run has moved, or is another
     one."""
     gdb.execute("maintenance flush register-cache", to_string=True)
     gdb.execute("maintenance flush dcache", to_string=True)
@@ -54,7 +54,7 @@ def prompt(current_prompt: str) -> str:
 
 
 def forget_arguments(event: object) -> None:
-    """Lets the position of `run N` and `starti N` be that of one start: gdb would take it for the next one too."""
+    """Makes the position of `run N` and `starti N` count for one start only: gdb would take it for the next one too."""
     gdb.execute("set args")
 
 

@@ -1,5 +1,4 @@
-"""What an instruction word says, as far as the front ends look at it: whether it loads, stores or returns, and
-where."""
+"""What the front ends look at in an instruction word: whether it loads, stores or returns, and where."""
 from __future__ import annotations
 
 from .driver import Driver

@@ -21,6 +21,6 @@ CONSOLE_BYTES = 256
 
 COMMAND_BYTES = 256
 
-# The program ends after this many reads of its input, each of at most so many bytes.
+# The program ends after this many reads of its input. A read has at most this many bytes.
 READS = 1 << 20
 READ_BYTES = 4096

@@ -22,7 +22,7 @@ MOST_BYTES = 67_108_864
 
 
 def say(message: str) -> None:
-    """Tells the user something, on standard error."""
+    """Writes a note for the user to standard error."""
     for line in message.splitlines():
         print(f"bin/wb: {line}", file=sys.stderr, flush=True)
 
@@ -45,7 +45,7 @@ def content_of(name: str) -> bytes:
 
 
 def image(name: str, kind: Optional[str] = None) -> Image:
-    """The image in a file, of a kind that is told, or else seen from its bytes and its name."""
+    """The image in a file. Its kind is given, or else seen from its bytes and its name."""
     content = content_of(name)
     if kind not in (None, *KINDS):
         raise Problem(f"{kind} is no kind of image; there are {', '.join(KINDS)}")

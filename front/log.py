@@ -53,7 +53,7 @@ def is_log(content: bytes) -> bool:
 
 
 def read(content: bytes, name: str) -> list[Event]:
-    """The events of a log as it stands in a file. No bytes at all are the empty log."""
+    """The events of a log in a file. No bytes at all are the empty log."""
     if not content:
         return []
     if not is_log(content):
@@ -175,8 +175,8 @@ def show(events: Sequence[Event]) -> Iterator[str]:
 
 
 def _run(events: Sequence[Event], at: int) -> tuple[int, int]:
-    """The end of the events from one on that are of its kind and line and have equal gaps, and the gap. Two alone have one only if
-    it is 0."""
+    """The end of the events from one on that have its kind and line and equal gaps, and the gap. Only two events have a gap only
+    if it is 0."""
     end = at + 1
     first = events[at]
     gap = events[end].time - first.time if end < len(events) else 0

@@ -41,7 +41,7 @@ def main(arguments: Sequence[str]) -> int:
 
 
 def _events(name: str) -> list[logs.Event]:
-    """The events of a file, be it a log or the text of one."""
+    """The events of a file, which is a log or the text of one."""
     content = sys.stdin.buffer.read() if name == "-" else content_of(name)
     name = "standard input" if name == "-" else name
     if not content or logs.is_log(content):

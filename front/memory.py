@@ -12,8 +12,8 @@ PAGE = 4096
 
 
 def read(driver: Driver, address: int, count: int) -> bytes:
-    """The bytes from a virtual address on, as many as stand in memory without a gap: devices are not read, as that
-    would change them."""
+    """The bytes from a virtual address on, up to the first gap in memory. Devices are not read, since that would change
+    them."""
     content = bytearray()
     for virtual, size in _pieces(address, count):
         place = driver.physical(virtual)

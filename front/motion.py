@@ -29,7 +29,7 @@ class Motion:
         self._link = link
         self._exceptions_whole = exceptions_whole
         self._transcript = output.Transcript()
-        self._told = 0  # what was sent before this position is told
+        self._told = 0  # what was sent before this position has been shown
         self._moving = False
         self._interrupted = False  # the debugger wants the present move to end
 
@@ -88,14 +88,14 @@ class Motion:
         return self._reply(stop)
 
     def _backward(self, run: Callable[[], Stop]) -> bytes:
-        """A move back. It stops after the store, so that the step that gdb makes over it goes before it."""
+        """A move back. It stops after the store, so that gdb's step back over the store ends before it."""
         self._told = self._driver.position
         stop = self._moved(run)
         self._driver.goto(stop.position + (stop.reason is Reason.WATCH))
         return self._reply(stop)
 
     def _moved(self, run: Callable[[], Stop]) -> Stop:
-        """Where a move stops. One that is interrupted stops where the last piece of it ended."""
+        """Where a move stops. An interrupted one stops where its last piece ended."""
         self._moving = True
         try:
             return run()

@@ -33,7 +33,7 @@ def between(driver: Driver, first: int, last: int) -> list[tuple[int, int]]:
 
 
 def _may_send(driver: Driver, step: int) -> bool:
-    """Whether a step stores into the register that sends. That is seen faster than how much was sent before."""
+    """Whether a step stores into the register that sends. That takes less time than asking how much was sent before."""
     driver.goto(step)
     registers = driver.registers()
     word = instruction.next_word(driver, registers)
@@ -42,7 +42,7 @@ def _may_send(driver: Driver, step: int) -> bool:
 
 
 class Transcript:
-    """Serial output as text for one reader: a line is named where it is another than the one before."""
+    """Serial output as text for one reader: a line is named where it differs from the one before."""
 
     def __init__(self) -> None:
         self._line = 0

@@ -216,7 +216,7 @@ def _count(number: int, name: str) -> str:
 
 
 def _shortened(text: str, room: float) -> str:
-    """A text that has room for so many characters."""
+    """A text with room for a number of characters."""
     if len(text) <= room:
         return text
     return text[:int(room) - 1] + "…" if room >= 3 else ""

@@ -76,7 +76,7 @@ def _whole(image: Image, log: Optional[str], log_content: bytes, script: IO[byte
     words = program.words(image.kind, len(image.content), len(log_content))
     process = subprocess.Popen(words, stdin=subprocess.PIPE)
     assert process.stdin
-    # What waits for a typed line that is not wanted any more ends with this process.
+    # A thread that still waits for a typed line ends with this process.
     feeder = threading.Thread(target=_feed, args=(process.stdin, image.content + log_content, script.fileno()), daemon=True)
     feeder.start()
     status = process.wait()
@@ -87,7 +87,7 @@ def _whole(image: Image, log: Optional[str], log_content: bytes, script: IO[byte
 
 
 def _feed(pipe: IO[bytes], head: bytes, script: int) -> None:
-    """Writes the beginning of the input, and then what comes from the script, as it comes."""
+    """Writes the beginning of the input, and then the script as it comes."""
     try:
         pipe.write(head)
         pipe.flush()

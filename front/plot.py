@@ -120,7 +120,7 @@ class _Plot:
         return [it for it in self._driver.log if it.time < self._end]
 
     def _sent(self, number: int) -> Optional[Lane]:
-        """The bytes that a line sent. Of very many, some have their steps, and the others stand with the one before."""
+        """The bytes that a line sent. If there are very many, some have their steps, and the others stand with the one before."""
         self._driver.goto(self._end)
         content = self._driver.console(number)
         apart = -(-len(content) // MOST_STEPS) or 1
@@ -161,7 +161,7 @@ class _Plot:
     # Functions
 
     def _functions(self) -> tuple[list[Function], bool]:
-        """Which function the PC was in, at all positions or at samples of them; the rest stands together."""
+        """Which function the PC was in, at all positions or at samples of them; the other functions are shown together."""
         exact = self._end <= SAMPLES
         positions = range(self._end) if exact else [self._end * sample // SAMPLES for sample in range(SAMPLES)]
         names = [self._function(state.pc) for state in registers_at(self._driver, positions)]

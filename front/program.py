@@ -16,7 +16,7 @@ from .replies import has_reply, lines_after
 
 ROOT = Path(__file__).resolve().parent.parent
 
-# How many commands are under way at most: so many are answered before a turn can end.
+# The most commands under way. All of these are answered before a turn can end.
 WINDOW = 64
 
 # How often a turn looks whether it is to end, in milliseconds.

@@ -57,7 +57,7 @@ class Link:
         self._sink = sink
         self._waiting = bytearray()  # what was read and not yet taken
         self._closed = False
-        self._last = b""  # what was sent last, for who asks for it again
+        self._last = b""  # what was sent last, in case the other side asks for it again
 
     def receive(self) -> bytes | None:
         """The next packet's payload, or None where the other side has closed."""
@@ -87,7 +87,7 @@ class Link:
         return self._closed and not self._waiting
 
     def _raw(self) -> bytes | None:
-        """The payload as it was sent, or None where it is to come again or its end doesn't come."""
+        """The payload as it was sent, or None where it has to come again or does not end."""
         raw = bytearray()
         while (byte := self._byte()) != ord("#"):
             if byte is None:

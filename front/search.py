@@ -8,11 +8,11 @@ from . import replies
 from .driver import Driver
 from .limits import GREATEST_POSITION, RESET_PC, SPAN, VISIT_STEPS
 
-# How many steps a search looks at before it looks at more of them. To go on along the run costs its steps alone, some 15
-# nanoseconds each; to go back costs some milliseconds besides.
+# How many steps a search looks at before it looks at more of them. Going on along the run costs only its steps, some 15
+# nanoseconds each. Going back costs some milliseconds besides.
 WINDOWS: tuple[int, ...] = (64, 1024, 16_384, 16 * 16_384, VISIT_STEPS)
 
-# So many visits of a window are followed. Where there are more, what is left of it is halved.
+# This many visits of a window are followed. Where there are more, the rest of the window is halved.
 VISITS = 16
 
 
@@ -21,7 +21,7 @@ def next_visit(driver: Driver, addresses: Collection[int], limit: int) -> Option
     begin = driver.position
     end = min(begin + limit, GREATEST_POSITION)
     with _search(driver) as tell:
-        # One address alone ends the search where it is found; of several the nearest one is wanted.
+        # With one address the search ends where it is found. Of several, the nearest one is wanted.
         for low, high in _forward(begin, end, WINDOWS if len(addresses) > 1 else WINDOWS[-1:]):
             nearest = high + 1
             for address in addresses:
@@ -144,7 +144,7 @@ def _last_visit(driver: Driver, address: int, low: int, high: int) -> Optional[i
 
 
 def _first(last_before: Callable[[int], Optional[int]], low: int, found: int) -> int:
-    """The first store from `low` on, where one is known: by the one before it, as mostly there are few, and by halves."""
+    """The first store from `low` on, where one is known. It tries the store before that, as mostly there are few, and halves."""
     while low < found:
         earlier = last_before(found)
         if earlier is None:

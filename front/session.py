@@ -1,4 +1,4 @@
-"""What the shell knows while it runs: the driver, symbols, stops and edits; and how steps and addresses are told to people."""
+"""What the shell knows while it runs: the driver, symbols, stops and edits; and how steps and addresses are shown to people."""
 from __future__ import annotations
 
 import re
@@ -78,7 +78,7 @@ class Session:
             raise Problem(f"{address:#x} is no multiple of 4; the word that it is in is at {address & ~3:#010x}")
         return address, self.physical(address)
 
-    # How things are told
+    # How things are shown
 
     def address(self, address: int) -> str:
         """`0xbfc00078 <main+0x78>`."""

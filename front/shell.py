@@ -72,7 +72,7 @@ class Shell:
         return 0
 
     def _typed(self) -> Iterator[str]:
-        """Lines from a terminal, until it is left with nothing unsaved."""
+        """Lines from a terminal, until the shell is left."""
         while True:
             try:
                 yield input(f"wb {self._session.driver.position:,}> ")
@@ -86,7 +86,7 @@ class Shell:
                     return
 
     def do(self, line: str) -> None:
-        """Runs a line, and tells what goes wrong."""
+        """Runs a line, and shows what goes wrong."""
         if not line or line.startswith("#"):
             return
         session = self._session
@@ -122,7 +122,7 @@ class Shell:
                 self._session.edits.append(Edit(line, log, patches))
 
     def _quit(self) -> None:
-        """Leaves; on a terminal only when what is not saved is given up by a second `quit`."""
+        """Leaves. With unsaved edits on a terminal, it takes a second `quit`."""
         unsaved = self._session.unsaved()
         if unsaved and sys.stdin.isatty() and not self._warned:
             self._session.tell(f"not saved: {', '.join(unsaved)}; `quit` again leaves without them")

@@ -13,8 +13,8 @@ from .saving import save
 from .session import Session, counted
 from .standstill import standstill
 
-# Bytes that are typed are at least this many steps apart, and twice the time that the serial part takes to send one: a program
-# that asks for them in its loop, or is interrupted, has taken each, and sent it back, before the next one comes.
+# Typed bytes are at least this many steps apart, and twice the time that the serial part takes to send one. So a program that
+# polls or is interrupted has taken each byte, and sent it back, before the next one comes.
 _LEAST_GAP = 1000
 
 _TEXT = re.compile(r"""'(?:[^'\\]|\\.)+'|"(?:[^"\\]|\\.)+\"""")

@@ -87,7 +87,7 @@ def _size(session: Session, address: int) -> int:
 
 
 _MOST_WATCHED = 1024
-_FEW = 4  # so many bytes are shown as a number
+_FEW = 4  # this many bytes are shown as a number
 _WATCHED = 64  # the most bytes that are watched without being asked for
 
 

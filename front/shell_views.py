@@ -14,7 +14,7 @@ _CODES = {0: "interrupt", 1: "store to a page that is not dirty", 2: "no entry f
           7: "bus error of a load", 8: "system call", 9: "breakpoint", 10: "reserved instruction",
           11: "coprocessor unusable", 12: "overflow"}
 
-# So many are shown where the line has no number.
+# How many are shown where the line has no number.
 _INSTRUCTIONS = 8
 _MEMORY_BYTES = 64
 _LINE_BYTES = 16

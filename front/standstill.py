@@ -55,7 +55,7 @@ def standstill(driver: Driver, turn: int = TURN) -> Optional[Standstill]:
 
 
 def quiet(driver: Driver, turn: int) -> Optional[Quiet]:
-    """How long the run stands still from the position on, which stays, in a loop whose turns have at most so many
+    """How long the run stands still from the position on, which stays, in a loop whose turns have at most `turn`
     steps."""
     start = driver.position
     status = driver.control()["status"]
@@ -68,7 +68,7 @@ def quiet(driver: Driver, turn: int) -> Optional[Quiet]:
 
 
 class _Loop:
-    """The states of a run from a position on, as far as they keep what they have to."""
+    """The states of a run from a position on, as far as they keep what they must."""
 
     def __init__(self, driver: Driver) -> None:
         self._driver = driver
@@ -90,11 +90,11 @@ class _Loop:
         # No loop that stands still sees an external line.
         arrives = (event.time for event in self._driver.log if event.time >= self._start and event.kind != Kind.WIRE)
         end = next(arrives, GREATEST_POSITION)
-        # A step that was looked at and met a byte says nothing of those before it.
+        # A step that meets a byte says nothing of the steps before it.
         return Quiet(end, waits=True) if self._start + len(self._states) - 1 <= end else None
 
     def _turn(self, most: int) -> Optional[int]:
-        """The steps of a turn, if the first state comes again. It does not where another one comes again before it."""
+        """The steps of a turn, if the first state comes again. It does not if another state comes again before it."""
         known = {_key(self._states[0])}
         while len(self._states) <= most:
             at = len(self._states)
@@ -107,15 +107,15 @@ class _Loop:
         return None
 
     def _stays(self, turn: int, steps: int) -> bool:
-        """Whether the turns are the same for so many steps: after them each line has sent its byte, and is ready or
-        will never be."""
+        """Whether the turns are the same for this many steps. After them each line has sent its byte, and is ready or
+        never will be."""
         while len(self._states) <= steps:
             if not self._follow():
                 return False
         return self._states[turn:] == self._states[:-turn]
 
     def _follow(self) -> bool:
-        """Takes more steps, and says whether all of them keep what they have to."""
+        """Takes more steps, and reports whether all of them keep what they must."""
         known = len(self._states)
         first = self._start + known
         if first + BATCH > GREATEST_POSITION:

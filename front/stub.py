@@ -195,7 +195,7 @@ class Stub:
         return self._from_here(rest, self._motion.step)
 
     def _from_here(self, rest: bytes, move: Callable[[], bytes]) -> bytes:
-        """A move, which may not begin at an address that the debugger says."""
+        """A move. The debugger must not give an address to begin at."""
         if rest:
             raise Problem(NOT_WRITTEN)
         return move()
@@ -245,7 +245,7 @@ class Stub:
 
 Answer = Callable[[Stub, bytes], bytes]
 
-# The answers, by the begin of a packet: a longer one stands before a shorter one that it begins with.
+# The answers, by the beginning of a packet. A longer beginning stands before a shorter one that it starts with.
 ANSWERS: dict[bytes, Answer] = {
     b"qSupported": Stub._features,
     b"QStartNoAckMode": Stub._no_acknowledgements,

@@ -1,6 +1,6 @@
 """An ELF file that has names of addresses and nothing else, for gdb on an image that is none: the labels of a source.
 
-gdb takes what stands at a name for a function, so that it need not look for its begin.
+gdb takes what stands at a name for a function, so that it need not look for its beginning.
 """
 from __future__ import annotations
 

@@ -1,6 +1,6 @@
 """Single steps that run exceptions whole: a handler that is met on the way is part of the step, as far as it returns.
 
-An exception shows in a step after which the PC is not the next PC of before. Its handler is over where the PC is EPC
+An exception shows in a step after which the PC is not the earlier next PC. Its handler is over where the PC is EPC
 again, or the address after it.
 """
 from __future__ import annotations

@@ -13,16 +13,16 @@ from .limits import GREATEST_POSITION
 from .standstill import TURN, Quiet, Standstill, quiet, standstill
 from .states import registers_at
 
-# A run goes in pieces: after each one its reader is told, and may end it.
+# A run goes in pieces. After each one `pause` is called, and may end the run.
 FIRST_PIECE = 1 << 16
 LONGEST_PIECE = 1 << 22
 
-IDLE_STORES = 64  # stores that change nothing are passed over, so many in a piece
-# After so many of them it is seen whether the run stands still: then all of them can be passed over at once.
+IDLE_STORES = 64  # stores that change nothing are passed over, this many in a piece
+# After this many of them it is checked whether the run stands still. If so, all of them can be passed over at once.
 QUIET_AFTER = (1, 4, 16, 64)
 QUIET_TURN = 128
 BATCH = 64  # single steps that are asked for together
-STEPS_A_STATE = 4096  # to look at the states of a loop costs more than to run it: so many steps are run for each state
+STEPS_A_STATE = 4096  # looking at the states of a loop costs more than running it: this many steps are run for each state
 
 Pause = Callable[[], bool]
 
@@ -79,12 +79,12 @@ class Stop:
 
 def forward(driver: Driver, stops: Stops, pause: Pause) -> Stop:
     """The first stop above the position, or a watch that is changed from it on; the driver stands there afterwards.
-    `pause` is called at the end of each piece, and says whether the run is to end there."""
+    `pause` is called at the end of each piece, and reports whether the run is to end there."""
     return _at(driver, _forward(driver, stops, pause))
 
 
 def leave(driver: Driver, addresses: range, stops: Stops, pause: Pause) -> Stop:
-    """The same, of a run that ends too where the PC is none of the addresses."""
+    """The same for a run that also ends where the PC is none of the addresses."""
     return _at(driver, _leave(driver, addresses, stops, pause))
 
 

@@ -128,7 +128,7 @@ impl Clock {
         if self.registers[B] & BINARY != 0 { number } else { number / 10 << 4 | number % 10 }
     }
 
-    /// Counts a field on from its first to its last value, and tells whether it carries.
+    /// Counts a field on from its first to its last value, and reports whether it carries.
     fn count(&mut self, register: usize, first: u32, last: u32) -> bool {
         let number = self.number(self.registers[register]);
         let carries = number >= last;
@@ -136,7 +136,7 @@ impl Clock {
         carries
     }
 
-    /// Counts the hours on, and tells whether they carry a day.
+    /// Counts the hours on, and reports whether they carry a day.
     fn count_hours(&mut self) -> bool {
         if self.registers[B] & HOURS_24 != 0 {
             return self.count(HOURS, 0, 23);

@@ -108,7 +108,7 @@ impl Control {
         }
     }
 
-    /// Writes the bits that mtc0 changes. `isolates` tells whether the two bits of the isolated cache are among them.
+    /// Writes the bits that mtc0 changes. `isolates` says whether the two bits of the isolated cache are among them.
     pub fn write(&mut self, register: usize, value: u32, isolates: bool) {
         let (register, mask) = match register {
             0 => (&mut self.index, 0x0000_3F00),

@@ -129,7 +129,7 @@ impl Image {
         bytes
     }
 
-    /// All set words lie in so many pages of RAM, or in ROM.
+    /// All set words lie in the first `pages` pages of RAM, or in ROM.
     pub fn fits(&self, pages: u32) -> bool {
         self.words.range(4096 * pages..ROM).next().is_none()
     }

@@ -44,7 +44,7 @@ impl Parts {
     pub const ALL: Parts = Parts { pages: 2048, translation: true, caches: true, devices: true, kinds: true };
 }
 
-/// What a step told: the byte that it sent, and the address of the word of RAM that it stored into.
+/// What a step reported: the byte that it sent, and the address of the word of RAM that it stored into.
 #[derive(Clone, Copy, Debug, Default, PartialEq)]
 pub struct Done {
     pub sent: Option<Sent>,
@@ -76,11 +76,11 @@ pub struct Machine {
     bus: Bus,
     /// RAM, then ROM.
     words: Vec<u32>,
-    /// What the present step has told so far.
+    /// What the present step has reported so far.
     done: Done,
 }
 
-/// The place of the word of a physical address, in a memory with so many words of RAM.
+/// The place of the word of a physical address, in a memory with this many words of RAM.
 #[inline]
 fn place(ram_words: usize, physical: u32) -> Option<usize> {
     let word = (physical / 4) as usize;

@@ -2,7 +2,7 @@
 
 use crate::log::{Event, GREATEST, Kind};
 
-/// The refusals of a command, in the order in which they are judged, but for `Memory`, which is never met here.
+/// The refusals of a command, in the order in which they are judged, without `Memory`, which never comes here.
 #[derive(Clone, Copy, Debug, PartialEq)]
 pub enum Refusal {
     Syntax,

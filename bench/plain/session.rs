@@ -21,7 +21,7 @@ impl Session {
         Session { image, log, position: 0, parts }
     }
 
-    /// The machine at a position. `watch` gets the number of each step on the way, what it told, and the machine after it.
+    /// The machine at a position. `watch` gets the number of each step on the way, what it reported, and the machine after it.
     pub fn run(&self, position: u64, mut watch: impl FnMut(u64, Done, &Machine)) -> Machine {
         let mut machine = Machine::new(&self.image, self.parts);
         let mut events = &self.log.events[..];

@@ -13,12 +13,12 @@ WB = str(ROOT / "bin/wb")
 DEBUGGER = "gdb-multiarch"
 TIMEOUT = 60
 
-# Neither what the user sets up nor the width of a terminal is to show.
+# Neither the user's settings nor the width of a terminal may show.
 PLAIN = ["-nx", "-iex", "set width 0", "-iex", "set style enabled off"]
 
 
 def install() -> None:
-    """Sees to it that gdb is there, by Debian's package; modules that run side by side wait for the first one."""
+    """Installs gdb from Debian's package if it is missing. Modules that run side by side wait for the first one."""
     with open(__file__) as held:
         fcntl.flock(held, fcntl.LOCK_EX)
         _install()

@@ -56,7 +56,7 @@ class Console(unittest.TestCase):
         driver.close()
 
     def test_going_back(self) -> None:
-        """What was typed is gone, and typed otherwise. Nothing is lost where the log can't be saved."""
+        """What was typed is gone, and something else is typed. Nothing is lost where the log can't be saved."""
         terminal = Terminal("console", "--speed", "100000", "--line=0", LOGIN)
         refused_and_back(terminal)
         terminal.until(b"password: ")

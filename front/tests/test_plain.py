@@ -51,7 +51,7 @@ class Plain(unittest.TestCase):
                     self.assertEqual((done.stdout, done.stderr, done.returncode), (expected, b"", 0))
 
     def test_statuses(self) -> None:
-        """What goes wrong, as it always was told."""
+        """What goes wrong, in the words that were always used."""
         rom, bad = self.put("x.rom", bytes(8)), self.put("x.img", b"R3KIMG1\n")
         source, script = self.put("x.s", b"foo\n"), self.put("script", b"pos\n")
         log = self.put("bad.log", b"R3KLOG1\n\1\0\0\0")

@@ -17,7 +17,7 @@ fn asked<'a>(alloc: Global, words: &'a [&'a str]) -> Result<(Kind, u32, u32), u8
     }
 }
 
-/// Good lines are taken: a program that always reports usage is none.
+/// Good lines are taken: a program that always reports usage fails here.
 #[test]
 fn always_usage(rt: HostRuntime) {
     let alloc = rt.alloc();
@@ -71,7 +71,7 @@ fn wrong_lines(rt: HostRuntime) {
     }
 }
 
-/// Help goes to the output and says what the input is, the statuses, and where the commands are told. Usage goes to the
+/// Help goes to the output and says what the input is, the statuses, and where the commands are explained. Usage goes to the
 /// errors. Neither reads or runs anything.
 #[test]
 fn help_and_usage(rt: HostRuntime) -> Result<(), Fail> {

@@ -12,7 +12,7 @@ pub fn replies(alloc: Global, kind: &str, image: &[u8], script: &[u8]) -> Result
     Ok(run_image::<2048, 65_536>(alloc, kind, image, &[], script, 4096)?.output)
 }
 
-/// Holds what the program writes for an image of a kind, a log and a script to the replies wanted.
+/// Compares what the program writes for an image of a kind, a log and a script with the replies wanted.
 pub fn holds(
     rt: &impl Abort,
     alloc: Global,
@@ -36,7 +36,7 @@ pub fn rom_of(alloc: Global, words: &[u32]) -> Result<Vec<u8>, Fail> {
     Ok(bytes)
 }
 
-/// The instruction behind the load reads r2 before the value lands, and the next one reads the value.
+/// The instruction after the load reads r2 before the value lands, and the next one reads the value.
 #[test]
 fn load_slot(rt: HostRuntime) -> Result<(), Fail> {
     let script = b"goto 3\nreg 2\nreg 3\nstep 1\nreg 4\n";
@@ -44,7 +44,7 @@ fn load_slot(rt: HostRuntime) -> Result<(), Fail> {
     holds(&rt, rt.alloc(), "image", &LOAD_SLOT, &[], script, want)
 }
 
-/// The instruction behind the load adds 1 to r2, and its own write wins.
+/// The instruction after the load adds 1 to r2, and its own write wins.
 #[test]
 fn load_slot_loses_to_its_own_write(rt: HostRuntime) -> Result<(), Fail> {
     let mut image = LOAD_SLOT;
@@ -150,7 +150,7 @@ fn random_falls(rt: HostRuntime) -> Result<(), Fail> {
     Ok(())
 }
 
-/// beq r0, r0, .+16 twice: the second branch stands in the first one's delay slot, and so does the instruction behind it.
+/// beq r0, r0, .+16 twice: the second branch stands in the first one's delay slot, and so does the instruction after it.
 #[test]
 fn branch_in_a_delay_slot(rt: HostRuntime) -> Result<(), Fail> {
     let rom = rom_of(rt.alloc(), &[0x1000_0003, 0x1000_0003])?;
@@ -172,7 +172,7 @@ fn translation_at_reset(rt: HostRuntime) -> Result<(), Fail> {
     holds(&rt, rt.alloc(), "rom", &[], &[], script, want)
 }
 
-/// Words are those of the position, told with their addresses.
+/// Words are those of the position, shown with their addresses.
 #[test]
 fn words_of_memory(rt: HostRuntime) -> Result<(), Fail> {
     // lui r1, 0xa000; sw r1, 8(r1)
@@ -183,7 +183,7 @@ fn words_of_memory(rt: HostRuntime) -> Result<(), Fail> {
     holds(&rt, rt.alloc(), "rom", &rom, &[], script, want)
 }
 
-/// Targets are counted from the physical address; a word without a row is told as one.
+/// Targets are counted from the physical address; a word without a row is shown as one.
 #[test]
 fn words_as_instructions(rt: HostRuntime) -> Result<(), Fail> {
     // bgez r7, .+20; j 0x1fc00000; a word without a row
@@ -194,7 +194,7 @@ fn words_as_instructions(rt: HostRuntime) -> Result<(), Fail> {
     holds(&rt, rt.alloc(), "rom", &rom, &[], script, want)
 }
 
-/// The first and the last words of RAM and ROM are shown, and what is neither is refused, each refusal in its order.
+/// The first and the last words of RAM and ROM are shown. What is neither is refused, each refusal in its order.
 #[test]
 fn limits_of_memory(rt: HostRuntime) -> Result<(), Fail> {
     let cases = [
@@ -223,7 +223,7 @@ fn limits_of_memory(rt: HostRuntime) -> Result<(), Fail> {
     holds(&rt, rt.alloc(), "rom", &[], &[], &script, &want)
 }
 
-/// A query far along a run is answered: the empty ROM is `sll r0, r0, 0`, and behind its last word a fetch faults.
+/// A query far along a run is answered: the empty ROM is `sll r0, r0, 0`, and after its last word a fetch faults.
 #[test]
 fn query_at_twenty_million(rt: HostRuntime) -> Result<(), Fail> {
     let script = b"goto 20000000\nreg 0\n";

@@ -6,7 +6,7 @@ use std::alloc::Global;
 use std::process::Abort;
 use std::test::Fail;
 
-/// Holds the replies to a script, on a source and an empty log, to these.
+/// Compares the replies to a script, on a source and an empty log, with these.
 pub fn says(
     rt: &impl Abort,
     alloc: Global,
@@ -119,7 +119,7 @@ fn visits(rt: HostRuntime) -> Result<(), Fail> {
     says(&rt, rt.alloc(), ECHO, script, want)
 }
 
-/// A byte that is moved past a step no longer shows in Cause behind it.
+/// A byte that is moved past a step no longer shows in Cause after it.
 #[test]
 fn moved_interrupt(rt: HostRuntime) -> Result<(), Fail> {
     let source =
@@ -186,8 +186,8 @@ fn patches_of_words(rt: HostRuntime) -> Result<(), Fail> {
     says(&rt, rt.alloc(), "addiu r2, r0, 1\n", script, want)
 }
 
-/// A byte at the position is yet to come, one before it counts, and one that is moved, set or deleted is asked for anew. A byte
-/// of step 84 is read in step 86 and sent in step 94.
+/// A byte at the position is yet to come, and one before it counts. After one is moved, set or deleted, the answer is made anew. A
+/// byte of step 84 is read in step 86 and sent in step 94.
 #[test]
 fn edits_around_the_position(rt: HostRuntime) -> Result<(), Fail> {
     let script =
@@ -201,7 +201,7 @@ fn edits_around_the_position(rt: HostRuntime) -> Result<(), Fail> {
     says(&rt, rt.alloc(), ECHO, script, want)
 }
 
-/// Of several refusals the first in their order is told: a number out of its range, an address that is not aligned, one of no
+/// Of several refusals the first in their order is reported: a number out of its range, an address that is not aligned, one of no
 /// memory, a position that is too far, an event that is not there. The machine has 16 pages.
 #[test]
 fn refusals_in_their_order(rt: HostRuntime) -> Result<(), Fail> {

@@ -88,7 +88,7 @@ fn vectors_and_landing(rt: HostRuntime) -> Result<(), Fail> {
     Ok(())
 }
 
-/// Behind the end of ROM nothing is fetched: 65,536 words of sll, then the bus error.
+/// After the end of ROM nothing is fetched: 65,536 words of sll, then the bus error.
 #[test]
 fn end_of_rom(rt: HostRuntime) -> Result<(), Fail> {
     let before = shown(rt.alloc(), &[], "65536")?;

@@ -20,7 +20,7 @@ fn feeds(bytes: &[u8]) -> usize {
     bytes.iter().filter(|byte| **byte == b'\n').count()
 }
 
-// The first so many replies.
+// The first `count` replies.
 fn first_replies(count: usize) -> &'static [u8] {
     let mut left = count;
     for (place, byte) in REPLIES.iter().enumerate() {
@@ -41,7 +41,7 @@ fn edited_echo(alloc: Global) -> Result<Vec<u8>, AllocError> {
     Ok(input)
 }
 
-// Holds a run to its status and to what it wrote.
+// Compares a run with its status and with what it wrote.
 fn ends(
     rt: &impl Abort,
     alloc: Global,
@@ -200,7 +200,7 @@ r20 0x00000000 0x00000000 0x00000000 0x00000000\n\
 r24 0x00000000 0x00000000 0x00000000 0x00000000\n\
 r28 0x00000000 0x00000000 0x00000000 0x00000000\n";
 
-// What is out where the script `goto 2`, `regs` ends after so many bytes.
+// What is out where the script `goto 2`, `regs` ends after `len` bytes.
 fn cut(len: usize) -> &'static [u8] {
     match len {
         0 => b"",

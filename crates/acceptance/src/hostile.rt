@@ -51,8 +51,8 @@ fn images(rt: HostRuntime) -> Result<(), Fail> {
     Ok(())
 }
 
-/// A raw ROM of one byte too many, logs of one event too many, of times that fall and of a line that is not there, and a word at a place
-/// that is none.
+/// Each of these is refused: a raw ROM with one byte too many; a log with one event too many, with times that fall, or with a line
+/// that does not exist; and a source with a word at a wrong place.
 #[test]
 fn others(rt: HostRuntime) -> Result<(), Fail> {
     let alloc = rt.alloc();
@@ -85,7 +85,7 @@ fn others(rt: HostRuntime) -> Result<(), Fail> {
     Ok(())
 }
 
-// Holds a run to a fault, whose line is all that it writes.
+// Compares a run with a fault, whose line is all that it writes.
 fn is_refused(
     rt: &impl Abort,
     alloc: Global,

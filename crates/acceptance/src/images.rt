@@ -47,7 +47,7 @@ fn image_that_just_fits(rt: HostRuntime) -> Result<(), Fail> {
     Ok(())
 }
 
-/// Source is assembled, or its first fault is told with its line; the words of an image from source are judged by the
+/// Source is assembled, or its first fault is reported with its line. The words of an image from source are judged by the
 /// machine's RAM like any.
 #[test]
 fn source(rt: HostRuntime) -> Result<(), Fail> {
@@ -91,7 +91,7 @@ fn source(rt: HostRuntime) -> Result<(), Fail> {
     Ok(())
 }
 
-/// A ROM that takes all 2^20 reads is judged; one byte more takes one read more.
+/// A ROM that takes all 2^20 reads is judged. One more byte takes one more read.
 #[test]
 fn image_of_all_reads(rt: HostRuntime) -> Result<(), Fail> {
     let alloc = rt.alloc();

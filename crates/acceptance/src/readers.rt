@@ -26,7 +26,7 @@ fn plan_moves_pieces(rt: HostRuntime) -> Result<(), Fail> {
     Ok(())
 }
 
-// A reader and writer of std's over memory. It counts its calls, fails at one of them alone, and moves at most so many
+// A reader and writer of std's over memory. It counts its calls, fails at one of them alone, and moves at most `piece`
 // bytes a call.
 #[derive(Drop)]
 struct Counting {

@@ -9,7 +9,7 @@ pub fn same<T: PartialEq + Debug>(rt: &impl Abort, found: &T, wanted: &T) {
     assert_eq!(rt; *found, *wanted);
 }
 
-/// The same at a place in a list, which the message tells.
+/// The same at a place in a list, which the message gives.
 pub fn same_at<P: Debug, T: PartialEq + Debug>(rt: &impl Abort, place: &P, found: &T, wanted: &T) {
     assert_eq!(rt; *found, *wanted, "at {place:?}");
 }

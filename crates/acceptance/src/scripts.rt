@@ -3,7 +3,7 @@ use crate::same::{same, same_at};
 use crate::served::run_program;
 use std::test::Fail;
 
-/// Scripts are answered where memory is ample: a program that is always out of memory is none.
+/// Scripts are answered where memory is ample: a program that is always out of memory fails here.
 #[test]
 fn always_out_of_memory(rt: HostRuntime) -> Result<(), Fail> {
     let long = [b' '; 256];

@@ -6,7 +6,7 @@ use std::alloc::{AllocError, Global};
 use std::test::Fail;
 use workbench::{Plan, serve_words};
 
-/// What a run wrote to its output, what it told on its errors, and its status.
+/// What a run wrote to its output, what it reported on its errors, and its status.
 #[derive(Drop)]
 pub struct Served {
     pub output: Vec<u8>,
@@ -14,7 +14,7 @@ pub struct Served {
     pub status: u8,
 }
 
-/// Runs the program with these words on this input, which comes in pieces of at most so many bytes.
+/// Runs the program with these words on this input, which comes in pieces of at most `piece` bytes.
 pub fn run_program(
     alloc: Global,
     words: &[&str],
@@ -53,7 +53,7 @@ pub fn run_on<const PAGES: u32, const SPAN: u32>(
     })
 }
 
-/// Runs the program on such a machine on an image of a kind, a log and a script, one behind the other.
+/// Runs the program on such a machine on an image of a kind, a log and a script, one after the other.
 pub fn run_image<const PAGES: u32, const SPAN: u32>(
     alloc: Global,
     kind: &str,

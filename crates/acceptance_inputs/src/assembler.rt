@@ -179,7 +179,7 @@ static FAULTS: [(&str, u64, AsmKind); 169] = [
     ("\x0btlbr", 1, AsmKind::Syntax),
     ("\rtlbr", 1, AsmKind::Syntax),
     ("\0", 1, AsmKind::Syntax),
-    // behind the name
+    // after the name
     ("addu,r1", 1, AsmKind::Syntax),
     ("addu", 1, AsmKind::Syntax),
     ("addu%", 1, AsmKind::Syntax),
@@ -221,7 +221,7 @@ static FAULTS: [(&str, u64, AsmKind); 169] = [
     ("j", 1, AsmKind::Syntax),
     ("j 1x", 1, AsmKind::Syntax),
     ("j Abcdefghijklmnopqrstuvwxyz_012345", 1, AsmKind::Syntax),
-    // numbers that are none, and signs where none may stand
+    // words that are no numbers, and signs where none may stand
     (".word 0x", 1, AsmKind::Syntax),
     (".word 0X10", 1, AsmKind::Syntax),
     (".word 0x1g", 1, AsmKind::Syntax),
@@ -356,7 +356,7 @@ fn faults(rt: HostRuntime) {
     }
 }
 
-// Lines with a fault, behind `.org 0`, `.word 1`, `x:` and `.org 8`: how many there are, of which the last has it; its kind;
+// Lines with a fault, after `.org 0`, `.word 1`, `x:` and `.org 8`: how many there are, of which the last has it; its kind;
 // and whether only the second pass finds it.
 static FAULTY_LINES: [(&str, u64, AsmKind, bool); 8] = [
     ("foo\n", 1, AsmKind::Name, false),
@@ -369,7 +369,7 @@ static FAULTY_LINES: [(&str, u64, AsmKind, bool); 8] = [
     ("j 2\n", 1, AsmKind::Reach, true),
 ];
 
-/// Of two faults the one in the earlier line is told, but one of the first pass before any of the second.
+/// Of two faults the one in the earlier line is reported, but one of the first pass before any of the second.
 #[test]
 fn faults_in_two_lines(rt: HostRuntime) -> Result<(), Fail> {
     for (first, count, kind, linked) in &FAULTY_LINES {
@@ -389,7 +389,7 @@ fn faults_in_two_lines(rt: HostRuntime) -> Result<(), Fail> {
     Ok(())
 }
 
-/// A line of each fault of the first pass with what would be a later kind: the earlier kind is told.
+/// A line of each fault of the first pass with what would be a later kind: the earlier kind is reported.
 #[test]
 fn faults_in_one_line(rt: HostRuntime) -> Result<(), Fail> {
     for place in [".org 2", ".org 0"] {

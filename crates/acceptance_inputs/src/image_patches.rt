@@ -23,7 +23,7 @@ fn patches(rt: HostRuntime) -> Result<(), Fail> {
         &write_image(rt.alloc(), &image)?.as_slice(),
         &LOAD_SLOT.as_slice(),
     );
-    // Words of their own, one of them just before a segment, and words behind a segment, one of them with the value 0.
+    // Words of their own, one of them just before a segment, and words after a segment, one of them with the value 0.
     image.patch(0x200, 0xFFFF_FFFF)?;
     image.patch(0xFC, 7)?;
     image.patch(0x104, 0)?;

@@ -228,7 +228,7 @@ fn moves(rt: HostRuntime) -> Result<(), Fail> {
     // The last of its time stays.
     same(&rt, &log.move_to(2, 2)?, &2);
     assert!(rt; has(&log, &[(1, 0, 10), (2, 0, 20), (2, 0, 21), (3, 0, 30)]));
-    // The first of its time comes behind the other.
+    // The first of its time comes after the other.
     same(&rt, &log.move_to(1, 2)?, &2);
     assert!(rt; has(&log, &[(1, 0, 10), (2, 0, 21), (2, 0, 20), (3, 0, 30)]));
     // Forward to the end.
@@ -239,7 +239,7 @@ fn moves(rt: HostRuntime) -> Result<(), Fail> {
             &[(2, 0, 21), (2, 0, 20), (3, 0, 30), (4_294_967_294, 0, 10)]
         )
     );
-    // Backward, behind the events of the new time.
+    // Backward, after the events of the new time.
     same(&rt, &log.move_to(3, 2)?, &2);
     assert!(rt; has(&log, &[(2, 0, 21), (2, 0, 20), (2, 0, 10), (3, 0, 30)]));
     // To another time between the same neighbours.

@@ -412,7 +412,7 @@ fn way_along_a_window(rt: HostRuntime) -> Result<(), Fail> {
     same(&rt, &cursor.next(5).len(), &0);
     same(&rt, &cursor.next(6).len(), &0);
     same(&rt, &cursor.next(u64::MAX).len(), &0);
-    // What is before the time is left behind.
+    // What is before the time is passed over.
     let mut cursor = Cursor::new(log.events());
     same(&rt, &cursor.next(5), &[SECOND, THIRD].as_slice());
     same(&rt, &cursor.next(4).len(), &0);

@@ -4,7 +4,7 @@ use asm_line::kind::AsmKind;
 use r3k_asm::{AsmFault, assemble};
 use std::test::Fail;
 
-// Words in both memories, a label before and behind its use, and each constant.
+// Words in both memories, a label before and after its use, and each constant.
 #[test]
 fn source(rt: HostRuntime) -> Result<(), Fail> {
     let source = b".org 0x100\n.word 5\n.org 0x1fc00000\nstart:\nlw r2, 256(r1) # a word\r\nj end\n\

@@ -1,4 +1,4 @@
-//! Devices behind loads and stores, and their interrupts, step by step: values by hand from the papers of the parts.
+//! Devices reached by loads and stores, and their interrupts, step by step: values by hand from the specifications of the parts.
 use crate::machine::{Machine, plays};
 use samples::ECHO;
 use std::test::Fail;

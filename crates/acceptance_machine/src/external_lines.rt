@@ -1,4 +1,4 @@
-//! External lines of the board, step by step, and their interrupts: values by hand from the papers of the board and of the
+//! External lines of the board, step by step, and their interrupts: values by hand from the specifications of the board and of the
 //! processor.
 use crate::machine::plays;
 use std::test::Fail;

@@ -1,4 +1,4 @@
-//! Interrupts of the serial part and of the clock, with handlers: values by hand from the papers of the parts and of the
+//! Interrupts of the serial part and of the clock, with handlers: values by hand from the specifications of the parts and of the
 //! processor.
 use crate::machine::plays;
 use std::test::Fail;

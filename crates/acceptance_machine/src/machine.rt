@@ -20,7 +20,7 @@ use std::test::Fail;
 ///                                 level of external line L
 ///     sends S ..                  runs as many steps, each of which sends this byte, as L:B, or `none`
 ///     gives K W ..                runs as many steps, after each of which register K holds this, once a pending load has landed
-///     sent S, stored A, touched F P      what the last step told: the byte that it sent, the word of RAM that it stored into, and the
+///     sent S, stored A, touched F P      what the last step reported: the byte sent, the word of RAM stored into, and the
 ///                                 pages that it fetched from and loaded from or stored into
 ///     pc A, next A, delay D       the next instruction's address, that of the one after it, and whether it stands in a delay slot
 ///     register K W, landed K W .. what a register holds, and those from K on once a pending load has landed
@@ -49,7 +49,7 @@ pub fn plays(rt: &(impl Abort + AllocGlobal), source: &str, lists: &str) -> Resu
 pub struct Machine {
     pub core: Core,
     memory: FlatMemory<16>,
-    // What the last step told.
+    // What the last step reported.
     done: Done,
 }
 
@@ -68,7 +68,7 @@ impl Machine {
         })
     }
 
-    /// Goes over a list, which messages tell by these lines.
+    /// Plays a list. A message gives the clause that fails, and the list.
     pub fn play(
         &mut self,
         rt: &impl Abort,
@@ -99,7 +99,7 @@ impl Machine {
         Ok(true)
     }
 
-    /// Runs so many steps.
+    /// Runs `steps` steps.
     pub fn run(&mut self, steps: u32) {
         for _ in 0..steps {
             self.receive(&[]);

@@ -1,5 +1,5 @@
 //! The registers of the serial part, of the board and of the clock, written by stores of each width at each byte: values by
-//! hand from the papers of the parts.
+//! hand from the specifications of the parts.
 use crate::machine::plays;
 use std::process::Abort;
 use std::test::Fail;

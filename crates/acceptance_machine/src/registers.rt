@@ -1,5 +1,5 @@
 //! The registers of the serial part, of the board and of the clock, read by loads of each width at each byte: values by hand
-//! from the papers of the parts.
+//! from the specifications of the parts.
 use crate::machine::plays;
 use std::test::Fail;
 

@@ -1,5 +1,5 @@
-//! More bytes than the silo holds, and the serial part through each segment: values by hand from the papers of the serial part
-//! and of the processor.
+//! More bytes than the silo holds, and the serial part through each segment: values by hand from the specifications of the serial
+//! part and of the processor.
 use crate::machine::plays;
 use std::test::Fail;
 

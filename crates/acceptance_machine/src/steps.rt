@@ -47,7 +47,7 @@ fn exceptions(rt: HostRuntime) -> Result<(), Fail> {
     Ok(())
 }
 
-// A fetch that faults, behind jr r9 and its delay slot, and in the delay slot of j.
+// A fetch that faults, after jr r9 and its delay slot, and in the delay slot of j.
 #[test]
 fn exceptions_of_fetches(rt: HostRuntime) -> Result<(), Fail> {
     for (high, low, target, before, cause, bad) in [

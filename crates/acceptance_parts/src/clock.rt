@@ -317,7 +317,7 @@ fn equality(rt: HostRuntime) {
     assert!(rt; one != other);
 }
 
-// Passes so many ticks, as far as they are quiet.
+// Passes at most `ticks` ticks, as far as they are quiet.
 fn pass(clock: &mut Clock, ticks: u32) {
     clock.pass(ticks.min(clock.quiet()));
 }

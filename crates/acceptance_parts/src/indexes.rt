@@ -34,7 +34,7 @@ fn direct_calls(rt: HostRuntime) -> Result<(), Fail> {
     Ok(())
 }
 
-// Holds the last span below a given one with each page to what is wanted.
+// Compares the last span below a given one with each page with what is wanted.
 fn last_are(rt: &impl Abort, index: &WriteIndex, wanted: &[(u32, u64, Option<u64>)]) {
     for (page, before, span) in wanted {
         same_at(rt, &(*page, *before), &last(index, *page, *before).0, span);

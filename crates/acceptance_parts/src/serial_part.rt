@@ -66,7 +66,7 @@ fn full_silo(rt: HostRuntime) {
     }
 }
 
-// After so many lost bytes of line 2 the next one stored from it has OERR, and the one after that
+// After `lost` lost bytes of line 2 the next one stored from it has OERR, and the one after that
 // has not. Line 1 lost none.
 #[test]
 fn overrun(rt: HostRuntime) {

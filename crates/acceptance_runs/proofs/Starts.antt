@@ -6,7 +6,7 @@ use Rattle.r3k_machine.specs.State.{State}
 use Rattle.r3k_pages.specs.Pages.{SameOutside, holds}
 use Rattle.span_fact.specs.Span.{Span}
 
--- a record that starts there has the state's words, and so those of another memory outside the pages in which that one differs
+-- a record that starts there has the state's words, and so it has another memory's words outside the pages in which they differ
 pub same_start : (o : Option Span) (start : State) (set words : List ℕ) → IfSome o (λ s. s.start ≡ start) → SameOutside set start.words words
     → IfSome o (λ s. SameOutside set s.start.words words)
 same_start None start set words same outside = tt

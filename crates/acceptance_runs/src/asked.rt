@@ -13,9 +13,9 @@ use timeline::{Timeline, Writer};
 /// What a timeline is asked, with the answer that is wanted, or what is done to it.
 #[derive(Clone, Copy)]
 pub enum Ask<'a> {
-    /// So many steps were run since the last one of these.
+    /// This many steps were run since the last one of these.
     Costs(u64),
-    /// At most so many were.
+    /// At most this many were.
     CostsAtMost(u64),
     /// Who wrote the word at an address last before a position.
     Writer(u64, u32, Writer),
@@ -23,7 +23,7 @@ pub enum Ask<'a> {
     Word(u64, u32, u32),
     /// The PC at a position.
     Pc(u64, u32),
-    /// The next position after one, at most 20 steps behind it, at which the PC holds an address.
+    /// The next position after one, at most 20 steps after it, at which the PC holds an address.
     NextPc(u64, u32, u64),
     /// The step before a position that sent the byte at a place of line 0.
     Sent(u64, u64, Result<u64, Fault>),
@@ -35,7 +35,7 @@ pub enum Ask<'a> {
     Ferr(u64, u8),
     /// At a time an external line gets a level.
     Wire(u64, u8, u8),
-    /// So many bytes arrive at once.
+    /// This many bytes arrive at once.
     Burst(u32, u64, u8),
     /// An event is deleted.
     Del(u64),
@@ -49,7 +49,7 @@ pub enum Ask<'a> {
     Patch(u32, u32),
     /// A patch at an address is refused.
     RefusesPatch(u32, Fault),
-    /// An address that is none, and numbers out of their ranges, are refused.
+    /// An address of no word, and numbers out of their ranges, are refused.
     Refuses,
 }
 
@@ -117,14 +117,14 @@ impl<const PAGES: u32, const SPAN: u32> Asked<PAGES, SPAN> {
         }
     }
 
-    // So many steps were run since it was asked last.
+    // This many steps were run since it was asked last.
     fn costs(&mut self, rt: &impl Abort, steps: u64) {
         let now = self.timeline.steps_run();
         same(rt, &now, &self.steps.saturating_add(steps));
         self.steps = now;
     }
 
-    // At most so many were.
+    // At most this many were.
     fn costs_at_most(&mut self, rt: &impl Abort, steps: u64) {
         let now = self.timeline.steps_run();
         assert!(rt; now <= self.steps.saturating_add(steps));
@@ -149,7 +149,7 @@ impl<const PAGES: u32, const SPAN: u32> Asked<PAGES, SPAN> {
         assert!(rt; pc == Ok(want));
     }
 
-    // The next position after one, at most 20 steps behind it, at which the PC holds an address.
+    // The next position after one, at most 20 steps after it, at which the PC holds an address.
     fn next_pc(&mut self, rt: &impl Abort, position: u64, address: u32, want: u64) {
         let found = self.timeline.next_pc(position, address, 20);
         assert!(rt; found == Ok(want));
@@ -188,7 +188,7 @@ impl<const PAGES: u32, const SPAN: u32> Asked<PAGES, SPAN> {
         assert!(rt; added);
     }
 
-    // So many bytes at once.
+    // This many bytes at once.
     fn burst(&mut self, rt: &impl Abort, count: u32, time: u64, byte: u8) {
         for _ in 0..count {
             self.add(rt, time, byte);
@@ -220,7 +220,7 @@ impl<const PAGES: u32, const SPAN: u32> Asked<PAGES, SPAN> {
         same(rt, &erased, &Err(Fault::Range));
     }
 
-    // An address that is none, and numbers out of their ranges.
+    // An address of no word, and numbers out of their ranges.
     fn refuses(&mut self, rt: &impl Abort) {
         let far = self.timeline.word_at(MAX_POSITION + 1, 0x100).is_err();
         assert!(rt; far);

@@ -1,6 +1,6 @@
-//! Spans that are carried over: what they start with differs only in pages that they do not touch, and so they are not run again. The
-//! counts are by hand, in spans of 64 steps. The loop of the echo program stores into the first page of RAM and is fetched from
-//! the second page of ROM; the steps before it, 0 to 8, from the first page of ROM. Position 256 is where the fifth span starts.
+//! Spans that are carried over: their start differs only in pages that they do not touch, so they are not run again. The counts are
+//! by hand, in spans of 64 steps. The loop of the echo program stores into the first page of RAM and is fetched from the second
+//! page of ROM. The steps before it, 0 to 8, are fetched from the first page of ROM. Position 256 is where the fifth span starts.
 use crate::asked::{Ask, asks};
 use crate::reuse::{RECEIVED, TAKEN};
 use crate::running::echo;
@@ -9,7 +9,7 @@ use refusal::Fault;
 use std::test::Fail;
 use timeline::Writer;
 
-// A word of RAM that the echo program never touches, nor any of its page.
+// A word of RAM. The echo program never touches it, nor its page.
 const AWAY: u32 = 0x3000;
 
 // The loop loads from the third page of RAM and stores into the second, in turns of 4 steps, all from the first page of ROM.
@@ -33,7 +33,7 @@ j 0x1fc01000
 sll r0, r0, 0
 ";
 
-/// The fifth word of ROM is fetched in step 4, and nothing else differs once the first span was run: its page is carried over.
+/// The fifth word of ROM is fetched in step 4. Once the first span was run nothing else differs, so its page is carried over.
 #[test]
 fn patched_start(rt: HostRuntime) -> Result<(), Fail> {
     asks(
@@ -52,7 +52,7 @@ fn patched_start(rt: HostRuntime) -> Result<(), Fail> {
     )
 }
 
-/// The loop stores into another word: it fetches from the patched page, so that all of its spans are run.
+/// The loop stores into another word. It fetches from the patched page, so all of its spans are run.
 #[test]
 fn patched_loop(rt: HostRuntime) -> Result<(), Fail> {
     asks(
@@ -71,7 +71,7 @@ fn patched_loop(rt: HostRuntime) -> Result<(), Fail> {
     )
 }
 
-/// A page that no step touches costs nothing, patched and patched back, and is told as it was patched, at positions of any span.
+/// A page that no step touches costs nothing, patched and patched back. It is shown as it was patched, at positions of any span.
 #[test]
 fn untouched_page(rt: HostRuntime) -> Result<(), Fail> {
     asks(
@@ -98,7 +98,8 @@ fn untouched_page(rt: HostRuntime) -> Result<(), Fail> {
     )
 }
 
-/// A word that is never fetched itself, in the page of the loop: each span fetches from that page, and again when it is patched back.
+/// A word in the page of the loop that is never fetched itself. Each span fetches from that page, and again when it is patched
+/// back.
 #[test]
 fn page_that_is_fetched_from(rt: HostRuntime) -> Result<(), Fail> {
     asks(
@@ -146,7 +147,7 @@ fn pages_that_are_stored_into_and_loaded_from(rt: HostRuntime) -> Result<(), Fai
     )
 }
 
-/// Of two patched pages the spans touch one. Its word is stored into by step 11, so that behind the first span the other page alone
+/// Of two patched pages the spans touch one. Its word is stored into by step 11, so that after the first span only the other page
 /// differs.
 #[test]
 fn one_of_two_pages(rt: HostRuntime) -> Result<(), Fail> {
@@ -169,7 +170,8 @@ fn one_of_two_pages(rt: HostRuntime) -> Result<(), Fail> {
     )
 }
 
-/// The patched word is stored into by step 81, for the byte of step 70: the first two spans are run, and behind them all is as it was.
+/// The patched word is stored into by step 81, for the byte of step 70: the first two spans are run, and after them all is as it
+/// was.
 #[test]
 fn overwritten_difference(rt: HostRuntime) -> Result<(), Fail> {
     asks(
@@ -220,7 +222,7 @@ fn patch_and_edit(rt: HostRuntime) -> Result<(), Fail> {
     )
 }
 
-/// Last writers and bytes sent before, in and behind spans that were carried over, with bytes of steps 70 and 200.
+/// Last writers and bytes sent before, in and after spans that were carried over, with bytes of steps 70 and 200.
 #[test]
 fn told_by_carried_spans(rt: HostRuntime) -> Result<(), Fail> {
     asks(

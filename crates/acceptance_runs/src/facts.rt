@@ -19,9 +19,9 @@ use std::process::Abort;
 use std::rc::Rc;
 use std::test::Fail;
 
-/// The first span of the echo program, without events: turn 4 stores in step 55, and turn 5 begins behind the span. The words beside
-/// the one that is stored into, an address of no word, one of ROM, and the first one past RAM have no writer. What is stored is 0, as
-/// before.
+/// The first span of the echo program, without events: turn 4 stores in step 55, and turn 5 begins after the span. These have no
+/// writer: the words beside the one that is stored into, an address of no word, one of ROM, and the first one past RAM. What is
+/// stored is 0, as before.
 #[test]
 fn first_span(rt: HostRuntime) -> Result<(), Fail> {
     plays(
@@ -107,7 +107,7 @@ sh r8, 0x1002(r8)
 ";
 
 /// Stores into several pages: the page that is only loaded from is touched, and one that is stored into is dirty though its
-/// words stay. Behind the program there is no word, which is no operation.
+/// words stay. After the program there is no word, which is no operation.
 #[test]
 fn stores_into_pages(rt: HostRuntime) -> Result<(), Fail> {
     plays(
@@ -143,7 +143,7 @@ const EARLY: Event = Event {
     byte: 0x41,
 };
 
-/// A record is taken for its own span alone: not with an event more, and not from a start with another core, as that of its end,
+/// A record is taken only for its own span: not with one more event, and not from a start with another core, as that of its end,
 /// where all words are the same. A machine that is made anew starts where this one did.
 #[test]
 fn record_of_the_first_span(rt: HostRuntime) -> Result<(), Fail> {
@@ -263,8 +263,8 @@ fn with_word<const PAGES: u32>(
     Ok(other)
 }
 
-// Whether a record of the first span is taken for a start with one word set, whether it is where the word's page is named as
-// the one that may differ, and whether it nearly applies there.
+// Whether a record of the first span is taken for a start with one word set, whether it is also taken where the word's page is
+// named as the one that may differ, and whether it nearly applies there.
 #[tactic(auto, using(crate::proofs::Starts::same_start))]
 fn taken_with_word<const PAGES: u32, const SPAN: u32>(
     rt: &impl Abort,
@@ -377,7 +377,7 @@ fn is_near_at_its_end<const PAGES: u32, const SPAN: u32>(
     Ok(kept.nearly(0, fact.end(), &[], &dirty))
 }
 
-// A set of pages, outside which is the same what is so outside the list.
+// The set of the pages of a list.
 fn marks_of<const PAGES: u32>(alloc: Global, pages: &[u32]) -> Result<PageMarks<PAGES>, AllocError>
     requires few { PAGES ≤ MAX_RAM_PAGES }
     requires within { All (λ page. page < page_count_of PAGES) pages.now }
@@ -402,7 +402,7 @@ fn is_near<const PAGES: u32, const SPAN: u32>(
     kept.nearly(index, start, events, none)
 }
 
-/// Two spans one behind the other are tied, until either is put anew.
+/// Two spans, one after the other, are tied until either is put anew.
 #[test]
 fn tied_records(rt: HostRuntime) -> Result<(), Fail> {
     tied_records_continue::<16, 64>(&rt, rt.alloc())
@@ -452,7 +452,7 @@ fn put_and_tie<const PAGES: u32, const SPAN: u32>(
     Ok(())
 }
 
-// Keeps the first record once more, or the one behind it.
+// Keeps the first record once more, or the next one.
 fn put_again<const PAGES: u32, const SPAN: u32>(
     alloc: Global,
     machine: &mut Running<PAGES, SPAN>,
@@ -602,7 +602,7 @@ fn both_apply<const PAGES: u32, const SPAN: u32>(
     assert!(rt; kept.applies(70, start, &[], None));
 }
 
-/// The count of steps stands at its greatest value once it is reached. A machine that has made so many steps can not be had by
+/// The count of steps stays at its greatest value once it is reached. A machine that has made that many steps can not be had by
 /// a public call, so the sum stands for it.
 #[test]
 fn greatest_count(rt: HostRuntime) {

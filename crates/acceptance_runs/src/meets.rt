@@ -1,5 +1,5 @@
-//! Runs of two bytes, or of a byte more, that differ in one thing where the second span starts: neither is taken for the other
-//! there, and from the span on that starts with all equal both are one.
+//! Runs of two bytes, or with and without a byte, that differ in one thing where the second span starts. There neither is taken for
+//! the other. From the first span on at whose start all is equal, both are one.
 use crate::asked::{Ask, asks};
 use crate::running::{Then, plays};
 use cop0::number::{RANDOM, STATUS};
@@ -33,7 +33,7 @@ sll r0, r0, 0
 andi r6, r6, 255
 ";
 
-// Steps 61 and 62, behind those from 51 on in which a byte makes a difference: nothing else is left of it.
+// Steps 61 and 62, after those from 51 on in which a byte makes a difference: nothing else is left of it.
 const CLEARS: &str = ".org 0x1fc000f4
 addu r6, r0, r0
 addu r7, r0, r0
@@ -77,9 +77,9 @@ fn program(alloc: Global, makes: &str, mends: &str) -> Result<Image, Fail> {
     Ok(assemble(alloc, source.as_bytes())?)
 }
 
-// Two runs of an image, with two logs of the first span, that differ where the second one starts, and nowhere where it ends: a
+// Two runs of an image, with two logs of the first span, differ where the second span starts, and are equal where it ends. So a
 // record of the second span of one run is not taken in the other, and one of the third is. Nothing else differed, as no step looked
-// at it but to take it away.
+// at the difference except to take it away.
 fn told_apart<'a>(
     rt: &(impl Abort + AllocGlobal),
     name: &str,
@@ -190,7 +190,7 @@ j 0x1fc00100
         one: 0x41,
         other: 0,
     },
-    // The other run has a branch behind that jump: from the same word it goes on elsewhere, and back to step 67 of the first.
+    // The other run has a branch after that jump: from the same word it goes on elsewhere, and back to step 67 of the first.
     Thing {
         name: "the next PC",
         makes: "beq r6, r0, 0x1fc00400
@@ -355,8 +355,8 @@ fn one_control_register(rt: HostRuntime) -> Result<(), Fail> {
 }
 
 const DEVICES: [Thing; 11] = [
-    // Step 52 stores into TDR or behind the part, where nothing is: the line is busy from then on for 16 ticks, so up to position 69,
-    // or not at all. Step 53 turns the line off, which clears TRDY.
+    // Step 52 stores into TDR, or after the part, where nothing is: the line is busy from then on for 16 ticks, so up to position
+    // 69, or not at all. Step 53 turns the line off, which clears TRDY.
     Thing {
         name: "the busy count of a line",
         makes: "addu r7, r1, r6\nsw r0, 0(r7)\nsw r0, 16(r1)\n",
@@ -536,7 +536,7 @@ fn framing_error_in_the_silo(rt: HostRuntime) -> Result<(), Fail> {
     )
 }
 
-/// What it costs that a byte more is lost. Another one leaves the mark as it is.
+/// What it costs that one more byte is lost. Another one leaves the mark as it is.
 #[test]
 fn lost_bytes(rt: HostRuntime) -> Result<(), Fail> {
     asks(
@@ -591,7 +591,7 @@ fn random(rt: HostRuntime) -> Result<(), Fail> {
 }
 
 // A timeline of nine spans whose byte stands in r12 from step 51 on. These steps in the end take it away, or none does. A change
-// of the byte costs so many steps at position 512, and so many more at 576.
+// of the byte costs the first number of steps at position 512, and the second one more at 576.
 fn meets_late(rt: &impl Abort, alloc: Global, mends: &str, costs: (u64, u64)) -> Result<(), Fail> {
     asks(
         rt,
@@ -610,8 +610,8 @@ fn meets_late(rt: &impl Abort, alloc: Global, mends: &str, costs: (u64, u64)) ->
     )
 }
 
-/// Runs that meet where the last span starts, which alone is taken: step 447 is the last one before it. Where step 448 takes the
-/// difference away, they meet a span later; and where no step does, they never meet.
+/// Runs that meet where the last span starts, so that only that span is taken: step 447 is the last one before it. Where step 448
+/// takes the difference away, they meet a span later. Where no step does, they never meet.
 #[test]
 fn late_meetings(rt: HostRuntime) -> Result<(), Fail> {
     let mends = ".org 0x1fc006fc\naddu r12, r0, r0\n";

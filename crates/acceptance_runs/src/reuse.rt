@@ -204,7 +204,7 @@ fn erasing_between_spans(rt: HostRuntime) -> Result<(), Fail> {
     )
 }
 
-/// A patched word that the first span overwrites costs that span alone, and so does one of the start, whose page is carried over.
+/// A patched word that the first span overwrites costs only that span. So does a word of the start, whose page is carried over.
 #[test]
 fn patches(rt: HostRuntime) -> Result<(), Fail> {
     asks(
@@ -310,7 +310,7 @@ fn undone_edits(rt: HostRuntime) -> Result<(), Fail> {
     )
 }
 
-/// An edit behind the position that is asked costs nothing there.
+/// An edit after the position that is asked costs nothing there.
 #[test]
 fn edit_behind_the_position(rt: HostRuntime) -> Result<(), Fail> {
     asks(
@@ -332,7 +332,7 @@ fn edit_behind_the_position(rt: HostRuntime) -> Result<(), Fail> {
     )
 }
 
-/// A query inside a span that comes again, or goes on from there, runs what is between at most.
+/// A query inside a span that comes again, or goes on from there, runs at most what is between.
 #[test]
 fn going_on(rt: HostRuntime) -> Result<(), Fail> {
     asks(

@@ -1,5 +1,5 @@
-//! A machine that runs a program in spans of 64 steps, with its record, places in its run that are kept, and records of spans, and
-//! lists of what is done to it and asked of it.
+//! A machine that runs a program in spans of 64 steps, its record, kept places of its run, kept records of spans, and lists of what
+//! is done to it and asked of it.
 ghost use Rattle.std.specs.Prelude.{◌≡◌, ◌+◌, ◌*◌, ◌^◌, ◌<◌, ◌≤◌, IfOk};
 ghost use Rattle.r3k_word.specs.declared.layout.TheConstants.{MAX_RAM_PAGES};
 
@@ -51,13 +51,13 @@ pub fn echo(alloc: Global) -> Result<Image, AsmFault> {
 /// 0 is reset.
 #[derive(Clone, Copy)]
 pub enum Then<'a> {
-    /// Runs from a time on so many steps, with a log.
+    /// Runs n steps from a time on, with a log.
     Run(u64, u32, &'a [Event]),
     /// Runs so until it comes to an address: how many steps it went, if it came there.
     Visit(u64, u32, &'a [Event], u32, Option<u32>),
-    /// It stands before this instruction, and has made so many steps since it was made.
+    /// It stands before this instruction, and has made n steps since it was made.
     Stands(u32, u64),
-    /// The address of the instruction after that one, and whether that one stands in a delay slot.
+    /// The address of the instruction after this one, and whether this one stands in a delay slot.
     NextPc(u32, bool),
     /// A control register.
     Cop0(u8, u32),
@@ -82,22 +82,22 @@ pub enum Then<'a> {
     SameCore(usize, usize, bool),
     /// Makes the record of the span of a number from a place on, with a log, and keeps where it ends.
     Record(usize, u64, &'a [Event]),
-    /// The number of that record, the place where it starts, and the times and bytes of its events, which are of line 0.
+    /// The number of that record, where it starts, and the times and bytes of its events, all on line 0.
     RecordIs(u64, usize, &'a [(u64, u8)]),
-    /// What it tells: words by their addresses, each with its last step, if there is one; bytes with the steps that sent them; pages
-    /// stored into, and pages touched.
+    /// What it reports: words by their addresses, each with its last step, if there is one; bytes with the steps that sent them;
+    /// pages stored into, and pages touched.
     RecordTells(&'a [(u32, Option<u32>)], &'a [(u8, u32)], &'a [u32], &'a [u32]),
     /// Keeps it among the records.
     Put,
-    /// Of the first 72 spans, and of the last one that there is, these alone have a record, which has their number.
+    /// Of the first 72 spans, and of the last one that there can be, these alone have a record, which has their number.
     Records(&'a [u64]),
     /// Of the first 72 spans the records of these alone are taken for a start, without events.
     AreTaken(usize, &'a [u64]),
-    /// So many records are valid.
+    /// This many records are valid.
     Valid(u64),
-    /// One more becomes valid, which makes so many.
+    /// One more becomes valid, which makes n.
     Join(u64),
-    /// The records from a number on are not valid, which leaves so many.
+    /// The records from a number on are not valid, which leaves n.
     Truncate(u64, u64),
     /// Whether the record of a span is taken for a start and events.
     Applies(u64, usize, &'a [Event], bool),
@@ -139,7 +139,7 @@ pub struct Running<const PAGES: u32, const SPAN: u32> {
     image: Image,
     pub live: Live<PAGES>,
     pub recorder: Recorder<PAGES, SPAN>,
-    // What messages tell: the name of the list, and the place in it.
+    // What messages give: the name of the list, and the place in it.
     name: String,
     row: usize,
     places: Vec<Rc<Boundary<PAGES>>>,
@@ -225,7 +225,7 @@ impl<const PAGES: u32, const SPAN: u32> Running<PAGES, SPAN> {
         );
     }
 
-    /// Runs from a time on so many steps.
+    /// Runs `steps` steps from a time on.
     pub fn run(
         &mut self,
         rt: &impl Abort,
@@ -262,13 +262,13 @@ impl<const PAGES: u32, const SPAN: u32> Running<PAGES, SPAN> {
         )
     }
 
-    /// It stands before this instruction, and has made so many steps since it was made.
+    /// It stands before this instruction, and has made `steps` steps since it was made.
     pub fn stands(&self, rt: &impl Abort, pc: u32, steps: u64) {
         self.same(rt, &self.live.core().pc(), &pc);
         self.same(rt, &self.live.steps(), &steps);
     }
 
-    // The address of the instruction after that one, and whether that one stands in a delay slot.
+    // The address of the instruction after this one, and whether this one stands in a delay slot.
     fn next_pc(&self, rt: &impl Abort, pc: u32, delay: bool) {
         self.same(rt, &self.live.core().next_pc(), &pc);
         self.same(rt, &self.live.core().delay(), &delay);
@@ -442,7 +442,7 @@ impl<const PAGES: u32, const SPAN: u32> Running<PAGES, SPAN> {
         Ok(())
     }
 
-    // What it tells.
+    // What it reports.
     fn record_tells(
         &self,
         rt: &impl Abort,
@@ -471,7 +471,7 @@ impl<const PAGES: u32, const SPAN: u32> Running<PAGES, SPAN> {
         Ok(self.kept.put(fact)?)
     }
 
-    // Of the first 72 spans, and of the last one that there is, these alone have a record, which has their number.
+    // Of the first 72 spans, and of the last one that there can be, these alone have a record, which has their number.
     fn records(&self, rt: &impl Abort, spans: &[u64]) {
         for index in (0..72).chain([u64::MAX]) {
             let want = spans.contains(&index).then_some(index);

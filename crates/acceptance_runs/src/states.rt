@@ -4,7 +4,7 @@ use crate::reuse::{RECEIVED, TAKEN};
 use crate::running::echo;
 use std::test::Fail;
 
-/// A second query of the state at a position inside a span runs no step, as it would if none were kept. By hand: a turn begins at
+/// A second query of the state at a position inside a span runs no step; it would if no state were kept. By hand: a turn begins at
 /// position 97, and another at 64.
 #[test]
 fn keeps_no_landings(rt: HostRuntime) -> Result<(), Fail> {

@@ -17,7 +17,7 @@ is_long : (b : Bool) (ns : List ℕ) → ◌≡◌ {A = Option (List ℕ)} (cond
 is_long true ns e = let same : [] ≡ ns = cc in ap length (sym same)
 is_long false ns e = absurd cc
 
--- so many numbers
+-- n numbers
 pub numbers_len : (n : ℕ) (text ns : List ℕ) → numbers_at n text ≡ Some ns → length ns ≡ n
 unfolding numbers_at
 numbers_len zero text ns e = is_long (is_blank text) ns e
@@ -45,7 +45,7 @@ is_good ns len e =
 abbrev pub judged : List ℕ → Result (List ℕ) AsmKind
 judged ns = cond (is_start ns) (Ok ns) (Err kind.Number)
 
--- what the test of the image says of numbers that are bytes
+-- what the image's test shows of numbers that are bytes
 pub started : (ns : List ℕ) (o : Option (List ℕ)) → length ns ≡ 12 → list_all (λ n. nat_lt n 256) ns ≡ true → SomeIff o (IsClockStart ns) ns → ok_or o kind.Number ≡ judged ns
 started ns (Some x) len all h =
     let yes_is : is_start ns ≡ true = and_from _ _ all (and_from _ _ (lt-ltb _ _ h.0.register_a) (eq-eqb _ _ h.0.register_b)) in

@@ -7,7 +7,7 @@ use Rattle.asm_line.specs.Span.{behind}
 use Rattle.asm_line.specs.Operand.{number_at, is_blank, ◌>>=◌}
 use Rattle.asm_line.specs.Statement.{numbers_at}
 
--- numbers behind others
+-- numbers after others
 abbrev pub with_front : List ℕ → Option (List ℕ) → Option (List ℕ)
 with_front front numbers = option_map (λ more. front ++ more) numbers
 

@@ -8,7 +8,7 @@ use Rattle.asm_line.specs.declared.operand.Operands.{Operands}
 use Rattle.asm_line.specs.Span.{behind}
 use Rattle.asm_line.specs.Operand.{◌>>=◌, after, operand_at, operands_at, checked, joined, is_blank}
 
--- those behind the first
+-- those after the first
 abbrev pub others : List Operand → List Operand
 others os = take (length os - 1) (drop 1 os)
 

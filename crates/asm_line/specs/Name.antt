@@ -10,7 +10,7 @@ is_name word = nat_lt 0 (length word) && (nat_le (length word) 32 && not (is_dec
 abbrev pub digit_of : ℕ → ℕ
 digit_of byte = byte - 48
 
--- the number of a register behind a letter: 0 to 31 in decimal, without zeros before it
+-- the number of a register after a letter: 0 to 31 in decimal, without zeros before it
 unfoldable pub register_of : ℕ → List ℕ → Option ℕ
 register_of letter word =
     if (length word == 2) && ((slice_index word 0 == letter) && is_decimal (slice_index word 1)) then Some (digit_of (slice_index word 1))

@@ -17,11 +17,11 @@ infixl 10 ◌>>=◌
 abbrev pub ◌>>=◌ : {A B : Type 0} → Option A → (A → Option B) → Option B
 o >>= f = option_and_then f o
 
--- what the word at the front of a text says, and what stands behind it
+-- what the word at the front of a text says, and what follows it
 abbrev pub word_at : {A : Type 0} → (List ℕ → Option A) → List ℕ → Option (A × List ℕ)
 word_at read text = option_map (λ x. (x, behind class.Word text)) (read (front_of class.Word text))
 
--- a register behind a letter
+-- a register after a letter
 abbrev pub register_at : ℕ → List ℕ → Option (ℕ × List ℕ)
 register_at letter text = word_at (register_of letter) text
 
@@ -37,7 +37,7 @@ abbrev pub half_of : Bool → ℕ → Option ℕ
 half_of true number = if nat_lt (2 ^ 15) number then None else Some ((2 ^ 16 - number) % 2 ^ 16)
 half_of false number = below (2 ^ 15) number
 
--- a signed number: - stands at once before its digits
+-- a signed number: - stands directly before its digits
 unfoldable pub signed_at : List ℕ → Option (Option ℕ × List ℕ)
 signed_at text =
     if starts_with nat_eq text (codes "-") then option_map (λ x. (half_of true x.0, x.1)) (number_at (drop 1 text))
@@ -52,18 +52,18 @@ place_of word =
 unfoldable pub place_at : List ℕ → Option (Option Place × List ℕ)
 place_at text = word_at place_of text
 
--- what stands behind a byte and the blanks around it
+-- what follows a byte and the blanks around it
 unfoldable pub after : ℕ → List ℕ → Option (List ℕ)
 after byte text =
     let rest = behind class.Blank text in
     if nat_lt 0 (length rest) && (slice_index rest 0 == byte) then Some (behind class.Blank (drop 1 rest)) else None
 
--- what a number says that may not be in range
+-- what a number says, which may be out of range
 abbrev pub checked : Option ℕ → Operands
 checked (Some field) = record { fields = field; in_range = true; target = None }
 checked None = record { fields = 0; in_range = false; target = None }
 
--- what a target says that may not be in range
+-- what a target says, which may be out of range
 abbrev pub aimed : Reach → Option Place → Operands
 aimed reach (Some place) = record { fields = 0; in_range = true; target = Some (record { reach = reach; place = place }) }
 aimed reach None = record { fields = 0; in_range = false; target = None }
@@ -78,7 +78,7 @@ number_field limit scale text = option_map (λ x. (checked (option_map (λ n. n 
 unfoldable pub target_at : Reach → List ℕ → Option (Operands × List ℕ)
 target_at reach text = option_map (λ x. (aimed reach x.0, x.1)) (place_at text)
 
--- an offset, and the register that it is counted from in parentheses
+-- an offset, and in parentheses the register that it is counted from
 unfoldable pub based_at : List ℕ → Option (Operands × List ℕ)
 based_at text = do
   offset ← signed_at text
@@ -87,7 +87,7 @@ based_at text = do
   rest ← after 41 base.1
   Some (checked (option_map (λ n. n + base.0 * 2 ^ 21) offset.0), rest)
 
--- an operand at the front of a text, and what stands behind it
+-- an operand at the front of a text, and what follows it
 unfoldable pub operand_at : Operand → List ℕ → Option (Operands × List ℕ)
 operand_at Rs text = register_field 114 (2 ^ 21) text
 operand_at Rt text = register_field 114 (2 ^ 16) text
@@ -113,7 +113,7 @@ joined a b = record { fields = (a.fields + b.fields) % 2 ^ 32; in_range = a.in_r
 abbrev pub is_blank : List ℕ → Bool
 is_blank text = length (behind class.Blank text) == 0
 
--- these operands, with commas between them, and nothing behind them
+-- these operands, with commas between them, and nothing after them
 unfoldable pub operands_at : List Operand → List ℕ → Option Operands
 operands_at [] text = if is_blank text then Some (checked (Some 0)) else None
 operands_at (o ∷ []) text = operand_at o (behind class.Blank text) >>= λ x. if is_blank x.1 then Some x.0 else None

@@ -1,4 +1,4 @@
--- Parts of a text (own): the bytes of a class that it begins with, and what stands behind them.
+-- Parts of a text (own): the bytes of a class that it begins with, and what follows them.
 use Rattle.std.specs.Prelude.{ℕ, ◌==◌, ◌&&◌, ◌||◌, not, Bool, List, [], ◌∷◌, nat_le, if◌then◌else◌}
 use Rattle.asm_line.specs.declared.span.Class.{Class}
 use Rattle.asm_line.specs.declared.span.Class.TheVariants.{Line, Code, Blank, Word}
@@ -17,12 +17,12 @@ is_in Code b = not (b == 35)
 is_in Blank b = (b == 32) || (b == 9)
 is_in Word b = is_letter b || is_decimal b
 
--- the longest front of a text with bytes of a class alone
+-- the longest front of a text that has only bytes of a class
 unfoldable pub front_of : Class → List ℕ → List ℕ
 front_of class [] = []
 front_of class (b ∷ bs) = if is_in class b then b ∷ front_of class bs else []
 
--- what stands behind it
+-- what follows it
 unfoldable pub behind : Class → List ℕ → List ℕ
 behind class [] = []
 behind class (b ∷ bs) = if is_in class b then behind class bs else b ∷ bs

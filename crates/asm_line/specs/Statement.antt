@@ -30,7 +30,7 @@ or_fault fault None = Err fault
 unfoldable pub row_named : List ℕ → Option Instruction
 row_named name = find (λ r. bytes_eq r.name name) instructions
 
--- a text that may stand behind a mnemonic or a directive: it begins with a blank, or there is none
+-- a text that may follow a mnemonic or a directive: it begins with a blank, or is empty
 abbrev pub ends_word : List ℕ → Bool
 ends_word text = (length text == 0) || is_in class.Blank (slice_index text 0)
 
@@ -59,7 +59,7 @@ unfoldable pub numbered : Directive → List ℕ → Result Statement AsmKind
 numbered d text =
     if ends_word text then (or_fault kind.Syntax (one_number text) >>= λ n. or_fault kind.Number (made_of d n)) else Err kind.Syntax
 
--- so many numbers with blanks between them, and nothing behind them
+-- n numbers with blanks between them, and nothing after them
 unfoldable pub numbers_at : ℕ → List ℕ → Option (List ℕ)
 numbers_at zero text = if is_blank text then Some [] else None
 numbers_at (suc n) text =
@@ -72,7 +72,7 @@ is_start numbers = list_all (λ n. nat_lt n 256) numbers && (nat_lt (slice_index
 unfoldable pub clock_of : List ℕ → Result (List ℕ) AsmKind
 clock_of text = or_fault kind.Syntax (numbers_at 12 text) >>= λ numbers. if is_start numbers then Ok numbers else Err kind.Number
 
--- a directive with the text behind its name
+-- a directive with the text after its name
 unfoldable pub directive_of : List ℕ → List ℕ → Result Statement AsmKind
 directive_of name text =
     if bytes_eq name (codes "org") then numbered directive.Origin text
@@ -82,7 +82,7 @@ directive_of name text =
     else (if bytes_eq name (codes "clock") then (if ends_word text then (clock_of text >>= λ numbers. Ok (Clock numbers)) else Err kind.Syntax)
     else Err kind.Name))))
 
--- a line that begins with a word: a label alone where a colon follows at once, and else an instruction
+-- a line that begins with a word: a label alone, where a colon follows at once, and else an instruction
 unfoldable pub named : List ℕ → List ℕ → Result Statement AsmKind
 named word text =
     if nat_lt 0 (length text) && (slice_index text 0 == 58)

@@ -14,7 +14,7 @@ pub enum AsmKind {
     /// A number is out of range.
     #[error("Number")]
     Number,
-    /// The label or the directive was there before.
+    /// The label or the directive is there already.
     #[error("Twice")]
     Twice,
     /// No word of RAM or ROM stands at the place.
@@ -26,7 +26,7 @@ pub enum AsmKind {
     /// The label is not defined.
     #[error("Label")]
     Label,
-    /// The target can't be reached from here.
+    /// The target is out of reach.
     #[error("Reach")]
     Reach,
 }

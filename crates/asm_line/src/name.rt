@@ -50,7 +50,7 @@ fn is_good_name(word: &[u8]) -> bool
     !word.is_empty() && word.len() <= 32 && !is_digit(word[0])
 }
 
-/// The number of the register that a word names behind a letter: 0 to 31 in decimal, without zeros before it.
+/// The number of the register that a word names after a letter: 0 to 31 in decimal, without zeros before it.
 #[tactic(auto, unfolding(crate::specs::Name::register_of))]
 pub fn register(letter: u8, word: &[u8]) -> Option<u8>
     ensures number { result ≡ register_of letter word.now }

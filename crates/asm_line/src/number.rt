@@ -3,7 +3,7 @@
 ghost use Rattle.std.specs.Prelude.{◌≡◌, ◌≤◌};
 ghost use Rattle.asm_line.specs.Number.{number_of, digits_of};
 
-// No operand takes a number as large: each number above it is read as this one.
+// No operand takes a number of this size, so each larger one is read as this one.
 const LIMIT: u64 = 1 << 32;
 
 /// The number that a word is: decimal digits, or `0x` and hexadecimal digits. One above 2^32 is read as 2^32.

@@ -10,8 +10,8 @@ use crate::target::{Place, Reach, Target};
 use r3k_table::operand::Operand;
 use r3k_word::arithmetic::add;
 
-/// What operands say: the fields that they put into the word, whether their numbers are all in range, and the target,
-/// if one of them is one. A number that is not in range puts nothing into the word.
+/// What operands say: the fields that they put into the word, whether their numbers are all in range, and the target, if there is
+/// one. A number that is out of range puts nothing into the word.
 #[derive(Debug, Drop)]
 pub struct Operands<'a> {
     pub fields: u32,
@@ -19,7 +19,7 @@ pub struct Operands<'a> {
     pub target: Option<Target<'a>>,
 }
 
-// The register behind a letter that a text begins with, and what stands behind it.
+// The register after a letter that a text begins with, and what follows it.
 fn register_at(letter: u8, text: &[u8]) -> Option<(u8, &[u8])>
     ensures value { option_map (λ x. (x.0, x.1.now)) result ≡ register_at letter text.now }
     ensures within { IfSome result (λ x. x.0 < 32) }
@@ -28,7 +28,7 @@ fn register_at(letter: u8, text: &[u8]) -> Option<(u8, &[u8])>
     Some((register(letter, word)?, rest))
 }
 
-/// The number that a text begins with, and what stands behind it.
+/// The number that a text begins with, and what follows it.
 pub fn number_at(text: &[u8]) -> Option<(u64, &[u8])>
     ensures { option_map (λ x. (x.0, x.1.now)) result ≡ number_at text.now }
 {
@@ -36,7 +36,7 @@ pub fn number_at(text: &[u8]) -> Option<(u64, &[u8])>
     Some((number(word)?, rest))
 }
 
-// The signed number that a text begins with, as a half word, if it is in range, and what stands behind it.
+// The signed number that a text begins with, as a half word, if it is in range, and what follows it.
 #[tactic(auto, unfolding(crate::specs::Operand::signed_at))]
 fn signed_at(text: &[u8]) -> Option<(Option<u16>, &[u8])>
     ensures { option_map (λ x. (x.0, x.1.now)) result ≡ signed_at text.now }
@@ -59,7 +59,7 @@ fn signed_at(text: &[u8]) -> Option<(Option<u16>, &[u8])>
     Some((half, rest))
 }
 
-// The place that a text begins with, a label or a number, if it is in range, and what stands behind it.
+// The place that a text begins with, a label or a number, if it is in range, and what follows it.
 #[tactic(auto, unfolding(crate::specs::Operand::place_at))]
 fn place_at(text: &[u8]) -> Option<(Option<Place<'_>>, &[u8])>
     ensures { option_map (λ x. (x.0, x.1.now)) result ≡ place_at text.now }
@@ -75,7 +75,7 @@ fn place_at(text: &[u8]) -> Option<(Option<Place<'_>>, &[u8])>
     Some((Some(Place::Address(number as u32)), rest))
 }
 
-/// What stands behind a byte and the blanks around it, if a text begins with it.
+/// What follows a byte and the blanks around it, if a text begins with them.
 #[tactic(auto, unfolding(crate::specs::Operand::after))]
 pub fn after(byte: u8, text: &[u8]) -> Option<&[u8]>
     ensures { option_map (λ x. x.now) result ≡ after byte text.now }
@@ -87,7 +87,7 @@ pub fn after(byte: u8, text: &[u8]) -> Option<&[u8]>
     Some(skip_blanks(&text[1..]))
 }
 
-// What a number says that may not be in range.
+// What a number says, which may be out of range.
 fn checked(field: Option<u32>) -> Operands<'static>
     ensures { result ≡ checked field }
 {
@@ -105,7 +105,7 @@ fn checked(field: Option<u32>) -> Operands<'static>
     }
 }
 
-// What a target says that may not be in range.
+// What a target says, which may be out of range.
 fn aimed(reach: Reach, place: Option<Place<'_>>) -> Operands<'_>
     ensures { result ≡ aimed reach place.entry }
 {
@@ -157,7 +157,7 @@ fn target_at(reach: Reach, text: &[u8]) -> Option<(Operands<'_>, &[u8])>
     Some((aimed(reach, place), rest))
 }
 
-// An offset, and the register that it is counted from in parentheses.
+// An offset, and in parentheses the register that it is counted from.
 #[tactic(auto, unfolding(crate::specs::Operand::based_at))]
 fn based_at(text: &[u8]) -> Option<(Operands<'_>, &[u8])>
     ensures { option_map (λ x. (x.0, x.1.now)) result ≡ based_at text.now }
@@ -172,7 +172,7 @@ fn based_at(text: &[u8]) -> Option<(Operands<'_>, &[u8])>
     Some((checked(field), rest))
 }
 
-// The operand that a text begins with, and what stands behind it.
+// The operand that a text begins with, and what follows it.
 #[tactic(auto, unfolding(crate::specs::Operand::operand_at))]
 fn operand_at(operand: Operand, text: &[u8]) -> Option<(Operands<'_>, &[u8])>
     ensures { option_map (λ x. (x.0, x.1.now)) result ≡ operand_at operand text.now }
@@ -213,14 +213,14 @@ fn joined<'a>(first: Operands<'a>, more: Operands<'a>) -> Operands<'a>
     }
 }
 
-/// Whether a text has nothing but blanks.
+/// Whether a text has only blanks.
 pub fn is_blank(text: &[u8]) -> bool
     ensures { result ≡ is_blank text.now }
 {
     skip_blanks(text).is_empty()
 }
 
-/// What operands say that are written in a text, with commas between them, and with nothing behind them.
+/// What the operands say that are written in a text, with commas between them and nothing after them.
 pub fn operands_at<'a>(operands: &[Operand], text: &'a [u8]) -> Option<Operands<'a>>
     ensures { result ≡ operands_at operands.now text.now }
 {

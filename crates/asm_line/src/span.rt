@@ -17,7 +17,7 @@ pub enum Class {
 }
 
 impl Class {
-    /// Whether a byte is one of the class.
+    /// Whether a byte is of the class.
     #[inline]
     #[tactic(auto, unfolding(crate::specs::Span::is_in))]
     pub fn contains(self, byte: u8) -> bool
@@ -48,7 +48,7 @@ pub fn is_digit(byte: u8) -> bool
     b'0' <= byte && byte <= b'9'
 }
 
-// Where the first byte stands that is not one of the class, or the length where there is none.
+// Where the first byte stands that is not of the class, or the length where there is none.
 fn end_of(class: Class, text: &[u8]) -> usize
     ensures within { result ≤ length text.now }
     ensures front { front_of class text.now ≡ take result text.now }
@@ -62,7 +62,7 @@ fn end_of(class: Class, text: &[u8]) -> usize
     text.len()
 }
 
-/// The bytes of the class that a text begins with, and what stands behind them.
+/// The bytes of the class that a text begins with, and what follows them.
 pub fn span(class: Class, text: &[u8]) -> (&[u8], &[u8])
     ensures front { result.0.now ≡ front_of class text.now }
     ensures behind { result.1.now ≡ behind class text.now }

@@ -59,7 +59,7 @@ fn row(name: &[u8]) -> Option<&'static Row>
     None
 }
 
-// Whether a text may stand behind a mnemonic or a directive: it begins with a blank, or there is none.
+// Whether a text may follow a mnemonic or a directive: it begins with a blank, or is empty.
 fn word_ends(text: &[u8]) -> bool
     ensures { result ≡ ends_word text.now }
 {
@@ -105,7 +105,7 @@ fn made(directive: Directive, number: u64) -> Option<Statement<'static>>
     }
 }
 
-// What a directive with one number says with the text behind it.
+// What a directive with one number says with the text after it.
 #[tactic(auto, unfolding(crate::specs::Statement::numbered))]
 fn numbered(directive: Directive, text: &[u8]) -> Result<Statement<'_>, AsmKind>
     ensures { result ≡ numbered directive text.now }
@@ -117,7 +117,7 @@ fn numbered(directive: Directive, text: &[u8]) -> Result<Statement<'_>, AsmKind>
     made(directive, number).ok_or(AsmKind::Number)
 }
 
-// What a directive says with the text behind its name.
+// What a directive says with the text after its name.
 #[tactic(auto, unfolding(crate::specs::Statement::directive_of))]
 fn read_directive<'a>(name: &[u8], text: &'a [u8]) -> Result<Statement<'a>, AsmKind>
     ensures { result ≡ directive_of name.now text.now }

@@ -2,7 +2,7 @@
 
 use crate::name::Name;
 
-/// How an instruction says its target.
+/// How an instruction gives its target.
 #[derive(Clone, Copy, Debug, PartialEq, Eq)]
 pub enum Reach {
     /// By its distance, in the field `imm`.

@@ -60,7 +60,7 @@ put_kept pages span old new spans continues index fact kept same_spans same_cont
     at_other i other =
         ap (λ (xs : List (Option Span)). slice_index_or xs i None) put ∙ (others_kept spans index i fact other ∙ same_spans i)
 
--- a record that another one follows has a place
+-- a record that another one follows has a place in the list
 pub has_place : (pages span : ℕ) (spans : List (Option Span)) (index : ℕ) (b : Option Span) → Follows pages span (slice_index_or spans index None) b
     → index < length spans
 has_place pages span spans index b follows =

@@ -15,11 +15,11 @@ pub record Kept : Type 0 where
 abbrev pub span_at : Kept → ℕ → Option Span
 span_at kept index = slice_index_or kept.spans index None
 
--- whether the record behind this one is known to start where this one ends
+-- whether the next record is known to start where this one ends
 abbrev pub continues_at : Kept → ℕ → Bool
 continues_at kept index = slice_index_or kept.continues index false
 
--- there are both, and one starts where the other ends
+-- both are there, and one starts where the other ends
 abbrev pub Follows : (pages span : ℕ) → Option Span → Option Span → Type 0
 Follows pages span None b = ⊥
 Follows pages span (Some a) None = ⊥
@@ -29,18 +29,18 @@ Follows pages span (Some a) (Some b) = b.start ≡ end_of pages span a
 abbrev pub SameOn : List ℕ → List ℕ → List ℕ → Type 0
 SameOn set a b = (page : ℕ) → IsTrue (holds set page) → SamePage page a b
 
--- a span nearly applies: its events are these, and its start differs from this one only in words of pages that it does not touch
+-- a span nearly applies: it has these events, and its start differs from this one only in words of pages that it does not touch
 pub record NearlyApplies (pages span : ℕ) (s : Span) (start : State) (events : List LogEvent) : Type 0 where
   pub same_events : s.events ≡ events
   pub same_core : s.start.core ≡ start.core
   pub same_touched : SameOn (touched_pages pages (steps_of pages span s)) s.start.words start.words
 
--- there is one that does
+-- there is a span, and it nearly applies
 abbrev pub IsNear : (pages span : ℕ) → Option Span → State → List LogEvent → Type 0
 IsNear pages span None start events = ⊥
 IsNear pages span (Some s) start events = NearlyApplies pages span s start events
 
--- each record has its number, the valid ones are there, and what is known is so
+-- each record has its number, the valid ones are there, and what is known of the next ones is so
 pub record IsKept (pages span : ℕ) (kept : Kept) : Type 0 where
   pub numbers : (i : ℕ) → IfSome (span_at kept i) (λ s. s.index ≡ i)
   pub joined : (i : ℕ) → i < kept.valid → IsSome (span_at kept i)

@@ -15,8 +15,8 @@ use span_fact::Fact;
 use std::alloc::{AllocError, Global};
 use std::marker::Model;
 
-/// Records of spans by their numbers. The first ones, as many as are valid, are those of the present run; each other one may be that
-/// of an earlier run.
+/// Records of spans by their numbers. The first ones, as many as are valid, are those of the present run. Each other one may be of
+/// an earlier run.
 #[derive(Drop)]
 pub struct Kept<const PAGES: u32, const SPAN: u32> {
     facts: Vec<Option<Fact<PAGES, SPAN>>>,
@@ -59,8 +59,8 @@ impl<const PAGES: u32, const SPAN: u32> Kept<PAGES, SPAN> {
         Some(fact)
     }
 
-    /// Whether a record is kept of the span of a number with this start and these events. Where a set of pages is handed in, the
-    /// differing ones, the start of the record has the words of this one outside them.
+    /// Whether a record is kept of the span of a number with this start and these events. If a set of differing pages is given, the
+    /// record's start has the words of this one outside them.
     pub fn applies(
         &self,
         index: u64,
@@ -77,8 +77,8 @@ impl<const PAGES: u32, const SPAN: u32> Kept<PAGES, SPAN> {
         }
     }
 
-    /// Whether a record is kept of the span of a number with these events, whose start differs from this one only in words of pages
-    /// that the span does not touch. Outside the differing pages both starts have the same words.
+    /// Whether a record is kept of the span of a number with these events. Its start may differ from this one only in words of
+    /// pages that the span does not touch. Outside the differing pages both starts have the same words.
     pub fn nearly(
         &self,
         index: u64,
@@ -95,9 +95,9 @@ impl<const PAGES: u32, const SPAN: u32> Kept<PAGES, SPAN> {
         }
     }
 
-    /// Whether a record is kept of the span behind one, that is known to start where that one ends, with these events, and the start of
-    /// which differs from this one only in words of pages that it does not touch. Outside the differing pages the record's start has
-    /// the words of this one. The cores are not compared: they are known to be the same.
+    /// Whether a record is kept of the span after this one, with these events. It must be known to start where this one ends, and
+    /// its start may differ from the given one only in words of pages that it does not touch. Outside the differing pages both have
+    /// the same words. The cores are not compared: they are known to be the same.
     pub fn nearly_next(
         &self,
         index: u64,
@@ -118,7 +118,7 @@ impl<const PAGES: u32, const SPAN: u32> Kept<PAGES, SPAN> {
         }
     }
 
-    /// Whether the record behind this one is known to start where this one ends.
+    /// Whether the next record is known to start where this one ends.
     pub fn continues(&self, index: u64) -> bool
         ensures exact { result ≡ continues_at self.now index }
         ensures follows { IsTrue result → Follows PAGES SPAN (span_at self.now index) (span_at self.now (index + 1)) }
@@ -126,7 +126,7 @@ impl<const PAGES: u32, const SPAN: u32> Kept<PAGES, SPAN> {
         self.continues.get(index as usize).is_some_and(|it| *it)
     }
 
-    /// Notes that the record behind this one starts where this one ends.
+    /// Notes that the next record starts where this one ends.
     pub fn tie(&mut self, index: u64)
         requires { Follows PAGES SPAN (span_at self.old index) (span_at self.old (index + 1)) }
         ensures tied { IsTrue (continues_at self.new index) }
@@ -162,7 +162,7 @@ impl<const PAGES: u32, const SPAN: u32> Kept<PAGES, SPAN> {
         self.valid
     }
 
-    /// The record behind these is that of the present run too.
+    /// The next record is of the present run too.
     pub fn join(&mut self)
         requires kept { IsSome (span_at self.old self.old.valid) }
         requires room { self.old.valid < 2 ^ 64 - 1 }
@@ -171,7 +171,7 @@ impl<const PAGES: u32, const SPAN: u32> Kept<PAGES, SPAN> {
         self.valid += 1;
     }
 
-    /// The records from a number on may not be those of the present run. They stay.
+    /// From this number on, records may be of another run. They stay.
     pub fn truncate_valid(&mut self, index: u64)
         ensures { self.new ≡ record self.old { valid = min self.old.valid index } }
     {
@@ -210,8 +210,8 @@ fn has_events_and_core<const PAGES: u32, const SPAN: u32>(
     kept.core() == start.core()
 }
 
-// Whether a record is that of a span with these events, whose start differs from this one only in words of pages that it does not
-// touch.
+// Whether a record is that of a span with these events. Its start may differ from this one only in words of pages that the span
+// does not touch.
 fn is_near<const PAGES: u32, const SPAN: u32>(
     fact: &Fact<PAGES, SPAN>,
     start: &Boundary<PAGES>,
@@ -261,7 +261,7 @@ fn same_touched<const PAGES: u32, const SPAN: u32>(
     )
 }
 
-// Whether two memories have the same words on the pages of a set, where those outside the differing ones are the same.
+// Whether two memories have the same words on the pages of a set, if they are the same outside the differing pages.
 fn same_on<const PAGES: u32>(
     a: &Snapshot<PAGES>,
     b: &Snapshot<PAGES>,
@@ -280,7 +280,7 @@ fn same_on<const PAGES: u32>(
     true
 }
 
-// Whether a page has the same words in two memories, where those outside the differing pages are the same.
+// Whether a page has the same words in two memories, if they are the same outside the differing pages.
 fn same_page<const PAGES: u32>(
     a: &Snapshot<PAGES>,
     b: &Snapshot<PAGES>,
@@ -297,7 +297,7 @@ fn same_page<const PAGES: u32>(
     a.same_page(page, b)
 }
 
-// Whether two memories have the same words, where those outside a set of pages may be known to be the same.
+// Whether two memories have the same words. They may be known to be the same outside a set of pages.
 fn same_words<const PAGES: u32>(
     a: &Snapshot<PAGES>,
     b: &Snapshot<PAGES>,

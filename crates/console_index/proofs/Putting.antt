@@ -83,7 +83,7 @@ put_pair level old parents higher node count counts sums but inside there small 
       ];
 }
 
--- with none, since it is the first of a pair that isn't there
+-- without sums, since it is the first of a pair that isn't there
 pub put_alone : (level parents : List (List ℕ)) (higher node count : ℕ) (counts : List ℕ) → IsLevelBut node count higher level parents → node < count
     → count / 2 ≤ node / 2 → AreSmall (most (suc higher)) counts → IsLevel count higher (slice_set level node counts) parents
 put_alone level parents higher node count counts but inside behind small = record {

@@ -14,7 +14,7 @@ pub total_none : (counts : List (List ℕ)) (line n : ℕ) → n ≡ 0 → total
 unfolding total
 total_none counts line n none = rw none refl
 
--- a level that is not there has no spans
+-- a missing level has no spans
 pub no_levels : (levels : List (List (List ℕ))) (n : ℕ) → length levels ≡ 0 → IsTree n levels → n ≡ 0
 no_levels [] n long tree = tree
 no_levels (level ∷ above) n long tree = omega (arith, long)
@@ -70,7 +70,7 @@ pairs_of levels level above line count n is small tree within =
     in_pairs level above line count n small (subst (λ levels. IsTree count levels) is tree) within
     ∙ ap (λ levels. total (bottom levels) line (2 * n)) (sym is)
 
--- spans behind those that are held have no bytes
+-- spans after the held ones have no bytes
 pub total_take : (counts : List (List ℕ)) (held line n : ℕ) → total (take held counts) line n ≡ total counts line (min held n)
 total_take counts held line zero = total_none (take held counts) line zero refl ∙ sym (total_none counts line (min held zero) (omega arith))
 total_take counts held line (suc n) =

@@ -10,7 +10,7 @@ unfoldable pub total : List (List ℕ) → ℕ → ℕ → ℕ
 total counts line zero = 0
 total counts line (suc span) = total counts line span + count_at counts line span
 
--- a span, and a place in it, where the byte stands that has this place in the line's whole console
+-- the span that sent the byte at this place of the line's whole console, and the byte's place in that span
 abbrev pub IsPlace : List (List ℕ) → ℕ → ℕ → ℕ → ℕ → Type 0
 IsPlace counts line place span rest =
     (total counts line span + rest ≡ place) × (rest < count_at counts line span)

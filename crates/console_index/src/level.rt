@@ -6,7 +6,7 @@ ghost use Rattle.console_index.specs.Counts.{count_at};
 use std::alloc::{AllocError, Global};
 use std::marker::Model;
 
-/// The nodes of a level. Those behind the last whole one are room.
+/// The nodes of a level. Those after the last whole one are room.
 #[derive(Drop)]
 pub(crate) struct Level {
     nodes: Vec<[u64; 4]>,
@@ -47,7 +47,7 @@ impl Level {
         self.nodes[node]
     }
 
-    /// Makes room for so many nodes.
+    /// Makes room for `count` nodes.
     pub(crate) fn grow(&mut self, count: usize) -> Result<(), AllocError>
         ensures kept { (m : ℕ) → m < length self.old → slice_index_or self.new m [] ≡ slice_index_or self.old m [] }
         ensures long { length self.old ≤ length self.new }

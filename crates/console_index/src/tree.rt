@@ -36,7 +36,7 @@ pub(crate) fn sum_below(levels: &[Level], line: u8, end: usize) -> u64
     }
 }
 
-/// How many spans lie whole before the byte at a place of a line's console, and its place behind them.
+/// How many whole spans lie before the byte at a place of a line's console, and its place after them.
 pub(crate) fn find_in(levels: &[Level], line: u8, count: usize, place: u64) -> (usize, u64)
     requires line { line ≤ 3 }
     requires tree { IsTree count levels.now }
@@ -77,7 +77,7 @@ pub(crate) fn deepen(alloc: Global, levels: &mut Vec<Level>) -> Result<(), Alloc
     Ok(())
 }
 
-/// Makes room for so many spans.
+/// Makes room for `count` spans.
 pub(crate) fn grow(levels: &mut [Level], count: usize) -> Result<(), AllocError>
     requires { count < 2 ^ length levels.old }
     ensures grown { Grown levels.old levels.new }
@@ -114,7 +114,7 @@ pub(crate) fn put(levels: &mut [Level], count: usize, node: usize, counts: [u64;
     }
 }
 
-// Puts spans with no bytes behind the first ones, up to one.
+// Puts spans with no bytes after the first `count` ones, up to `end`.
 fn fill(levels: &mut [Level], count: usize, end: usize)
     requires tree { IsTree count levels.old }
     requires room { HasRoom end levels.old }
@@ -128,7 +128,7 @@ fn fill(levels: &mut [Level], count: usize, end: usize)
     }
 }
 
-/// Puts the counts of a span in its place, where there may be fewer spans or more. Where memory is refused, the spans stay.
+/// Puts the counts of a span in their place. There may be fewer spans before, or more. Where memory is refused, the spans stay.
 pub(crate) fn update(
     levels: &mut [Level],
     held: usize,

@@ -10,7 +10,7 @@ use Rattle.cop0.specs.Status.{popped}
 abbrev pub sampled : Registers → (board clock : Bool) → Registers
 sampled c board clock = record c { cause = with_field_of 11 10 c.cause (2 * flag clock + flag board) }
 
--- an interrupt is taken where IEc is 1 and a bit of IP together with its mask bit
+-- an interrupt is taken where IEc is 1, and a bit of IP and its mask bit are both 1
 abbrev pub is_wanted : Registers → Bool
 is_wanted c = has c.status IEC && has (bit_and c.cause c.status) INTERRUPTS
 
@@ -21,7 +21,7 @@ random_below random = if random == 8 then 63 else random - 1
 abbrev pub fallen : Registers → Registers
 fallen c = record c { random = random_below c.random }
 
--- and so many times
+-- and n times
 unfoldable pub random_after : ℕ → ℕ → ℕ
 random_after zero random = random
 random_after (suc n) random = random_below (random_after n random)
@@ -33,7 +33,7 @@ fallen_by n c = record c { random = random_after n c.random }
 abbrev pub returned : Registers → Registers
 returned c = record c { status = popped c.status }
 
--- TS is set until reset, and CM says whether a load missed
+-- TS stays set until reset, and CM says whether a load missed
 abbrev pub with_ts : Registers → Registers
 with_ts c = record c { status = bit_or c.status TS }
 

@@ -35,7 +35,7 @@ register_of c number =
     else (if number == PRID then REVISION
     else 0)))))))))
 
--- the registers after a write, by their write masks; those that are left out ignore writes
+-- the registers after a write, by their write masks; those without one ignore writes
 abbrev pub written : Registers → (number word : ℕ) → Registers
 written c number word =
     if number == INDEX then record c { index = merged INDEX_MASK c.index word }

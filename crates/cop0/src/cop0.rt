@@ -100,7 +100,7 @@ impl Cop0 {
         }
     }
 
-    /// Writes the bits of a register's write mask. The others stay, and so does a register without one.
+    /// Writes the bits of a register's write mask. The others stay. A register without a mask stays.
     pub fn write(&mut self, register: u8, word: u32)
         ensures { self.new ≡ written self.old register word }
     {
@@ -202,7 +202,7 @@ impl Cop0 {
         with_field::<11, 10>(self.cause, lines) == self.cause
     }
 
-    /// Whether an interrupt is to be taken: one is pending whose mask bit is set, and interrupts are enabled.
+    /// Whether an interrupt is to be taken: one is pending, its mask bit is set, and interrupts are enabled.
     #[inline]
     pub fn wanted(&self) -> bool
         ensures { result ≡ is_wanted self.now }
@@ -222,7 +222,7 @@ impl Cop0 {
         };
     }
 
-    /// Random falls so many times.
+    /// Random falls `falls` times.
     #[tactic(auto, using(crate::proofs::Falls::random_after_is))]
     pub fn fall_by(&mut self, falls: u32)
         ensures { self.new ≡ fallen_by falls self.old }

@@ -1,4 +1,4 @@
-//! What an exception tells coprocessor 0.
+//! What an exception reports to coprocessor 0.
 
 ghost use Rattle.std.specs.Prelude.{◌≡◌, ◌≤◌};
 ghost use Rattle.cop0.specs.Codes.{code_of, ce_of, number_of};

@@ -33,7 +33,7 @@ pub(crate) const CONTEXT_MASK: u32 = 0xFFE0_0000;
 /// EntryHi: VPN and PID, the fields of an entry.
 pub(crate) const ENTRY_HI_MASK: u32 = 0xFFFF_FFC0;
 
-/// Status: all that it has but TS and CM.
+/// Status: all its bits but TS and CM.
 pub(crate) const STATUS_MASK: u32 = 0x1047_FF3F;
 
 /// Cause: the two software interrupts.

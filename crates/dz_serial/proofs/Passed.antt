@@ -22,7 +22,7 @@ fall_in_parts m n k e (c ∷ later) = let first : c - n - m ≡ c - k = omega ar
 pub passed_in_parts : (s : Serial) (m n : ℕ) → passed m (passed n s) ≡ passed (m + n) s
 passed_in_parts s m n = ap (with_busy s) (fall_in_parts m n (m + n) refl s.busy)
 
--- counts after no tick
+-- counts after no ticks
 fall_by_none : (counts : List ℕ) → map (λ c. c - 0) counts ≡ counts
 fall_by_none [] = refl
 fall_by_none (c ∷ later) = let first : c - 0 ≡ c = omega arith in ap₂ (λ x xs. x ∷ xs) first (fall_by_none later)
@@ -59,7 +59,7 @@ not_ready s n line h = ready_by_count s (n + 1) line ∙ waits (entry_of s.enabl
 now_ready : (s : Serial) (n line : ℕ) → quiet_line s line ≤ n → n < FOREVER → is_ready (passed (n + 1) s) line ≡ true
 now_ready s n line h below = ready_by_count s (n + 1) line ∙ readies (entry_of s.enabled line) (slice_index s.busy line) n h below
 
--- what is found behind a line
+-- what is found from a line on
 found : (s : Serial) (line : ℕ) (later : List ℕ) (ready : Bool) → is_ready s line ≡ ready
     → find (is_ready s) (line ∷ later) ≡ cond ready (Some line) (find (is_ready s) later)
 found s line later ready e = ap (λ (b : Bool). cond b (Some line) (find (is_ready s) later)) e
@@ -143,7 +143,7 @@ in_parts s (suc m) n =
     let e : suc m + n ≡ suc (m + n) = omega arith in
     ap (λ (k : ℕ). after k s) e ∙ ap ticked (in_parts s m n)
 
--- a part of quiet ticks leaves the rest quiet
+-- after a part of the quiet ticks the rest are quiet
 line_stays_quiet : (enabled : Bool) (count left m n : ℕ) → left ≡ count - n → m + n ≤ (if enabled then count - 1 else FOREVER)
     → m ≤ (if enabled then left - 1 else FOREVER)
 line_stays_quiet true count left m n e h = omega arith

@@ -1,4 +1,4 @@
-//! Quiet ticks: those that only count. Who lets the part fall behind passes many of them at once.
+//! Quiet ticks: those that only count. A caller that owes the part ticks passes many of them at once.
 
 ghost use Rattle.std.specs.Prelude.{◌≡◌, ◌≢◌, ℕ, ◌+◌, ◌-◌, ◌<◌, ◌≤◌};
 ghost use Rattle.dz_serial.specs.Serial.{Serial};
@@ -8,7 +8,7 @@ ghost use Rattle.dz_serial.specs.Quiet.{after, passed, quiet_line, quiet_of};
 
 use crate::dz::{Dz, LINES};
 
-/// So many ticks stand for all that will come.
+/// The number that stands for all ticks to come.
 pub(crate) const FOREVER: u32 = u32::MAX;
 
 impl Dz {
@@ -40,8 +40,8 @@ impl Dz {
         }
     }
 
-    /// Counts so many ticks at once: each busy count falls by as many, to 0 at the least. Of quiet
-    /// ticks that is all that they do.
+    /// Counts `ticks` ticks at once: each busy count falls by as many, to 0 at the least. Quiet ticks do
+    /// nothing more.
     pub fn pass(&mut self, ticks: u32)
         ensures { self.new ≡ passed ticks self.old }
     {
@@ -55,7 +55,7 @@ impl Dz {
     }
 }
 
-/// What is left of a busy count after so many ticks.
+/// What is left of a busy count after `ticks` ticks.
 fn left_of(count: u16, ticks: u32) -> u16
     ensures { result ≡ count - ticks }
 {
@@ -63,7 +63,7 @@ fn left_of(count: u16, ticks: u32) -> u16
 }
 
 /// Quiet ticks do nothing but count, and raise no interrupt; the tick after them does more. Ticks
-/// may be taken in parts, and of quiet ticks a part leaves the rest quiet.
+/// may be taken in parts: after a part of the quiet ticks the rest are quiet.
 pub fn quiet_laws()
     ensures passes { (s : Serial) (n : ℕ) → n ≤ quiet_of s → after n s ≡ passed n s }
     ensures line { (s : Serial) (n : ℕ) → n ≤ quiet_of s →

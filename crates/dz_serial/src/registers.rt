@@ -24,7 +24,7 @@ pub(crate) const TRDY: u32 = 0x8000;
 /// In CSR: TRDY raises the interrupt line.
 pub(crate) const TIE: u32 = 0x4000;
 
-/// In CSR: the lower of the two bits of the line that TRDY speaks of.
+/// In CSR: the lower of the two bits of TLINE.
 pub(crate) const TLINE: u32 = 0x0100;
 
 /// In CSR: the silo is not empty.

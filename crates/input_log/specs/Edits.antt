@@ -11,11 +11,11 @@ use Rattle.refusal.specs.declared.fault.Fault.TheVariants.{Range, NoEvent}
 abbrev pub up_to : ℕ → List LogEvent → List LogEvent
 up_to time events = filter (λ event. nat_le event.time time) events
 
--- a log with an event more: it stands after all events of its time or an earlier one
+-- a log with one more event: it stands after all events of its time or an earlier one
 abbrev pub with_event : LogEvent → List LogEvent → List LogEvent
 with_event event events = up_to event.time events ++ event ∷ later_than event.time events
 
--- a log without the event of a place
+-- a log without the event at a place
 abbrev pub without : (place : ℕ) → List LogEvent → List LogEvent
 without place events = take place events ++ drop (place + 1) events
 
@@ -39,17 +39,17 @@ adding event events =
     then Ok (with_event event events)
     else Err Range
 
--- the event of a place is deleted
+-- the event at a place is deleted
 abbrev pub deleting : (place : ℕ) → List LogEvent → Result (List LogEvent) Fault
 deleting place events = made_of (λ _. Ok (without place events)) (slice_get events place)
 
--- the event of a place gets another byte, unless its kind forbids it
+-- the event at a place gets another byte, unless its kind forbids it
 abbrev pub setting : (place byte : ℕ) → List LogEvent → Result (List LogEvent) Fault
 setting place byte events =
     made_of (λ event. if nat_le byte (max_byte event.kind) then Ok (slice_set events place (with_byte byte event)) else Err Range)
     (slice_get events place)
 
--- the event of a place is deleted, and added again at another time
+-- the event at a place is deleted, and added again at another time
 abbrev pub moving : (place time : ℕ) → List LogEvent → Result (List LogEvent) Fault
 moving place time events =
     if nat_le time max_time
@@ -60,8 +60,8 @@ moving place time events =
 abbrev pub without_times : (from to : ℕ) → List LogEvent → List LogEvent
 without_times from to events = filter (λ event. not (nat_le from event.time && nat_lt event.time to)) events
 
--- The events of the times from one up to another, which is left out, are erased, unless the first of the two is above the
--- second, or the second above the greatest position.
+-- The events of the times from one up to another, which is left out, are erased. This is refused if the first of the two is above
+-- the second, or the second above the greatest position.
 abbrev pub erasing : (from to : ℕ) → List LogEvent → Result (List LogEvent) Fault
 erasing from to events = if nat_le from to && nat_le to max_position then Ok (without_times from to events) else Err Range
 

@@ -30,6 +30,6 @@ LineExists event = event.line ≤ max_line event.kind
 abbrev pub HoldsByte : LogEvent → Type 0
 HoldsByte event = event.byte ≤ max_byte event.kind
 
--- it is of a step that a run can have
+-- it is in a step that a run can have
 abbrev pub IsInTime : LogEvent → Type 0
 IsInTime event = event.time ≤ max_time

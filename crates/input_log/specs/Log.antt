@@ -20,7 +20,7 @@ pub record IsLog (events : List LogEvent) : Type 0 where
 abbrev pub window_of : ℕ → ℕ → List LogEvent → List LogEvent
 window_of from to events = filter (λ event. nat_le from event.time && nat_lt event.time to) events
 
--- each of a time from one up to another, which is left out
+-- all are of times from one up to another, which is left out
 abbrev pub AreWithin : ℕ → ℕ → List LogEvent → Type 0
 AreWithin from to events = All (λ event. (from ≤ event.time) × (event.time < to)) events
 

@@ -99,7 +99,7 @@ events_at version (suc n) last bytes = do
   others ← events_at version n first.0.time first.1
   Ok (first.0 ∷ others.0, others.1)
 
--- the log that the bytes are, all of the bytes
+-- the log that all of the bytes are
 unfoldable pub log_at : List ℕ → Result (List LogEvent) LogKind
 log_at bytes = do
   version ← version_at bytes
@@ -107,7 +107,7 @@ log_at bytes = do
   events ← events_at version.0 count.0 0 count.1
   if length events.1 == 0 then Ok events.0 else Err kinds.Extra
 
--- The bytes begin as a log does, and as their number says with an event: memory is asked for it and what follows alone.
+-- The bytes begin as a log does and, as their number says, with an event. Only then is memory asked for, for it and what follows.
 abbrev pub HasEvent : List ℕ → Type 0
 HasEvent bytes = IsOk (version_at bytes >>= λ version. count_at version.1 >>= λ count.
     if nat_lt 0 count.0 then event_at version.0 0 count.1 else Err kinds.Extra)

@@ -17,7 +17,7 @@ abbrev pub magic_of : Version → List ℕ
 magic_of One = MAGIC_ONE
 magic_of Two = MAGIC_TWO
 
--- the greatest time that a version takes: in version one, that of four bytes but one
+-- the greatest time that a version takes: in version one, one less than the greatest of four bytes
 abbrev pub last_time : Version → ℕ
 last_time One = 4294967294
 last_time Two = max_time

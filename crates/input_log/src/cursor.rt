@@ -49,7 +49,7 @@ impl<'a> Cursor<'a> {
     pub fn next(&mut self, time: u64) -> &'a [Event]
         ensures events { result.now ≡ window_of time (time + 1) self.old }
         ensures left { self.new ≡ later_than time self.old }
-        // A run that has left of a window what is from this time on gets of the log what is of this time.
+        // What is left is the window from this time on, and the events given are those of this time in the log.
         ensures of_log { (to : ℕ) (log : List LogEvent) → time < to → self.old ≡ window_of time to log →
             result.now ≡ window_of time (time + 1) log }
         ensures left_of_log { (to : ℕ) (log : List LogEvent) → self.old ≡ window_of time to log →
@@ -61,7 +61,7 @@ impl<'a> Cursor<'a> {
         self.take(time)
     }
 
-    /// How many times from this one on have no event that is left, as far as it sees.
+    /// For how many times from this one on no event is left, as far as it sees.
     #[inline]
     pub fn free(&self, time: u64) -> u64
         ensures { (k : ℕ) → k < result → window_of (time + k) (time + k + 1) self.now ≡ [] }

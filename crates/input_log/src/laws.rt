@@ -8,9 +8,9 @@ ghost use Rattle.input_log.specs.Log.{AreInOrder, AreWithin, IsLog, window_of, l
 ghost use Rattle.input_log.specs.Spelling.{Fits, IsSpelled, spelled_in, spelling};
 ghost use Rattle.input_log.specs.Reading.{log_at};
 
-/// What is written is read again, what is read is a log, and within a version a log has one spelling. A window within a
-/// window is the window of the log, two that meet make one, and a window of a log is a log. So is an edited log, and its
-/// windows without the times of the edit are as before.
+/// What is written is read again, what is read is a log, and in one version a log has one spelling. A window within a window is a
+/// window of the log, two that meet make one, and a window of a log is a log. So is an edited log, and its windows without the
+/// times of the edit are as before.
 pub fn log_laws()
     ensures read { (log : List LogEvent) → IsLog log → log_at (spelling log) ≡ Ok log }
     ensures read_in { (version : Version) (log : List LogEvent) → IsLog log → Fits version log →

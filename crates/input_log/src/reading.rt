@@ -64,7 +64,7 @@ fn read_events(
     Ok((events, rest))
 }
 
-/// The log that the bytes are, all of the bytes.
+/// The log that all of the bytes are.
 #[tactic(auto, unfolding(crate::specs::Reading::log_at))]
 fn read_all(alloc: Global, bytes: &[u8]) -> Result<Log, LogFault>
     ensures exact { ReadsOrLacks (λ log. log) result (log_at bytes.now) }
@@ -79,7 +79,7 @@ fn read_all(alloc: Global, bytes: &[u8]) -> Result<Log, LogFault>
     Ok(Log { events })
 }
 
-/// The log that the bytes spell, all of the bytes: eight bytes of magic, which name the version, the number of events in
+/// The log that all of the bytes spell: eight bytes of magic, which name the version, the number of events in
 /// four bytes, and then each event. In version one an event is its time in four bytes, its line and its byte, and is the
 /// arrival of a byte. In version two it is its time in eight bytes, its kind, its line and its byte. Numbers are
 /// little-endian; kind, line and byte are a byte each.

@@ -8,7 +8,7 @@ use Rattle.kn02_bus.specs.Tick.{ticked}
 use Rattle.kn02_bus.specs.Quiet.{after}
 use Rattle.kn02_bus.specs.Schedule.{schedule_for}
 
--- each part after so many ticks
+-- each part after n ticks
 pub after_parts : (n : ℕ) (bus : BusState)
     → after n bus ≡ record bus { serial = serial_quiet.after n bus.serial; clock = clock_second.after n bus.clock }
 unfolding after serial_quiet.after clock_second.after
@@ -30,12 +30,12 @@ owes_nothing bus schedule e =
     let left = ap (λ (p : Schedule). p.left) e in
     after_none (schedule.planned - schedule.left) bus (omega arith)
 
--- one quiet tick less to come is one more that they owe
+-- one quiet tick less to come means one more that they owe
 pub owes_one_more : (bus : BusState) (planned left : ℕ) → left ≤ planned → left ≢ 0
     → after (planned - (left - 1)) bus ≡ ticked (after (planned - left) bus)
 owes_one_more bus planned left within some = after_one_more (planned - (left - 1)) (planned - left) bus (omega arith)
 
--- and so are as many less as there are
+-- and the same for several ticks at once
 pub owes_more : (bus : BusState) (planned left n : ℕ) → n ≤ left → left ≤ planned
     → after (planned - (left - n)) bus ≡ after n (after (planned - left) bus)
 unfolding after

@@ -1,5 +1,5 @@
 -- Loads and stores of the devices' words (KN02 functional specification; MC146818 data sheet; the layout of CSR is own).
--- An access leaves the devices that it is not for.
+-- An access leaves the other devices.
 use Rattle.std.specs.Prelude.{ℕ, ◌+◌, ◌*◌, Option, None, slice_index, if◌then◌else◌}
 use Rattle.r3k_word.specs.Word.{field_of, has}
 use Rattle.dz_serial.specs.Reads as serial_reads

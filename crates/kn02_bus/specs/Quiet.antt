@@ -1,11 +1,11 @@
--- Quiet ticks (own): those that only count, in which no device does anything that can be seen.
+-- Quiet ticks (own): those that only count, in which no device does anything visible.
 use Rattle.std.specs.Prelude.{ℕ, zero, suc, min}
 use Rattle.dz_serial.specs.Quiet as serial_quiet
 use Rattle.mc146818.specs.Quiet as clock_quiet
 use Rattle.kn02_bus.specs.State.{BusState}
 use Rattle.kn02_bus.specs.Tick.{ticked}
 
--- the bus after so many ticks
+-- the bus after n ticks
 unfoldable pub after : ℕ → BusState → BusState
 after zero bus = bus
 after (suc n) bus = ticked (after n bus)
@@ -14,6 +14,6 @@ after (suc n) bus = ticked (after n bus)
 abbrev pub quiet_of : BusState → ℕ
 quiet_of bus = min (serial_quiet.quiet_of bus.serial) (clock_quiet.quiet_of bus.clock)
 
--- the bus after so many ticks that only count
+-- the bus after n ticks that only count
 abbrev pub passed : ℕ → BusState → BusState
 passed n bus = record bus { serial = serial_quiet.passed n bus.serial; clock = clock_quiet.passed n bus.clock }

@@ -6,11 +6,11 @@ use Rattle.kn02_bus.specs.declared.region.Device.TheVariants as device
 use Rattle.kn02_bus.specs.declared.region.Region.{Region}
 use Rattle.kn02_bus.specs.declared.region.Region.TheVariants.{Ram, Rom, Device, Unassigned}
 
--- an address is one of so many bytes from another one on
+-- an address is one of the `bytes` bytes from another one on
 abbrev pub lies_in : (start bytes address : ℕ) → Bool
 lies_in start bytes address = nat_le start address && nat_lt address (start + bytes)
 
--- What stands at an address behind RAM: ROM, the serial part at the offset of the address's word, the clock at the register
+-- What stands at an address after RAM: ROM, the serial part at the offset of the address's word, the clock at the register
 -- of its word, the board's CSR, or nothing.
 abbrev pub beyond_ram : ℕ → Region
 beyond_ram address =
@@ -20,6 +20,6 @@ beyond_ram address =
     else (if lies_in CSR_START CSR_BYTES address then Device device.Csr
     else Unassigned)))
 
--- RAM stands first, so many pages of it
+-- RAM comes first, `pages` pages of it
 unfoldable pub region_of : (pages address : ℕ) → Region
 region_of pages address = if nat_lt address (pages * PAGE_BYTES) then Ram else beyond_ram address

@@ -9,7 +9,7 @@ use Rattle.kn02_bus.specs.Quiet.{quiet_of}
 abbrev pub schedule_for : BusState → Schedule
 schedule_for bus = record { left = quiet_of bus; planned = quiet_of bus; lines = lines_of bus }
 
--- a schedule is for a bus, of which some ticks may have passed already
+-- a schedule for a bus of which some planned ticks may have passed already
 pub record IsScheduleFor (bus : BusState) (schedule : Schedule) : Type 0 where
   pub within : schedule.left ≤ schedule.planned
   pub quiet : schedule.planned ≤ quiet_of bus

@@ -1,4 +1,4 @@
-//! The bus: the devices, and what they tell the processor.
+//! The bus: the devices, and what they report to the processor.
 
 ghost use Rattle.std.specs.Prelude.{◌≡◌, ◌≤◌, ◌<◌, ◌%◌, slice_index};
 ghost use Rattle.kn02_bus.specs.State.{reset_bus};
@@ -121,7 +121,7 @@ impl Bus {
         self.schedule.left
     }
 
-    /// Clock and serial part advance by so many ticks. Those that are planned pass at once.
+    /// Clock and serial part advance by `ticks` ticks. Those that are planned pass at once.
     pub fn pass(&mut self, ticks: u32)
         ensures { self.new ≡ after ticks self.old }
     {
@@ -132,7 +132,7 @@ impl Bus {
         }
     }
 
-    // The tick behind the quiet ones.
+    // The tick after the quiet ones.
     #[cold]
     #[tactic(auto, using(crate::proofs::Quiet::owes_nothing))]
     fn end_quiet_ticks(&mut self)

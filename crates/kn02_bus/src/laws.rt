@@ -14,7 +14,7 @@ ghost use Rattle.kn02_bus.specs.Quiet.{after, passed, quiet_of};
 use crate::region::Device;
 use r3k_word::layout::{PAGE_WORDS, ROM_START};
 
-/// RAM and ROM are where the words of memory stand, and where devices are or nothing there is none.
+/// RAM and ROM are where the words of memory stand. There is no word where a device is, or nothing.
 pub fn region_laws()
     ensures ram { (pages address : ℕ) → region_of pages address ≡ region.Ram →
         place_of_word pages (address / 4 * 4) ≡ Some (address / 4) }
@@ -26,9 +26,9 @@ pub fn region_laws()
         place_of_word pages (address / 4 * 4) ≡ None }
 {}
 
-/// In quiet ticks the parts do nothing but count. Ticks may be taken in parts, and of quiet ticks a part leaves
-/// the rest quiet. The interrupt lines and CSR stay as they are, and a byte that arrives, with a framing error or
-/// without, an external line that gets its level and a read of the serial part neither see those ticks nor end them.
+/// In quiet ticks the parts do nothing but count. Ticks may be taken in parts: after a part of the quiet ticks the rest are quiet.
+/// The interrupt lines and CSR stay as they are. A byte that arrives (with a framing error or without), an external line that gets
+/// its level and a read of the serial part neither see those ticks nor end them.
 pub fn quiet_laws()
     ensures passes { (bus : BusState) (n : ℕ) → n ≤ quiet_of bus → after n bus ≡ passed n bus }
     ensures in_parts { (bus : BusState) (m n : ℕ) → after (m + n) bus ≡ after m (after n bus) }

@@ -37,7 +37,7 @@ impl Bus {
         word
     }
 
-    // A read of the clock may see how far it has come.
+    // A read of the clock may see how far the clock has come.
     #[tactic(auto, using(crate::proofs::Quiet::owes_nothing))]
     fn load_clock(&mut self, register: ClockRegister) -> u32
         ensures word { result ≡ loaded self.old (device.Clock register) }

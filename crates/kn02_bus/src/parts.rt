@@ -83,7 +83,7 @@ impl Parts {
         self.levels = other.levels;
     }
 
-    /// The same parts once more.
+    /// A copy of the parts.
     pub(crate) fn copy(&self) -> Parts
         ensures { result ≡ self.now }
     {
@@ -131,7 +131,7 @@ impl Parts {
         self.serial.quiet().min(self.clock.quiet())
     }
 
-    /// So many ticks pass at once, all of them quiet.
+    /// `ticks` ticks pass at once, all of them quiet.
     pub(crate) fn pass(&mut self, ticks: u32)
         requires { ticks ≤ quiet_of self.old }
         ensures { self.new ≡ after ticks self.old }

@@ -74,7 +74,7 @@ pub enum Region {
 }
 
 impl Region {
-    /// What stands at a physical address, which need not be that of a word, with so many pages of RAM.
+    /// What stands at a physical address, which need not be that of a word, with `pages` pages of RAM.
     #[inline]
     #[tactic(auto, unfolding(crate::specs::Region::region_of))]
     pub fn of(pa: u32, pages: u32) -> Region
@@ -87,7 +87,7 @@ impl Region {
         }
     }
 
-    // What stands at an address behind RAM.
+    // What stands at an address after RAM.
     fn beyond_ram(pa: u32) -> Region
         ensures { result ≡ beyond_ram pa }
     {

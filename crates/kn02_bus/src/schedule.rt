@@ -1,6 +1,6 @@
-//! The ticks that are planned ahead. In quiet ticks the devices do nothing but count, so they are
-//! not ticked one by one: they stand where they were when the schedule was made, and pass all that they
-//! owe at once when somebody looks, or when the next tick is not quiet.
+//! The ticks that are planned ahead. In quiet ticks the devices do nothing but count, so they are not
+//! ticked one by one. They stay where they were when the schedule was made, and pass all that they owe
+//! at once when somebody looks, or when the next tick is not quiet.
 
 ghost use Rattle.std.specs.Prelude.{◌≡◌, ◌-◌, ◌≤◌};
 ghost use Rattle.kn02_bus.specs.Schedule.{schedule_for};
@@ -31,7 +31,7 @@ impl Schedule {
         }
     }
 
-    /// The ticks that have come and that the parts have not passed.
+    /// The ticks that have come and that the parts still owe.
     #[inline]
     pub(crate) fn owed(&self) -> u32
         requires { self.now.left ≤ self.now.planned }

@@ -7,11 +7,11 @@ use Rattle.landings.specs.Landings.{HasNone, IsNearest, positions_of}
 le_or_lt : (a n : ℕ) → (a ≤ n) ⊎ (n < a)
 le_or_lt a n = grind arith
 
--- what is to come is kept
+-- what is still to come is kept
 abbrev IsPart : List (ℕ × State) → List (ℕ × State) → Type 0
 IsPart all rest = (e : ℕ × State) → Contains rest e → Contains all e
 
--- each position in the range is to come, or P holds of it
+-- each position in the range is still to come, or P holds of it
 abbrev IsSettled : (from to : ℕ) (all rest : List (ℕ × State)) → (ℕ → Type 0) → Type 0
 IsSettled from to all rest P = (p : ℕ) → Contains (positions_of all) p → from ≤ p → p ≤ to → Contains (positions_of rest) p ⊎ P p
 
@@ -30,7 +30,7 @@ module _ (from to : ℕ) (all : List (ℕ × State)) (e : ℕ × State) (rest : 
   ]
 
 module _ {A : Type 0} (state_of : A → State) (from to : ℕ) (all : List (ℕ × State)) where
-  -- what was found among the states that came, where rest is to come
+  -- what was found among the states so far, where `rest` is still to come
   abbrev pub IsSoFar : List (ℕ × State) → Option (ℕ × A) → Type 0
   IsSoFar rest found = IsPart all rest × MatchOption found
       (IsSettled from to all rest (λ _. ⊥))

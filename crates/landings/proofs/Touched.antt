@@ -1,4 +1,4 @@
--- What a position that is looked up among states leaves.
+-- What looking up a position among states leaves.
 use Rattle.std.proofs.Common.{◌≡◌, ℕ, ◌⊎◌, inl, inr, true, false, cond, nat_eq, List, [], ◌∷◌, take, Some, None, Contains, refl, sym, ap, subst, eqb-true, eq-eqb}
 use Rattle.std.specs.Map.{lookup_entry, remove_entry}
 use Rattle.std.specs.Set.{remove_key}
@@ -39,7 +39,7 @@ module _ (position : ℕ) where
   pub touched-absent : (states : List (ℕ × State)) → (Contains (positions_of states) position → ⊥) → touched position states ≡ states
   touched-absent states absent = rw (absent-none states absent) refl
 
--- what was put before the others
+-- what was put in front
 pub added-among : (n : ℕ) (e : ℕ × State) (states : List (ℕ × State)) (f : ℕ × State) → Contains (take n (e ∷ states)) f → (f ≡ e) ⊎ Contains states f
 added-among n e states f c = elim (Contains-cons e states f (Contains-take n (e ∷ states) f c)) [
   | inl same ↦ inl (sym same)

@@ -8,7 +8,7 @@ use Rattle.r3k_machine.specs.State.{State}
 abbrev pub positions_of : List (ℕ × State) → List ℕ
 positions_of states = map (λ e. e.0) states
 
--- no position lies in a range, of which both ends belong to it
+-- no position lies in a range that includes both ends
 abbrev pub HasNone : (from to : ℕ) → List (ℕ × State) → Type 0
 HasNone from to states = (p : ℕ) → Contains (positions_of states) p → from ≤ p → ¬ (p ≤ to)
 
@@ -19,7 +19,7 @@ pub record IsNearest (from to : ℕ) (states : List (ℕ × State)) (position : 
   pub most : position ≤ to
   pub greatest : (p : ℕ) → Contains (positions_of states) p → p ≤ to → p ≤ position
 
--- the state at a position goes first, and the others follow in their order; where there is none, all is as it was
+-- the state at a position goes first, and the others follow in their order; where there is none, all stay as they were
 abbrev pub touched : ℕ → List (ℕ × State) → List (ℕ × State)
 touched position states =
     option_map_or (λ e. e ∷ remove_entry (nat_eq position) states) (lookup_entry (nat_eq position) states) states

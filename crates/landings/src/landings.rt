@@ -50,7 +50,7 @@ impl<const PAGES: u32> Landings<PAGES> {
         self.states.len()
     }
 
-    /// The state at the greatest position from one to another, and that position.
+    /// The state at the greatest position in the range from one to another, both included, and that position.
     pub fn nearest(&self, from: u64, to: u64) -> Option<(u64, &Rc<Boundary<PAGES>>)>
         ensures { MatchOption result (HasNone from to self.now) (λ found. IsNearest from to self.now found.0 found.1.now.value) }
     {
@@ -77,7 +77,7 @@ impl<const PAGES: u32> Landings<PAGES> {
         self.states.promote(&position);
     }
 
-    /// Keeps the state at a position, as the one that was used last. The one that was used longest ago goes where there were 8.
+    /// Keeps the state at a position as the one used last. Where there were 8, the one used longest ago is dropped.
     pub fn add(&mut self, position: u64, state: Rc<Boundary<PAGES>>) -> Result<(), AllocError>
         requires { ¬ Contains (positions_of self.old) position }
         ensures added { OnOk result (self.new ≡ take 8 ((position, state.entry.value) ∷ self.old)) }

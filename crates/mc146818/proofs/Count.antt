@@ -15,7 +15,7 @@ below_second units unit ticks fits below =
     let most : (units + 1) * unit ≤ 8192 * unit = mul-le-mul_right unit (let h : units + 1 ≤ 8192 = omega arith in h) in
     omega (arith, most)
 
--- the divider after so many ticks of so many units
+-- the divider at this count, with this many ticks a unit
 abbrev pub at : (unit count : ℕ) → Ticks
 at unit count = record { count = count; unit = unit }
 

@@ -246,7 +246,7 @@ passed_in_parts_where clock m n false = refl
 pub passed_in_parts : (clock : ClockState) (m n : ℕ) → passed m (passed n clock) ≡ passed (m + n) clock
 passed_in_parts clock m n = passed_in_parts_where clock m n (runs clock)
 
--- a part of quiet ticks leaves the rest quiet
+-- after a part of the quiet ticks the rest are quiet
 period_stays_quiet : (period : Option ℕ) (count m n : ℕ) → m + n ≤ quiet_period period count → m ≤ quiet_period period (count + n)
 period_stays_quiet None count m n h = omega arith
 period_stays_quiet (Some period) count m n h =

@@ -13,7 +13,7 @@ use Rattle.mc146818.specs.Second.{after, BeginsSecond}
 use Rattle.mc146818.specs.Tick.{moved, with_period, updated, with_update, ticked}
 use Rattle.mc146818.specs.Time.{advanced, format_of}
 
--- the clock so many ticks into a second that began with another one: its flags may differ
+-- the clock `ticks` ticks into a second that `begun` began: its flags may differ
 record IsWithin (begun clock : ClockState) (ticks : ℕ) : Type 0 where
   time : clock.time ≡ begun.time
   a : clock.a ≡ begun.a

@@ -1,4 +1,4 @@
--- Quiet ticks (own): those that only count, which many at once can pass.
+-- Quiet ticks (own): those that only count, so that many can pass at once.
 use Rattle.std.specs.Prelude.{ℕ, ◌+◌, ◌-◌, ◌%◌, ◌==◌, min, Option, Some, None, if◌then◌else◌}
 use Rattle.r3k_word.specs.Word.{has}
 use Rattle.mc146818.specs.declared.registers.TheConstants.{PF}
@@ -6,7 +6,7 @@ use Rattle.mc146818.specs.declared.quiet.TheConstants.{FOREVER}
 use Rattle.mc146818.specs.Divider.{second_of, period_of}
 use Rattle.mc146818.specs.Clock.{ClockState, runs, rate}
 
--- the clock after so many ticks that only count: its divider moves on by as many, where it runs
+-- the clock after n ticks that only count: its divider moves on by n, where it runs
 abbrev pub passed : ℕ → ClockState → ClockState
 passed n clock = record clock { divider = if runs clock then clock.divider + n else clock.divider }
 

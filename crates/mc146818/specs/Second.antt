@@ -3,7 +3,7 @@ use Rattle.std.specs.Prelude.{◌≡◌, ℕ, zero, suc, ◌≤◌, true, false}
 use Rattle.mc146818.specs.Clock.{ClockState, runs, is_set}
 use Rattle.mc146818.specs.Tick.{ticked}
 
--- the clock after so many ticks
+-- the clock after n ticks
 unfoldable pub after : ℕ → ClockState → ClockState
 after zero clock = clock
 after (suc n) clock = ticked (after n clock)

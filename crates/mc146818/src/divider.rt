@@ -13,7 +13,7 @@ use std::marker::Model;
 /// Units in a second.
 const UNITS: u16 = 8192;
 
-/// An update is announced so many units into a second.
+/// The units of a second after which an update is announced.
 const NEAR_END: u16 = 8190;
 
 /// The count of a second's ticks: whole units, the ticks beyond them, and the ticks of a unit.
@@ -64,7 +64,7 @@ impl Divider {
         self.units == other.units && self.ticks == other.ticks && self.unit == other.unit
     }
 
-    /// Counts a tick. Says whether whole units have passed.
+    /// Counts a tick. Reports whether whole units have passed.
     #[inline]
     pub fn advance(&mut self) -> bool
         ensures count { self.new ≡ record self.old { count = next_count self.old.unit self.old.count } }
@@ -168,7 +168,7 @@ impl Divider {
         period - 1 - self.count() % period
     }
 
-    /// Counts so many ticks at once, none of which ends the second.
+    /// Counts `ticks` ticks at once, none of which ends the second.
     pub fn pass(&mut self, ticks: u32)
         requires { ticks ≤ quiet_second self.old.unit self.old.count }
         ensures { self.new ≡ record self.old { count = self.old.count + ticks } }

@@ -1,4 +1,4 @@
-//! Quiet ticks: those that only count. Who lets the clock fall behind passes many of them at once.
+//! Quiet ticks: those that only count. A caller that owes the clock ticks passes many of them at once.
 
 ghost use Rattle.std.specs.Prelude.{◌≡◌, ◌≢◌, ℕ, ◌+◌, ◌<◌, ◌≤◌};
 ghost use Rattle.mc146818.specs.Clock.{ClockState, requests_interrupt};
@@ -10,7 +10,7 @@ ghost use Rattle.mc146818.specs.Quiet.{passed, quiet_flag, quiet_of};
 use crate::clock::Clock;
 use crate::registers::PF;
 
-/// So many ticks stand for all that will come.
+/// The number that stands for all ticks to come.
 pub(crate) const FOREVER: u32 = u32::MAX;
 
 impl Clock {
@@ -40,7 +40,7 @@ impl Clock {
         }
     }
 
-    /// Counts so many ticks at once, all of them quiet.
+    /// Counts `ticks` ticks at once, all of them quiet.
     #[tactic(auto, unfolding(crate::specs::Quiet::quiet_of))]
     pub fn pass(&mut self, ticks: u32)
         requires { ticks ≤ quiet_of self.old }
@@ -53,7 +53,7 @@ impl Clock {
 }
 
 /// Quiet ticks do nothing but count: time, flags and interrupt stay; the tick after them does more.
-/// Ticks may be taken in parts, and of quiet ticks a part leaves the rest quiet.
+/// Ticks may be taken in parts: after a part of the quiet ticks the rest are quiet.
 pub fn quiet_laws()
     ensures passes { (clock : ClockState) (n : ℕ) → n ≤ quiet_of clock → after n clock ≡ passed n clock }
     ensures line { (clock : ClockState) (n : ℕ) → n ≤ quiet_of clock →

@@ -121,7 +121,7 @@ goes_on pages span image log spans all count index are joined below start end st
     subst (λ (s : State). IsJoinedFrom pages span log (index + 1) (slice_index_or spans (index + 1) None) s end) (sym from)
     (record { ends = to ∙ sym (ends pages span image log (index + 1)); joined = joined (index + 1) below })
 
--- where they end, from one on that is known
+-- where they end, from a known end on
 pub chain : (pages span : ℕ) (image : Boot) (log : List LogEvent) (spans : List (Option Span)) (all : List State) (first : ℕ)
     → slice_get all first ≡ Some (state_at pages image log ((first + 1) * span)) → ((index : ℕ) → first ≤ index → GoesOn pages span log spans all index)
     → (more : ℕ) → first + more < length all → slice_get all (first + more) ≡ Some (state_at pages image log ((first + more + 1) * span))
@@ -156,7 +156,7 @@ joined_on pages span image log spans all first index known goes after inside =
     subst (λ (n : ℕ). IsJoined pages span n (slice_index_or spans n None) (span_of pages span image log n)) next
     (goes before (omega (arith, after)) (state_at pages image log ((before + 1) * span)) there.0 here there.1).joined
 
--- so all are, and where they end is known
+-- so all are joined, and where they end is known
 pub all_ends : (pages span : ℕ) (image : Boot) (log : List LogEvent) (spans : List (Option Span)) (all : List State) (valid : ℕ) → 0 < valid
     → AreEnds pages span image log valid all → ((index : ℕ) → valid ≤ index + 1 → GoesOn pages span log spans all index) → AreEnds pages span image log (length all) all
 all_ends pages span image log spans all valid some are goes =
@@ -212,7 +212,7 @@ goes_on_after pages span log changed spans all from to index same after goes sta
       joined = subst (λ (s : Span). IsJoined pages span (index + 1) (slice_index_or spans (index + 1) None) s) (sym is) was.joined;
     }
 
--- a span of a number at most that of a time starts at the time or before it, and one of that number or a later one ends after it
+-- the span of an earlier or equal number starts at the time or before; a span of an equal or later number ends after it
 pub starts_before : (time span index : ℕ) → index ≤ time / span → index * span ≤ time
 starts_before time span index before =
     let least : index * span ≤ time / span * span = mul-le-mul_right span before in
@@ -223,7 +223,7 @@ ends_after time span index some after =
     let least : time / span * span ≤ index * span = mul-le-mul_right span after in
     omega (arith, least, next_start index span, lt-div-mul-add {a = time} {b = span} some)
 
--- an end that is put leaves those after it
+-- putting an end leaves the later ends
 pub goes_on_put : (pages span : ℕ) (log : List LogEvent) (before after : List (Option Span)) (old new : List State) (end : State) (place index : ℕ)
     → after ≡ before → IsPut place end old new → place < index → GoesOn pages span log before old index → GoesOn pages span log after new index
 goes_on_put pages span log before after old new end place index same put past goes start to start_is to_is =
@@ -232,7 +232,7 @@ goes_on_put pages span log before after old new end place index same put past go
     (sym (put.others index (λ e. let x : ⊥ = omega (arith, e, past) in x)) ∙ start_is)
     (sym (put.others (index + 1) (λ e. let x : ⊥ = omega (arith, e, past) in x)) ∙ to_is))
 
--- and so do records that are put
+-- and so does putting a record
 pub goes_on_kept : (pages span : ℕ) (log : List LogEvent) (before after : List (Option Span)) (all : List State) (index : ℕ)
     → slice_index_or after (index + 1) None ≡ slice_index_or before (index + 1) None → GoesOn pages span log before all index → GoesOn pages span log after all index
 goes_on_kept pages span log before after all index same goes start to start_is to_is =

@@ -1,4 +1,4 @@
--- A part of a console, where the console has a byte more.
+-- A part of a console, when the console gets one more byte.
 use Rattle.std.proofs.Common.{◌≡◌, ℕ, zero, suc, ◌<◌, ◌≤◌, List, [], ◌∷◌, ◌++◌, length, take, refl, sym, ap, append_assoc, arith, ◌∙◌}
 use Rattle.std.proofs.Common.{Option, Some, None}
 use Rattle.std.specs.List.{cons_option}
@@ -52,28 +52,28 @@ take-enough zero xs b h = refl
 take-enough (suc count) [] b h = absurd (omega (arith, h))
 take-enough (suc count) (x ∷ xs) b h = ap (λ (rest : List ℕ). x ∷ rest) (take-enough count xs b (omega (arith, h)))
 
--- it is asked for, and there are not enough yet
+-- the part is asked for, and is not yet full
 pub part_more : (from count : ℕ) (xs : List ℕ) (b : ℕ) → from ≤ length xs → length (part_of from count xs) < count
     → part_of from count (xs ++ b ∷ []) ≡ part_of from count xs ++ b ∷ []
 part_more zero count xs b asked h = take-more count xs b h
 part_more (suc from) count [] b asked h = absurd (omega (arith, asked))
 part_more (suc from) count (x ∷ xs) b asked h = part_more from count xs b (omega (arith, asked)) h
 
--- there are enough
+-- the part is full
 pub part_enough : (from count : ℕ) (xs : List ℕ) (b : ℕ) → count ≤ length (part_of from count xs) → part_of from count (xs ++ b ∷ []) ≡ part_of from count xs
 part_enough zero count xs b h = take-enough count xs b h
 part_enough (suc from) zero [] b h = refl
 part_enough (suc from) (suc count) [] b h = absurd (omega (arith, h))
 part_enough (suc from) count (x ∷ xs) b h = part_enough from count xs b h
 
--- it comes too early
+-- the byte comes before the part
 pub part_before : (from count : ℕ) (xs : List ℕ) (b : ℕ) → length xs < from → part_of from count (xs ++ b ∷ []) ≡ part_of from count xs
 part_before zero count xs b early = absurd (omega (arith, early))
 part_before (suc zero) count [] b early = refl
 part_before (suc (suc from)) count [] b early = refl
 part_before (suc from) count (x ∷ xs) b early = part_before from count xs b (omega (arith, early))
 
--- nothing is asked for of what comes too early
+-- the part begins after the end
 pub part_short : (from count : ℕ) (xs : List ℕ) → length xs ≤ from → part_of from count xs ≡ []
 part_short zero count [] early = take-nil count
 part_short zero count (x ∷ xs) early = absurd (omega (arith, early))

@@ -28,7 +28,7 @@ lacks_more {P} pages span h index lacking lacks there absent = cases (subst (λ 
     cases (inl (here, before)) = there here before
     cases (inr (none, some, before)) = absent none (lacking - 1) (omega (arith, some)) before
 
--- so many lack among the first ones of them
+-- at most as many of the first ones lack one
 pub lacks_below : {P : Type 0} (pages span : ℕ) (h : Holding) (below more lacking : ℕ) → Lacks pages span h (below + more) lacking
     → ((fewer : ℕ) → fewer ≤ lacking → Lacks pages span h below fewer → P)
     → P
@@ -39,7 +39,7 @@ lacks_below pages span h below (suc more) lacking lacks found =
     (λ here rest. lacks_below pages span h below more lacking rest found)
     (λ absent fewer is rest. lacks_below pages span h below more fewer rest (λ n less. found n (omega (arith, less, is))))
 
--- and as many, where each of the others has one that serves
+-- and as many of all, where each of the others has one that serves
 pub lacks_on : (pages span : ℕ) (h : Holding) (below more lacking : ℕ) → ((i : ℕ) → below ≤ i → i < below + more → Serves pages span h i)
     → Lacks pages span h below lacking → Lacks pages span h (below + more) lacking
 unfolding Lacks
@@ -59,7 +59,7 @@ lacks_back pages span h below (suc more) lacking serve lacks =
 one_more : (n span : ℕ) → (n + 1) * span ≡ n * span + span
 one_more n span = add-mul n 1 span ∙ ap (λ (m : ℕ). n * span + m) (let e : 1 * span ≡ span = omega arith in e)
 
--- the steps that so many spans cost
+-- the steps that n spans cost
 abbrev pub Within : (span steps lacking now : ℕ) → Type 0
 Within span steps lacking now = (counted steps (lacking * span) ≤ now) × (now ≤ steps + lacking * span)
 

@@ -28,7 +28,7 @@ wider old added new gains a b same place outside = same place (outside_old old a
 pub wider_added : (old added new : List ℕ) → Gains old added new → (a b : List ℕ) → SameOutside added a b → SameOutside new a b
 wider_added old added new gains a b same place outside = same place (outside_added old added new gains (page_of_place place) outside)
 
--- two sets one behind the other
+-- two sets, one after the other
 pub both : (old added new a b c : List ℕ) → Gains old added new → SameOutside old a b → SameOutside added b c → SameOutside new a c
 both old added new a b c gains same changed place outside =
     same place (outside_old old added new gains (page_of_place place) outside)

@@ -1,4 +1,4 @@
--- What the joined records tell together is what the run from reset tells.
+-- What the joined records report together is what the run from reset reports.
 use Rattle.std.proofs.Common.{◌≡◌, ℕ, suc, ◌+◌, ◌-◌, ◌*◌, ◌<◌, ◌≤◌, ◌++◌, inl, inr, List, [], ◌∷◌, length, length-append, map, Option, Some, None, slice_index_or, append_assoc, refl, sym, ap, subst, ◌∙◌, arith}
 use Rattle.std.proofs.Math.Nat.{mul-le-mul_right}
 use Rattle.std.proofs.lemmas.Bool.{cases_lt}
@@ -24,7 +24,7 @@ use Rattle.present_run.proofs.Near.{same_steps}
 use Rattle.present_run.proofs.Steps.{trace_long}
 use Rattle.present_run.proofs.Told.{console_front, senders_front, span_steps, trace_none, up_to_next, writer_span}
 
--- so many records are joined
+-- the first n records are joined
 abbrev pub AreJoined : (pages span : ℕ) → Boot → List LogEvent → List (Option Span) → ℕ → Type 0
 AreJoined pages span image log spans count = (i : ℕ) → i < count → IsJoined pages span i (slice_index_or spans i None) (span_of pages span image log i)
 
@@ -61,7 +61,7 @@ count_told pages span image log spans line count joined =
     ∙ ap (λ (steps : List Done). length_at pages span image log line i + length (bytes_on line (sent_from 0 steps)))
     (sym (steps_joined pages span image log i (slice_index_or spans i None) (joined i within)))))
 
--- a console goes on
+-- the console grows
 pub goes_on : (pages : ℕ) (image : Boot) (log : List LogEvent) (line from to : ℕ) → from ≤ to
     → length (console_of line (trace_at pages image log from)) ≤ length (console_of line (trace_at pages image log to))
 goes_on pages image log line from to before =
@@ -90,7 +90,7 @@ abbrev pub span_or : ℕ → Option (ℕ × ℕ) → ℕ
 span_or count None = count
 span_or count (Some found) = found.0
 
--- there are enough bytes already
+-- the part is full already
 enough : (from count : ℕ) (console more : List ℕ) → count ≤ length (part_of from count console) → part_of from count (console ++ more) ≡ part_of from count console
 enough from count console [] full = ap (part_of from count) (append-nil console)
 enough from count console (byte ∷ more) full =
@@ -166,7 +166,7 @@ shows_next pages span image log line from count index next shown behind few show
     (sym (same_console pages image log line ((index + 1) * span) (next * span) (mul-le-mul_right span behind) (subst (λ (n : ℕ). length_at pages span image log line next ≤ n) shows.0 few)))
     shows
 
--- a byte that a span sent is not behind all of that span's
+-- a byte that a span sent has a place among that span's bytes
 pub not_behind : (pages span : ℕ) (image : Boot) (log : List LogEvent) (line index place more : ℕ)
     → length_at pages span image log line index ≤ place → place < length_at pages span image log line (index + 1)
     → ¬ (length (steps_on line (sent_from 0 (steps_between pages image log (index * span) ((index + 1) * span)))) + more ≡ place - length_at pages span image log line index)

@@ -22,14 +22,14 @@ pub nearly : (pages span : ℕ) (o : Option Span) (r : Span) (start : State) (ev
     → NearlyApplies pages span r start events
 nearly pages span o r start events is near = subst (λ (o : Option Span). IsNear pages span o start events) is near
 
--- the same said otherwise
+-- the same in other words
 pub moved : (pages span : ℕ) (o p : Option Span) (a b : State) (x y : List LogEvent) → o ≡ p → a ≡ b → x ≡ y → IsNear pages span o a x → IsNear pages span p b y
 moved pages span o p a b x y op ab xy near =
     subst (λ (y : List LogEvent). IsNear pages span p b y) xy
     (subst (λ (b : State). IsNear pages span p b x) ab
     (subst (λ (p : Option Span). IsNear pages span p a x) op near))
 
--- its steps tell what those of the span do
+-- its steps report what those of the span report
 pub same_steps : (pages span index : ℕ) (o : Option Span) (r s : Span) → o ≡ Some r → s.index ≡ index → IsJoined pages span index o s
     → steps_of pages span r ≡ steps_of pages span s
 same_steps pages span index o r s is number joined =
@@ -61,7 +61,7 @@ core_behind pages span image log index o joined = by_cases o joined.near joined.
     by_cases (Some r) near number long =
         same_core pages span r s near long number ∙ ap (λ (state : State). state.core) (ends pages span image log index)
 
--- the end of a span that has another start
+-- the end of a span with another start
 pub end_from : (pages span : ℕ) (r s : Span) (start : State) → start ≡ s.start → r.index ≡ s.index → r.events ≡ s.events
     → end_of pages span (record r { start = start }) ≡ end_of pages span s
 end_from pages span r s start same number events =

@@ -27,7 +27,7 @@ pub map_some : {A : Type 0} (P Q : A → Type 0) (o : Option A) → ((x : A) →
 map_some P Q None f p = tt
 map_some P Q (Some x) f p = f x p
 
--- behind a span that was run
+-- after a span that was run
 pub behind_run : (pages span : ℕ) (image : Boot) (log : List LogEvent) (valid : ℕ) (old new : List ℕ) (n : Span) (o s : Option Span)
     → Follows pages span o s
     → IfSome o (λ o. SameOutside old o.start.words (state_at pages image log (valid * span)).words)
@@ -42,7 +42,7 @@ behind_run pages span image log valid old new n (Some o) (Some s) follows was pa
     (subst (λ (end : State). SameOutside new (end_of pages span o).words end.words)
     (ap (λ (n : Span). end_of pages span n) is ∙ ends pages span image log valid) after)
 
--- behind a record that nearly applies
+-- after a record that nearly applies
 pub behind_kept : (pages span : ℕ) (set words : List ℕ) (r : Span) (o s : Option Span) → o ≡ Some r → Follows pages span o s
     → SameOutside set (end_of pages span r).words words → IfSome s (λ s. SameOutside set s.start.words words)
 behind_kept pages span set words r o None is follows same = tt
@@ -81,7 +81,7 @@ first_joined pages span image log zero false old new o there same was =
 first_joined pages span image log (suc k) exact old new o there same was =
     subst (λ (set : List ℕ). IfSome o (λ s. SameOutside set s.start.words (reset pages image).words)) (sym (same (λ _. omega arith))) was
 
--- what holds of all before one, and of that one
+-- what holds for all numbers before one, and for that one
 pub and_last : (P : ℕ → Type 0) (valid : ℕ) → ((i : ℕ) → i < valid → P i) → P valid → (i : ℕ) → i < valid + 1 → P i
 and_last P valid before here i within =
     elim (cases_lt i valid) [
@@ -107,7 +107,7 @@ pub value_count : {A : Type 0} (value : A → State) (ends : List A) → length 
 value_count value [] = refl
 value_count value (first ∷ rest) = ap (λ (n : ℕ). suc n) (value_count value rest)
 
--- none of the first no records has changed
+-- trivially, none of the first 0 records has changed
 not_before : (stale : Option ℕ) → IfSome stale (λ i. 0 ≤ i)
 not_before None = tt
 not_before (Some i) = omega arith

@@ -1,4 +1,4 @@
--- A search that goes on behind a front that was searched.
+-- A search that goes on after a front that was searched.
 use Rattle.std.proofs.Common.{◌≡◌, ℕ, zero, suc, ◌+◌, List, [], ◌∷◌, ◌++◌, length, map, Option, Some, slice_get, refl, sym, ap, ◌∙◌, arith, length-append}
 use Rattle.std.specs.Option.{is_some, option_map}
 use Rattle.std.proofs.lemmas.Bool.{true≢false}
@@ -14,11 +14,11 @@ pub get_behind : (xs ys : List ℕ) (left : ℕ) → slice_get (xs ++ ys) (lengt
 get_behind [] ys left = ap (slice_get ys) (let e : 0 + left ≡ left = omega arith in e)
 get_behind (x ∷ xs) ys left = ap (slice_get (x ∷ (xs ++ ys))) (let e : suc (length xs) + left ≡ suc (length xs + left) = omega arith in e) ∙ get_behind xs ys left
 
--- what was found stands in all
+-- what was found in the front is found in the whole
 pub found_front : (front rest all : List ℕ) (place x : ℕ) → all ≡ front ++ rest → slice_get front place ≡ Some x → slice_get all place ≡ Some x
 found_front front rest all place x whole is = ap (λ (xs : List ℕ). slice_get xs place) whole ∙ get_front front rest place x is
 
--- what is found behind the front, counted from there
+-- what is found after the front, counted from there
 pub found_behind : (from : ℕ) (front rest all : List ℕ) (place left x : ℕ) → all ≡ front ++ map (λ k. from + k) rest → length front + left ≡ place
     → slice_get rest left ≡ Some x → slice_get all place ≡ Some (from + x)
 found_behind from front rest all place left x whole behind is =
@@ -35,7 +35,7 @@ left_behind from front rest all place left more whole behind is =
     ap (λ (xs : List ℕ). length xs) whole ∙ (length-append front (map (λ k. from + k) rest) ∙ ap (λ (n : ℕ). length front + n) (length-map rest (λ k. from + k))) in
     omega (arith, long, behind, is)
 
--- what stands behind a front
+-- what follows the front
 pub at_seam : (front : List ℕ) (x : ℕ) (rest : List ℕ) → slice_get ((front ++ x ∷ []) ++ rest) (length front) ≡ Some x
 at_seam [] x rest = refl
 at_seam (y ∷ front) x rest = at_seam front x rest

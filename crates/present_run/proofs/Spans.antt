@@ -44,7 +44,7 @@ at_reset pages image log = refl
 pub some_is : {A : Type 0} (a b : A) → Some a ≡ Some b → a ≡ b
 some_is a b same = ap (λ (o : Option _). unwrap_or o a) same
 
--- the span behind another one of the run
+-- the span after another one of the run
 pub behind : (pages span : ℕ) (image : Boot) (log : List LogEvent) (index next : ℕ) → next ≡ index + 1 →
     (let s : Span = record { index = next; start = end_of pages span (span_of pages span image log index); events = window_of (next * span) ((next + 1) * span) log } in s)
     ≡ span_of pages span image log next
@@ -77,7 +77,7 @@ pub copied : {A E : Type 0} (P Q : A → Type 0) (X : E → Type 0) (r : Result 
 copied P Q X (Ok x) p f = f x p
 copied P Q X (Err e) p f = tt
 
--- what holds in any case
+-- what holds in either case
 pub ok_all : {A E : Type 0} (r : Result A E) (X : Type 0) → X → IfOk r (λ _. X)
 ok_all (Ok x) X there = there
 ok_all (Err e) X there = tt
@@ -125,7 +125,7 @@ seen pages image log address time to k (suc limit) within =
           (seen pages image log address time to (suc k) limit (omega (arith, within)) ∙ ap (λ (t : ℕ). next_visit pages image log address t limit) here)
     ]
 
--- a search that goes on behind another one
+-- a search that goes on after another one
 abbrev pub or_behind : Option ℕ → Option ℕ → Option ℕ
 or_behind None later = later
 or_behind (Some found) later = Some found

@@ -2,7 +2,7 @@
 use Rattle.std.specs.Prelude.{◌≡◌, ℕ, [], ◌∷◌, ◌++◌, List, length, take, drop, Option, Some, None}
 use Rattle.present_run.specs.declared.sent.Shown.{Shown}
 
--- what there is from a place on, at most so many
+-- the items from a place on, at most `count` of them
 abbrev pub part_of : {A : Type 0} → (from count : ℕ) → List A → List A
 part_of from count all = take count (drop from all)
 

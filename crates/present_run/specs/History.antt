@@ -12,7 +12,7 @@ pub record History : Type 0 where
   pub image : Boot
   pub log : List LogEvent
 
--- how proofs tell two events, and two histories, apart: by all their parts, and a kind by its number
+-- how proofs distinguish two events, or two histories: by all their parts, and a kind by its number
 abbrev pub kind_numbered : ℕ → Kind
 kind_numbered zero = Byte
 kind_numbered (suc zero) = Framing
@@ -34,7 +34,7 @@ history_code =
     code_by (Boot × List LogEvent) (coded× boot_code (coded_list event_code)) (λ h. (h.image, h.log))
     (λ p. record { image = p.0; log = p.1 }) (λ _. refl)
 
--- A history of a machine with so many pages of RAM and spans of so many steps: sizes in their ranges, and an image that fits.
+-- A history of a machine with `pages` pages of RAM and spans of `span` steps: sizes in their ranges, and an image that fits.
 pub record IsHistory (pages span : ℕ) (h : History) : Type 0 where
   pub sizes : AreSizes pages span
   pub fits : FitsRam pages h.image

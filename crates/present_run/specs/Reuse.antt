@@ -10,7 +10,7 @@ use Rattle.span_fact.specs.Span.{Span}
 use Rattle.checkpoints.specs.Kept.{IsNear}
 use Rattle.present_run.specs.History.{History}
 
--- what a timeline holds of runs: its history, the spans of which it keeps a record, by their numbers, and how many steps it has run
+-- what a timeline holds of runs: its history, by number the spans of which it keeps a record, and how many steps it has run
 pub record Holding : Type 0 where
   pub history : History
   pub spans : List (Option Span)
@@ -31,29 +31,29 @@ kept_at h index = slice_index_or h.spans index None
 abbrev pub Applies : (pages span : ℕ) → Holding → ℕ → Type 0
 Applies pages span h index = kept_at h index ≡ Some (span_of pages span h.history.image h.history.log index)
 
--- a record is kept of a span that applies or nearly applies: its events are those of the log, and where it starts otherwise than the
--- run from reset stands, it does so in words of pages that it does not touch
+-- a record is kept of a span that applies or nearly applies: its events are those of the log, and its start differs from the state
+-- of the run from reset only in words of pages that it does not touch
 abbrev pub Serves : (pages span : ℕ) → Holding → ℕ → Type 0
 Serves pages span h index =
     let s : Span = span_of pages span h.history.image h.history.log index in
     IsNear pages span (kept_at h index) s.start s.events
 
--- for so many spans from the first on, this many have no record that serves
+-- of the first `count` spans, `lacking` have no record that serves
 unfoldable pub Lacks : (pages span : ℕ) → Holding → (count lacking : ℕ) → Type 0
 Lacks pages span h zero lacking = lacking ≡ 0
 Lacks pages span h (suc index) lacking =
     (Serves pages span h index × Lacks pages span h index lacking)
     ⊎ ((¬ Serves pages span h index) × (0 < lacking) × Lacks pages span h index (lacking - 1))
 
--- What a query does that needs so many spans from the first on, and then at most so many steps more: it runs a span only where
--- no record serves, and replaces records only by some that apply. The history stays, and the steps that were run stay counted.
+-- What a query does that needs the first `count` spans, and then at most `more` steps. It runs a span only where no record serves,
+-- and replaces a record only by one that applies. The history stays, and all steps that were run are counted.
 pub record Spends (pages span count more : ℕ) (old new : Holding) : Type 0 where
   pub history : new.history ≡ old.history
   pub grows : old.steps ≤ new.steps
   pub most : (lacking : ℕ) → Lacks pages span old count lacking → new.steps ≤ old.steps + (lacking * span + more)
   pub kept : (index : ℕ) → (kept_at new index ≡ kept_at old index) ⊎ Applies pages span new index
 
--- What it has done where it answers: each span that lacked a record was run, and now all have one that serves.
+-- What a query has done where it answers: each span that lacked a record was run, and now all have one that serves.
 pub record Reaches (pages span count : ℕ) (old new : Holding) : Type 0 where
   pub least : (lacking : ℕ) → Lacks pages span old count lacking → counted old.steps (lacking * span) ≤ new.steps
   pub there : (index : ℕ) → index < count → Serves pages span new index

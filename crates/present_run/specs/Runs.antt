@@ -16,7 +16,7 @@ use Rattle.present_run.specs.Reuse.{Holding, span_of}
 use Rattle.present_run.specs.Sizes.{AreSizes}
 use Rattle.present_run.specs.declared.runs.Runs.{Runs}
 
--- what the steps from a position up to another one tell
+-- what the steps from one position up to another report
 abbrev pub steps_between : (pages : ℕ) → Boot → List LogEvent → (from to : ℕ) → List Done
 steps_between pages image log from to = trace pages log from (state_at pages image log from) (to - from)
 
@@ -34,11 +34,11 @@ pub record IsOnTheWay (pages : ℕ) (image : Boot) (log : List LogEvent) (from t
   pub least : from ≤ position
   pub most : position ≤ to
 
--- What is kept is of the run from reset: where it starts, where the machine stands, what the recorder holds, the records that are joined, and where their
--- spans end; the last of them may be known to be that of the run. The index has what the records tell, and all of the joined ones.
--- Behind these ends stand those of an earlier run: from a number on each span goes on from where the one before it ended.
--- The record of the next span starts with the same words as that span outside the differing pages, and the first record with those
--- of reset outside the patched ones.
+-- What is kept is of the run from reset: the start, where the machine stands, what the recorder holds, the joined records, and the
+-- ends of their spans. `exact` may say that the last joined record is that of the run. The index has what the records report, and
+-- of the joined ones all. After these ends come those of an earlier run: from `again` on, each span goes on from where the one
+-- before it ended. The record of the next span starts with the same words as that span outside the differing pages. The first
+-- record does so with reset, outside the patched pages.
 pub record AreOf {pages span : ℕ} (image : Boot) (log : List LogEvent) (runs : Runs pages span) : Type 0 where
   pub sizes : AreSizes pages span
   pub start : runs.reset.value ≡ reset pages image

@@ -3,7 +3,7 @@ use Rattle.std.specs.Prelude.{◌≡◌, ℕ, ◌+◌, ◌^◌, ◌<◌, List, l
 use Rattle.present_run.specs.declared.sent.Sought.{Sought}
 use Rattle.present_run.specs.declared.sent.Sought.TheVariants.{At, Behind}
 
--- what stands at the place, or how many places are left behind the list
+-- what stands at the place, or how many places are left after the end of the list
 abbrev pub Seeks : List ℕ → (place : ℕ) → Sought → Type 0
 Seeks all place (At found) = slice_get all place ≡ Some found
 Seeks all place (Behind left) = length all + left ≡ place

@@ -40,8 +40,8 @@ impl<const PAGES: u32, const SPAN: u32> Runs<PAGES, SPAN> {
         Ok(())
     }
 
-    // Makes the machine stand in a span, at a position or before it, and gives the time there: where it stands or where a state is
-    // kept, whichever is nearer, or else where the span starts.
+    // Makes the machine stand in a span, at a position or before it, and gives the time there. It goes on from where it stands or
+    // from a kept state, whichever is nearer, or else from the start of the span.
     fn stand_in(
         &mut self,
         inputs: &Inputs,
@@ -98,7 +98,7 @@ impl<const PAGES: u32, const SPAN: u32> Runs<PAGES, SPAN> {
         Ok(from)
     }
 
-    // Goes on to a position, at most a span's steps away. The recorder then holds what these steps told.
+    // Goes on to a position, at most a span's steps away. The recorder then holds what these steps reported.
     fn go_on(&mut self, inputs: &Inputs, time: u64, position: u64)
         requires of { AreOf {pages = PAGES} {span = SPAN} inputs.now.image inputs.now.log self.old }
         requires stands { self.old.at ≡ Some time }
@@ -123,7 +123,8 @@ impl<const PAGES: u32, const SPAN: u32> Runs<PAGES, SPAN> {
         self.at = Some(position);
     }
 
-    /// Makes the recorder hold what the steps up to a position told, from the start of its span on. Gives the number of that span.
+    /// Makes the recorder hold what the steps reported from the start of the position's span up to the position. Gives the span's
+    /// number.
     pub(crate) fn record(
         &mut self,
         alloc: Global,

@@ -1,4 +1,4 @@
-//! What the joining of one more span needs: where it ends, and what is known of the record behind it.
+//! What the joining of one more span needs: where it ends, and what is known of the next record.
 
 ghost use Rattle.std.specs.Prelude.{◌≡◌, ◌↔◌, ◌+◌, ◌-◌, ◌^◌, ◌<◌, ◌≤◌, [], ℕ, IfOk, IfSome, IsSome, IsTrue, List, OnErr, Some, length, map, slice_get};
 ghost use Rattle.r3k_pages.specs.Pages.{SameOutside, overlaid};
@@ -15,7 +15,7 @@ use std::alloc::{AllocError, Global};
 use std::rc::Rc;
 
 /// Where a span ends whose record nearly applies: where the record ends, with the differing pages carried over from the start.
-/// Those that the span touches do not differ any more.
+/// Pages that the span touches do not differ any more.
 pub(crate) fn carry<const PAGES: u32, const SPAN: u32>(
     alloc: Global,
     fact: &Fact<PAGES, SPAN>,
@@ -70,8 +70,8 @@ pub(crate) fn pass<const PAGES: u32, const SPAN: u32>(
     differing.add(new.dirty());
 }
 
-/// The differing pages are from here on those in which the record of a number starts otherwise than the run stands, where that is not
-/// known of them.
+/// From here on, the differing pages are those in which the record of a number starts otherwise than the run stands. They are
+/// computed unless they are known.
 pub(crate) fn compare_unless<const PAGES: u32, const SPAN: u32>(
     known: bool,
     kept: &Kept<PAGES, SPAN>,
@@ -87,7 +87,7 @@ pub(crate) fn compare_unless<const PAGES: u32, const SPAN: u32>(
     }
 }
 
-/// The differing pages are from here on those in which the record of a number starts otherwise than the run stands.
+/// From here on, the differing pages are those in which the record of a number starts otherwise than the run stands.
 pub(crate) fn compare<const PAGES: u32, const SPAN: u32>(
     kept: &Kept<PAGES, SPAN>,
     index: u64,
@@ -102,8 +102,8 @@ pub(crate) fn compare<const PAGES: u32, const SPAN: u32>(
     }
 }
 
-/// Notes where the record of a number starts, if that is where its span does: the first one at reset, and another one where the
-/// one before it ends, if that one starts where its span does too.
+/// Notes that the record of a number starts where its span does, if that is so. The first one starts at reset. Another one starts
+/// where the one before it ends, if that one starts where its span does too.
 pub(crate) fn begin<const PAGES: u32, const SPAN: u32>(
     kept: &mut Kept<PAGES, SPAN>,
     patched: &mut PageMarks<PAGES>,
@@ -160,8 +160,8 @@ pub(crate) fn start_in<'a, const PAGES: u32>(
     }
 }
 
-/// Whether the end of a span is known to be where that span ended before, and spans go on from there that can be joined again. The states
-/// are looked at only where they are one and the same boundary, so that it costs nothing where they differ.
+/// Whether a span is known to end where it ended before, and the later spans can be joined again from there. The states are
+/// compared only if they are the same boundary, so it costs nothing if they differ.
 pub(crate) fn meets<const PAGES: u32>(
     ends: &[Rc<Boundary<PAGES>>],
     again: u64,
@@ -185,7 +185,7 @@ fn is_same<const PAGES: u32>(a: &Boundary<PAGES>, b: &Boundary<PAGES>) -> bool
     a.core() == b.core() && a.memory().equals(b.memory())
 }
 
-/// The span of a number ends there: the next one that is joined, or one that was joined before.
+/// The span of a number ends there. It is the next span that is joined, or one that was joined before.
 pub(crate) fn put_end<const PAGES: u32>(
     ends: &mut Vec<Rc<Boundary<PAGES>>>,
     index: u64,
@@ -203,7 +203,7 @@ pub(crate) fn put_end<const PAGES: u32>(
     Ok(())
 }
 
-/// A boundary that several spans can hold.
+/// A boundary that several spans can share.
 pub(crate) fn share<const PAGES: u32>(
     alloc: Global,
     boundary: Boundary<PAGES>,

@@ -3,10 +3,10 @@
 ghost use Rattle.std.specs.Prelude.{◌≡◌, ℕ, ◌+◌, ◌*◌, ◌≤◌};
 ghost use Rattle.present_run.specs.Reuse.{Holding, Lacks};
 
-/// There is one number of spans that lack a record, and it is at most the number of spans. So a bound by that number says something of
-/// each query: whatever is at most so many whole spans for it is at most all spans.
+/// The number of spans that lack a record is unique, and at most the number of spans. So a bound by it says something of each
+/// query: it is also a bound by the number of all spans.
 ///
-/// That there is one is said as what can't be denied, as no definition decides whether two states are equal.
+/// That there is such a number is stated as a double negation, since no definition decides whether two states are equal.
 pub fn lacking_laws()
     ensures some { (pages span : ℕ) (h : Holding) (count : ℕ) → ¬ ¬ ((lacking : ℕ) × Lacks pages span h count lacking) }
     ensures one { (pages span : ℕ) (h : Holding) (count a b : ℕ) →

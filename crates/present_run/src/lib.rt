@@ -1,4 +1,4 @@
-//! The run from reset that an image and a log determine, by spans of which records are kept: what it holds and tells up to a
+//! The run from reset that an image and a log determine, by spans of which records are kept: what it holds and reports up to a
 //! position.
 #![tactic(auto)]
 

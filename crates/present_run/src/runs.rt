@@ -1,18 +1,18 @@
 //! The present run of a history: the machine that runs, and the records of spans that are kept.
 //!
-//! A run is cut into spans of `SPAN` steps. Of each span that was run a record is kept, which says where it starts and ends and what
-//! its steps reported. A query joins the spans before its position, one after the other: a record whose events are those of the log,
-//! and whose start is where the run stands but for pages that it does not touch, is joined as it is, with these pages carried over
-//! to its end. Else the span is run, and its record takes the place of the old one. The rest of the way the machine goes on from the
-//! last end, or from where it stands.
+//! A run is cut into spans of `SPAN` steps. Of each span that was run a record is kept: where it starts and ends, and what its
+//! steps reported. A query joins the spans before its position, one after the other. A record is joined as it is if its events are
+//! those of the log and its start is where the run stands, except for pages that it does not touch. These pages are carried over to
+//! its end. Else the span is run, and its record takes the place of the old one. For the rest of the way the machine goes on from
+//! the last end, or from where it stands.
 //!
-//! So it must be known of the next span in which pages its start may differ from that of its record (`differing`). Where a span was
-//! run they are also those that either run stored into. Where one was joined they are not those that it touches.
+//! So for the next span it must be known in which pages its start may differ from that of its record (`differing`). After a span
+//! that was run, pages that either run stored into are added. After one that was joined, pages that it touches are removed.
 //!
-//! An edit of the log takes back what is joined to the span of its time. The ends of the later spans stay. Once a span ends where it
-//! ended before, all that go on from there are joined again at once. `again` says from which end on that is known, as each edit
-//! breaks what goes on at its own times. A patch changes the start of the run, so nothing stays joined. `patched` has the pages in
-//! which the first record may differ from it.
+//! An edit of the log takes back what is joined, from the span of its time on. The ends of the later spans stay. Once a span ends
+//! where it ended before, all that go on from there are joined again at once. `again` is the first end from which that is known, as
+//! each edit breaks the chain at its own times. A patch changes the start of the run, so nothing stays joined. `patched` has the
+//! pages in which the first record may differ from it.
 
 ghost use Rattle.std.specs.Prelude.{◌≡◌, ◌↔◌, ◌⊎◌, [], ◌∷◌, ℕ, ◌+◌, ◌-◌, ◌*◌, ◌^◌, ◌<◌, ◌≤◌, IfOk, IfSome, IsTrue, List, None, OnErr, Some, map, slice_get, slice_set};
 ghost use Rattle.input_log.specs.Event.{LogEvent};
@@ -47,17 +47,17 @@ pub struct Runs<const PAGES: u32, const SPAN: u32> {
     pub live: Live<PAGES>,
     pub recorder: Recorder<PAGES, SPAN>,
     pub kept: Kept<PAGES, SPAN>,
-    // What the records told, by page and by line.
+    // What the records reported, by page and by line.
     pub told: SpanIndex,
     // Where the run starts, at reset.
     pub reset: Rc<Boundary<PAGES>>,
     // Where the machine stands in the run, if it does.
     pub at: Option<u64>,
-    // Up to where the recorder holds what the run tells, from the start of that span on, if it does.
+    // If some: the recorder holds what the run reports up to there, from the start of that position's span on.
     pub recorded: Option<u64>,
-    // Where each span ends that is joined, and after these where spans ended in an earlier run.
+    // Where each joined span ends, and after these where later spans ended in an earlier run.
     pub ends: Vec<Rc<Boundary<PAGES>>>,
-    // From which of the later ones on a span goes on from where the one before it ended, with the events of the log.
+    // The first of the later spans from which on each goes on from where the one before it ended, with the events of the log.
     pub again: u64,
     // Whether the last record that is joined starts where its span does.
     pub exact: bool,
@@ -93,7 +93,7 @@ impl<const PAGES: u32, const SPAN: u32> Runs<PAGES, SPAN> {
         })
     }
 
-    /// Where a span starts, not behind those that are joined.
+    /// Where a span starts, which is at most the first that is not joined.
     pub(crate) fn start_of(&self, index: u64) -> &Rc<Boundary<PAGES>>
         requires { index ≤ self.now.kept.valid }
         ensures { (image : Boot) (log : List LogEvent) → AreOf {pages = PAGES} {span = SPAN} image log self.now →
@@ -102,7 +102,7 @@ impl<const PAGES: u32, const SPAN: u32> Runs<PAGES, SPAN> {
         start_in(&self.reset, &self.ends, index)
     }
 
-    // Whether the record that is kept of the first span that is not joined serves for that of this run: its steps tell the same.
+    // Whether the record kept of the first span that is not joined serves for this run: its steps report the same.
     fn serves(&self, inputs: &Inputs, start: &Boundary<PAGES>) -> bool
         requires of { AreOf {pages = PAGES} {span = SPAN} inputs.now.image inputs.now.log self.now }
         requires start { start.now ≡ state_at PAGES inputs.now.image inputs.now.log (self.now.kept.valid * SPAN) }
@@ -120,7 +120,7 @@ impl<const PAGES: u32, const SPAN: u32> Runs<PAGES, SPAN> {
         self.kept.nearly(index, start, events, differing)
     }
 
-    // Joins one more span, and those that go on from its end again. A span for which no record serves is run for it.
+    // Joins one more span, and then those that go on from its end. A span for which no record serves is run.
     fn extend(&mut self, alloc: Global, inputs: &Inputs) -> Result<(), AllocError>
         requires of { AreOf {pages = PAGES} {span = SPAN} inputs.now.image inputs.now.log self.old }
         requires time { (self.old.kept.valid + 1) * SPAN < 2 ^ 64 }
@@ -144,7 +144,7 @@ impl<const PAGES: u32, const SPAN: u32> Runs<PAGES, SPAN> {
         self.run_span(alloc, inputs, start)
     }
 
-    // Joins the record that is kept of the next span, as it serves, and those that go on from its end again.
+    // Joins the record kept of the next span, as it serves, and then those that go on from its end.
     fn join_kept(
         &mut self,
         alloc: Global,
@@ -170,7 +170,7 @@ impl<const PAGES: u32, const SPAN: u32> Runs<PAGES, SPAN> {
         self.join(inputs, end, exact, follows)
     }
 
-    // Runs the next span, keeps its record and joins it, and those that go on from its end again.
+    // Runs the next span, keeps its record and joins it, and then those that go on from its end.
     fn run_span(
         &mut self,
         alloc: Global,
@@ -197,7 +197,7 @@ impl<const PAGES: u32, const SPAN: u32> Runs<PAGES, SPAN> {
         self.join(inputs, end, true, follows)
     }
 
-    // Keeps the record of the next span, which was run, in place of the one of its number.
+    // Keeps the record of the next span, which was run, in place of the old one.
     fn keep(&mut self, inputs: &Inputs, fact: Fact<PAGES, SPAN>) -> Result<(), AllocError>
         requires of { AreOf {pages = PAGES} {span = SPAN} inputs.now.image inputs.now.log self.old }
         requires few { self.old.kept.valid < max_spans }
@@ -220,9 +220,9 @@ impl<const PAGES: u32, const SPAN: u32> Runs<PAGES, SPAN> {
         Ok(())
     }
 
-    // Joins the record of the next span, which is there, and where the span ends where it ended before, all spans that go on from
-    // there again. Whether it starts where the span does, and whether the differing pages are those at the start of the record behind
-    // it, is known.
+    // Joins the record of the next span. Where the span ends where it ended before, joins again all spans that go on from there.
+    // `exact`: whether the record is known to start where the span does. `follows`: whether the differing pages are known to be
+    // those in which the next record's start differs.
     fn join(
         &mut self,
         inputs: &Inputs,
@@ -285,7 +285,7 @@ impl<const PAGES: u32, const SPAN: u32> Runs<PAGES, SPAN> {
         Ok(())
     }
 
-    // Joins all spans that are not joined and of which it is known where they end, as each goes on from the one before it.
+    // Joins all later spans of which it is known where they end, as each goes on from the one before it.
     fn join_again(&mut self, inputs: &Inputs)
         requires of { AreOf {pages = PAGES} {span = SPAN} inputs.now.image inputs.now.log self.old }
         requires settled { self.old.told.stale ≡ None }
@@ -362,8 +362,8 @@ impl<const PAGES: u32, const SPAN: u32> Runs<PAGES, SPAN> {
         Ok(())
     }
 
-    /// The events of the times from one to another have changed. The machine stands nowhere in the run. The spans before these times stay
-    /// joined. Where a span after them ends where it ended before, those that go on from there are joined again.
+    /// The events of the times from one to another have changed. The machine stands nowhere in the run. The spans before these
+    /// times stay joined. Once a later span ends where it ended before, those that go on from there are joined again.
     pub fn forget(&mut self, from: u64, last: u64)
         requires { 0 < SPAN }
         ensures of { (image : Boot) (log changed : List LogEvent) → AreOf {pages = PAGES} {span = SPAN} image log self.old →

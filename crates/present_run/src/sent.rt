@@ -58,7 +58,7 @@ fn byte_on(line: u8, sent: SentAt) -> Option<u8>
     None
 }
 
-/// The step that sent a byte, or how many places are left behind those that were searched.
+/// The step that sent a byte, or how many places are left after those that were searched.
 #[derive(Clone, Copy, Debug, PartialEq, Eq)]
 pub(crate) enum Sought {
     At(u64),

@@ -1,4 +1,4 @@
-//! What the present run holds and tells, up to a position: by the records of its spans, and for the rest by the machine and its
+//! What the present run holds and reports, up to a position: by the records of its spans, and for the rest by the machine and its
 //! recorder.
 
 ghost use Rattle.std.specs.Prelude.{◌≡◌, ℕ, ◌+◌, ◌-◌, ◌*◌, ◌/◌, ◌%◌, ◌^◌, ◌<◌, ◌≤◌, [], IfOk, IfSome, List, Some, length, slice_get, slice_index};
@@ -159,7 +159,7 @@ impl<const PAGES: u32, const SPAN: u32> Runs<PAGES, SPAN> {
 }
 
 impl<const PAGES: u32, const SPAN: u32> Runs<PAGES, SPAN> {
-    // The last step of so many spans that stored into a word.
+    // The last step of the first `count` spans that stored into a word.
     fn writer_before(&self, inputs: &Inputs, count: u64, address: u32) -> Option<u64>
         requires of { AreOf {pages = PAGES} {span = SPAN} inputs.now.image inputs.now.log self.now }
         requires joined { count ≤ self.now.kept.valid }
@@ -183,7 +183,7 @@ impl<const PAGES: u32, const SPAN: u32> Runs<PAGES, SPAN> {
         }
     }
 
-    // Which of so many spans sent the byte of a line at a place, or their number where they sent fewer.
+    // Which of the first `spans` spans sent the byte of a line at a place, or `spans` where they sent fewer.
     fn sender_of(&self, inputs: &Inputs, spans: u64, line: u8, place: u64) -> u64
         requires of { AreOf {pages = PAGES} {span = SPAN} inputs.now.image inputs.now.log self.now }
         requires joined { spans ≤ self.now.kept.valid }
@@ -198,7 +198,7 @@ impl<const PAGES: u32, const SPAN: u32> Runs<PAGES, SPAN> {
         }
     }
 
-    // How many bytes of a line so many spans sent.
+    // How many bytes of a line the first `spans` spans sent.
     fn count_of(&self, inputs: &Inputs, spans: u64, line: u8) -> u64
         requires of { AreOf {pages = PAGES} {span = SPAN} inputs.now.image inputs.now.log self.now }
         requires joined { spans ≤ self.now.kept.valid }
@@ -208,7 +208,7 @@ impl<const PAGES: u32, const SPAN: u32> Runs<PAGES, SPAN> {
         self.told.count(line, spans)
     }
 
-    // What is shown of the console of a line by the steps of so many spans.
+    // What is shown of the console of a line by the steps of the first `spans` spans.
     fn shown_before(&self, inputs: &Inputs, spans: u64, line: u8, from: u64, count: usize) -> Shown
         requires of { AreOf {pages = PAGES} {span = SPAN} inputs.now.image inputs.now.log self.now }
         requires joined { spans ≤ self.now.kept.valid }
@@ -231,7 +231,7 @@ impl<const PAGES: u32, const SPAN: u32> Runs<PAGES, SPAN> {
         shown
     }
 
-    // Searches the steps of so many spans for the one that sent the byte of a line at a place.
+    // Searches the steps of the first `spans` spans for the one that sent the byte of a line at a place.
     fn sought_before(&self, inputs: &Inputs, spans: u64, line: u8, place: u64) -> Sought
         requires of { AreOf {pages = PAGES} {span = SPAN} inputs.now.image inputs.now.log self.now }
         requires joined { spans ≤ self.now.kept.valid }

@@ -16,7 +16,7 @@ in_line : (b : ℕ) → is_in Line b ≡ not (is_feed b)
 unfolding is_in
 in_line b = refl
 
--- the parts of a text: the first line, and those of what stands behind its line feed
+-- the parts of a text: the first line, and those of what follows its line feed
 abbrev parts_by : List ℕ → List ℕ → List (List ℕ)
 parts_by front [] = front ∷ []
 parts_by front (b ∷ rest) = front ∷ slice_split is_feed rest
@@ -42,7 +42,7 @@ first_part (b ∷ bs) =
           ∙ sym (λ i. parts_by (cond (within i) (b ∷ front_of Line bs) []) (cond (within i) (behind Line bs) (b ∷ bs)))
     ]
 
--- what stands behind the first line is no longer than the text, and the text is not empty where the line isn't
+-- what follows the first line is no longer than the text, and the text is not empty where the line isn't
 pub behind-le : (text : List ℕ) → length (behind Line text) ≤ length text
 unfolding behind
 behind-le [] = omega arith

@@ -1,4 +1,4 @@
--- One line or one reference more.
+-- One more line or reference.
 use Rattle.std.proofs.Common.{◌≡◌, ℕ, zero, suc, ◌+◌, ◌<◌, ◌≤◌, List, [], ◌∷◌, length, get_or, drop, Result, Ok, Err, inl, inr, refl, sym, ap, subst, ◌∙◌, arith}
 use Rattle.std.specs.Prelude.{unwrap_or}
 use Rattle.std.specs.Ordering.{nat_cmp}
@@ -55,7 +55,7 @@ pub same_fails : (fault : AsmFault) (a b : Result (map.FinMap nat_cmp ℕ) AsmFa
 same_fails Memory a b e h = tt
 same_fails (Bad line kind) a b e h = sym e ∙ h
 
--- a reference at its place, and the others behind it
+-- a reference in its place, and the others after it
 at_place : (rs : List Reference) (i : ℕ) (r : Reference) → i < length rs → r ≡ get_or rs i r → drop i rs ≡ r ∷ drop (i + 1) rs
 at_place [] i r lt is = absurd (omega arith)
 at_place (q ∷ qs) zero r lt is = ap (λ (x : Reference). x ∷ qs) (sym is)

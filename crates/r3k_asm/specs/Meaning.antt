@@ -47,7 +47,7 @@ unfoldable pub linked : LabelMap → map.FinMap nat_cmp ℕ → List Reference �
 linked labels words [] = Ok words
 linked labels words (r ∷ rs) = at_line r.line (word_of_reference labels r) (λ word. linked labels (map.insert words r.address word) rs)
 
--- the image of a source: the constants are plain where it does not say them
+-- the image of a source: where it does not set the constants, they are the plain ones
 unfoldable pub image_of : List ℕ → Result Boot AsmFault
 image_of text = do
   s ← passed 1 started (lines text)
@@ -59,7 +59,7 @@ image_of text = do
     clock_start = unwrap_or s.clock plain_clock_start;
   })
 
--- what a call answers that may run out of memory
+-- what a call answers, which may run out of memory
 abbrev pub FailsOrLacks : {Y : Type 0} → AsmFault → Result Y AsmFault → Type 0
 FailsOrLacks Memory answer = Unit {0}
 FailsOrLacks (Bad line kind) answer = answer ≡ Err (Bad line kind)

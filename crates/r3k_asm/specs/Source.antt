@@ -17,7 +17,7 @@ use Rattle.r3k_asm.specs.declared.reference.Reference.{Reference}
 use Rattle.r3k_asm.specs.declared.source.Source.{Source}
 use Rattle.r3k_asm.specs.Reference.{LabelMap}
 
--- the place, the words that are set, of which those that have a target lack its part, the labels, and the constants
+-- the place, the set words (one with a target lacks the part of it), the labels, and the constants
 pub record State : Type 0 where
   pub place : ℕ
   pub words : map.FinMap nat_cmp ℕ
@@ -39,7 +39,7 @@ abbrev pub with_reference : ℕ → ℕ → ℕ → Option Target → List Refer
 with_reference line address word None references = references
 with_reference line address word (Some target) references = references ++ record { line = line; address = address; word = word; target = target } ∷ []
 
--- A word takes the place, which then grows by 4. One that is none of RAM or ROM is Place, and one that is set already Overlap.
+-- A word takes the place, which then grows by 4. A place outside of RAM and ROM is Place, and one that is set already Overlap.
 unfoldable pub with_word : ℕ → State → ℕ → Option Target → Result State AsmKind
 with_word line s word target =
     if is_some (place_of_word MAX_RAM_PAGES s.place)

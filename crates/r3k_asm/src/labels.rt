@@ -48,7 +48,7 @@ impl<'a> Labels<'a> {
         self.labels.get(name.as_bytes()).copied()
     }
 
-    /// Sets a label, and tells whether there was none of its name.
+    /// Sets a label, and reports whether there was none of its name.
     pub fn insert(&mut self, name: &Name<'a>, address: u32) -> Result<bool, AllocError>
         ensures new { IfOk result (λ new. new ≡ not (map.contains_key self.old name.now)) }
         ensures labels { OnOk result (self.new ≡ map.insert self.old name.now address) }

@@ -15,7 +15,7 @@ fn strip(line: &[u8]) -> &[u8]
     }
 }
 
-/// The first line of a text that is not empty, and what stands behind it.
+/// The first line of a text that is not empty, and what follows it.
 pub fn first_line(text: &[u8]) -> (&[u8], &[u8])
     requires { 0 < length text.now }
     ensures lines { lines text.now ≡ result.0.now ∷ lines result.1.now }

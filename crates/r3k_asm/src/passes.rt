@@ -55,7 +55,7 @@ fn second_pass(
 pub fn assemble(alloc: Global, text: &[u8]) -> Result<Image, AsmFault>
     // What it means, unless memory runs out: its image, or its first fault.
     ensures exact { Answers (λ image. image) result (image_of text.now) }
-    // Memory is asked for only once a line without a fault before it sets a word or a label, or no line has a fault.
+    // Memory is asked for only once a line without a fault before it sets a word or a label, or once no line has a fault.
     ensures memory { IsErrOf result AsmFault.Memory → HasNoFaultBefore 1 started (lines text.now) }
 {
     let Source {

@@ -14,8 +14,8 @@ use r3k_word::arithmetic::add;
 use r3k_word::layout::ROM_START;
 use std::alloc::Global;
 
-/// What the lines so far say: the place, the words that they set, of which those that have a target lack its part, the
-/// labels, and the constants.
+/// What the lines so far say: the place, the words that they set (one with a target lacks the part of it), the labels, and the
+/// constants.
 #[derive(Drop)]
 pub struct Source<'a> {
     pub place: u32,
@@ -33,7 +33,7 @@ impl<'a> Source<'a> {
     ghost use Rattle.r3k_asm.specs.Meaning.{SetsOne};
     ghost use Rattle.r3k_asm.specs.Source.{ReadsOrLacks, seen, added, with_word, read, started};
 
-    /// What no line says.
+    /// What no lines say.
     pub fn new(alloc: Global) -> Source<'a>
         ensures { seen result ≡ started }
     {
@@ -112,7 +112,7 @@ impl<'a> Source<'a> {
     #[tactic(auto, unfolding(crate::specs::Source::read))]
     pub fn read(&mut self, line: u64, text: &'a [u8]) -> Result<(), AsmFault>
         ensures read { ReadsOrLacks line (seen self.new) result (read line (seen self.old) text.now) }
-        // Memory is asked for a word or a label alone.
+        // Memory is asked for only for a word or a label.
         ensures memory { IsErrOf result AsmFault.Memory → SetsOne (statement_of text.now) }
     {
         match read_line(text) {

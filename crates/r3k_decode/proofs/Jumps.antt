@@ -44,7 +44,7 @@ keyed_in g word [] t h i m = absurd m
 keyed_in g word (a ∷ rows) t h zero m = keyed g word a (first_so (masks_key g a) (list_all (masks_key g) rows) t) h m
 keyed_in g word (a ∷ rows) t h (suc i) m = keyed_in g word rows (second_so (masks_key g a) (list_all (masks_key g) rows) t) h i m
 
--- two rows with one key are no two
+-- two rows with one key are the same
 none_else : (g : Group) (bits : ℕ) (a : Instruction) (rows : List Instruction) → list_all (differ g a) rows ≡ true → has_key g bits a ≡ true → (i : ℕ) → IsSomeAnd (slice_get rows i) (λ r. has_key g bits r ≡ true) → ⊥
 none_else g bits a [] t ha i h = h
 none_else g bits a (b ∷ rows) t ha zero h =

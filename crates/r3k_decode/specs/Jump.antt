@@ -1,5 +1,5 @@
--- How a word's row is found by jumps (own): one on the major opcode, and one on the bits that tell the rows of its group
--- apart. The row that they lead to is the only one that the word may match.
+-- How a word's row is found by jumps (own): one on the major opcode, and one on the bits that distinguish the rows of its group.
+-- The row that they lead to is the only one that the word may match.
 use Rattle.std.specs.Prelude.{ℕ, Bool, Option, ◌==◌, ◌&&◌, not, bit_and, option_and_then, slice_get, if◌then◌else◌, Some, None}
 use Rattle.std.specs.List.{position_from}
 use Rattle.r3k_table.specs.Table.{Instruction, instructions, matches}
@@ -10,7 +10,7 @@ use Rattle.r3k_decode.specs.Operation.{Operation, read_as}
 abbrev pub opcode_of : ℕ → ℕ
 opcode_of word = bit_and word OPCODE
 
--- a group of rows: its major opcodes, and the bits that tell its rows apart
+-- a group of rows: its major opcodes, and the bits that distinguish its rows
 pub record Group : Type 0 where
   pub holds : ℕ → Bool
   pub key : ℕ

@@ -2,7 +2,7 @@
 use Rattle.std.specs.Prelude.{ℕ, ◌+◌, ◌*◌, ◌%◌, ◌^◌}
 use Rattle.r3k_word.specs.Word.{sum_of, sign_extended, with_field_of}
 
--- the target of a branch at an address: so many words from its delay slot
+-- the target of a branch at an address: `imm` is its distance from the delay slot in words
 abbrev pub branch_target_of : ℕ → ℕ → ℕ
 branch_target_of address imm = (address + 4 + 4 * sign_extended 16 imm) % 2 ^ 32
 

@@ -9,7 +9,7 @@ use crate::insn::Insn;
 use r3k_table::row::Shape;
 use r3k_table::rows;
 
-// The bits of the major opcode, and those that tell the rows of a group of major opcodes apart.
+// The bits of the major opcode, and those that distinguish the rows of a group of major opcodes.
 const OPCODE: u32 = 0xFC00_0000;
 
 const SPECIAL: u32 = 0xFC00_003F;

@@ -20,7 +20,7 @@ glyph n small = rw (lt-ltb n 10 small) refl
 pub one_digit : (n : ℕ) → n < 10 → decimal n ≡ digit_glyph false n ∷ []
 one_digit n small = decimal_digit n small ∙ ap (λ d. d ∷ []) (sym (glyph n small))
 
--- the last digit behind the others
+-- the last digit after the others
 pub last_digit : (old : List ℕ) (n : ℕ) → 10 ≤ n → n < 10 ^ 7
     → (old ++ decimal (n / 10)) ++ digit_glyph false (n % 10) ∷ [] ≡ old ++ decimal n
 last_digit old n large fits =

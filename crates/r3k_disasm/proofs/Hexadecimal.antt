@@ -1,4 +1,4 @@
--- Hexadecimal digits, the last behind the others.
+-- Hexadecimal digits, the last after the others.
 use Rattle.std.proofs.Common.{◌≡◌, ℕ, ◌-◌, ◌/◌, ◌%◌, ◌<◌, List, [], ◌∷◌, ◌++◌, zero, suc, false, arith, sym, refl, append_assoc, append-nil}
 use Rattle.std.specs.Fmt.{digit_glyph}
 use Rattle.r3k_disasm.specs.Number.{hexadecimal}

@@ -1,5 +1,5 @@
 -- The text of a word (own, after the assembler of Kane and Heinrich, appendix D): the name of its row, and its operands. A
--- word without a row is written as such.
+-- word without a row is written as `.word`.
 use Rattle.std.specs.Prelude.{ℕ, List, [], ◌∷◌, ◌++◌, codes, slice_get}
 use Rattle.std.specs.Option.{option_map_or}
 use Rattle.std.specs.Fmt.{decimal}
@@ -16,7 +16,7 @@ use Rattle.r3k_decode.specs.Target.{branch_target_of, jump_target_of}
 abbrev pub register_text : ℕ → List ℕ
 register_text register = codes "r" ++ decimal register
 
--- 0x and so many hexadecimal digits
+-- 0x and `count` hexadecimal digits
 abbrev pub hexadecimal_text : ℕ → ℕ → List ℕ
 hexadecimal_text count number = codes "0x" ++ hexadecimal count number
 
@@ -34,7 +34,7 @@ operand_text address i Branch = hexadecimal_text 8 (branch_target_of address i.i
 operand_text address i Jump = hexadecimal_text 8 (jump_target_of address i.index)
 operand_text address i Based = signed_text i.imm ++ codes "(" ++ register_text i.rs ++ codes ")"
 
--- the most bytes that an operand has, with the two that may separate it from what stands before it
+-- the most bytes of an operand, with the two that may separate it from what comes before it
 abbrev pub most_bytes : Operand → ℕ
 most_bytes Rs = 10
 most_bytes Rt = 10
@@ -48,8 +48,8 @@ most_bytes Branch = 12
 most_bytes Jump = 12
 most_bytes Based = 20
 
--- operands, each behind what separates it from what stands before it: a blank behind the name, and a comma and a blank
--- behind another operand
+-- operands, each after its separator: a blank after the name, and a comma and a blank
+-- after another operand
 unfoldable pub operands_text : List ℕ → ℕ → Operation → List Operand → List ℕ
 operands_text separator address i [] = []
 operands_text separator address i (o ∷ os) = separator ++ operand_text address i o ++ operands_text (codes ", ") address i os

@@ -39,7 +39,7 @@ pub fn push_signed(text: &mut Text, half: u16)
     }
 }
 
-/// Appends so many hexadecimal digits of a number, the lowest ones.
+/// Appends the lowest `count` hexadecimal digits of a number.
 pub fn push_hexadecimal(text: &mut Text, count: u32, number: u32)
     requires { array_string_len text.old + count ≤ 40 }
     ensures bytes { text.new.bytes ≡ text.old.bytes ++ hexadecimal count number }

@@ -9,7 +9,7 @@ use r3k_decode::Insn;
 use r3k_decode::target::{branch_target, jump_target};
 use r3k_table::operand::Operand;
 
-/// Appends the operands of an instruction at an address, the first of them behind a separator, and each other behind a comma
+/// Appends the operands of an instruction at an address, the first of them after a separator, and each other one after a comma
 /// and a blank.
 pub fn push_operands(
     text: &mut Text,
@@ -69,7 +69,7 @@ fn push_register(text: &mut Text, register: u8)
     push_decimal(text, u32::from(register));
 }
 
-/// Appends 0x and so many hexadecimal digits of a number, the lowest ones.
+/// Appends 0x and the lowest `count` hexadecimal digits of a number.
 pub fn push_word(text: &mut Text, count: u32, number: u32)
     requires { array_string_len text.old + (2 + count) ≤ 40 }
     ensures bytes { text.new.bytes ≡ text.old.bytes ++ hexadecimal_text count number }

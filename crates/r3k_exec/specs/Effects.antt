@@ -20,7 +20,7 @@ fits_signed n = int_le (signed (2 ^ 31)) n && int_le n (signed (2 ^ 31 - 1))
 abbrev pub write_or_overflow : ℕ → ℤ → ℕ → Effect
 write_or_overflow register exact value = if fits_signed exact then Write register value else Trap Overflow
 
--- a value is written, and where there is none it is an overflow
+-- a value is written; without one it is an overflow
 abbrev pub write_if_some : ℕ → Option ℕ → Effect
 write_if_some register None = Trap Overflow
 write_if_some register (Some value) = Write register value
@@ -33,7 +33,7 @@ write_hi_lo r = WriteHiLo r.hi r.lo
 abbrev pub has_sign_bit : ℕ → Bool
 has_sign_bit word = nat_le (2 ^ 31) word
 
--- the return address: that of the instruction behind the delay slot
+-- the return address: that of the instruction after the delay slot
 abbrev pub return_address_of : ℕ → ℕ
 return_address_of pc = sum_of pc 8
 

@@ -134,8 +134,8 @@ impl StoreKind {
         }
     }
 
-    /// What a store of this kind of a register's value puts into the aligned word of this address. A byte that would stand
-    /// behind the word is dropped.
+    /// What a store of this kind of a register's value puts into the aligned word of this address. Bytes that would stand after
+    /// the word are dropped.
     #[inline(always)]
     pub fn stored(self, address: u32, value: u32) -> Covered
         ensures { result ≡ stored self (address % 4) value }

@@ -1,4 +1,4 @@
-//! Branches and jumps. The instruction behind each of them stands in its delay slot.
+//! Branches and jumps. The instruction after each of them stands in its delay slot.
 
 ghost use Rattle.std.specs.Prelude.{◌≡◌};
 ghost use Rattle.r3k_exec.specs.Effects.{jr_effect, jalr_effect, bltz_effect, bgez_effect, bltzal_effect, bgezal_effect, j_effect, jal_effect, beq_effect, bne_effect, blez_effect, bgtz_effect, taken_target, has_sign_bit, return_address_of, NamesRegisters};
@@ -17,7 +17,7 @@ fn is_negative(word: u32) -> bool
     word >= 1 << 31
 }
 
-// The address behind the delay slot.
+// The address after the delay slot.
 #[inline]
 fn return_address(pc: u32) -> u32
     ensures { result ≡ return_address_of pc }

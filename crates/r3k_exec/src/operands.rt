@@ -45,7 +45,7 @@ pub enum Effect {
         hi: u32,
         lo: u32,
     },
-    /// Makes the next step one in a delay slot, and goes to the target behind it. A branch that is not taken has none.
+    /// Makes the next step one in a delay slot, and goes to the target after it. A branch that is not taken has none.
     Jump {
         target: Option<u32>,
     },

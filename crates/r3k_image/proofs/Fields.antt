@@ -174,7 +174,7 @@ segments_at_again start (s ∷ ss) rest are =
     (segment_at_again start s (flat_map segment ss ++ rest) are.0 are.1)
     (segments_at_again (end_of s.address (length s.words)) ss rest are.2)
 
--- so many segments have room
+-- n segments have room
 pub few : (start : ℕ) (ss : List WordsAt) → start ≤ rom_end → AreSegments start ss → start + 4 * length ss ≤ rom_end
 few start [] le are = omega (arith, le)
 few start (s ∷ ss) le are =

@@ -64,7 +64,7 @@ pub runs_of-words_in : (ss : List WordsAt) → AreLongest ss → runs_of (words_
 runs_of-words_in [] h = refl
 runs_of-words_in (s ∷ ss) h = first_run s.address s.words (words_in ss) ss (runs_of-words_in ss h.2) h.0 h.1
 
--- ---- words behind others
+-- ---- words after others
 
 pub entries_from-append : (a : ℕ) (ws vs : List ℕ) → entries_from a (ws ++ vs) ≡ entries_from a ws ++ entries_from (end_of a (length ws)) vs
 entries_from-append a [] vs = ap (λ (n : ℕ). entries_from n vs) (let e : a ≡ end_of a 0 = omega arith in e)

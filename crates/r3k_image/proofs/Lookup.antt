@@ -24,7 +24,7 @@ find_here q a w es e = ap (λ b. cond b (Some w) (find nat_cmp q es)) (unsigned_
 pub find_other : (q a w : ℕ) (es : List (ℕ × ℕ)) → q ≢ a → find nat_cmp q ((a, w) ∷ es) ≡ find nat_cmp q es
 find_other q a w es e = ap (λ b. cond b (Some w) (find nat_cmp q es)) (unsigned_tied q a ∙ ne_eqb q a e)
 
--- what is not found in front is found behind
+-- what is not in the first list is looked up in the second
 find_behind : (q : ℕ) (xs ys : List (ℕ × ℕ)) → find nat_cmp q xs ≡ None → find nat_cmp q (xs ++ ys) ≡ find nat_cmp q ys
 find_behind q [] ys none = refl
 find_behind q (x ∷ xs) ys none =
@@ -33,7 +33,7 @@ find_behind q (x ∷ xs) ys none =
       | inr n ↦ find_other q x.0 x.1 (xs ++ ys) n ∙ find_behind q xs ys (sym (find_other q x.0 x.1 xs n) ∙ none)
     ]
 
--- what is not found behind is found in front
+-- what is not in the second list is looked up in the first
 find_front : (q : ℕ) (xs ys : List (ℕ × ℕ)) → find nat_cmp q ys ≡ None → find nat_cmp q (xs ++ ys) ≡ find nat_cmp q xs
 find_front q [] ys none = none
 find_front q (x ∷ xs) ys none =

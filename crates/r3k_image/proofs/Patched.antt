@@ -12,7 +12,7 @@ use Rattle.r3k_image.specs.Boot.{Boot, IsBoot, FitsRam, ram_end}
 use Rattle.r3k_image.specs.Patch.{patched, patched_at, patching}
 use Rattle.refusal.specs.declared.fault.Fault.TheVariants.{Unaligned}
 
--- ---- a map with one word more, or another value of it
+-- ---- a map with one more word, or another value of it
 
 same_key : (m : map.FinMap nat_cmp ℕ) (k v q : ℕ) → q ≡ k → map.get (map.insert m k v) q ≡ Some v
 same_key m k v q e = get-insert nat_cmp_total m k v q ∙ ap (λ b. cond b (Some v) (map.get m q)) (unsigned_tied q k ∙ eq-eqb q k e)

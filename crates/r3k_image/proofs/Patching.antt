@@ -1,4 +1,4 @@
--- A word is set among segments: over the one at its address, behind a segment that ends there, or as a segment of its own.
+-- A word is set among segments: over the one at its address, after a segment that ends there, or as a segment of its own.
 use Rattle.std.proofs.Common.{◌≡◌, ℕ, zero, suc, ◌+◌, ◌-◌, ◌*◌, ◌/◌, ◌%◌, ◌^◌, ◌<◌, ◌≤◌, inl, inr, List, [], ◌∷◌, ◌++◌, length, get_or, refl, sym, ap, subst, ◌∙◌, append_assoc, length-append, arith}
 use Rattle.std.specs.Prelude.{IsTrue}
 use Rattle.std.specs.List.Sorted.{IsPartitionPoint}
@@ -45,7 +45,7 @@ put-before k v start (e ∷ es) lt are = at_order e es k v Less (nat_cmp_is k e.
 
 -- ---- a word among segments
 
--- segments that set one word more, or another value of it
+-- segments that set one more word, or another value of it
 pub record Patched (start k v : ℕ) (old new : List WordsAt) : Type 0 where
   pub words : words_in new ≡ put nat_cmp k v (words_in old)
   pub stand : AreSegments start new
@@ -120,7 +120,7 @@ overwritten start (t ∷ ts) (suc n) s i k v h lt is here within fits =
       stand = (h.0, h.1, rest.stand);
     }
 
--- a word behind a segment
+-- a word after a segment
 pub extended : (start : ℕ) (ss : List WordsAt) (n : ℕ) (s : WordsAt) (k v : ℕ) → AreSegments start ss → n < length ss → s ≡ get_or ss n s
     → end_of s.address (length s.words) ≡ k → IsPlaced 0 k v → Above k (n + 1) ss → Patched start k v ss (set ss n (at s.address (s.words ++ v ∷ [])))
 extended start [] n s k v h lt is here good above = absurd (omega arith)

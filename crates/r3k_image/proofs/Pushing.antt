@@ -1,4 +1,4 @@
--- Words behind the runs that there are.
+-- Words after the runs so far.
 use Rattle.std.proofs.Common.{◌≡◌, ◌≢◌, ℕ, zero, suc, ◌*◌, ◌<◌, ◌≤◌, get_or, flat_map, arith, List, [], ◌∷◌, ◌++◌, length, refl, sym, ap, subst, ◌∙◌}
 use Rattle.std.proofs.lemmas.List.{map-append}
 use Rattle.r3k_image.specs.declared.segment.Segment.{Segment}
@@ -12,7 +12,7 @@ use Rattle.std.proofs.lemmas.List.{nil_from_length}
 use Rattle.r3k_image.specs.Writing.{words_in, AreLongest}
 use Rattle.r3k_image.proofs.LongestRuns.{at, joined_words, pushed_words, longest-joined, longest-first, longest-pushed}
 
--- a segment behind others
+-- a segment after others
 views-push : (front : List Segment) (s : Segment) → views (front ++ s ∷ []) ≡ views front ++ view s ∷ []
 views-push front s = map-append view front (s ∷ [])
 

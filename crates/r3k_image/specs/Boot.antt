@@ -13,7 +13,7 @@ pub record Boot : Type 0 where
   pub unit : ℕ
   pub clock_start : List ℕ
 
--- how proofs tell two boot images apart: by all four parts
+-- how proofs distinguish two boot images: by all four parts
 abbrev pub boot_code : Coded Boot
 boot_code =
     code_by (map.FinMap nat_cmp ℕ × (ℕ × (ℕ × List ℕ))) (coded× (map.code coded_ℕ coded_ℕ) (coded× coded_ℕ (coded× coded_ℕ (coded_list coded_ℕ))))
@@ -59,6 +59,6 @@ pub record IsBoot (boot : Boot) : Type 0 where
   pub unit : IsConstant boot.unit
   pub clock_start : IsClockStart boot.clock_start
 
--- each set word of RAM lies in the first so many pages of RAM (own)
+-- each set word of RAM lies in the first `pages` pages of RAM (own)
 abbrev pub FitsRam : ℕ → Boot → Type 0
 FitsRam pages boot = (address : ℕ) → IsTrue (map.contains_key boot.words address) → address < ram_end → address < pages * (4 * PAGE_WORDS)

@@ -20,7 +20,7 @@ abbrev pub patched_at : Option ℕ → Boot → Result Boot Fault
 patched_at (Some place) boot = Ok boot
 patched_at None boot = Err NotMemory
 
--- a word is patched, unless the address is none of a word of a machine with so many RAM pages
+-- a word is patched, unless a machine with `pages` RAM pages has no word at the address
 abbrev pub patching : (pages address word : ℕ) → Boot → Result Boot Fault
 patching pages address word boot =
     if address % 4 == 0 then patched_at (place_of_word pages address) (patched address word boot) else Err Unaligned

@@ -31,7 +31,7 @@ abbrev pub ReadsOrLacks : {X Y : Type 0} → (X → Y) → Result X ImageFault �
 ReadsOrLacks view (Ok x) read = read ≡ Ok (view x)
 ReadsOrLacks view (Err fault) read = FailsOrLacks fault read
 
--- so many bytes, and the bytes after them
+-- `count` bytes, and the bytes after them
 abbrev pub bytes_at : ℕ → List ℕ → Result (List ℕ × List ℕ) ImageKind
 bytes_at count bytes = if nat_lt (length bytes) count then Err kinds.Short else Ok (take count bytes, drop count bytes)
 
@@ -59,12 +59,12 @@ header_at bytes = do
   count ← if is_clock_start clock.0 then number_at clock.1 else Err kinds.ClockStart
   Ok (record { byte_time = time.0; unit = second.0; clock_start = clock.0; segment_count = count.0 }, count.1)
 
--- so many words, one after the other
+-- n words, one after the other
 abbrev pub words_of : ℕ → List ℕ → List ℕ
 words_of zero bytes = []
 words_of (suc n) bytes = word_of bytes ∷ words_of n (drop 4 bytes)
 
--- a segment behind one that ends at start: address and number of words are both read before they are judged, and they are
+-- a segment after one that ends at start: address and number of words are both read before they are judged, and they are
 -- judged before the words are read
 unfoldable pub segment_at : ℕ → List ℕ → Result (WordsAt × List ℕ) ImageKind
 segment_at start bytes = do
@@ -73,7 +73,7 @@ segment_at start bytes = do
   words ← if may_stand start address.0 count.0 then bytes_at (4 * count.0) count.1 else Err kinds.Segment
   Ok (record { address = address.0; words = words_of count.0 words.0 }, words.1)
 
--- so many segments, behind one that ends at start
+-- n segments, after one that ends at start
 unfoldable pub segments_at : ℕ → ℕ → List ℕ → Result (List WordsAt × List ℕ) ImageKind
 segments_at zero start bytes = Ok ([], bytes)
 segments_at (suc n) start bytes = do
@@ -81,14 +81,14 @@ segments_at (suc n) start bytes = do
   others ← segments_at n (end_of first.0.address (length first.0.words)) first.1
   Ok (first.0 ∷ others.0, others.1)
 
--- the image that the bytes are, all of the bytes
+-- the image that all of the bytes are
 unfoldable pub image_at : List ℕ → Result Boot ImageKind
 image_at bytes = do
   header ← header_at bytes
   segments ← segments_at header.0.segment_count 0 header.1
   if length segments.1 == 0 then Ok (boot_of segments.0 header.0.byte_time header.0.unit header.0.clock_start) else Err kinds.Extra
 
--- the bytes begin with a header and, as it says, a segment: memory is asked for its words and what follows alone
+-- The bytes begin with a header and, as it says, a segment. Only then is memory asked for, for its words and what follows.
 abbrev pub HasSegment : List ℕ → Type 0
 HasSegment bytes = IsOk (header_at bytes >>= λ header. if nat_lt 0 header.0.segment_count then segment_at 0 header.1 else Err kinds.Extra)
 

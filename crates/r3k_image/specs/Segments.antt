@@ -11,19 +11,19 @@ pub record WordsAt : Type 0 where
   pub address : ℕ
   pub words : List ℕ
 
--- a segment of the program without where it lies in the program's memory
+-- a segment of the program, but not where the program's memory has it
 abbrev pub view : Segment → WordsAt
 view s = record { address = s.address; words = s.words.items }
 
 abbrev pub views : List Segment → List WordsAt
 views ss = map view ss
 
--- the address after so many words
+-- the address after `count` words
 abbrev pub end_of : ℕ → ℕ → ℕ
 end_of address count = address + 4 * count
 
--- whether so many words may stand at an address, behind a segment that ends at start: there are some, at a multiple of 4,
--- not before start, and wholly in the RAM of a machine with the most pages or wholly in ROM
+-- Whether `count` words may stand at an address, after a segment that ends at start. There is at least one, at a multiple of 4 that
+-- is not before start, and they lie wholly in the RAM of a machine with the most pages or wholly in ROM.
 abbrev pub may_stand : ℕ → ℕ → ℕ → Bool
 may_stand start address count =
     (address % 4 == 0) && nat_lt 0 count && nat_le start address

@@ -5,7 +5,7 @@ use Rattle.r3k_image.specs.Boot.{Boot}
 use Rattle.r3k_image.specs.Segments.{WordsAt, end_of, entries_from}
 use Rattle.r3k_image.specs.Spelling.{spelling}
 
--- a word with its address before runs: it begins the first of them where that follows it at once, and else a run of its own
+-- a word with its address before runs: it begins the first run if that directly follows it, else it is a run of its own
 abbrev pub onto_runs : ℕ → ℕ → List WordsAt → List WordsAt
 onto_runs address word [] = record { address = address; words = word ∷ [] } ∷ []
 onto_runs address word (s ∷ ss) =

@@ -5,13 +5,13 @@ ghost use Rattle.r3k_image.specs.Boot.{IsClockStart};
 
 use std::marker::Model;
 
-/// The byte time of an image that does not say it.
+/// The byte time of an image that does not give it.
 pub(crate) const PLAIN_BYTE_TIME: u16 = 16;
 
-/// The unit of an image that does not say it.
+/// The unit of an image that does not give it.
 pub(crate) const PLAIN_UNIT: u16 = 1;
 
-/// The first 12 registers of the clock in an image that does not say them: midnight of Sunday, the 1st of January, in binary and
+/// The first 12 registers of the clock in an image that does not give them: midnight of Sunday, the 1st of January, in binary and
 /// 24 hours.
 pub(crate) const PLAIN_CLOCK_START: [u8; 12] = [0, 0, 0, 0, 0, 0, 1, 1, 1, 0, 0x20, 0x06];
 
@@ -51,7 +51,7 @@ impl Constant {
         })
     }
 
-    /// The byte time of an image that does not say it.
+    /// The byte time of an image that does not give it.
     pub fn plain_byte_time() -> Constant
         ensures { result ≡ plain_byte_time }
     {
@@ -60,7 +60,7 @@ impl Constant {
         }
     }
 
-    /// The unit of an image that does not say it.
+    /// The unit of an image that does not give it.
     pub fn plain_unit() -> Constant
         ensures { result ≡ plain_unit }
     {
@@ -120,7 +120,7 @@ impl ClockStart {
         })
     }
 
-    /// What the clock starts with in an image that does not say it.
+    /// What the clock starts with in an image that does not give it.
     pub fn plain() -> ClockStart
         ensures { result ≡ plain_clock_start }
     {

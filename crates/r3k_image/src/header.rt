@@ -18,7 +18,7 @@ pub struct Header {
     pub segment_count: u32,
 }
 
-/// So many bytes, and the bytes after them.
+/// `count` bytes, and the bytes after them.
 pub fn read_bytes(count: usize, bytes: &[u8]) -> Result<(&[u8], &[u8]), ImageKind>
     ensures value { ReadsAs (λ x. (x.0.now, x.1.now)) result (bytes_at count bytes.now) }
     ensures len { IfOk result (λ x. length x.0.now ≡ count) }

@@ -47,7 +47,7 @@ impl Image {
         segment.words.get(offset as usize / 4).copied()
     }
 
-    /// Whether every set word of RAM lies in the first so many pages of RAM.
+    /// Whether every set word of RAM lies in the first `ram_pages` pages of RAM.
     pub fn fits(&self, ram_pages: u32) -> bool
         ensures { IsTrue result ↔ FitsRam ram_pages self.now }
     {

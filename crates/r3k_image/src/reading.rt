@@ -24,7 +24,7 @@ pub fn read_words(alloc: Global, bytes: &[u8]) -> Result<Vec<u32>, AllocError>
     Ok(words)
 }
 
-/// Whether so many words may stand at an address, behind a segment that ends at `start`.
+/// Whether `count` words may stand at an address, after a segment that ends at `start`.
 fn is_place(start: u64, address: u32, count: u32) -> bool
     ensures { result ≡ may_stand start address count }
 {
@@ -38,7 +38,7 @@ fn is_place(start: u64, address: u32, count: u32) -> bool
         && (end <= ram_end || (rom <= begin && end <= rom + u64::from(ROM_BYTES)))
 }
 
-/// A segment behind one that ends at `start`, and the bytes after it.
+/// A segment after one that ends at `start`, and the bytes after it.
 #[tactic(auto, unfolding(crate::specs::Reading::segment_at))]
 fn read_segment(alloc: Global, start: u64, bytes: &[u8]) -> Result<(Segment, &[u8]), ImageFault>
     ensures value { ReadsOrLacks (λ x. (view x.0, x.1.now)) result (segment_at start bytes.now) }
@@ -54,7 +54,7 @@ fn read_segment(alloc: Global, start: u64, bytes: &[u8]) -> Result<(Segment, &[u
     Ok((Segment { address, words }, rest))
 }
 
-/// So many segments, and the bytes after them.
+/// `count` segments, and the bytes after them.
 fn read_segments(
     alloc: Global,
     count: u32,
@@ -77,7 +77,7 @@ fn read_segments(
     Ok((segments, rest))
 }
 
-/// The image that the bytes are, all of the bytes.
+/// The image that all of the bytes are.
 #[tactic(auto, unfolding(crate::specs::Reading::image_at))]
 fn read_all(alloc: Global, bytes: &[u8]) -> Result<Image, ImageFault>
     ensures exact { ReadsOrLacks (λ image. image) result (image_at bytes.now) }
@@ -97,7 +97,7 @@ fn read_all(alloc: Global, bytes: &[u8]) -> Result<Image, ImageFault>
     })
 }
 
-/// The image that the bytes spell, all of the bytes: eight bytes of magic, the byte time, the unit, 12 registers of the
+/// The image that all of the bytes spell: eight bytes of magic, the byte time, the unit, 12 registers of the
 /// clock, the number of segments, and then each segment, as its address, the number of its words, and its words. Numbers
 /// have 32 bits, little-endian.
 pub fn read_image(alloc: Global, bytes: &[u8]) -> Result<Image, ImageFault>

@@ -91,7 +91,7 @@ impl WordMap {
         }
     }
 
-    /// Sets a word, and tells whether there was none at its address.
+    /// Sets a word, and reports whether there was none at its address.
     pub fn insert(&mut self, address: WordAddress, word: u32) -> Result<bool, AllocError>
         ensures new { IfOk result (λ new. new ≡ not (map.contains_key self.old address)) }
         ensures words { OnOk result (self.new ≡ map.insert self.old address word) }

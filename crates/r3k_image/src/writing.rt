@@ -64,8 +64,8 @@ pub fn write_image(alloc: Global, image: &Image) -> Result<Vec<u8>, AllocError>
     Ok(bytes)
 }
 
-/// What is written is read again. What is written are the longest runs of the set words. A patch of a word that has a place
-/// is taken, and leaves an image that fits where it did.
+/// What is written is read again. What is written are the longest runs of the set words. A word that has a place can be patched,
+/// and the image still fits where it did.
 pub fn image_laws()
     ensures read { (boot : Boot) → IsBoot boot → image_at (bytes_of_image boot) ≡ Ok boot }
     ensures longest { (boot : Boot) → AreLongest (runs_in boot) }

@@ -24,9 +24,9 @@ pub enum Operand {
     Signed,
     /// The field `imm` as an unsigned number.
     Unsigned,
-    /// The target of a branch, which the field `imm` says.
+    /// The target of a branch, given by the field `imm`.
     Branch,
-    /// The target of a jump, which the field `index` says.
+    /// The target of a jump, given by the field `index`.
     Jump,
     /// The field `imm` as a signed number, and the register in the field `rs` in parentheses.
     Based,

@@ -30,7 +30,7 @@ pub fn byte_laws()
     ensures bytes { (bytes : List ℕ) → length bytes ≡ 4 → ((i : ℕ) → slice_index bytes i < 256) → bytes_of (word_of bytes) ≡ bytes }
 {}
 
-/// A word's place and its address determine each other, and its page is one of those that there are.
+/// A word's place and its address determine each other, and its page is an existing one.
 pub fn layout_laws()
     ensures place { (pages place : ℕ) → pages ≤ MAX_RAM_PAGES → place < word_count_of pages →
         place_of_word pages (address_of_place pages place) ≡ Some place }

@@ -1,4 +1,4 @@
-//! The calls that take memory, on small inputs. What each gave is a line; one that lacked memory is made once more.
+//! The calls that take memory, on small inputs. Each writes a line with what it gave. A call that lacked memory is made once more.
 ghost use Rattle.timeline.specs.Sizes.{AreSizes};
 
 use crate::record::show_record;

@@ -94,7 +94,7 @@ fn play_with_runs<const PAGES: u32, const SPAN: u32, W: Sink>(
     play_with_all(alloc, runs, &indices, &log, show)
 }
 
-// Makes the session, which is the last of the room, and does what takes no memory.
+// Makes the session, which takes the last of the room, and does what takes no memory.
 fn play_with_all<const PAGES: u32, const SPAN: u32, W: Sink>(
     alloc: Global,
     runs: &mut Runs<PAGES, SPAN>,
@@ -180,7 +180,7 @@ fn log_of(alloc: Global) -> Result<Log, RunFault> {
     }
 }
 
-// The session of the echo program with three bytes. What an edit forgets is there: records of spans, and the state of a position.
+// The session of the echo program with three bytes. It has what an edit forgets: records of spans, and the state of a position.
 fn session_of<const PAGES: u32, const SPAN: u32>(
     alloc: Global,
 ) -> Result<Session<PAGES, SPAN>, RunFault>

@@ -9,7 +9,7 @@ pub const ROOM: usize = 4096;
 /// What is asked for.
 #[derive(Clone, Copy)]
 pub enum Wanted<'a> {
-    /// `script SIZE LOG`: so many bytes of an image or a source, so many of a log, and a script follow.
+    /// `script SIZE LOG`: SIZE bytes of an image or a source, LOG bytes of a log, and a script follow.
     Script {
         boot: &'a [u8],
         log: &'a [u8],
@@ -58,7 +58,7 @@ pub fn asked_for(input: &[u8]) -> Option<Wanted<'_>> {
     Some(Wanted::Script { boot, log, script })
 }
 
-// As many bytes as a text says, and the rest.
+// The first bytes, as many as a text says, and the rest.
 fn front<'a>(bytes: &'a [u8], size: &str) -> Option<(&'a [u8], &'a [u8])> {
     let size = size.parse::<usize>().ok()?;
     bytes.split_at_checked(size)

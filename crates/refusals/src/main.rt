@@ -1,6 +1,6 @@
-//! A program for tests of refused memory: it plays a script on a machine with 16 pages and spans of 64 steps, or makes the calls that
-//! take memory, or those that take none, and shows what each gave. What lacked memory is done once more. `bench/refuse` runs it and
-//! refuses its requests for memory in turn; by itself it asks for none but those of the calls.
+//! A program for tests of refused memory. It plays a script on a machine with 16 pages and spans of 64 steps. Or it makes the calls
+//! that take memory, or those that take none, and shows what each gave. What lacked memory is done once more. `bench/refuse` runs
+//! it and refuses its requests for memory in turn. By itself it asks for memory only in those calls.
 #![tactic(auto)]
 
 mod calls;

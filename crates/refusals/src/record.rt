@@ -76,7 +76,7 @@ pub fn show_record<const PAGES: u32, const SPAN: u32, W: Sink>(
     Ok(())
 }
 
-// Shows what a record tells: its end, its last store into word 0x100, the bytes sent, and the pages touched.
+// Shows what a record reports: its end, its last store into word 0x100, the bytes sent, and the pages touched.
 fn show_fact<const PAGES: u32, const SPAN: u32, W: Sink>(
     name: &[u8],
     fact: &Fact<PAGES, SPAN>,

@@ -17,7 +17,7 @@ impl<W: Sink> Show<W> {
         Show { sink }
     }
 
-    /// Writes a text. Where that fails nobody is left to report to.
+    /// Writes a text. Where that fails, nobody is left to report to.
     pub fn text(&mut self, bytes: &[u8]) {
         let _ = wb_io::write_whole(&mut self.sink, bytes);
     }

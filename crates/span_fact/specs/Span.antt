@@ -1,4 +1,4 @@
--- A span of a run (own): so many steps from a state, with the events of their times. All else of it follows.
+-- A span of a run (own): `span` steps from a state, with the events of their times. All else follows from these.
 use Rattle.std.specs.Prelude.{◌≡◌, ℕ, ◌+◌, ◌*◌, List}
 use Rattle.input_log.specs.Event.{LogEvent}
 use Rattle.input_log.specs.Log.{AreInOrder, AreWithin}
@@ -15,14 +15,14 @@ pub record Span : Type 0 where
   pub start : State
   pub events : List LogEvent
 
--- where it ends, and what its steps tell
+-- where it ends, and what its steps report
 abbrev pub end_of : (pages span : ℕ) → Span → State
 end_of pages span s = run pages s.events (s.index * span) s.start span
 
 abbrev pub steps_of : (pages span : ℕ) → Span → List Done
 steps_of pages span s = trace pages s.events (s.index * span) s.start span
 
--- a record of a span tells of it what is so
+-- what a record of a span reports is so
 pub record Holds (pages span : ℕ) (s : Span) (end : State) (writers : List Written) (sent : List SentAt) (dirty touched : List ℕ) : Type 0 where
   pub in_order : AreInOrder s.events
   pub within : AreWithin (s.index * span) ((s.index + 1) * span) s.events

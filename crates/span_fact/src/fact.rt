@@ -20,7 +20,7 @@ use std::alloc::{AllocError, Global};
 use std::marker::Model;
 use std::rc::Rc;
 
-/// What `SPAN` steps from a state, with the events of their times, leave and tell, on a machine with `PAGES` pages of RAM.
+/// What `SPAN` steps from a state, with the events of their times, leave and report, on a machine with `PAGES` pages of RAM.
 #[derive(Drop)]
 pub struct Fact<const PAGES: u32, const SPAN: u32> {
     index: u64,
@@ -45,8 +45,8 @@ impl<const PAGES: u32, const SPAN: u32> Model for Fact<PAGES, SPAN> {
 }
 
 impl<const PAGES: u32, const SPAN: u32> Fact<PAGES, SPAN> {
-    /// The record of the span of an index, made by running it: the machine stands at its start, which is handed in as kept, and
-    /// then at its end. Where memory is refused the machine may stand anywhere in the span, and has made at most `SPAN` steps.
+    /// The record of the span of an index, made by running it. The machine stands at the span's start, which is handed in as kept,
+    /// and then at its end. Where memory is refused, the machine may stand anywhere in the span, after at most `SPAN` steps.
     pub fn make(
         alloc: Global,
         live: &mut Live<PAGES>,
@@ -96,7 +96,7 @@ impl<const PAGES: u32, const SPAN: u32> Fact<PAGES, SPAN> {
         &self.start
     }
 
-    /// Where it ends: where the run stands behind its last step.
+    /// Where it ends: where the run stands after its last step.
     pub fn end(&self) -> &Rc<Boundary<PAGES>>
         ensures { result.now.value ≡ end_of PAGES SPAN self.now }
     {
@@ -144,7 +144,7 @@ impl<const PAGES: u32, const SPAN: u32> Fact<PAGES, SPAN> {
     }
 }
 
-// The last step that stored into the word at an address, among those of all words of RAM that were stored into.
+// The last step that stored into the word at an address, from the list of all words of RAM that were stored into.
 fn writer_in<const PAGES: u32>(writers: &[Written], address: u32) -> Option<u32>
     requires { IsStrictlyIncreasing (map (λ writer. writer.place) writers.now) }
     ensures { (steps : List Done) → AreWriters PAGES steps writers.now → result ≡ last_writer address steps }
@@ -167,7 +167,7 @@ fn writer_in<const PAGES: u32>(writers: &[Written], address: u32) -> Option<u32>
     Some(writer.step)
 }
 
-// Where in ascending order the words from a place on begin.
+// The index in ascending order from which on words have at least this place.
 fn first_from(writers: &[Written], place: u32) -> usize
     requires { IsNonDecreasingBy (λ writer. writer.place) writers.now }
     ensures bound { result ≤ length writers.now }

@@ -1,4 +1,4 @@
-//! What one span of a run holds and tells.
+//! What one span of a run holds and reports.
 #![tactic(auto)]
 
 mod fact;

@@ -13,7 +13,7 @@ use Rattle.span_index.specs.Index.{Agrees, Has, Index, steps_at, steps_in}
 use Rattle.span_index.specs.Sent.{bytes_on}
 use Rattle.span_index.proofs.Written.{none_in_page}
 
--- no steps stored into no page
+-- no steps, so no store into a page
 none_dirty : (range : List ℕ) → filter (is_dirty []) range ≡ []
 none_dirty [] = refl
 none_dirty (page ∷ range) = none_dirty range
@@ -68,7 +68,7 @@ pub both_ok : {A E : Type 0} (r : Result A E) (P Q R : Type 0) → IfOk r (λ _.
 both_ok (Ok x) P Q R p q f = f p q
 both_ok (Err e) P Q R p q f = tt
 
--- no record from one on stored into a word, where none has its page below those that were looked at
+-- no record from one on stored into a word, where none of those before the searched ones has its page
 pub none_from : (pages span : ℕ) (index : Index) (spans : List (Option Span)) (count address before from : ℕ) → Agrees pages span index spans
     → IfSome index.stale (λ k. count ≤ k) → ((i : ℕ) → from ≤ i → i < before → IsFalse (holds (pages_at index.writes i) (address / PAGE_BYTES)))
     → ((i : ℕ) → before ≤ i → i < count → last_writer address (steps_at pages span spans i) ≡ None)

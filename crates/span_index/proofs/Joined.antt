@@ -1,4 +1,4 @@
--- What joined records tell together, by a rule from each to the next: of use to whoever knows the run that they are records of.
+-- What joined records report together, by a rule from each to the next: for those who know the run that they are records of.
 use Rattle.std.proofs.Common.{◌≡◌, ℕ, zero, suc, ◌+◌, ◌-◌, ◌*◌, ◌<◌, ◌≤◌, List, length, Option, Some, None, slice_index_or, sym, ap, subst, ◌∙◌, arith, add-one}
 use Rattle.r3k_machine.specs.Run.{last_writer, later}
 use Rattle.span_fact.specs.Span.{Span}

@@ -1,4 +1,4 @@
--- How many bytes of a line so many records sent together.
+-- How many bytes of a line the first n records sent together.
 use Rattle.std.proofs.Common.{◌≡◌, ℕ, zero, suc, ◌+◌, ◌<◌, ◌≤◌, List, length, Option, None, slice_index_or, refl, ap, ◌∙◌, arith, inl, inr}
 use Rattle.std.proofs.Math.Path.{ap₂}
 use Rattle.std.proofs.lemmas.Bool.{cases_lt}
@@ -15,7 +15,7 @@ totals pages span index spans line (suc i) known has =
     ap₂ (λ (a b : ℕ). a + b) (totals pages span index spans line i known (λ k below. has k (omega (arith, below))))
     ((has i (omega arith)).sent line known)
 
--- more spans have more bytes, and those that are not there have none
+-- more spans have at least as many bytes, and missing ones have none
 pub total_rises : (counts : List (List ℕ)) (line a b : ℕ) → a ≤ b → total counts line a ≤ total counts line b
 unfolding total
 total_rises counts line a zero low = let none : a ≡ zero = omega (arith, low) in rw none (omega arith)

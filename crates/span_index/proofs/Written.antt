@@ -1,5 +1,5 @@
--- The pages that are recorded of a run as stored into are all that it stored into: where the page of a word is not among them, no
--- step stored into the word.
+-- The pages recorded as stored into are all that a run stored into. So where the page of a word is not among them, no step stored
+-- into the word.
 use Rattle.std.proofs.Common.{◌≡◌, ℕ, zero, suc, ◌+◌, ◌*◌, ◌/◌, ◌≤◌, ◌==◌, false, List, [], ◌∷◌, Option, Some, None, IfSome, nat_eq, inl, inr, refl, sym, ap, ◌∙◌, arith}
 use Rattle.std.proofs.lemmas.Bool.{cases_Bool, cases_lt, eq-eqb, eqb-true, or_from, or_parts, true≢false}
 use Rattle.input_log.specs.Event.{LogEvent}

@@ -3,7 +3,7 @@ use Rattle.std.specs.Prelude.{ℕ, ◌==◌, List, Option, Some, None, if◌then
 use Rattle.std.specs.List.{filter_map}
 use Rattle.r3k_live.specs.declared.recorder.SentAt.{SentAt}
 
--- something of a byte, if it was sent on this line
+-- what is made of a byte, if it was sent on this line
 abbrev pub on_line : ℕ → (SentAt → ℕ) → SentAt → Option ℕ
 on_line line part sent = if sent.line == line then Some (part sent) else None
 

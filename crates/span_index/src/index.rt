@@ -16,8 +16,8 @@ use std::alloc::{AllocError, Global};
 use std::marker::Model;
 use write_index::{Asked, WriteIndex};
 
-/// Which pages each record that is kept of a span stored into, and how many bytes of each line it sent. Of one record it may have
-/// what an earlier one of the same number told, until it is settled.
+/// Which pages each kept record of a span stored into, and how many bytes of each line it sent. Of one record the index may still
+/// have what the earlier one of its number reported, until it is settled.
 #[derive(Drop)]
 pub struct SpanIndex {
     writes: WriteIndex,
@@ -80,8 +80,8 @@ impl SpanIndex {
         Ok(())
     }
 
-    // Puts what the record of a number tells into both trees, and nothing where there is none. Where memory is refused, one of them may
-    // have it.
+    // Puts what the record of a number reports into both trees, and nothing where there is no record. Where memory is refused, one
+    // of them may have it.
     fn take_in<const PAGES: u32, const SPAN: u32>(
         &mut self,
         kept: &Kept<PAGES, SPAN>,
@@ -99,7 +99,7 @@ impl SpanIndex {
         }
     }
 
-    // Puts the pages and the counts of a number into both trees. Where memory is refused, one of them may have what is new.
+    // Puts the pages and the counts of a number into both trees. Where memory is refused, one of them may have the new ones.
     fn replace(&mut self, index: u64, pages: &[u32], counts: [u32; 4]) -> Result<(), AllocError>
         requires index { index < max_spans }
         requires pages { IsStrictlyIncreasing pages.now }
@@ -114,8 +114,8 @@ impl SpanIndex {
         self.consoles.replace(index, counts)
     }
 
-    /// The last of so many records, from the first on, of which a step stored into the word at a physical address, and the last of its
-    /// steps that did, counted from its start.
+    /// The last of the first `count` records of which a step stored into the word at a physical address, and its last step that
+    /// did, counted from its start.
     pub fn last_writer<const PAGES: u32, const SPAN: u32>(
         &self,
         kept: &Kept<PAGES, SPAN>,
@@ -138,7 +138,7 @@ impl SpanIndex {
         None
     }
 
-    /// How many bytes of a line so many records, from the first on, sent.
+    /// How many bytes of a line the first `count` records sent.
     pub fn count(&self, line: u8, count: u64) -> u64
         requires line { line ≤ 3 }
         requires settled { IsSettled self.now count }
@@ -148,7 +148,7 @@ impl SpanIndex {
         self.consoles.count(line, count)
     }
 
-    /// Which of so many records, from the first on, sent the byte at a place of a line's console, and its place among those that this
+    /// Which of the first `count` records sent the byte at a place of a line's console, and its place among the bytes that this
     /// record sent on the line.
     pub fn find(&self, line: u8, place: u64, count: u64) -> Option<(u64, u64)>
         requires line { line ≤ 3 }

@@ -1,4 +1,4 @@
-//! Both trees over the records of spans that are kept: which of them stored last into a word, and which sent a byte of a line.
+//! Both trees over the kept records of spans: which of them stored into a word last, and which sent a byte of a line.
 #![tactic(auto)]
 
 mod counts;

@@ -11,7 +11,7 @@ use Rattle.refusal.specs.declared.fault.Fault.TheVariants.{Range}
 use Rattle.span_fact.specs.Span.{Span}
 use Rattle.timeline.specs.Landed.{Landed, with_image, with_log}
 
--- Both are held, by one value and what is equal to it: the first speaks of a log that is edited, the second of what it leaves.
+-- Both are held. They are one value, seen twice: the first speaks of the log that is edited, the second of the log that it leaves.
 pub log_edited : (edit : List LogEvent → Result (List LogEvent) Fault) (inside old : Landed) (log : List LogEvent) (spans : List (Option Span)) (steps : ℕ) (landings : List ℕ)
     → inside ≡ old → edit inside.history.log ≡ Ok log → spans ≡ inside.spans → steps ≡ inside.steps → landings ≡ []
     → with_log old (edit old.history.log) ≡ Ok (record { history = record { image = inside.history.image; log = log }; spans = spans; steps = steps; landings = landings })

@@ -43,7 +43,7 @@ pub held_by : (states : List (ℕ × State)) (position : ℕ) → Contains (posi
 held_by [] position there = absurd (none [] position refl there)
 held_by (f ∷ states) position there = held_by_at f states position there.0 there.1 there.2
 
--- a record that serves stays, or makes room for one that applies
+-- a record that serves stays, or is replaced by one that applies
 serves_on : (pages span : ℕ) (old new : Holding) (index : ℕ) → new.history ≡ old.history → (kept_at new index ≡ kept_at old index) ⊎ Applies pages span new index
     → Serves pages span old index → Serves pages span new index
 serves_on pages span old new index history (inl same) serves = serves_same pages span old new index history same serves
@@ -85,7 +85,7 @@ pub on : {A E P : Type 0} (X Y : Type 0) (r : Result A E) → OnOk r X → OnErr
 on X Y (Ok x) ok err f g = f ok
 on X Y (Err e) ok err f g = g err
 
--- a state that is found at a position itself
+-- a state that is found at the position itself
 here : (position n : ℕ) (states : List (ℕ × State)) (state : State) → IsNearest position position states n state → n ≡ position
 here position n states state near = let least = near.least in let most = near.most in omega (arith, least, most)
 

@@ -17,7 +17,7 @@ use Rattle.timeline.specs.declared.writer.Writer.{Writer}
 pub near_given : {A : Type 0} (position : ℕ) (answer : Result A Fault) → position ≤ max_position → up_to_max position answer ≡ answer
 near_given position answer near = ap (λ (near : Bool). if near then answer else Err TooFar) (le-leb position max_position near)
 
--- an answer of a word that there is
+-- an answer of an existing word
 pub there_given : {A : Type 0} (pages address place : ℕ) (answer : ℕ → Result A Fault) → address % 4 ≡ 0 → place_of_word pages address ≡ Some place
     → of_word pages address answer ≡ answer place
 there_given pages address place answer even some =

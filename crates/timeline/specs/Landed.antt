@@ -11,7 +11,7 @@ use Rattle.refusal.specs.declared.fault.Fault.TheVariants.{Memory, NotFound}
 use Rattle.present_run.specs.History.{History}
 use Rattle.present_run.specs.Reuse.{Holding, Reaches, Serves, Spends}
 
--- what a timeline holds: that, and the positions of the states that it keeps, the one that was used last first
+-- what a timeline holds: what is held of runs, and the positions of the states that it keeps, the one used last first
 pub record Landed : Type 0 where
   pub history : History
   pub spans : List (Option Span)
@@ -21,8 +21,8 @@ pub record Landed : Type 0 where
 abbrev pub holding : Landed → Holding
 holding h = record { history = h.history; spans = h.spans; steps = h.steps }
 
--- What a query at a position does, whether it answers or is refused, where it may look so many steps beyond. Want of memory may
--- cut it short. Any other refusal but that there is nothing to be found comes before a step is run.
+-- What a query at a position does, whether it answers or is refused. It may look at most `beyond` steps beyond it. Want of memory
+-- may cut it short. Any other refusal, except that nothing is found, comes before a step is run.
 abbrev pub AsksFault : (pages span position beyond : ℕ) → (old new : Landed) → Fault → Type 0
 AsksFault pages span position beyond old new Memory = Spends pages span (position / span) (position % span + beyond) (holding old) (holding new)
 AsksFault pages span position beyond old new NotFound =
@@ -34,9 +34,9 @@ Asks pages span position beyond old new (Ok answer) =
     Spends pages span (position / span) (position % span + beyond) (holding old) (holding new) × Reaches pages span (position / span) (holding old) (holding new)
 Asks pages span position beyond old new (Err fault) = AsksFault pages span position beyond old new fault
 
--- What a query of the state at a position does with the states that are kept. Where one is kept at the position no step is run, and it
--- is then the first of them. Elsewhere it comes to be kept, at most 8 with it, if the position is not where a span starts and memory
--- for it is not refused. A query that is refused leaves them.
+-- What a query of the state at a position does with the kept states. Where one is kept at the position, no step is run, and it
+-- becomes the first. Elsewhere the state comes to be kept, at most 8 with it, unless a span starts at the position or memory for it
+-- is refused. A query that is refused leaves them.
 pub record Lands {A E : Type 0} (span position : ℕ) (old new : Landed) (result : Result A E) : Type 0 where
   pub free : Contains old.landings position → new.steps ≡ old.steps
   pub again : Contains old.landings position → IfOk result (λ _. new.landings ≡ position ∷ remove_key (nat_eq position) old.landings)

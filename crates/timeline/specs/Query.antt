@@ -65,7 +65,7 @@ writer_at pages h position address =
 abbrev pub max_visit : ℕ
 max_visit = 1048576
 
--- the next position at which the PC holds an address, at most so many steps behind a position
+-- the next position at which the PC holds an address, at most `limit` steps after a position
 abbrev pub next_pc : ℕ → History → (position address limit : ℕ) → Result ℕ Fault
 next_pc pages h position address limit =
     if nat_le 1 limit && nat_le limit max_visit

@@ -19,8 +19,8 @@ use r3k_word::layout::{page_of, place_of};
 use refusal::Fault;
 
 impl<const PAGES: u32, const SPAN: u32> Timeline<PAGES, SPAN> {
-    /// Adds the arrival of a byte after all events of its time or an earlier one, and gives its place in the log. A time or a
-    /// line out of its range, and a log that is full, are `Range`.
+    /// Adds the arrival of a byte after all events of its time or an earlier one, and gives its place in the log. `Range` for a
+    /// time or a line out of its range, and for a full log.
     pub fn add(&mut self, time: u64, line: u8, byte: u8) -> Result<usize, Fault>
         ensures log { ChangesOrLacks (with_log self.old (adding (record { time = time; kind = Byte; line = line; byte = byte }) self.old.history.log)) self.old self.new result }
         ensures place { IfOk result (λ place. place ≡ length (up_to time self.old.history.log)) }
@@ -79,8 +79,8 @@ impl<const PAGES: u32, const SPAN: u32> Timeline<PAGES, SPAN> {
         Ok(())
     }
 
-    /// Moves an event to another time, as if it was deleted and added again, and gives its new place in the log. A time out of
-    /// its range is `Range`, and else no such event `NoEvent`.
+    /// Moves an event to another time, as if it was deleted and added again, and gives its new place in the log. `Range` for a time
+    /// out of its range, else `NoEvent` if there is no such event.
     pub fn move_to(&mut self, place: u64, time: u64) -> Result<usize, Fault>
         ensures log { Changes (with_log self.old (moving place time self.old.history.log)) self.old self.new result }
         ensures place { IfOk result (λ now. now ≡ length (up_to time (without place self.old.history.log))) }
@@ -97,8 +97,8 @@ impl<const PAGES: u32, const SPAN: u32> Timeline<PAGES, SPAN> {
         Ok(place)
     }
 
-    /// Takes out every event of the times from one position up to another, which is left out, in one edit. A position above
-    /// the greatest, and `from` above `to`, are `Range`. It takes no memory.
+    /// Takes out all events of the times from one position up to another, which is left out, in one edit. `Range` for a position
+    /// above the greatest, and for `from` above `to`. It takes no memory.
     pub fn erase(&mut self, from: u64, to: u64) -> Result<(), Fault>
         ensures { Changes (with_log self.old (erasing from to self.old.history.log)) self.old self.new result }
     {

@@ -1,4 +1,4 @@
-//! Queries of the state at a position: from one that is kept there, or by going there from the nearest one that is kept.
+//! Queries of the state at a position: from the state kept there, or by going there from the nearest kept one.
 
 ghost use Rattle.std.specs.Prelude.{◌≡◌, ◌⊎◌, ◌∷◌, ◌+◌, ◌*◌, ◌/◌, ◌%◌, ◌<◌, ◌≤◌, ℕ, Contains, IfOk, IfSome, List, Some, slice_index, take};
 ghost use Rattle.input_log.specs.Event.{LogEvent};
@@ -88,7 +88,7 @@ pub(crate) fn nearest_in_span<const PAGES: u32, const SPAN: u32>(
     landings.nearest(position - position % SPAN as u64, position)
 }
 
-// A core as it was kept. It has the form of another one.
+// A kept core, as a core of the other form.
 fn restored(alloc: Global, core: &Core, kept: &KeptCore) -> Result<Box<Core>, AllocError>
     ensures { IfOk result (λ core. core.value ≡ kept.now) }
 {
@@ -97,7 +97,7 @@ fn restored(alloc: Global, core: &Core, kept: &KeptCore) -> Result<Box<Core>, Al
     Box::new(alloc, core).map_err(|_| AllocError)
 }
 
-// Keeps the state at which the machine stands, if that is inside a span. Where memory is refused for it, it is not kept.
+// Keeps the state at which the machine stands, if that is inside a span. Where memory for it is refused, it is not kept.
 fn land<const PAGES: u32, const SPAN: u32>(
     alloc: Global,
     inputs: &Inputs,

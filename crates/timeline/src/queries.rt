@@ -1,11 +1,11 @@
-//! Queries: what the run of the history from reset holds and tells. They leave the history as it is.
+//! Queries: what the run of the history from reset holds and reports. They leave the history as it is.
 //!
-//! They refuse in this order: a number out of its range is `Range`, an address that is not a multiple of 4 `Unaligned`, one of
-//! neither RAM nor ROM `NotMemory`, a position above the greatest `TooFar`, want of memory `Memory`, and a search that was made
-//! whole and found nothing `NotFound`.
+//! They refuse in this order: `Range` for a number out of its range, `Unaligned` for an address that is not a multiple of 4,
+//! `NotMemory` for one of neither RAM nor ROM, `TooFar` for a position above the greatest, `Memory`, and `NotFound` after a whole
+//! search that found nothing.
 //!
-//! Up to a position a query needs a record that serves of each whole span, and then goes the rest of the way. It runs a span
-//! only where no record serves that is kept. The states that were asked for inside spans are kept too, the last 8 of them.
+//! A query needs a record that serves for each whole span before its position. It runs a span only where no kept record serves.
+//! Then it goes the rest of the way. The last 8 states inside spans that were asked for are kept too.
 
 ghost use Rattle.std.specs.Prelude.{◌≡◌, ◌≤◌, IfOk, MatchResult, Ok};
 ghost use Rattle.refusal.specs.Given.{Gives, GivesFault};
@@ -59,8 +59,8 @@ impl<const PAGES: u32, const SPAN: u32> Timeline<PAGES, SPAN> {
         Ok(self.word_of(position, place)?)
     }
 
-    /// How many bytes were sent on a line before a position, and those from a place on, at most `count`. A line above 3 and a
-    /// count that is not 1 to 256 are `Range`.
+    /// How many bytes were sent on a line before a position, and those from a place on, at most `count`. `Range` for a line above 3
+    /// and for a count that is not 1 to 256.
     pub fn console_at(
         &mut self,
         position: u64,
@@ -110,8 +110,8 @@ impl<const PAGES: u32, const SPAN: u32> Timeline<PAGES, SPAN> {
         Ok(writer_of(step, set))
     }
 
-    /// The step that sent a byte of a line, by its place among the line's bytes, if that was before a position. A line above 3
-    /// is `Range`.
+    /// The step that sent a byte of a line, by its place among the line's bytes, if that was before a position. `Range` for a line
+    /// above 3.
     pub fn sent_at(&mut self, position: u64, line: u8, place: u64) -> Result<u64, Fault>
         ensures step { Gives (sent_at PAGES self.old.history position line place) result }
         ensures asks { Asks PAGES SPAN position 0 self.old self.new result }
@@ -130,8 +130,8 @@ impl<const PAGES: u32, const SPAN: u32> Timeline<PAGES, SPAN> {
         sender.ok_or(Fault::NotFound)
     }
 
-    /// The least position after one, at most `limit` steps behind it, at which the PC holds an address. A limit that is not 1
-    /// to 1,048,576 is `Range`.
+    /// The least position after one, at most `limit` steps after it, at which the PC holds an address. `Range` for a limit that is
+    /// not 1 to 1,048,576.
     pub fn next_pc(&mut self, position: u64, address: u32, limit: u64) -> Result<u64, Fault>
         ensures found { Gives (next_pc PAGES self.old.history position address limit) result }
         ensures bound { IfOk result (λ found. found ≤ max_position) }

@@ -17,8 +17,8 @@ use std::alloc::Global;
 use std::marker::Model;
 
 /// An image and a log that can be edited, on a machine with `PAGES` pages of RAM. Queries are answered as if the machine was
-/// run from reset for each. What was run is kept in spans of `SPAN` steps, and run again only where it no longer applies; and so are
-/// the last 8 states inside spans that were asked for, up to the next edit.
+/// run from reset for each. What was run is kept in spans of `SPAN` steps, and is run again only where it no longer applies. The
+/// last 8 states inside spans that were asked for are kept too, up to the next edit.
 #[derive(Drop)]
 pub struct Timeline<const PAGES: u32, const SPAN: u32> {
     pub(crate) alloc: Global,
@@ -92,8 +92,9 @@ impl<const PAGES: u32, const SPAN: u32> Timeline<PAGES, SPAN> {
         &self.inputs.log
     }
 
-    /// How many states inside spans are kept: at most 8, each of another position, at which no span starts, and before which each span
-    /// has a record that serves. That they are the states of the run is what `core_at` and `word_at` answer there without a step.
+    /// How many states inside spans are kept: at most 8, each of another position. No span starts at one, and each span before one
+    /// has a record that serves. That they are states of the run follows from what `core_at` and `word_at` answer there without a
+    /// step.
     pub fn landings(&self) -> usize
         ensures len { result ≡ length self.now.landings }
         ensures few { length self.now.landings ≤ 8 }

@@ -18,7 +18,7 @@ use Rattle.tlb64.specs.Kept.{tag_of, IsOf, AreOf}
 process-below : (hi : ℕ) → process_of hi < 4096
 process-below hi = let small : process_of hi < 64 = mod_below (hi / 64) 64 (omega arith) in omega (arith, small)
 
--- a tag tells the page and the process
+-- a tag gives the page and the process
 tag-page : (a b p q : ℕ) → p < 4096 → q < 4096 → a * 4096 + p ≡ b * 4096 + q → a ≡ b
 tag-page a b p q small also same = sym (div-mul-add a 4096 p small) ∙ ap (λ (n : ℕ). n / 4096) same ∙ div-mul-add b 4096 q also
 
@@ -53,7 +53,7 @@ lookup_of_page entries pid page =
 same_lookup : (entries : List Entry) (a b p q : ℕ) → page_of a ≡ page_of b → p ≡ q → lookup_of entries b q ≡ lookup_of entries a p
 same_lookup entries a b p q page process = rw (← process) (ap (lookup_of_page entries p) (sym page))
 
--- a lookup that found one entry alone is kept
+-- a lookup that found just one entry is kept
 pub one_more : (entries : List Entry) (kept : List Kept) (slot address hi : ℕ) (found : Found)
     → AreOf entries kept → lookup_of entries address (process_of hi) ≡ Some found → found.several ≡ false
     → AreOf entries (slice_set kept slot (record { tag = tag_of address hi; lo = found.entry.lo }))

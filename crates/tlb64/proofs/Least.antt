@@ -42,7 +42,7 @@ pub lookup_none : (entries : List Entry) (address pid : ℕ) → length entries 
 lookup_none entries address pid count none =
     rw (position-none (matches address pid) empty_entry entries (rw count none)) refl
 
--- what a lookup finds, with whether several match as it was told
+-- what a lookup finds at a place, where `several` says whether several match
 abbrev pub found_with : List Entry → ℕ → Bool → Option Found
 found_with entries place several = Some (record {
   index = place;

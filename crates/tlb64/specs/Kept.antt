@@ -1,4 +1,4 @@
--- Lookups that are kept (own), so that a page that was looked up before takes no search: each is what the lookup says.
+-- Lookups that are kept (own), so that a page that was looked up before needs no search: each is what the lookup gives.
 use Rattle.std.specs.Prelude.{◌≡◌, ℕ, ◌+◌, ◌*◌, false, List, length, Some}
 use Rattle.std.specs.List.{All}
 use Rattle.tlb64.specs.declared.entry.Entry.{Entry}
@@ -12,14 +12,14 @@ use Rattle.tlb64.specs.Lookup.{lookup_of}
 abbrev pub tag_of : ℕ → ℕ → ℕ
 tag_of address hi = page_of address * 4096 + process_of hi
 
--- one entry alone is for an address and the process of EntryHi, and this is its EntryLo
+-- just one entry is for an address and the process of EntryHi, and this is its EntryLo
 pub record IsSole (entries : List Entry) (address hi lo : ℕ) : Type 0 where
   pub found : Found
   pub is : lookup_of entries address (process_of hi) ≡ Some found
   pub low : found.entry.lo ≡ lo
   pub sole : found.several ≡ false
 
--- what is kept is what the lookup says of each address and process of the tag
+-- what is kept is what the lookup gives for each address and process of the tag
 abbrev pub IsOf : List Entry → Kept → Type 0
 IsOf entries kept = (address hi : ℕ) → kept.tag ≡ tag_of address hi → IsSole entries address hi kept.lo
 

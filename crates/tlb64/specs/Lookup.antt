@@ -7,7 +7,7 @@ use Rattle.tlb64.specs.declared.entry.Entry.{Entry}
 use Rattle.tlb64.specs.declared.entry.Found.{Found}
 use Rattle.tlb64.specs.Entries.{matches, process_of, empty_entry}
 
--- what a lookup tells of the entry at a place: its place, the entry, and whether more than one
+-- what a lookup gives for the entry at a place: its place, the entry, and whether more than one
 -- entry matches
 abbrev pub found_at : List Entry → ℕ → ℕ → ℕ → Found
 found_at entries address pid place = record {

@@ -1,5 +1,5 @@
--- The entries by sets (own), so that a lookup need not compare all: each entry is in the set of its
--- page, and a set is a number of 64 bits, those of its entries' places being 1.
+-- The entries by sets (own), so that a lookup need not compare all. Each entry is in the set of its page. A set is a number of 64
+-- bits, of which those of its entries' places are 1.
 use Rattle.std.specs.Prelude.{◌≡◌, ℕ, ◌*◌, ◌/◌, ◌%◌, ◌^◌, ◌<◌, ◌≤◌}
 use Rattle.std.specs.Prelude.{true, false, nat_eq, if◌then◌else◌}
 use Rattle.std.specs.Prelude.{List, length, slice_index, slice_index_or}
@@ -29,7 +29,7 @@ abbrev pub NoneMatches : List Entry → ℕ → ℕ → ℕ → Type 0
 NoneMatches entries address pid candidates = (place : ℕ) → place < 64 → bit_at candidates place ≡ 1
     → matches address pid (slice_index_or entries place empty_entry) ≡ false
 
--- the lowest candidate that matches, and the candidates behind it
+-- the lowest candidate that matches, and the candidates after it
 pub record IsLowestMatch (entries : List Entry) (address pid candidates : ℕ) (found : Match)
     : Type 0 where
   pub within : found.place < 64

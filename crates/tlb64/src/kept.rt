@@ -5,14 +5,14 @@ ghost use Rattle.tlb64.specs.Kept.{tag_of};
 
 use r3k_word::field::field;
 
-/// A lookup that found one entry alone: the tag of the page and the process that were looked up, and EntryLo.
+/// A lookup that found just one entry: the tag of the page and the process that were looked up, and EntryLo.
 #[derive(Clone, Copy, Debug)]
 pub(crate) struct Kept {
     pub tag: u32,
     pub lo: u32,
 }
 
-/// The lookups that are kept: those of data, and behind them those of fetches.
+/// The lookups that are kept: those of data, and after them those of fetches.
 pub(crate) const KEPT: usize = 16;
 
 /// Nothing is kept: no lookup has this tag.

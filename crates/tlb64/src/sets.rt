@@ -19,7 +19,7 @@ pub(crate) fn set_of(address: u32) -> usize
     (field::<31, 12>(address).wrapping_mul(SPREAD) >> 26) as usize
 }
 
-/// A candidate that matches, and the candidates behind it.
+/// A candidate that matches, and the candidates after it.
 #[derive(Clone, Copy)]
 pub(crate) struct Match {
     pub place: usize,

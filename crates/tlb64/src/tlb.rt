@@ -17,7 +17,7 @@ pub struct Tlb {
     entries: [Entry; 64],
     // Of each set, the bits of its entries' places.
     sets: [u64; 64],
-    // Lookups of before, until an entry changes.
+    // Earlier lookups, until an entry changes.
     kept: [Kept; KEPT],
 }
 
@@ -64,8 +64,8 @@ impl Tlb {
         })
     }
 
-    /// The same lookup, for the process of a value of EntryHi. What it finds is kept, for fetches or for data, if it is one
-    /// entry alone.
+    /// The same lookup, for the process of a value of EntryHi. What it finds is kept, for fetches or for data, if it is just one
+    /// entry.
     #[inline]
     pub fn translate(&mut self, is_fetch: bool, address: u32, hi: u32) -> Option<Found>
         ensures found { result ≡ lookup_of self.old address (process_of hi) }
@@ -82,8 +82,8 @@ impl Tlb {
         Some(found)
     }
 
-    /// EntryLo of the one entry that is for an address and the process of a value of EntryHi, where `translate` kept it since
-    /// an entry was written. It searches nothing.
+    /// EntryLo of the one entry that is for an address and the process of a value of EntryHi, if `translate` kept it since an
+    /// entry was last written. It searches nothing.
     #[inline(always)]
     pub fn kept(&self, is_fetch: bool, address: u32, hi: u32) -> Option<u32>
         ensures { IfSome result (λ lo. IsSole self.now address hi lo) }

@@ -23,7 +23,7 @@ Writes-trans a b c u v w first second f g = (
 pub Reads-nil : (reads : List Call) (left : Option (List ℕ)) → Reads reads reads left left []
 Reads-nil reads left = (sym (append-nil reads), Consumes-nil left, refl)
 
--- calls end as the last of them
+-- calls end as the last of them does
 ends_as_last : (u v w : Option (List ℕ)) (first : List Call) (call : Call) (calls : List Call) → EndsWell v w (call ∷ calls) → EndsWell u w (first ++ call ∷ calls)
 ends_as_last u v w [] call [] h = h
 ends_as_last u v w [] call (next ∷ calls) h = ends_as_last u v w [] next calls h
@@ -51,7 +51,7 @@ pub Writes-one : {E : Type 0} (a b : List Call) (u v : Option (List ℕ)) (asked
 Writes-one a b u v asked (Ok count) bytes e h = (e, subst (Appends u v) (sym (append-nil (take count bytes))) h)
 Writes-one a b u v asked (Err error) bytes e h = (e, Appends-kept u u v [] (Appends-nil u) h)
 
--- one call of a reader: it failed, gave some bytes, or came to the end
+-- one call of a reader: it failed, gave some bytes, or reached the end
 one_consumed : (u v : Option (List ℕ)) (one : Call) → Consumes u v (bytes_of one) → Consumes u v (bytes_moved (one ∷ []))
 one_consumed u v one h = subst (Consumes u v) (sym (append-nil (bytes_of one))) h
 
@@ -76,7 +76,7 @@ pub Each-append : (P : Call → Type 0) (first second : List Call) → Each P fi
 Each-append P [] second f g = g
 Each-append P (call ∷ first) second f g = (f.0, Each-append P first second f.1 g)
 
--- calls that took all of some bytes, and then others that took all, or a front, of more
+-- calls that took all of some bytes, and then others that took all, or a front, of further bytes
 pub TakesAll-append : (x y : List ℕ) (first second : List Call) → TakesAll x first → TakesAll y second → TakesAll (x ++ y) (first ++ second)
 TakesAll-append x y first second f g = record {
   each = Each-append MovesSome first second f.each g.each;
@@ -96,7 +96,7 @@ TakesFront-after x y first second f g = record {
   left = g.left;
 }
 
--- a front of some bytes is one of more
+-- a front of some bytes is a front of more
 pub TakesFront-more : (x y : List ℕ) (calls : List Call) → TakesFront x calls → TakesFront (x ++ y) calls
 TakesFront-more x y calls f = record {
   good = f.good;

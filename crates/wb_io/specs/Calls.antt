@@ -3,18 +3,18 @@ use Rattle.std.specs.Prelude.{◌≡◌, ◌⊎◌, ℕ, ◌<◌, List, [], ◌�
 use Rattle.std.specs.Io.KnownBytes.{Appends, Consumes, IsAtEnd}
 use Rattle.std.specs.Coded.{Coded, code_by, coded×, coded_ℕ, coded_list, coded_option}
 
--- a call: how many bytes it was asked to move at the most, and the bytes that it moved, or none where it failed
+-- a call: the most bytes that it was asked to move, and the bytes that it moved, or none where it failed
 pub record Call : Type 0 where
   pub asked : ℕ
   pub moved : Option (List ℕ)
 
--- how proofs tell two calls apart: by both parts
+-- how proofs distinguish two calls: by both parts
 abbrev pub call_code : Coded Call
 call_code =
     code_by (ℕ × Option (List ℕ)) (coded× coded_ℕ (coded_option (coded_list coded_ℕ))) (λ c. (c.asked, c.moved))
     (λ p. record { asked = p.0; moved = p.1 }) (λ _. refl)
 
--- a call by what it answered: how many of these bytes it moved, the first ones, or that it failed
+-- a call by its answer: it moved this many of the bytes, the first ones, or it failed
 abbrev pub moved_by : {E : Type 0} → Result ℕ E → List ℕ → Option (List ℕ)
 moved_by (Ok count) bytes = Some (take count bytes)
 moved_by (Err error) bytes = None
@@ -47,27 +47,27 @@ abbrev pub Each : (Call → Type 0) → List Call → Type 0
 Each P [] = Unit {0}
 Each P (call ∷ calls) = P call × Each P calls
 
--- What a reader has left after calls: without one it is as it was, and where the last one moved none of the bytes that it was asked
--- for, it is at its end.
+-- What a reader has left after calls. Without a call it is as it was. Where the last call moved none of the bytes that it was asked
+-- for, the reader is at its end.
 abbrev pub EndsWell : (left left' : Option (List ℕ)) → List Call → Type 0
 EndsWell left left' [] = left' ≡ left
 EndsWell left left' (call ∷ []) = MovesNone call → IsAtEnd left'
 EndsWell left left' (call ∷ (next ∷ calls)) = EndsWell left left' (next ∷ calls)
 
--- A reader made these calls more, and what it has left lost the bytes that they moved, where it tells what is left.
+-- A reader made these further calls. What it has left lost the bytes that they moved, if it reports what is left.
 abbrev pub Reads : (reads reads' : List Call) (left left' : Option (List ℕ)) → List Call → Type 0
 Reads reads reads' left left' made = (reads' ≡ reads ++ made) × Consumes left left' (bytes_moved made) × EndsWell left left' made
 
--- A writer made these calls more, and what it holds grew by the bytes that they moved, where it tells what it holds.
+-- A writer made these further calls. What it holds grew by the bytes that they moved, if it reports what it holds.
 abbrev pub Writes : (writes writes' : List Call) (written written' : Option (List ℕ)) → List Call → Type 0
 Writes writes writes' written written' made = (writes' ≡ writes ++ made) × Appends written written' (bytes_moved made)
 
--- calls took all of these bytes, each some of them
+-- calls took all of these bytes, and each took some
 pub record TakesAll (bytes : List ℕ) (calls : List Call) : Type 0 where
   pub each : Each MovesSome calls
   pub all : bytes_moved calls ≡ bytes
 
--- calls took a front of these bytes, not all, each some of them, and then one failed or took none
+-- calls took a front of these bytes, not all, and each took some; then one failed or took none
 pub record TakesFront (bytes : List ℕ) (calls : List Call) : Type 0 where
   pub good : List Call
   pub bad : Call

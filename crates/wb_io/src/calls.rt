@@ -1,4 +1,4 @@
-// The calls of a reader or a writer. They are tied to nothing in memory: what is said of them binds code that is generic
+// The calls of a reader or a writer. They are tied to nothing in memory, so what is said of them binds code that is generic
 // over a source or a sink.
 ghost use Rattle.std.specs.Prelude.{◌≡◌, List, [], ◌∷◌, ◌++◌, Some, None};
 ghost use Rattle.std.specs.Coded.{coded_list};
@@ -25,14 +25,14 @@ impl Calls {
         Calls {}
     }
 
-    /// One call more, which was asked for so many bytes and moved these.
+    /// One more call, which was asked for `asked` bytes and moved these.
     pub(crate) fn moved(&self, asked: usize, bytes: &[u8]) -> Calls
         ensures { result.list ≡ self.now.list ++ record { asked = asked; moved = Some bytes.now } ∷ [] }
     {
         Calls {}
     }
 
-    /// One call more, which was asked for so many bytes and failed.
+    /// One more call, which was asked for `asked` bytes and failed.
     pub(crate) fn failed(&self, asked: usize) -> Calls
         ensures { result.list ≡ self.now.list ++ record { asked = asked; moved = None } ∷ [] }
     {

@@ -1,4 +1,4 @@
-//! Where the bytes of a run come from and where they go: readers and writers that tell what they have done.
+//! Where the bytes of a run come from and where they go: readers and writers that report what they have done.
 #![tactic(auto)]
 
 mod calls;

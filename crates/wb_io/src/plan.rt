@@ -20,8 +20,8 @@ pub enum Upset {
     TakesNone,
 }
 
-/// A source that gives its bytes once or for ever, and a sink with room for so many bytes, which takes none where it is full. One
-/// read and one write may be upset. All memory is taken when it is made.
+/// A source that gives its bytes once or for ever, and a sink with room for a number of bytes, which takes none once it is full.
+/// One read and one write may be upset. All memory is taken when it is made.
 #[derive(Drop)]
 pub struct Plan {
     input: Vec<u8>,
@@ -35,7 +35,7 @@ pub struct Plan {
     // How many writes are good before one is upset, if one is, and how.
     good_writes: Option<u64>,
     upset: Upset,
-    // A call gives or takes at most so many bytes.
+    // The most bytes that a call gives or takes.
     piece: usize,
     reads: Calls,
     writes: Calls,
@@ -66,8 +66,8 @@ impl Model for Plan {
 }
 
 impl Plan {
-    /// A plan that gives these bytes once, has room for `room` bytes, and moves at most `piece` bytes a call, of which none is
-    /// upset. All its memory is taken here.
+    /// A plan that gives these bytes once, has room for `room` bytes, and moves at most `piece` bytes a call. No call is upset. All
+    /// its memory is taken here.
     pub fn new(alloc: Global, input: &[u8], piece: usize, room: usize) -> Result<Plan, AllocError>
         requires { 0 < piece }
         ensures { IfOk result (λ plan.
@@ -100,21 +100,21 @@ impl Plan {
         })
     }
 
-    /// The plan that begins again where it has given all.
+    /// Makes the plan begin again once it has given all.
     pub fn give_for_ever(&mut self)
         ensures { self.new ≡ record self.old { for_ever = true } }
     {
         self.for_ever = true;
     }
 
-    /// The plan of which one read fails, after so many good ones.
+    /// Makes one read fail, after `after` good ones.
     pub fn fail_read(&mut self, after: u64)
         ensures { self.new ≡ record self.old { good_reads = Some after } }
     {
         self.good_reads = Some(after);
     }
 
-    /// The plan of which one write is upset, after so many good ones.
+    /// Upsets one write, after `after` good ones.
     pub fn upset_write(&mut self, after: u64, upset: Upset)
         ensures { self.new ≡ record self.old { good_writes = Some after; upset = upset } }
     {
@@ -129,7 +129,7 @@ impl Plan {
         &self.input[self.given..]
     }
 
-    // The place of the byte that comes after so many more: the first one, where these are the last and it gives for ever.
+    // The place of the next byte after `count` more: the first one, where these are the last and the plan gives for ever.
     fn place_after(&self, count: usize) -> usize
         requires { count ≤ length self.now.left }
         ensures left { drop result self.now.input ≡ left_after self.now count }
@@ -247,7 +247,7 @@ impl Sink for Plan {
     }
 }
 
-// Whether the call that comes is upset. What is good counts from the next one on.
+// Whether the next call is upset. Good calls are counted from the next one on.
 fn is_upset(good: &mut Option<u64>) -> bool
     ensures upset { IsTrue result → IsUpset good.old }
     ensures not { IsFalse result → ¬ IsUpset good.old }

@@ -7,16 +7,16 @@ use crate::calls::Calls;
 use crate::source::Failed;
 use std::io::Write;
 
-/// A writer that tells its calls, and that may tell the bytes that it holds. Clauses alone see both.
+/// A writer that reports its calls, and that may report the bytes that it holds. Clauses alone see both.
 pub trait Sink {
-    /// The bytes that were written so far, or `None` where nothing is told of them.
+    /// The bytes that were written so far, or `None` where they are not reported.
     ghost written: { Self → Option (List ℕ) };
 
-    /// The calls that were made, the oldest first: each tells how many bytes it was given, and those that it took or
+    /// The calls that were made, the oldest first. Each reports how many bytes it was given, and those that it took or
     /// that it failed.
     ghost writes: { Self → List Call };
 
-    /// Takes a front of the bytes, and says how many of them. A failed call takes nothing.
+    /// Takes a front of the bytes, and gives its length. A failed call takes nothing.
     fn write(&mut self, bytes: &[u8]) -> Result<usize, Failed>
         ensures called { writes self.new ≡ writes self.old ++ call (length bytes.now) result bytes.now ∷ [] }
         ensures within { IfOk result (λ count. count ≤ length bytes.now) }
@@ -26,7 +26,7 @@ pub trait Sink {
 }
 
 /// A writer of std's as a sink. It calls the writer once a call. What the writer keeps back in a buffer counts as written,
-/// so give one that has none.
+/// so give it a writer without one.
 #[derive(Drop)]
 pub struct ToWrite<W> {
     writer: W,

@@ -7,21 +7,21 @@ ghost use Rattle.wb_io.specs.Calls.{Call, call};
 use crate::calls::Calls;
 use std::io::Read;
 
-/// A call of a reader or a writer failed. Nothing is told of the cause.
+/// A call of a reader or a writer failed. The cause is not reported.
 #[derive(Clone, Copy, Debug, PartialEq, Eq)]
 pub struct Failed;
 
-/// A reader that tells its calls, and that may tell the bytes that are left. Clauses alone see both.
+/// A reader that reports its calls, and that may report the bytes that are left. Clauses alone see both.
 pub trait Source {
-    /// The bytes that are left to read, or `None` where nothing is told of them.
+    /// The bytes that are left to read, or `None` where they are not reported.
     ghost left: { Self → Option (List ℕ) };
 
-    /// The calls that were made, the oldest first: each tells the room of its buffer, and the bytes that it gave or
+    /// The calls that were made, the oldest first. Each reports the room of its buffer, and the bytes that it gave or
     /// that it failed.
     ghost reads: { Self → List Call };
 
-    /// Puts the next bytes at the front of the buffer, and says how many. No bytes for a buffer
-    /// with room say that none are left. A failed call gives nothing.
+    /// Puts the next bytes at the front of the buffer, and gives their number. If it is none for a buffer
+    /// with room, none are left. A failed call gives nothing.
     fn read(&mut self, buffer: &mut [u8]) -> Result<usize, Failed>
         ensures called { reads self.new ≡ reads self.old ++ call (length buffer.old) result buffer.new ∷ [] }
         ensures within { IfOk result (λ count. count ≤ length buffer.old) }

@@ -94,7 +94,7 @@ by_long n = go (bytes_eq (codes "kind") n) refl (bytes_eq (codes "size") n) refl
 same_bytes : (t : Text) → bytes_eq t t ≡ true
 same_bytes t = (bytes_eq-Decides t t).1 refl
 
--- where no row has the id, the new row's value is the first
+-- where no row has the id, the new row has the first value
 first-with_values : (id v : Text) (how : Reading) (s : ValueSource) (rows : List Row) → has_row id rows ≡ false
     → first_of id (with_values id how s (v ∷ []) rows) ≡ Some v
 first-with_values id v how s [] none = rw (same_bytes id) refl
@@ -111,7 +111,7 @@ first-with_values id v how s (r ∷ rs) none =
         let rest : has_row id rs ≡ false = rw e at none in
         rw (e, e) (rec rest)
 
--- a row of one id leaves the first value of another
+-- a row of one id leaves the first value of another id
 first-with_values_other : (id other : Text) (how : Reading) (s : ValueSource) (values : List Text) (rows : List Row) → bytes_eq id other ≡ false
     → first_of other (with_values id how s values rows) ≡ first_of other rows
 first-with_values_other id other how s values [] apart = rw apart refl
@@ -187,7 +187,7 @@ use-once OfLog x rows e = go (has_row (codes "log") rows) refl
         cc
     go false h = h
 
--- and no use is without one
+-- and no use is without a value
 pub use-none : (b : Choice) (rows : List Row) → settle_fault rules false (hold rows (Some (name_of b, []))) ≡ [] → ⊥
 use-none OfKind rows e =
     let bad : ◌≡◌ {A = Kinds} (InvalidValue ∷ []) [] = e in
@@ -199,7 +199,7 @@ use-none OfLog rows e =
     let bad : ◌≡◌ {A = Kinds} (InvalidValue ∷ []) [] = e in
     cc
 
--- the row of an option that was not used is not there to be replaced
+-- the row of an unused option is not there to be replaced
 without-none : (id : Text) (rows : List Row) → has_row id rows ≡ false → without id rows ≡ rows
 without-none id [] none = refl
 without-none id (r ∷ rs) none = go (bytes_eq r.id id) refl (λ h. without-none id rs h)

@@ -14,7 +14,7 @@ use Rattle.wb_options.proofs.ClapRules.{Choice, OfKind, OfSize, OfLog, kind_fill
 
 -- ---- one word
 
--- behind `--` a word is no option's
+-- after `--` no word is an option
 pub turn-trailing : (h : Held) (waiting : Waiting) (word : Text) → turn_fault shape [] (at h waiting true) word ≡ [] → ⊥
 turn-trailing h waiting word e =
     let bad : ◌≡◌ {A = Kinds} (UnknownArgument ∷ []) [] = e in
@@ -87,7 +87,7 @@ option-found OfKind v h = refl
 option-found OfSize v h = refl
 option-found OfLog v h = refl
 
--- the rows once what waits is used
+-- the rows once the waiting option is used
 abbrev pub settled_held : List Row → Option (Text × List Text) → List Row
 settled_held rows pending = (settled rules (hold rows pending)).rows
 

@@ -27,7 +27,7 @@ or_first-none (Some v) = refl
 abbrev pub end_of_walk : Walk → List Text → Held
 end_of_walk w words = (fold (walked rules []) w words).held
 
--- words that pass give an option the value that stands in them
+-- words that pass give an option the value that they have for it
 abbrev pub Reads : Choice → List Text → Type 0
 Reads which words = (rows : List Row) (pending : Option (Text × List Text))
     → walk_fault shape [] (at (hold rows pending) idle false) words ≡ []
@@ -36,7 +36,7 @@ Reads which words = (rows : List Row) (pending : Option (Text × List Text))
     × (first_of (name_of which) (settled rules (end_of_walk (at (hold rows pending) idle false) words)).rows
     ≡ or_first (first_of (name_of which) (settled_held rows pending)) (value_in (name_of which) words))
 
--- and so where the option b awaits its value
+-- and so do they where the option b awaits its value
 abbrev pub Awaits : Choice → List Text → Type 0
 Awaits which words = (rows : List Row) (b : Choice)
     → walk_fault shape [] (at (hold rows (Some (name_of b, []))) (option (name_of b)) false) words ≡ []
@@ -71,7 +71,7 @@ settled-one OfKind x rows = refl
 settled-one OfSize x rows = refl
 settled-one OfLog x rows = refl
 
--- behind `--` there are no more words
+-- after `--` there are no more words
 trailing-ends : (h : Held) (waiting : Waiting) (rest : List Text) → walk_fault shape [] (at h waiting true) rest ≡ [] → rest ≡ []
 trailing-ends h waiting [] f = refl
 trailing-ends h waiting (word ∷ rest) f =
@@ -181,7 +181,7 @@ finished-is h =
     ∙ (ap (λ rs. with_default (with_default rs log_filled) help_filled) (with_default-none rows size_filled refl)
     ∙ (ap (λ rs. with_default rs help_filled) (with_default-none rows log_filled refl) ∙ with_default-none rows help_filled refl))
 
--- good words give an option the value that stands in them
+-- good words give an option the value that they have for it
 pub value-in_words : (which : Choice) (words : List Text) → faults_of words ≡ []
     → first_of (name_of which) (matches_of command_line words) ≡ value_in (name_of which) (drop 1 words)
 value-in_words which words good =

@@ -1,4 +1,4 @@
--- From what clap says of a parse to what the line says.
+-- From what clap reports of a parse to what the line says.
 use Rattle.std.proofs.Common.{◌≡◌, ◌⊎◌, ◌∙◌, ap, refl, subst, sym, inl, inr, ℕ, true, List, [], drop}
 use Rattle.clap.specs.Words.{App, HasKind, HasMatchesOf, IsAmong, Text, fault_of, first_of, first_value, found_of, is_simple, is_simple_and_free}
 use Rattle.clap.specs.declared.error.Error.{Error}

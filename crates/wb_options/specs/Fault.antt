@@ -85,7 +85,7 @@ IsNumbered (Usage text) = ⊥
 IsNumbered (Help text) = ⊥
 IsNumbered _ = Unit {0}
 
--- the one line that tells of a fault, with its line feed
+-- the one line that reports a fault, with its line feed
 abbrev pub line_of : RunFault → List ℕ
 line_of fault = codes "r3kwb: error " ++ fault_name fault ++ 10 ∷ []
 

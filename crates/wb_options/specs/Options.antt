@@ -1,5 +1,5 @@
 -- The program's line (own): `r3kwb [--kind rom|image|source] [--size N] [--log N]`. How words are read as
--- options is clap's, whose definitions say it of this command.
+-- options is clap's, whose definitions say it for this command.
 use Rattle.std.specs.Prelude.{◌≡◌, ◌≢◌, ◌⊎◌, ◌≤◌, ⊤, ℕ, List, [], ◌∷◌, Option, Some, None}
 use Rattle.std.specs.Prelude.{if◌then◌else◌, bytes_eq, codes, drop, slice_get}
 use Rattle.std.specs.Option.{option_map_or}
@@ -77,7 +77,7 @@ IsWrongLine words =
     ((fault : ErrorKind) × IsAmong fault (faults_of words) × (fault ≢ DisplayHelp))
     ⊎ ((faults_of words ≡ []) × ((kind : Kind) (size log_size : ℕ) → ¬ IsLine words kind size log_size))
 
--- the fault tells what is wrong with the words
+-- the fault reports what is wrong with the words
 abbrev pub IsLineFault : List Text → RunFault → Type 0
 IsLineFault words Memory = ⊤
 IsLineFault words (Usage text) = IsWrongLine words

@@ -23,7 +23,7 @@ pub struct Options {
     pub kind: Kind,
     /// How many bytes of the input that takes.
     pub size: u32,
-    /// How many bytes behind them the log takes. No byte is the empty log.
+    /// How many bytes after them the log takes. No bytes are the empty log.
     pub log_size: u32,
     ghost in_range: { size ≤ max_size },
     ghost log_in_range: { log_size ≤ max_size },

@@ -53,7 +53,7 @@ pub fn not_text(alloc: Global) -> RunFault
     }
 }
 
-// What help says behind the options.
+// What help says after the options.
 const AFTER_HELP: &str = "\
 Standard input is the bytes of the kind, then those of the log (0 bytes are the empty log), and then a
 script: one command a line, up to `quit` or the end.

@@ -1,4 +1,4 @@
-//! What ends a run, the line that tells of it, and the program's status.
+//! What ends a run, the line that reports it, and the program's status.
 ghost use Rattle.std.specs.Prelude.{◌≡◌, ◌+◌, ◌≤◌, ◌++◌, length};
 ghost use Rattle.arrayvec.specs.ArrayVec.{array_vec_len};
 ghost use Rattle.wb_options.specs.declared.fault.RunFault.TheVariants.{Memory};
@@ -106,7 +106,7 @@ pub fn status(outcome: &Result<(), RunFault>) -> u8
     }
 }
 
-/// The line that tells of a fault that has a number, with its line feed: number, name and kind.
+/// The line that reports a fault that has a number, with its line feed: number, name and kind.
 pub fn fault_line(fault: &RunFault) -> ArrayVec<u8, 64>
     requires { IsNumbered fault.now }
     ensures { result.items ≡ line_of fault.now }

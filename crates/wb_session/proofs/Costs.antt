@@ -1,4 +1,4 @@
--- What queries cost, as replies say it, and what several at one position cost together.
+-- What queries cost, as replies report it, and what several at one position cost together.
 use Rattle.std.proofs.Common.{◌≡◌, ◌⊎◌, inl, inr, ℕ, zero, suc, ◌+◌, ◌-◌, ◌*◌, ◌/◌, ◌%◌, ◌<◌, ◌≤◌, ◌==◌, ◌∷◌, nat_eq, cond, take, List, Option, Some, None, Bool, true, false, if◌then◌else◌, Contains, Result, Ok, Err, refl, sym, ap, ◌∙◌, subst, arith}
 use Rattle.std.proofs.Math.Nat.{add-mul, mul-le-mul_right}
 use Rattle.std.specs.Option.{ok_or}
@@ -95,7 +95,7 @@ spends_more pages span count less more old new within spends = record {
   kept = spends.kept;
 }
 
--- what a record of a later query is to an earlier one
+-- what a later query's record is to an earlier query
 kept_again : (pages span index : ℕ) (old now new : Holding) → new.history ≡ now.history → (kept_at now index ≡ kept_at old index) ⊎ Applies pages span now index
     → (kept_at new index ≡ kept_at now index) ⊎ Applies pages span new index → (kept_at new index ≡ kept_at old index) ⊎ Applies pages span new index
 kept_again pages span index old now new history first (inr applies) = inr applies
@@ -165,7 +165,7 @@ left_one : (span position words : ℕ) (old now new : Landed) → (words ≡ 0 �
 left_one span position zero old now new none some lands = subst (λ (h : Landed). Left span position h new) (none refl) lands
 left_one span position (suc n) old now new none some lands = left_again span position old now new (some (omega arith)) lands
 
--- one more that is refused
+-- one more, which is refused
 pub left_refused : (span position words : ℕ) (old now new : Landed) → (words ≡ 0 → now ≡ old) → (0 < words → Left span position old now)
     → new.landings ≡ now.landings → (Contains old.landings position → new.steps ≡ old.steps)
     → (new.landings ≡ old.landings) ⊎ Left span position old new

@@ -38,7 +38,7 @@ aligned pages address count r e h = rw (eq-eqb (address % 4) 0 e, h) refl
 pub not_memory : (pages address word count : ℕ) (places : List ℕ) → address % 4 ≡ 0 → places_from pages address word ≡ Some places → place_of_word pages (address + 4 * word) ≡ None → word < count → places_of pages address count ≡ Err NotMemory
 not_memory pages address word count places e some none less = aligned pages address count None e (no_places pages address word count places some none less)
 
--- two places, one behind others, that are some
+-- places with one more, where all are there
 both : (front : Option (List ℕ)) (last : Option ℕ) (all : List ℕ) → place_behind front last ≡ Some all
     → ((places : List ℕ) × (front ≡ Some places)) × ((place : ℕ) × (last ≡ Some place))
 both None last all h = absurd (true≢false (ap is_some (sym h)))
@@ -58,7 +58,7 @@ place_among pages address word (suc count) all some less =
           (parts.1.0, ap (λ (w : ℕ). place_of_word pages (address + 4 * w)) (sym same) ∙ parts.1.1))
     ]
 
--- what words can be shown have places
+-- words that can be shown have places
 pub all_places : (pages address count : ℕ) (all : List ℕ) → address % 4 ≡ 0 → places_of pages address count ≡ Ok all → places_from pages address count ≡ Some all
 all_places pages address count all even h = some_of (places_from pages address count) (sym (aligned pages address count (places_from pages address count) even refl) ∙ h)
   where
@@ -86,7 +86,7 @@ value_of : Result ℕ Fault → ℕ
 value_of (Ok value) = value
 value_of (Err fault) = 0
 
--- what is given of it
+-- what is given of such a word
 pub value_is : (pages : ℕ) (h : History) (position address place value : ℕ) → position ≤ max_position → address % 4 ≡ 0
     → place_of_word pages address ≡ Some place → word_at pages h position address ≡ Ok value
     → value ≡ slice_index (state_at pages h.image h.log position).words place

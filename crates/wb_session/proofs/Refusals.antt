@@ -7,7 +7,7 @@ use Rattle.wb_text.specs.declared.reply.Reply.{Reply}
 use Rattle.wb_text.specs.declared.reply.Reply.TheVariants.{Fault as Refused}
 use Rattle.wb_session.specs.Session.{Triple, answer, comes_before_memory, shows}
 
--- the refusal of a query is its plain one, or want of memory where that may come
+-- a query is refused by its plain refusal, or for want of memory where that may come
 pub shows_refused : {A : Type 0} (s : Triple) (show : A → Reply) (plain : Result A Fault) (fault : Fault)
     → ((shown : A) → comes_before_memory (show shown) ≡ false) → GivesFault plain fault
     → (answer s (Refused fault) ≡ shows s show plain)

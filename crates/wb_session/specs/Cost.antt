@@ -28,25 +28,25 @@ pub record AsksState (pages span : ℕ) (old new : Held) (reply : Reply) : Type 
   pub asks : Asks pages span old.position 0 old.timeline new.timeline (outcome_of reply)
   pub lands : Lands span old.position old.timeline new.timeline (outcome_of reply)
 
--- one query of what the steps before the position told, or of what comes at most so many steps after it
+-- one query of what the steps before the position reported, or of what comes at most `beyond` steps after it
 pub record AsksSteps (pages span beyond : ℕ) (old new : Held) (reply : Reply) : Type 0 where
   pub asks : Asks pages span old.position beyond old.timeline new.timeline (outcome_of reply)
   pub landings : new.timeline.landings ≡ old.timeline.landings
 
--- Several queries of the state at a position leave the states that are kept as one does. Where one of them is refused, those before it may
+-- Several queries of the state at a position leave the kept states as one does. Where one of them is refused, those before it may
 -- have left them so.
 abbrev pub LandsOnce : {A : Type 0} → (span position : ℕ) → (old new : Landed) → Result A Fault → Type 0
 LandsOnce span position old new (Ok answer) = Lands {A = Unit {0}} {E = Fault} span position old new (Ok tt)
 LandsOnce span position old new (Err fault) = (new.landings ≡ old.landings) ⊎ Lands {A = Unit {0}} {E = Fault} span position old new (Ok tt)
 
--- count words at the position, each by a query: the first costs what one costs, and each after it at most the steps of the position's
--- own span up to the position. Where the state at the position is kept, none of them runs a step.
+-- `count` words at the position, each by a query. The first costs what one query costs. Each after it costs at most the steps of
+-- the position's own span up to the position. Where the state at the position is kept, none of them runs a step.
 pub record AsksWords (pages span count : ℕ) (old new : Held) (reply : Reply) : Type 0 where
   pub asks : Asks pages span old.position ((count - 1) * (old.position % span)) old.timeline new.timeline (outcome_of reply)
   pub free : Contains old.timeline.landings old.position → new.timeline.steps ≡ old.timeline.steps
   pub lands : LandsOnce span old.position old.timeline new.timeline (outcome_of reply)
 
--- what each command costs, on a machine with so many pages of RAM whose runs are kept in spans of so many steps
+-- what each command costs, on a machine with `pages` pages of RAM whose runs are kept in spans of `span` steps
 abbrev pub Costs : (pages span : ℕ) → Command → (old new : Held) → Reply → Type 0
 Costs pages span Pos old new reply = AsksNothing old new
 Costs pages span (Goto position) old new reply = AsksNothing old new

@@ -5,13 +5,13 @@ use Rattle.r3k_word.specs.Layout.{place_of_word}
 use Rattle.refusal.specs.declared.fault.Fault.{Fault}
 use Rattle.refusal.specs.declared.fault.Fault.TheVariants.{Unaligned, NotMemory}
 
--- a place behind places, where all are some
+-- a place after others, where all are there
 abbrev pub place_behind : Option (List ℕ) → Option ℕ → Option (List ℕ)
 place_behind (Some places) (Some place) = Some (places ++ place ∷ [])
 place_behind (Some places) None = None
 place_behind None place = None
 
--- the places of so many words from an address on, where all are words of RAM or ROM
+-- the places of `count` words from an address on, where all are words of RAM or ROM
 unfoldable pub places_from : (pages address count : ℕ) → Option (List ℕ)
 places_from pages address zero = Some []
 places_from pages address (suc count) = place_behind (places_from pages address count) (place_of_word pages (address + 4 * count))

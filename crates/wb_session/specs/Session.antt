@@ -47,8 +47,8 @@ pub record Triple : Type 0 where
   pub log : List LogEvent
   pub position : ℕ
 
--- What a session holds: what its timeline holds, its history among it, and a position. To who asks it, it is a triple of image, log
--- and position.
+-- What a session holds: what its timeline holds, which includes its history, and a position. Whoever asks sees a triple of image,
+-- log and position.
 pub record Held : Type 0 where
   pub timeline : Landed
   pub position : ℕ
@@ -64,7 +64,7 @@ begun image log = record { timeline = record { history = record { image = image;
 abbrev pub history_of : Triple → History
 history_of s = record { image = s.image; log = s.log }
 
--- A session of a machine with so many pages of RAM and spans of so many steps: sizes in their ranges, an image that fits,
+-- A session of a machine with `pages` pages of RAM and spans of `span` steps: sizes in their ranges, an image that fits,
 -- and a position that is not past the greatest one.
 pub record IsSession (pages span : ℕ) (s : Triple) : Type 0 where
   pub sizes : AreSizes pages span
@@ -161,7 +161,7 @@ console_shown line shown = ConsoleReply line shown.0 (record { items = shown.1 }
 abbrev pub log_shown : (from count : ℕ) → List LogEvent → Reply
 log_shown from count log = LogReply (length log) from (record { items = part_of from count log })
 
--- The answers by what a query, a search for a position, an edit of the log, and a patch give. A refusal keeps the session.
+-- The answers that show what a query gives, make a move, edit the log, and patch the image. A refusal keeps the session.
 abbrev pub shows : {A : Type 0} → Triple → (A → Reply) → Result A Fault → Answer
 shows s show (Ok answered) = answer s (show answered)
 shows s show (Err fault) = refusal s fault
@@ -182,7 +182,7 @@ patches s (Err fault) = refusal s fault
 abbrev pub of_core : ℕ → Triple → (Core → Reply) → Answer
 of_core pages s show = shows s show (core_at pages (history_of s) s.position)
 
--- The plain answer of a command, on a machine with so many RAM pages. A refused command keeps the session.
+-- The plain answer of a command, on a machine with `pages` RAM pages. A refused command keeps the session.
 abbrev pub plain : ℕ → Triple → Command → Answer
 plain pages s Pos = answer s (Position s.position)
 plain pages s (Goto position) = moved s position
@@ -245,8 +245,8 @@ comes_before_memory (Refused NotFound) = false
 comes_before_memory (Refused fault) = true
 comes_before_memory reply = false
 
--- The answers of a command: the plain one, and where it takes memory also a refusal for want of it, which keeps the
--- session, but only where the plain reply is no refusal that comes before.
+-- The answers of a command: the plain one, and where it takes memory also a refusal for want of it. That refusal keeps the session.
+-- It comes only where the plain reply is no refusal that comes before it.
 abbrev pub Answers : ℕ → Triple → Command → Triple → Reply → Type 0
 Answers pages old command new reply =
     (answer new reply ≡ plain pages old command)

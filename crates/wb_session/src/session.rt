@@ -65,7 +65,7 @@ impl<const PAGES: u32, const SPAN: u32> Session<PAGES, SPAN> {
         &self.timeline
     }
 
-    /// Answers a command. What it may cost is said by command: a query of the history, or several, or none.
+    /// Answers a command. Its cost depends on the command: one query of the history, several, or none.
     pub fn apply(&mut self, command: Command) -> Reply
         ensures answers { Answers PAGES (triple_of self.old) command (triple_of self.new) result }
         ensures costs { Costs PAGES SPAN command self.old self.new result }
@@ -229,7 +229,7 @@ impl<const PAGES: u32, const SPAN: u32> Session<PAGES, SPAN> {
         }
     }
 
-    // Tells the step that sent a byte.
+    // Shows the step that sent a byte.
     fn find(&mut self, line: LineNumber, place: u64) -> Reply
         ensures answers { Answers PAGES (triple_of self.old) (command.Find line place) (triple_of self.new) result }
         ensures costs { Costs PAGES SPAN (command.Find line place) self.old self.new result }
@@ -243,7 +243,7 @@ impl<const PAGES: u32, const SPAN: u32> Session<PAGES, SPAN> {
         }
     }
 
-    // Tells the last writer of a word.
+    // Shows the last writer of a word.
     fn writer(&mut self, address: Address) -> Reply
         ensures answers { Answers PAGES (triple_of self.old) (command.Writer address) (triple_of self.new) result }
         ensures costs { Costs PAGES SPAN (command.Writer address) self.old self.new result }

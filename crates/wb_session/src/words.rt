@@ -16,7 +16,7 @@ use refusal::Fault;
 use wb_text::{Address, WordCount, Words};
 
 impl<const PAGES: u32, const SPAN: u32> Session<PAGES, SPAN> {
-    /// The words of memory from an address on. All are judged before one is asked for.
+    /// The words of memory from an address on. All addresses are judged before a word is asked for.
     pub(crate) fn words(&mut self, address: Address, count: WordCount) -> Result<Words, Fault>
         ensures words { (result ≡ words_shown PAGES (triple_of self.old) address count)
             ⊎ ((result ≡ Err Memory) × IsOk (places_of PAGES address count)) }

@@ -8,7 +8,7 @@ use Rattle.wb_text.specs.declared.reply.Reply.{Reply}
 use Rattle.wb_text.specs.declared.reply.Reply.TheVariants.{Position, Registers, Register, Control, Entry, Where, Memory, Instructions, Console, Found, Writer, Log, Event, Left, Patched, Nothing, Fault}
 use Rattle.wb_text.proofs.Rows.{rows_text-more}
 
--- what stands before a line changes nothing at its end
+-- a text before a line changes nothing at its end
 behind : (front text : List ℕ) → EndsWithLineFeed text → EndsWithLineFeed (front ++ text)
 behind front text ends = (front ++ ends.0, ap (λ t. front ++ t) ends.1 ∙ sym (append_assoc front ends.0 (10 ∷ [])))
 
@@ -24,7 +24,7 @@ words_end instruction address words (suc place) some =
     let last : List ℕ = memory_text instruction ((address + 4 * place) % 2 ^ 32) (slice_index words place) in
     behind (words_text instruction address words place) (line last) (last, refl)
 
--- behind a line, events end with a line feed, or there are none
+-- after a line, events end with a line feed, or there are none
 log_ends : (front : List ℕ) (number : ℕ) (events : List LogEvent) → EndsWithLineFeed (line front ++ events_text number events)
 unfolding events_text
 log_ends front number [] = (front, append-nil (line front))

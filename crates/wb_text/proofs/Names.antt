@@ -1,4 +1,4 @@
--- What the tests of a command's name say.
+-- What the tests of a command's name show.
 use Rattle.std.proofs.Common.{◌≡◌, ℕ, Bool, List, sym, ap, ◌∙◌}
 use Rattle.std.specs.Str.{bytes_eq}
 

@@ -27,7 +27,7 @@ onto_front-cons : (xs part : List ℕ) (parts : List (List ℕ))
 onto_front-cons [] part parts = refl
 onto_front-cons (x ∷ xs) part parts = ap (onto_first x) (onto_front-cons xs part parts)
 
--- without a blank in it a front goes to the first part
+-- a front without a blank belongs to the first part
 slice_split-front : (xs : List ℕ) (i : ℕ) → i ≤ length xs
     → AllWithin (λ b. is_blank b ≡ false) xs 0 i
     → slice_split is_blank xs ≡ onto_front (take i xs) (slice_split is_blank (drop i xs))
@@ -58,7 +58,7 @@ words_of-word xs i some fits here blank =
     subst (λ b. is_blank b ≡ true) (sym (get_or-drop i xs 0 d ∙ ap (λ k. get_or xs k d) (add-zero i))) (blank d (omega (arith, length-drop i xs))) in
     ap (filter (λ w. ltb 0 (length w))) (slice_split-front xs i fits here) ∙ word_then (take i xs) (drop i xs) long next
 
--- no further than the end
+-- at most to the end
 pub position_or_len-le-length : {X : Type 0} (p : X → Bool) (xs : List X)
     → position_or_len p xs ≤ length xs
 position_or_len-le-length p xs = prefix_len-le-length (λ x. not (p x)) xs
@@ -106,7 +106,7 @@ pub words_of-nil : (xs rest : List ℕ)
 unfolding words_of
 words_of-nil xs rest is none = words_of-rest xs ∙ ap words_of (sym is ∙ nil_from_length rest none)
 
--- the first word, behind the blanks before it
+-- the first word, after the blanks before it
 pub words_of-first_word : (xs rest : List ℕ)
     → rest ≡ drop (position_or_len (λ byte. not (is_blank byte)) xs) xs → 0 < length rest
     → (words_of xs ≡ take (position_or_len is_blank rest) rest ∷ words_of (drop (position_or_len is_blank rest) rest)) × (0 < position_or_len is_blank rest)

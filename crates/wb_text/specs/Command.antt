@@ -15,7 +15,7 @@ abbrev pub first_of : Fault → Fault → Fault
 first_of Syntax other = Syntax
 first_of fault other = other
 
--- what two parts of a line say, unless one is refused
+-- what two parts of a line say together, unless one is refused
 abbrev pub both_of : {A B : Type 0} → Result A Fault → Result B Fault → Result (A × B) Fault
 both_of (Ok first) (Ok other) = Ok (first, other)
 both_of (Ok first) (Err fault) = Err fault
@@ -27,7 +27,7 @@ abbrev pub in_front : Result (ℕ × List ℕ) Fault → Result (List ℕ) Fault
 in_front (Ok parts) = Ok (parts.0 ∷ parts.1)
 in_front (Err fault) = Err fault
 
--- The numbers of a command that allows each a range, from a least to a greatest one. Another number of words is Syntax.
+-- The numbers of a command that allows each a range from least to greatest. Another number of words is Syntax.
 abbrev pub numbers_of : List (ℕ × ℕ) → List (List ℕ) → Result (List ℕ) Fault
 numbers_of [] [] = Ok []
 numbers_of [] (word ∷ words) = Err Syntax

@@ -18,7 +18,7 @@ abbrev pub number_of : List ℕ → Option ℕ
 number_of word =
     if starts_with nat_eq word (codes "0x") then number_in 16 (drop 2 word) else number_in 10 word
 
--- one number of a command: a word that is none is Syntax, and a number above 2^64 - 1 is Range
+-- one number of a command: a word that is no number is Syntax, and a number above 2^64 - 1 is Range
 abbrev pub number_in_range : Option ℕ → Result ℕ Fault
 number_in_range None = Err Syntax
 number_in_range (Some number) = if nat_lt number (2 ^ 64) then Ok number else Err Range

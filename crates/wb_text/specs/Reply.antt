@@ -60,7 +60,7 @@ row_text registers first =
     ++ codes " " ++ word_text (slice_index registers (first + 2))
     ++ codes " " ++ word_text (slice_index registers (first + 3))
 
--- the lines of the first rows, which begin with r0, r4, r8 and so on
+-- the lines of the first rows, of which the registers begin with r0, r4, r8 and so on
 unfoldable pub rows_text : List ℕ → ℕ → List ℕ
 rows_text registers zero = []
 rows_text registers (suc row) = rows_text registers row ++ line (row_text registers (4 * row))
@@ -101,7 +101,7 @@ words_text instruction address words (suc place) =
 abbrev pub all_words_text : Bool → Words → List ℕ
 all_words_text instruction w = words_text instruction w.address w.words.items (length w.words.items)
 
--- bytes, or that there is none
+-- bytes, or `none`
 unfoldable pub bytes_text : List ℕ → List ℕ
 bytes_text [] = codes "none"
 bytes_text (byte ∷ bytes) = flat_map byte_text (byte ∷ bytes)

@@ -17,16 +17,16 @@ use refusal::Fault;
 /// A command of a script.
 #[derive(Clone, Copy, Debug, PartialEq, Eq)]
 pub enum Command {
-    /// Tells the position.
+    /// Shows the position.
     Pos,
     /// Moves to a position.
     Goto(u64),
-    /// Moves forward by so many steps.
+    /// Moves forward by this many steps.
     Step(u64),
-    /// Moves back by so many steps.
+    /// Moves back by this many steps.
     Back(u64),
-    /// Moves forward to the next position whose instruction stands at an address, by so many steps
-    /// at most.
+    /// Moves forward to the next position whose instruction stands at an address, by at most this many
+    /// steps.
     Visit {
         address: Address,
         limit: StepCount,
@@ -57,12 +57,12 @@ pub enum Command {
         from: u64,
         count: ByteCount,
     },
-    /// Tells the step that sent the byte at a place of a line.
+    /// Shows the step that sent the byte at a place of a line.
     Find {
         line: LineNumber,
         place: u64,
     },
-    /// Tells the last writer of a word of memory.
+    /// Shows the last writer of a word of memory.
     Writer(Address),
     /// Shows events of the log, from one on.
     Log {
@@ -143,7 +143,7 @@ fn command_in(text: &[u8]) -> Result<Option<Command>, Fault>
     }
 }
 
-// The command of a name and the text behind it.
+// The command of a name and the text after it.
 fn command_by_name(name: &[u8], rest: &[u8]) -> Result<Command, Fault>
     ensures { result ≡ command_named name.now (words_of rest.now) }
 {
@@ -170,7 +170,7 @@ fn command_by_name(name: &[u8], rest: &[u8]) -> Result<Command, Fault>
     }
 }
 
-// The same of a name that neither moves nor ends the script.
+// The same for a name that neither moves nor ends the script.
 fn state_query_by_name(name: &[u8], rest: &[u8]) -> Result<Command, Fault>
     ensures { result ≡ state_query_named name.now (words_of rest.now) }
 {
@@ -197,7 +197,7 @@ fn state_query_by_name(name: &[u8], rest: &[u8]) -> Result<Command, Fault>
     }
 }
 
-// The same of a name that does not ask for the state either.
+// The same for a name that does not ask for the state either.
 fn history_query_by_name(name: &[u8], rest: &[u8]) -> Result<Command, Fault>
     ensures { result ≡ history_query_named name.now (words_of rest.now) }
 {
@@ -227,7 +227,7 @@ fn history_query_by_name(name: &[u8], rest: &[u8]) -> Result<Command, Fault>
     }
 }
 
-// The same of a name that asks for nothing.
+// The same for a name that asks for nothing.
 fn event_by_name(name: &[u8], rest: &[u8]) -> Result<Command, Fault>
     ensures { result ≡ event_named name.now (words_of rest.now) }
 {
@@ -245,7 +245,7 @@ fn event_by_name(name: &[u8], rest: &[u8]) -> Result<Command, Fault>
     }
 }
 
-// The same of a name that puts no event into the log.
+// The same for a name that puts no event into the log.
 fn edit_by_name(name: &[u8], rest: &[u8]) -> Result<Command, Fault>
     ensures { result ≡ edit_named name.now (words_of rest.now) }
 {
@@ -364,7 +364,7 @@ fn first_refusal(fault: Fault, other: Fault) -> Fault
     }
 }
 
-// The number in a range that a word is: Syntax where it is none, and Range where it is out of the range.
+// The number in a range that a word is: Syntax where it is no number, and Range where it is out of the range.
 fn bounded_number<const LEAST: u64, const MOST: u64>(
     word: &[u8],
 ) -> Result<Bounded<LEAST, MOST>, Fault>
@@ -376,7 +376,7 @@ fn bounded_number<const LEAST: u64, const MOST: u64>(
     }
 }
 
-/// A line of more than 257 bytes is Syntax, whatever it holds: so its first 258 bytes say as much
+/// A line of more than 257 bytes is Syntax, whatever it holds. So its first 258 bytes say as much
 /// as all of it.
 pub fn line_laws()
     ensures { (line : List ℕ) → 257 < length line → command_of line ≡ Err Fault.Syntax }

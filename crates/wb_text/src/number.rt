@@ -6,7 +6,7 @@ ghost use Rattle.wb_text.specs.Number.{number_of, number_in, number_in_range};
 
 use refusal::Fault;
 
-/// The number that a word is: Syntax where it is none, and Range where it is above 2^64 - 1.
+/// The number that a word is: Syntax where it is no number, and Range where it is above 2^64 - 1.
 pub fn number(word: &[u8]) -> Result<u64, Fault>
     ensures { result ≡ number_in_range (number_of word.now) }
 {

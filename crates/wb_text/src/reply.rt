@@ -203,7 +203,7 @@ fn push_number(text: &mut Text, name: &[u8], number: u64)
     push_text(text, b"\n");
 }
 
-// Appends the line of what is not a register of the 32.
+// Appends the line of all but the 32 registers.
 fn push_state(text: &mut Text, registers: &Registers)
     requires { array_vec_len text.old ≤ 3000 }
     ensures items { text.new.items ≡ text.old.items ++ line (state_text registers.now) }
@@ -321,7 +321,7 @@ fn push_entry(text: &mut Text, number: u64, hi: u32, lo: u32)
     push_text(text, b"\n");
 }
 
-// Appends the line that tells where an address leads.
+// Appends the line that shows where an address leads.
 fn push_where(text: &mut Text, place: Where)
     requires { array_vec_len text.old ≤ 1000 }
     ensures { text.new.items ≡ text.old.items ++ line (where_text place) }
@@ -372,7 +372,7 @@ fn push_memory(text: &mut Text, address: u32, word: u32, instruction: bool)
     push_text(text, b"\n");
 }
 
-// Appends the reply that tells how many bytes were sent on a line of the serial part, with some of them.
+// Appends the reply that shows how many bytes were sent on a line of the serial part, with some of them.
 fn push_console(text: &mut Text, number: u64, total: u64, bytes: &[u8])
     requires few { length bytes.now ≤ 256 }
     requires room { array_vec_len text.old ≤ 1000 }
@@ -387,7 +387,7 @@ fn push_console(text: &mut Text, number: u64, total: u64, bytes: &[u8])
     push_text(text, b"\n");
 }
 
-// Appends bytes, or that there is none.
+// Appends bytes, or `none`.
 fn push_bytes(text: &mut Text, bytes: &[u8])
     requires few { length bytes.now ≤ 256 }
     requires room { array_vec_len text.old ≤ 3000 }
@@ -415,7 +415,7 @@ fn push_writer(text: &mut Text, writer: Writer)
     }
 }
 
-// Appends the line that tells how many events the log has, and the lines of some of them.
+// Appends the line that shows how many events the log has, and the lines of some of them.
 fn push_log(text: &mut Text, total: u64, first: u64, events: &[Event])
     requires few { length events.now ≤ 32 }
     requires room { array_vec_len text.old ≤ 1000 }
@@ -458,7 +458,7 @@ fn kind_text(kind: Kind) -> &'static [u8]
     }
 }
 
-/// Every reply has a text that ends with a line feed, but for that of `quit` and one that shows no word.
+/// Every reply has a text that ends with a line feed, except that of `quit` and one that shows no word.
 pub fn reply_laws()
     ensures { (reply : Reply) → HasText reply → EndsWithLineFeed (text_of reply) }
 {}

@@ -37,7 +37,7 @@ fn word_end(text: &[u8]) -> usize
     text.len()
 }
 
-/// The first word and the text behind it, or nothing where there is no word.
+/// The first word and the text after it, or nothing where there is no word.
 pub fn first_word(text: &[u8]) -> Option<(&[u8], &[u8])>
     ensures words { MatchOption result (words_of text.now ≡ [])
         (λ found. words_of text.now ≡ found.0.now ∷ words_of found.1.now) }

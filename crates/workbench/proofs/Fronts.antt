@@ -1,4 +1,4 @@
--- The bytes before a script as they come.
+-- The bytes before a script, as they come.
 use Rattle.std.proofs.Common.{◌≡◌, ℕ, ◌-◌, min, List, [], ◌∷◌, ◌++◌, length, ap, ◌∙◌, arith, length-append}
 use Rattle.wb_io.specs.Calls.{Call, MovesSome, bytes_moved, bytes_of}
 use Rattle.workbench.specs.Serve.{AsksFor}

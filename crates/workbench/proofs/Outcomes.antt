@@ -10,7 +10,7 @@ use Rattle.workbench.specs.Runs.{RunsScript, ScriptRuns, max_reads}
 use Rattle.workbench.specs.Serve.{AsksFor, Layout, IsFrontFault, IsJudgement, Makes, ReadsAll, Refuses, Serves, ServesScript, image_in, log_in, size_of}
 use Rattle.wb_session.specs.Session.{IsNewFault, Triple}
 
--- a session that there is not
+-- there is no session
 pub no_session : (T : Type 0) (pages most : ℕ) (image : Boot) (log : List LogEvent) (fault : RunFault) → IsNewFault pages image fault → RunsScript {T = T} pages most image log (Err fault) [] []
 no_session T pages most image log Memory h = (h, (refl, refl))
 no_session T pages most image log (BadImage kind) h = (h.0, h.1, (refl, refl))
@@ -21,7 +21,7 @@ no_session T pages most image log WriteFault h = absurd h
 no_session T pages most image log (Usage text) h = absurd h
 no_session T pages most image log (Help text) h = absurd h
 
--- a session's script
+-- the script of a session
 pub session_runs : {T : Type 0} (pages most : ℕ) (image : Boot) (log : List LogEvent) (s : Triple) (r : Result T RunFault) (reads writes : List Call) → FitsRam pages image → s ≡ record { image = image; log = log; position = 0 } → ScriptRuns pages most s r reads writes → RunsScript pages most image log r reads writes
 session_runs pages most image log s (Ok done) reads writes f e h = (f, subst (λ (t : Triple). ScriptRuns {T = Unit {0}} pages most t (Ok tt) reads writes) e h)
 session_runs pages most image log s (Err ReadFault) reads writes f e h = (f, subst (λ (t : Triple). ScriptRuns {T = Unit {0}} pages most t (Err ReadFault) reads writes) e h)
@@ -56,7 +56,7 @@ no_image_serves T pages layout WriteFault reads all j h = absurd j
 no_image_serves T pages layout (Usage text) reads all j h = absurd j
 no_image_serves T pages layout (Help text) reads all j h = absurd j
 
--- a log that could not be made, behind an image
+-- a log that could not be made, after an image
 pub no_log_serves : (T : Type 0) (pages : ℕ) (layout : Layout) (fault : RunFault) (reads : List Call) → ReadsAll (size_of layout) reads → IsJudgement fault
     → (image : Boot) → image_in layout (bytes_moved reads) ≡ Ok image
     → Makes {A = List LogEvent} (Err fault) (log_in layout (bytes_moved reads)) → Serves {T = T} pages layout (Err fault) reads []
@@ -69,7 +69,7 @@ no_log_serves T pages layout WriteFault reads all j image made h = absurd j
 no_log_serves T pages layout (Usage text) reads all j image made h = absurd j
 no_log_serves T pages layout (Help text) reads all j image made h = absurd j
 
--- a run behind the bytes of an image and a log
+-- a run after the bytes of an image and a log
 pub run_serves : {T : Type 0} (pages most : ℕ) (layout : Layout) (image : Boot) (log : List LogEvent) (r : Result T RunFault) (before reads writes : List Call) → ReadsAll (size_of layout) before → image_in layout (bytes_moved before) ≡ Ok image → log_in layout (bytes_moved before) ≡ Ok log → most ≡ max_reads - length before → RunsScript pages most image log r reads writes → Serves pages layout r (before ++ reads) writes
 run_serves pages most layout image log r before reads writes f m l e h = by_result r h
   where

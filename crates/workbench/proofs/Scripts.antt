@@ -16,7 +16,7 @@ use Rattle.wb_io.proofs.CallLemmas.{TakesFront-after, TakesFront-more}
 use Rattle.workbench.specs.Taking.{GoesOn, Ends, LeadsTo, Stops, Unanswered}
 use Rattle.workbench.proofs.Feeds.{no_feed_push}
 
--- bytes at the front of the first line
+-- bytes in front of the first line
 prefixed : List ℕ → List (List ℕ) → List (List ℕ)
 prefixed [] lines = lines
 prefixed (byte ∷ bytes) lines = onto_first byte (prefixed bytes lines)
@@ -222,7 +222,7 @@ long_quits_back k kept byte (line ∷ lines) h q =
     (let e = length-append (k ∷ kept) line in omega (arith, e))
     (subst Quits (prefixed_line ((k ∷ kept) ++ byte ∷ []) line lines) q))
 
--- a byte is dropped behind the first 258 of its line
+-- a byte after the first 258 of its line is dropped
 pub goes_on_without_byte : (pages : ℕ) (s : Triple) (kept : List ℕ) (byte : ℕ) → HasNoFeed kept → byte ≢ 10 → 257 < length kept → GoesOn pages s (kept ++ byte ∷ []) s kept []
 unfolding lines_of
 goes_on_without_byte pages s [] byte n e h = absurd (omega arith)
@@ -291,14 +291,14 @@ ends_later pages s t a b p x y f g = record {
       (f.quits_too (p ++ bytes) (subst (λ (z : List ℕ). Quits (lines_of z)) (append_assoc b p bytes) (g.quits bytes)));
 }
 
--- what ends has the same text with more bytes behind it
+-- a text that ends stays the same with more bytes after it
 pub ends_anyway : (pages : ℕ) (s : Triple) (a p x : List ℕ) → Ends pages s a x → Ends pages s (a ++ p) x
 ends_anyway pages s a p x f = record {
   is_text = λ bytes. subst (λ (z : List ℕ). IsText pages s (lines_of z) x) (sym (append_assoc a p bytes)) (f.is_text (p ++ bytes));
   quits = λ bytes. subst (λ (z : List ℕ). Quits (lines_of z)) (sym (append_assoc a p bytes)) (f.quits (p ++ bytes));
 }
 
--- a write stops behind a part, and where more follows
+-- a write that stops after a part stops where more follows
 pub stops_later : (pages : ℕ) (s t : Triple) (a b p x : List ℕ) (first second : List Call) → GoesOn pages s a t b x → TakesAll x first → Stops pages t (b ++ p) second → Stops pages s (a ++ p) (first ++ second)
 stops_later pages s t a b p x first second f w g = record {
   front = λ bytes.

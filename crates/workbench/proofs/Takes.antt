@@ -14,7 +14,7 @@ use Rattle.workbench.specs.Taking.{Answered, Ends, GoesOn, Stops, Took, Unanswer
 use Rattle.workbench.proofs.Scripts.{goes_on_after_line, ends_at_quit, goes_on_with_byte, goes_on_without_byte, goes_on_twice, ends_later, ends_anyway, stops_anyway, stops_at_line, stops_later, text_of_last_line, text_of_last_quit}
 use Rattle.workbench.proofs.Feeds.{no_feed_push}
 
--- a byte that is no line feed is kept, or dropped behind the first 258
+-- a byte that is no line feed is kept, or dropped after the first 258
 pub kept_or_dropped : (pages : ℕ) (s : Triple) (old new : List ℕ) (byte : ℕ) → HasNoFeed old → byte ≢ 10 → new ≡ cond (ltb (length old) 258) (old ++ byte ∷ []) old → GoesOn pages s (old ++ byte ∷ []) s new []
 kept_or_dropped pages s old new byte n b e = by_room (ltb (length old) 258) refl
   where
@@ -85,7 +85,7 @@ byte_stops pages s t pending piece i byte b first second l is e f h =
     subst (λ (z : List ℕ). Stops pages s z (first ++ second)) (all_of pending piece i byte l is)
     (stops_anyway pages s _ (drop (i + 1) piece) _ (stopped_later pages s t (pending ++ take i piece) b (byte ∷ []) first second e f h))
 
--- the bytes of one read more
+-- the bytes of one more read
 bytes_moved-append_one : (calls : List Call) (call : Call) → bytes_moved (calls ++ call ∷ []) ≡ bytes_moved calls ++ bytes_of call
 bytes_moved-append_one calls call = bytes_moved-append calls (call ∷ []) ∙ ap (λ (z : List ℕ). bytes_moved calls ++ z) (append-nil (bytes_of call))
 
@@ -117,7 +117,7 @@ pub piece_stops : (pages : ℕ) (s t : Triple) (reads writes calls : List Call) 
 piece_stops pages s t reads writes calls read b e f h =
     (subst (λ (z : List ℕ). Stops pages s z (writes ++ calls)) (sym (bytes_moved-append_one reads read)) (stopped_later pages s t (bytes_moved reads) b (bytes_of read) writes calls e f h)).front
 
--- the script ends behind a part of a line, which is answered, or its answer is stopped
+-- the script ends after a part of a line, which is answered, or its answer is stopped
 pub end_written : (pages : ℕ) (s t : Triple) (reads writes calls : List Call) (last : Call) (b : List ℕ) → bytes_of last ≡ [] → Each MovesSome writes → GoesOn pages s (bytes_moved reads) t b (bytes_moved writes) → WritesText TakesAll pages t (lines_of b) calls → WritesText TakesAll pages s (lines_of (bytes_moved (reads ++ last ∷ []))) (writes ++ calls)
 end_written pages s t reads writes calls last b none e f h = (
   bytes_moved writes ++ h.0,

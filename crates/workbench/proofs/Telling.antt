@@ -1,4 +1,4 @@
--- What the program tells at its end.
+-- What the program reports at its end.
 use Rattle.std.proofs.Common.{◌≡◌, inl, inr, ℕ, List, [], Some, Result, Ok, Err, MatchResult, refl, sym, subst}
 use Rattle.wb_io.specs.Calls.{Call, TakesAll, TakesFront}
 use Rattle.wb_options.specs.Fault.{IsNumbered, line_of}
@@ -11,7 +11,7 @@ pub told_text : {T E : Type 0} (r : Result T E) (text : List ℕ) (calls : List 
 told_text (Ok done) text calls h = inl h
 told_text (Err error) text calls h = inr h
 
--- both tellings of an outcome
+-- both reports of an outcome
 abbrev pub TellsBoth : Result (Unit {0}) RunFault → (helped told : List Call) → Type 0
 TellsBoth r helped told = Tells (help_text r) helped × Tells (error_text r) told
 

@@ -33,20 +33,20 @@ abbrev pub texts_of : Result (Bor (List (Bor (List ℕ)))) NoWords → Result (L
 texts_of (Ok words) = Ok (map (λ word. word.now) words.now)
 texts_of (Err why) = Err why
 
--- what is wrong where there are no words: there was no memory for them, or one of them is not text, which is a wrong line, unless
+-- what is wrong where there are no words: there was no memory for them, or one of them is not text. That is a wrong line, unless
 -- there is no memory to say so
 abbrev pub IsWithoutWords : NoWords → RunFault → Type 0
 IsWithoutWords NoMemory fault = fault ≡ Memory
 IsWithoutWords NotText fault = IsNotText fault
 
--- The words were good and were served, or they were not, or there are none, and this is why; then nothing is read or written.
+-- The words were good and were served. Or they were not, or there are none, for this reason; then nothing is read or written.
 abbrev pub Serving : {T : Type 0} → ℕ → Result (List (List ℕ)) NoWords → Result T RunFault → (reads writes : List Call) → Type 0
 Serving pages (Err why) result reads writes = (fault : RunFault) × (result ≡ Err fault) × IsWithoutWords why fault × (reads ≡ []) × (writes ≡ [])
 Serving pages (Ok words) result reads writes =
     ((layout : Layout) × IsLine words layout.kind layout.size layout.log_size × Serves pages layout result reads writes)
     ⊎ ((fault : RunFault) × (result ≡ Err fault) × IsLineFault words fault × (reads ≡ []) × (writes ≡ []))
 
--- The program: the words are served or not, then help goes to the output, and a fault is told on the errors.
+-- The program: the words are served or not, then help goes to the output, and a fault is reported on the errors.
 pub record Program (pages : ℕ) (words : Result (List (List ℕ)) NoWords) (status : ℕ) (reads writes told : List Call) : Type 0 where
   pub outcome : Result (Unit {0}) RunFault
   pub served : List Call

@@ -17,7 +17,7 @@ max_reads = 1048576
 abbrev pub IsPiece : Call → Type 0
 IsPiece call = (call.asked ≡ 4096) × MovesSome call
 
--- pieces, and then one read more of which this holds
+-- pieces, and then one more read for which this holds
 pub record PiecesThen (P : Call → Type 0) (reads : List Call) : Type 0 where
   pub pieces : List Call
   pub last : Call
@@ -30,7 +30,7 @@ pub record PiecesThen (P : Call → Type 0) (reads : List Call) : Type 0 where
 abbrev pub NoQuit : List Call → Type 0
 NoQuit reads = ¬ Quits (complete_lines (bytes_moved reads))
 
--- pieces of which none but the last may complete a line `quit`
+-- pieces, of which only the last may complete a line `quit`
 pub record PiecesTo (reads : List Call) : Type 0 where
   pub pieces : List Call
   pub last : Call
@@ -38,7 +38,7 @@ pub record PiecesTo (reads : List Call) : Type 0 where
   pub each : Each IsPiece reads
   pub no_quit : NoQuit pieces
 
--- a text of these lines was written as far as it says
+-- a text of these lines was written, as far as `Takes` says
 abbrev pub WritesText : (List ℕ → List Call → Type 0) → ℕ → Triple → List (List ℕ) → List Call → Type 0
 WritesText Takes pages s lines writes = (text : List ℕ) × IsText pages s lines text × Takes text writes
 
@@ -57,14 +57,14 @@ ReadsCut pages most s reads writes =
     × NoQuit reads
     × WritesText TakesAll pages s (complete_lines (bytes_moved reads)) writes
 
--- Its writing was cut off: one write failed or took none of its bytes, and there was none after it. What was written is a
--- front of a text of what was read, up to its end, or else whatever follows it.
+-- Its writing was cut off: one write failed or took none of its bytes, and no write came after it. What was written is a front of a
+-- text of what was read, up to its end, or else whatever follows it.
 abbrev pub WritesCut : ℕ → Triple → (reads writes : List Call) → Type 0
 WritesCut pages s reads writes =
     (PiecesThen MovesNone reads × NoQuit reads × WritesText TakesFront pages s (lines_of (bytes_moved reads)) writes)
     ⊎ (PiecesTo reads × ((bytes : List ℕ) → WritesText TakesFront pages s (lines_of (bytes_moved reads ++ bytes)) writes))
 
--- the reads and writes of a script, of which the reads are at most so many, by the script's result
+-- the reads and writes of a script, of which the reads are at most `most`, by the script's result
 abbrev pub ScriptRuns : {T : Type 0} → (pages most : ℕ) → Triple → Result T RunFault → (reads writes : List Call) → Type 0
 ScriptRuns pages most s (Ok done) reads writes = RanWhole pages s reads writes
 ScriptRuns pages most s (Err ReadFault) reads writes = ReadsCut pages most s reads writes
@@ -75,8 +75,8 @@ ScriptRuns pages most s (Err fault) reads writes = ⊥
 abbrev pub Untouched : (reads writes : List Call) → Type 0
 Untouched reads writes = (reads ≡ []) × (writes ≡ [])
 
--- The same of a run of an image and a log on a machine with so many pages of RAM: an image that does not fit, and want of
--- memory for one that does, are refused before anything is read or written.
+-- The same for a run of an image and a log on a machine with `pages` pages of RAM. An image that does not fit, and want of memory
+-- for one that does, are refused before anything is read or written.
 abbrev pub RunsScript : {T : Type 0} → (pages most : ℕ) → Boot → List LogEvent → Result T RunFault → (reads writes : List Call) → Type 0
 RunsScript pages most image log (Err Memory) reads writes = FitsRam pages image × Untouched reads writes
 RunsScript pages most image log (Err (BadImage kind)) reads writes = (kind ≡ Pages) × ¬ FitsRam pages image × Untouched reads writes

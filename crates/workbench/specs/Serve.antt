@@ -14,7 +14,7 @@ use Rattle.wb_options.specs.declared.fault.RunFault.{RunFault}
 use Rattle.wb_options.specs.declared.fault.RunFault.TheVariants.{Memory, BadImage, BadLog, BadSource, ReadFault}
 use Rattle.workbench.specs.Runs.{ScriptRuns, max_reads}
 
--- the answer of a reading with its fault told as one of a run
+-- the answer of a reading, with its fault as one of a run
 abbrev pub with_fault : {A E : Type 0} → (E → RunFault) → Result A E → Result A RunFault
 with_fault told (Ok made) = Ok made
 with_fault told (Err fault) = Err (told fault)
@@ -30,7 +30,7 @@ abbrev pub log_of : List ℕ → Result (List LogEvent) RunFault
 log_of [] = Ok []
 log_of (byte ∷ bytes) = with_fault (λ kind. BadLog kind) (log_at (byte ∷ bytes))
 
--- a call's answer where this is to be made, or nothing for this reason: it may lack the memory for it
+-- what a call gives: what is to be made, or why it can't be, or want of memory
 abbrev pub Makes : {A : Type 0} → Result A RunFault → Result A RunFault → Type 0
 Makes (Ok made) answer = answer ≡ Ok made
 Makes (Err Memory) answer = Unit {0}
@@ -51,30 +51,30 @@ image_in layout bytes = image_of layout.kind (take layout.size bytes)
 abbrev pub log_in : Layout → List ℕ → Result (List LogEvent) RunFault
 log_in layout bytes = log_of (drop layout.size bytes)
 
--- these bytes make this image and this log, and the image fits a machine with so many pages of RAM
+-- these bytes make this image and this log, and the image fits a machine with `pages` pages of RAM
 pub record IsGood (pages : ℕ) (layout : Layout) (bytes : List ℕ) (image : Boot) (log : List LogEvent) : Type 0 where
   pub image_is : image_in layout bytes ≡ Ok image
   pub log_is : log_in layout bytes ≡ Ok log
   pub fits : FitsRam pages image
 
--- They make no image; or an image, and no log; or both, and the image does not fit. The first of these is told.
+-- They make no image; or an image, and no log; or both, and the image does not fit. The first of these is reported.
 abbrev pub IsBad : ℕ → Layout → List ℕ → RunFault → Type 0
 IsBad pages layout bytes fault =
     (image_in layout bytes ≡ Err fault)
     ⊎ (((image : Boot) × (image_in layout bytes ≡ Ok image) × (log_in layout bytes ≡ Err fault))
     ⊎ ((image : Boot) × (log : List LogEvent) × (image_in layout bytes ≡ Ok image) × (log_in layout bytes ≡ Ok log) × ¬ FitsRam pages image × (fault ≡ BadImage Pages)))
 
--- reads of so many bytes: each asked for what was missing, or for a piece of 4096, and gave some
+-- reads of `size` bytes: each asked for what was missing, or for a piece of 4096, and gave some
 abbrev pub AsksFor : ℕ → List Call → Type 0
 AsksFor size [] = Unit {0}
 AsksFor size (call ∷ calls) =
     (call.asked ≡ min size 4096) × MovesSome call × AsksFor (size - length (bytes_of call)) calls
 
--- reads of so many bytes, which gave all of them
+-- reads of `size` bytes, which gave all of them
 abbrev pub ReadsAll : ℕ → List Call → Type 0
 ReadsAll size reads = AsksFor size reads × (length (bytes_moved reads) ≡ size)
 
--- reads of so many bytes were cut off: a read failed or gave none, or the most reads were made
+-- reads of `size` bytes were cut off: a read failed or gave none, or the most reads were made
 pub record EndsWithin (size : ℕ) (reads : List Call) : Type 0 where
   pub pieces : List Call
   pub last : Call
@@ -100,7 +100,7 @@ pub record ServesScript {T : Type 0} (pages : ℕ) (layout : Layout) (result : R
   pub good : IsGood pages layout (bytes_moved before) image log
   pub runs : ScriptRuns pages (max_reads - length before) (record { image = image; log = log; position = 0 }) result script writes
 
--- Image and log were read and refused, and this is why. Nothing is written.
+-- Image and log were read and refused for this reason. Nothing is written.
 abbrev pub Refuses : ℕ → Layout → RunFault → (reads writes : List Call) → Type 0
 Refuses pages layout fault reads writes = ReadsAll (size_of layout) reads × IsBad pages layout (bytes_moved reads) fault × (writes ≡ [])
 

@@ -9,8 +9,8 @@ use Rattle.wb_session.specs.Session.{Triple}
 use Rattle.workbench.specs.declared.script.LineOutcome.{LineOutcome}
 use Rattle.workbench.specs.declared.script.LineOutcome.TheVariants.{Quit, Nothing, Reply}
 
--- What is pending is a part of a line, and the bytes that it lacks follow. Whatever follows, the text of all of it is what
--- was written so far and a text from here on. What was written so far is a text of the complete lines, and none says `quit`.
+-- What is pending is a part of a line, and its other bytes follow. Whatever they are, the text of all of it is what was
+-- written so far and a text from here on. What was written so far is a text of the complete lines, and none of them says `quit`.
 pub record GoesOn (pages : ℕ) (s : Triple) (input : List ℕ) (new : Triple) (pending text : List ℕ) : Type 0 where
   pub text_goes_on : (bytes more : List ℕ) → IsText pages new (lines_of (pending ++ bytes)) more → IsText pages s (lines_of (input ++ bytes)) (text ++ more)
   pub quits_too : (bytes : List ℕ) → Quits (lines_of (pending ++ bytes)) → Quits (lines_of (input ++ bytes))
@@ -33,13 +33,13 @@ pub record LeadsTo (pages : ℕ) (s : Triple) (line : List ℕ) (new : Triple) (
   pub answered : FromLine pages s (command_of line) (λ t more. (t ≡ new) × (more ≡ [])) text
   pub no_quit : says_quit (command_of line) ≡ false
 
--- what a line brings: it is `quit`, or it leads to another session with no text, or with that of a reply
+-- what a line brings: it is `quit`, or it leads to another session without a text, or with that of a reply
 abbrev pub IsLineOutcome : ℕ → Triple → List ℕ → Triple → LineOutcome → Type 0
 IsLineOutcome pages s line new Quit = says_quit (command_of line) ≡ true
 IsLineOutcome pages s line new Nothing = LeadsTo pages s line new []
 IsLineOutcome pages s line new (Reply reply) = LeadsTo pages s line new (text_of reply)
 
--- a line was answered by these calls: it is `quit`, and nothing was written, or it leads to another session
+-- a line was answered by these calls: it is `quit` and nothing was written, or it leads to another session
 abbrev pub Answered : ℕ → Triple → List ℕ → Triple → List Call → Bool → Type 0
 Answered pages s line new calls true = (says_quit (command_of line) ≡ true) × (calls ≡ [])
 Answered pages s line new calls false = Each MovesSome calls × LeadsTo pages s line new (bytes_moved calls)

@@ -2,7 +2,7 @@
 use arrayvec::ArrayVec;
 use std::marker::Model;
 
-/// The bytes of a line before its line feed has come. Behind the first 258 they are dropped: a line of so many is
+/// The bytes of a line before its line feed has come. Those after the first 258 are dropped: a line of that length is
 /// refused, whatever follows.
 #[derive(Drop)]
 pub(crate) struct LineBuffer {

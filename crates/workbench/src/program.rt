@@ -35,8 +35,8 @@ pub fn r3kwb<R: Source, W: Sink, E: Sink>(
     serve_words::<2048, 65_536, R, W, E>(alloc, words, input, output, errors)
 }
 
-/// The program on its words, the first of which is its name, or on none: serves what they ask for, with replies to `output`, reports
-/// a fault on `errors`, and gives help on `output`. The result is the exit status.
+/// The program on its words, the first of which is its name, or on none. It serves what they ask for, with replies to `output`,
+/// reports a fault on `errors`, and gives help on `output`. The result is the exit status.
 ///
 /// Nobody is left to report to where reporting fails.
 pub fn serve_words<const PAGES: u32, const SPAN: u32, R: Source, W: Sink, E: Sink>(

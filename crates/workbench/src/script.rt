@@ -43,7 +43,7 @@ pub fn run<const PAGES: u32, const SPAN: u32, R: Source, W: Sink>(
     run_with::<PAGES, SPAN, R, W>(alloc, image, log, reader, writer, MAX_READS)
 }
 
-/// Runs a script with so many reads left.
+/// Runs a script with at most `most` reads.
 pub(crate) fn run_with<const PAGES: u32, const SPAN: u32, R: Source, W: Sink>(
     alloc: Global,
     image: Image,

@@ -13,8 +13,8 @@ use std::alloc::Global;
 use wb_io::{PIECE_BYTES, Sink, Source};
 use wb_options::{Kind, Options, RunFault};
 
-/// Reads as many bytes as the options say, makes the image of their kind and the log, and runs the script that follows on a
-/// machine with that image and that log. All reads together are at most 2^20.
+/// Reads the bytes of image and log, as many as the options say, makes both, and runs the script that follows on a machine with
+/// them. All reads together are at most 2^20.
 ///
 /// Input that ends within image or log is a read fault. Both are read before they are judged: the image first, then the log,
 /// and last whether the image fits the machine. Nothing is written until they are found good.
@@ -55,7 +55,7 @@ struct Front {
     reads_left: u32,
 }
 
-// Reads so many bytes, and no more.
+// Reads `size` bytes, and no more.
 fn read_front<R: Source>(alloc: Global, size: usize, reader: &mut R) -> Result<Front, RunFault>
     ensures { (reads : List Call)
         × Reads (R.reads reader.old) (R.reads reader.new) (R.left reader.old) (R.left reader.new) reads
@@ -99,7 +99,7 @@ fn image_of(alloc: Global, kind: Kind, bytes: &[u8]) -> Result<Image, RunFault>
     }
 }
 
-// The log that bytes spell: none at all is the empty log.
+// The log that bytes spell. No bytes are the empty log.
 fn log_of(alloc: Global, bytes: &[u8]) -> Result<Log, RunFault>
     ensures made { Makes result (log_of bytes.now) }
     ensures judged { IfErr result IsJudgement }

@@ -59,7 +59,7 @@ rising xs up i j below within =
       | inr less ↦ let e = AllPairs-from_increasing xs up i j 0 less within in omega (arith, e)
     ]
 
--- what a search in an ascending list tells
+-- what a search in an ascending list gives
 pub searched_for : (xs : List ℕ) (x : ℕ) (r : Result ℕ ℕ) → IsStrictlyIncreasing xs → IsBinarySearchResult (λ y. nat_cmp y x) xs r → is_ok r ≡ holds xs x
 searched_for xs x (Ok i) up found = let at = searched xs x (Ok i) found (rising xs up) in sym (held_from xs i x at.0 at.1)
 searched_for xs x (Err i) up found =
@@ -127,11 +127,11 @@ or_both false true x = sym (or_true x)
 or_both false false true = refl
 or_both false false false = refl
 
--- pages behind those so far
+-- pages after those so far
 more : (pages rest : List ℕ) (page : ℕ) (a b : Bool) → holds pages page ≡ (a || b) → holds (pages ++ rest) page ≡ ((a || b) || holds rest page)
 more pages rest page a b is = list_any-append (λ other. nat_eq other page) pages rest ∙ ap (λ (x : Bool). x || holds rest page) is
 
--- the rest of the one of which there is more
+-- the rest of the longer one
 pub merged_rest_a : (a b : List ℕ) (i j : ℕ) (pages : List ℕ) → IsMerged a b i j pages → IsStrictlyIncreasing a → length b ≤ j
     → IsStrictlyIncreasing (pages ++ drop i a) × IsUnion a b (pages ++ drop i a)
 merged_rest_a a b i j pages so_far up past = (
@@ -172,7 +172,7 @@ merged_rest_b a b i j pages so_far up past = (
     taken : (xs : List ℕ) (n : ℕ) → length xs ≤ n → n ≤ length xs → take n xs ≡ xs
     taken xs n low high = let e : n ≡ length xs = omega (arith, low, high) in ap (λ (m : ℕ). take m xs) e ∙ take-length xs
 
--- the rest of both, of which one has none
+-- the rest of both, of which one is empty
 pub merged_rest : (a b : List ℕ) (i j : ℕ) (pages : List ℕ) → IsMerged a b i j pages → IsStrictlyIncreasing a → IsStrictlyIncreasing b
     → (length a ≤ i) ⊎ (length b ≤ j) → IsStrictlyIncreasing ((pages ++ drop i a) ++ drop j b) × IsUnion a b ((pages ++ drop i a) ++ drop j b)
 merged_rest a b i j pages so_far up_a up_b (inl past) =

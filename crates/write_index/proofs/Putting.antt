@@ -52,7 +52,7 @@ put_pair level old parents node count set both but there put union = record {
       ];
 }
 
--- with none, since it is the first of a pair that isn't there
+-- without a union, since it is the first of a pair that isn't there
 pub put_alone : (level parents : List (List ℕ)) (node count : ℕ) (set : List ℕ) → IsLevelBut node count level parents
     → count / 2 ≤ node / 2 → IsLevel count (slice_set level node set) parents
 put_alone level parents node count set but behind = record {

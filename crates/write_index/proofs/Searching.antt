@@ -22,7 +22,7 @@ two m =
       | inr same ↦ inl (omega (arith, same))
     ]
 
--- no node behind the last pair has the page
+-- no node after the last pair has the page
 abbrev pub NoneOdd : List (List ℕ) → ℕ → ℕ → Type 0
 NoneOdd level page end = (m : ℕ) → 2 * (end / 2) ≤ m → m < end → IsFalse (holds (pages_at level m) page)
 
@@ -77,12 +77,12 @@ last_first levels level above end page pair is tree odd last second =
           ],
     )
 
--- how many binary digits half a number has
+-- how many binary digits the half of a number has
 pub fewer_digits : (end digits : ℕ) → 0 < end → end < 2 ^ digits → (d : ℕ) × (digits ≡ suc d) × (end / 2 < 2 ^ d)
 fewer_digits end zero some small = absurd (omega (arith, some, small))
 fewer_digits end (suc d) some small = (d, refl, let twice = pow-suc 2 d in omega (arith, small, twice))
 
--- spans behind those that are held have no pages
+-- spans after the held ones have no pages
 pub last_held : (sets : List (List ℕ)) (held page before end : ℕ) (found : Option ℕ) → end ≡ min held before → IsLast sets page end found
     → IsLast (take held sets) page before found
 last_held sets held page before end found is last = go found last

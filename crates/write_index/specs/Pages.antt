@@ -20,6 +20,6 @@ IsLast sets page before None = (i : ℕ) → i < before → IsFalse (holds (page
 IsLast sets page before (Some span) =
     (span < before) × IsTrue (holds (pages_at sets span) page) × ((i : ℕ) → span < i → i < before → IsFalse (holds (pages_at sets i) page))
 
--- a number has at most so many binary digits, and zero has none
+-- a number has at most `digits` binary digits; zero has none
 abbrev pub HasDigits : ℕ → ℕ → Type 0
 HasDigits number digits = number < 2 ^ digits

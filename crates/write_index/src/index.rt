@@ -61,13 +61,13 @@ impl WriteIndex {
         Ok(())
     }
 
-    /// The last span below one that stored into a page. It looks at the pages of at most two nodes for each binary digit of the number
-    /// of spans: where there is no span, at none.
+    /// The last span below one that stored into a page. It looks at the pages of at most two nodes for each binary digit of the
+    /// number of spans, and of none where there is no span.
     pub fn last_span(&self, page: u32, before: u64, asked: &mut Asked) -> Option<u64>
         ensures last { IsLast self.now page before result }
         ensures asked { (digits : ℕ) → HasDigits (length self.now) digits → asked.new.nodes ≤ asked.old.nodes + 2 * digits }
         ensures counted { asked.old.nodes ≤ asked.new.nodes }
-        // None is found without a look.
+        // No span is found without a look.
         ensures found { IfSome result (λ _. min (asked.old.nodes + 1) (2 ^ 64 - 1) ≤ asked.new.nodes) }
     {
         let end = self.count.min(before as usize);

@@ -8,7 +8,7 @@ use crate::page_set::PageSet;
 use std::alloc::{AllocError, Global};
 use std::marker::Model;
 
-/// The nodes of a level. Those behind the last whole one are room.
+/// The nodes of a level. Those after the last whole one are room.
 #[derive(Drop)]
 pub(crate) struct Level {
     nodes: Vec<PageSet>,
@@ -40,7 +40,7 @@ impl Level {
         &self.nodes[node]
     }
 
-    /// Makes room for so many nodes.
+    /// Makes room for `count` nodes.
     pub(crate) fn grow(&mut self, alloc: Global, count: usize) -> Result<(), AllocError>
         ensures kept { Keeps self.old self.new }
         ensures room { IfOk result (λ _. count ≤ length self.new) }

@@ -28,7 +28,7 @@ pub(crate) fn deepen(alloc: Global, levels: &mut Vec<Level>) -> Result<(), Alloc
     Ok(())
 }
 
-/// Puts the pages of a span in their place, where there may be fewer spans or more. Where memory is refused, the spans stay.
+/// Puts the pages of a span in their place. There may be fewer spans before, or more. Where memory is refused, the spans stay.
 pub(crate) fn update(
     alloc: Global,
     levels: &mut [Level],
@@ -50,7 +50,7 @@ pub(crate) fn update(
     put(alloc, levels, count, index, set)
 }
 
-// Makes room for so many spans.
+// Makes room for `count` spans.
 fn grow(alloc: Global, levels: &mut [Level], count: usize) -> Result<(), AllocError>
     requires { count < 2 ^ length levels.old }
     ensures grown { Grown levels.old levels.new }
@@ -68,7 +68,7 @@ fn grow(alloc: Global, levels: &mut [Level], count: usize) -> Result<(), AllocEr
     }
 }
 
-// Puts spans with no pages behind the first ones, up to one.
+// Puts spans with no pages after the first `count` ones, up to `end`.
 fn fill(alloc: Global, levels: &mut [Level], count: usize, end: usize) -> Result<(), AllocError>
     requires tree { IsTree count levels.old }
     requires room { HasRoom end levels.old }
@@ -84,8 +84,8 @@ fn fill(alloc: Global, levels: &mut [Level], count: usize, end: usize) -> Result
     Ok(())
 }
 
-// Puts the pages of a span in their place, and makes the unions that rest on them anew, which come first: where memory is refused,
-// all is as it was.
+// Puts the pages of a span in their place, and makes the unions that rest on them anew. The unions are made first, so where memory
+// is refused, all is as it was.
 fn put(
     alloc: Global,
     levels: &mut [Level],

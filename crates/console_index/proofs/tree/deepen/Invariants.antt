@@ -2,7 +2,7 @@ use Rattle.std.proofs.Common.{◌≡◌, ◌-◌, ◌≤◌, length}
 use Rattle.console_index.specs.declared.tree.TheConstants.{LEVELS}
 use Rattle.console_index.proofs.tree.deepen.Given as goal
 
--- no more than all, and none if there were all
+-- at most all levels, and no new one if all were there
 abbrev pub invariant-loop-alloc : goal.invariant-loop-alloc
 invariant-loop-alloc l = record {
   few : length l.levels.items ≤ LEVELS;

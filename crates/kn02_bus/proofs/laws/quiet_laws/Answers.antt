@@ -1,4 +1,4 @@
--- What is so of both parts is so of the bus.
+-- What holds for both parts holds for the bus.
 use Rattle.std.proofs.Common.{◌≡◌, ℕ, ◌+◌, ◌*◌, ◌≤◌, sym, ap, arith, subst, ◌∙◌}
 use Rattle.std.specs.Prelude.{min}
 use Rattle.r3k_word.specs.Word.{has}

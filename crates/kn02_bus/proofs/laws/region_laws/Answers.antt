@@ -1,4 +1,4 @@
--- Each test of the map tells where the word stands.
+-- Each test of the map shows where the word stands.
 use Rattle.std.proofs.Common.{arith}
 use Rattle.std.proofs.lemmas.Bool.Decides.{nat_tests}
 use Rattle.kn02_bus.specs.Region.{region_of}

@@ -2,7 +2,7 @@ use Rattle.std.proofs.Common.{◌≡◌, ◌-◌, ◌≤◌}
 use Rattle.checkpoints.specs.Kept.{Kept}
 use Rattle.present_run.proofs.joining.join_up_to.Given as goal
 
--- so many are joined so far
+-- how many are joined so far
 abbrev pub invariant-loop-kept : goal.invariant-loop-kept
 invariant-loop-kept g l = record {
   is : l.kept ≡ (let k : Kept = record l.fn.kept { valid = l.kept.valid } in k);

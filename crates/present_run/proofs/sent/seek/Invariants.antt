@@ -2,6 +2,6 @@ use Rattle.std.proofs.Common.{◌≡◌, ◌+◌, length, take}
 use Rattle.span_index.specs.Sent.{steps_on}
 use Rattle.present_run.proofs.sent.seek.Given as goal
 
--- so many places are left behind those that were searched
+-- how many places are left after those that were searched
 abbrev pub invariant-loop-one : goal.invariant-loop-one
 invariant-loop-one l = length (steps_on l.line (take l.one-index l.sent)) + l.left ≡ l.place

@@ -1,4 +1,4 @@
--- The line, and what stands behind its line feed.
+-- The line, and what follows its line feed.
 use Rattle.std.proofs.Common.{◌≡◌, ◌<◌, length, arith, sym, ap, subst, ◌∙◌}
 use Rattle.std.proofs.lemmas.Bool.{eqb-true, eq-eqb, false≢true}
 use Rattle.std.proofs.lemmas.List.{length-drop}

@@ -1,4 +1,4 @@
--- One line more, up to the end or a fault.
+-- One more line, up to the end or a fault.
 use Rattle.std.proofs.Common.{Result, Err, IfOk, ◌≡◌, ◌+◌, arith, sym, ap, subst, ◌∙◌}
 use Rattle.std.proofs.lemmas.Bool.{eqb-true}
 use Rattle.std.proofs.lemmas.Result.{err_from_is_err_and}

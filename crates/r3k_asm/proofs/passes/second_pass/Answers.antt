@@ -1,4 +1,4 @@
--- One reference more, up to the end or a fault.
+-- One more reference, up to the end or a fault.
 use Rattle.std.proofs.Common.{◌+◌, drop, sym, ap, subst, ◌∙◌}
 use Rattle.r3k_asm.specs.Meaning.{linked, FailsOrLacks}
 use Rattle.r3k_asm.proofs.Links.{link_more, link_fails, link_none}

@@ -1,4 +1,4 @@
--- A word is written over the one at its address, behind a segment, or as a segment of its own.
+-- A word is written over the one at its address, after a segment, or as a segment of its own.
 use Rattle.std.proofs.Common.{◌≡◌, ◌-◌, ◌/◌, List, sym, ap, subst, ◌∙◌, refl, arith, Result, Ok, Err}
 use Rattle.std.specs.Prelude.{OnErr}
 use Rattle.std.specs.List.{insert}

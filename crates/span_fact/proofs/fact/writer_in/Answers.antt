@@ -23,7 +23,7 @@ returns-then-at-writers g c =
     (λ k d low inside same. absurd (let e : ⊥ = omega (arith, low, inside, c.if-at-writers.true) in e))
     ∙ ap (λ (a : ℕ). last_writer a steps) (let e : 4 * place ≡ c.args.address = omega (arith, c.if-address-ne0.false) in e)
 
--- the place of a word, whatever stands behind the last one
+-- the place of a word, whatever follows the last one
 at_any : (writers : List Written) (k : ℕ) (d e : Written) {place : ℕ} → k < length writers → (slice_index_or writers k e).place ≡ place → (slice_index_or writers k d).place ≡ place
 at_any writers k d e within same = ap (λ (w : Written). w.place) (get_or_default writers k d e within) ∙ same
 

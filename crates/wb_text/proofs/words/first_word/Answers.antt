@@ -1,4 +1,4 @@
--- The first word, behind the blanks before it.
+-- The first word, after the blanks before it.
 use Rattle.std.proofs.Common.{◌∙◌, rules, arith, ap, drop}
 use Rattle.wb_text.proofs.WordsOfLine.{words_of-nil, words_of-first_word}
 use Rattle.wb_text.proofs.words.first_word.Goals as goal

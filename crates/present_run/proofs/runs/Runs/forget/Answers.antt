@@ -14,7 +14,7 @@ use Rattle.present_run.proofs.Next.{map_some, value_count}
 use Rattle.present_run.proofs.Spans.{at_reset}
 use Rattle.present_run.proofs.runs.Runs.forget.Goals as goal
 
--- the spans that stay joined are those that were, as all of them are before what has changed
+-- all joined spans stay joined, as all of them are before what has changed
 pub returns-then-joined-index-clause-of : goal.returns-then-joined-index-clause-of
 returns-then-joined-index-clause-of g c =
     λ image log changed of same.

@@ -1,5 +1,5 @@
--- The lowest candidate that matches is the lowest entry that does, and the candidates behind it
--- tell whether another does.
+-- The lowest candidate that matches is the lowest entry that does, and the candidates after it
+-- show whether another does.
 use Rattle.std.proofs.Common.{sym, ap, ◌∙◌}
 use Rattle.tlb64.proofs.Candidates.{found_none, found_as}
 use Rattle.tlb64.proofs.Least.{found_with}
