@@ -8,7 +8,7 @@ use std::collections::BTreeSet;
 use crate::image::{Image, ROM};
 use crate::log::{Event, GREATEST, Kind};
 use crate::machine::{KSEG0, KSEG2};
-use crate::random::{self, Code, DATA, NOP, ROM_BODY, Random};
+use crate::random::{self, Code, DATA, NOP, RAM_BODY, ROM_BODY, Random};
 use crate::session::Session;
 
 /// The proved program keeps a record of every span of this many steps, so positions and times stand near their ends, too.
@@ -98,6 +98,16 @@ impl Code<'_> {
         words
     }
 
+    /// An instruction that adds, branches on, or stores another one into one of the first `count` words of a body.
+    fn rewriting(&mut self, count: u32) -> u32 {
+        let register = 16 + self.random.below(4);
+        match self.random.below(8) {
+            0..3 => 0xAC00_0000 | (8 + self.random.below(3)) << 21 | (11 + self.random.below(8)) << 16 | 4 * self.random.below(count),
+            3 => branch(1 + self.random.below(2)),
+            _ => 0x2400_0000 | register << 21 | register << 16 | self.random.below(0x100),
+        }
+    }
+
     /// One turn: reads RBUF, and takes the byte if one is there.
     fn turn(&mut self) {
         let begin = self.words.len() as u32;
@@ -153,6 +163,39 @@ pub fn reader(seed: u64) -> Image {
     let mut code = Code { random: &mut random, words: Vec::new() };
     code.turn();
     image.words.extend((ROM_BODY..).step_by(4).zip(code.words));
+    image
+}
+
+/// An image whose code stores instructions into its own page, into another one, and into one whose words stand a multiple of 64 K
+/// words away, through kseg0 and kseg1, and in delay slots.
+pub fn rewriter(seed: u64) -> Image {
+    let mut random = Random(seed ^ 0x7777_7777_7777_7777);
+    let mut image = Image::raw_rom(&[]).expect("an empty ROM");
+    let bodies = [RAM_BODY, RAM_BODY + 0x1000, RAM_BODY + 0x4_0000];
+    let count = 8 + random.below(24);
+    let mut code = Code { random: &mut random, words: Vec::new() };
+    for (register, body) in (8..).zip(bodies) {
+        let segment = code.random.pick(&[0x8000_0000, 0xA000_0000]);
+        code.set(register, segment + body);
+    }
+    for register in 11..15 {
+        let word = code.rewriting(count);
+        code.set(register, word);
+    }
+    let first = 8 + code.random.below(3);
+    code.words.extend([first << 21 | 8, NOP]);
+    image.words.extend((ROM..).step_by(4).zip(code.words));
+    for body in bodies {
+        let mut code = Code { random: &mut random, words: Vec::new() };
+        for _ in 0..count {
+            let word = code.rewriting(count);
+            code.words.push(word);
+        }
+        let next = 8 + code.random.below(3);
+        let last = code.rewriting(count);
+        code.words.extend([next << 21 | 8, last]);
+        image.words.extend((body..).step_by(4).zip(code.words));
+    }
     image
 }
 

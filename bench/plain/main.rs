@@ -147,6 +147,7 @@ fn main() -> io::Result<ExitCode> {
         let made = match kind {
             "image" => random::image(options.seed, options.parts).write(),
             "reader" => edits::reader(options.seed).write(),
+            "rewriter" => edits::rewriter(options.seed).write(),
             "log" => random::log(options.seed, options.parts).write(),
             _ => random::script(options.seed, &commands).into_bytes(),
         };

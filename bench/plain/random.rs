@@ -61,7 +61,7 @@ const RFE: u32 = 0x4200_0010;
 // Where parts of an image stand, as physical addresses.
 const SETUP: u32 = ROM + 0x200;
 pub const ROM_BODY: u32 = ROM + 0x1000;
-const RAM_BODY: u32 = 0x1000;
+pub const RAM_BODY: u32 = 0x1000;
 pub const DATA: u32 = 0x2000;
 const BODY_WORDS: u32 = 320;
 

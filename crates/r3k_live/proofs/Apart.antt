@@ -16,7 +16,7 @@ use Rattle.r3k_live.specs.Record.{touched_pages}
 use Rattle.r3k_pages.proofs.Ascending.{holds_where, pages_set}
 use Rattle.r3k_live.proofs.Recorded.{any_more}
 
--- a page past the last one is no page that is told
+-- a page past the last one is no page that is reported
 not_past : (pages page : ℕ) (one : Option ℕ) → page_count_of pages ≤ page → IfSome one (IsPage pages) → is_page page one ≡ false
 not_past pages page None past within = refl
 not_past pages page (Some other) past within =

@@ -7,7 +7,7 @@ use Rattle.r3k_machine.specs.State.{State}
 use Rattle.r3k_live.specs.Record.{is_dirty}
 use Rattle.r3k_live.specs.Recording.{Recording, Records}
 
--- so many steps of the run from a state are made and recorded, and words of pages that they did not store into stayed
+-- `made` steps of the run from a state are made and recorded, and words of pages that they did not store into stayed
 pub record HasGone (pages : ℕ) (log : List LogEvent) (from : ℕ) (start : State) (made : ℕ) (s : State) (r : Recording) : Type 0 where
   pub state : s ≡ run pages log from start made
   pub recorded : Records pages (trace pages log from start made) r
@@ -18,6 +18,6 @@ pub record HasGone (pages : ℕ) (log : List LogEvent) (from : ℕ) (start : Sta
 abbrev pub PassesBy : (pages : ℕ) → List LogEvent → (from : ℕ) → State → (address above below : ℕ) → Type 0
 PassesBy pages log from start address above below = (k : ℕ) → above < k → k < below → ¬ ((run pages log from start k).core.pc ≡ address)
 
--- so many times from one on have no event
+-- n times from one on have no event
 abbrev pub IsFreeFor : ℕ → List LogEvent → ℕ → Type 0
 IsFreeFor n log time = (k : ℕ) → k < n → arriving log (time + k) ≡ []

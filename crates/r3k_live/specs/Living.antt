@@ -12,6 +12,6 @@ pub record Living : Type 0 where
 abbrev pub state_of : {pages : ℕ} → Core → FlatMemory pages → State
 state_of core memory = record { core = core; words = memory.words.items }
 
--- a count of steps after so many more. It stands still at the greatest number
+-- a count of steps after some more. It stands still at the greatest number
 abbrev pub counted : ℕ → ℕ → ℕ
 counted before steps = min (before + steps) (2 ^ 64 - 1)

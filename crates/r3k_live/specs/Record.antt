@@ -1,5 +1,5 @@
--- What the steps of a run told, taken together (own): the bytes that they sent, the pages that they stored into, and those that
--- they touched. The last step that stored into a word is told by the last writer.
+-- What the steps of a run reported, taken together (own): the bytes that they sent, the pages that they stored into, and those that
+-- they touched. The last step that stored into a word is given by the last writer.
 use Rattle.std.specs.Prelude.{◌≡◌, ℕ, suc, ◌*◌, ◌/◌, ◌<◌, Bool, false, List, [], ◌∷◌, Option, Some, None, All, Contains, IsSome, map, nat_eq}
 use Rattle.std.specs.List.{list_any}
 use Rattle.std.specs.List.Sorted.{IsStrictlyIncreasing}

@@ -1,4 +1,4 @@
--- How a recorder keeps what steps told (own).
+-- How a recorder keeps what steps reported (own).
 use Rattle.std.specs.Prelude.{◌≡◌, ℕ, ◌+◌, ◌*◌, ◌/◌, ◌<◌, ◌≤◌, List, length, All, Contains, Option, Some, None, nat_eq, slice_index, slice_set}
 use Rattle.std.specs.List.{IsDistinct}
 use Rattle.r3k_word.specs.declared.layout.TheConstants.{MAX_RAM_PAGES, PAGE_BYTES, PAGE_WORDS}
@@ -38,7 +38,7 @@ pub record AreStored (last stored : List ℕ) : Type 0 where
   pub within : All (λ place. (place < length last) × (0 < slice_index last place)) stored
   pub all : (place : ℕ) → 0 < slice_index last place → Contains stored place
 
--- a recorder has room for all that so many steps can tell
+-- a recorder has room for all that `span` steps can report
 pub record IsRecording (pages span stored_room sent_room : ℕ) (r : Recording) : Type 0 where
   pub few : pages ≤ MAX_RAM_PAGES
   pub steps : r.steps ≤ span
@@ -50,7 +50,7 @@ pub record IsRecording (pages span stored_room sent_room : ℕ) (r : Recording) 
   pub marked : AreStored r.last r.stored
   pub once : IsDistinct nat_eq r.stored
 
--- a recorder holds what these steps told
+-- a recorder holds what these steps reported
 pub record Records (pages : ℕ) (steps : List Done) (r : Recording) : Type 0 where
   pub count : r.steps ≡ length steps
   pub last : (place : ℕ) → place < pages * PAGE_WORDS → slice_index r.last place ≡ kept_step (last_writer (4 * place) steps)

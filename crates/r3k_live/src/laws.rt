@@ -9,8 +9,8 @@ ghost use Rattle.r3k_machine.specs.Locality.{IsApart, IsWithPages, is_touched};
 ghost use Rattle.r3k_live.specs.Record.{touched_pages};
 
 /// The pages that are recorded of a run as touched are all that its steps touch. So a run of which no page of a set is recorded
-/// tells the same from the state with any other words in these pages, and its end is the same with these words in them: it is made
-/// of both memories. A start that is the same but for pages that are not recorded is near enough to tell the same.
+/// reports the same from the state with any other words in these pages, and its end is the same with these words in them: it is made
+/// of both memories. A start that is the same but for pages that are not recorded is near enough to report the same.
 pub fn run_locality()
     ensures recorded { (pages : ℕ) (log : List LogEvent) (time : ℕ) (s : State) (n page : ℕ) →
         holds (touched_pages pages (trace pages log time s n)) page ≡ is_touched (trace pages log time s n) page }

@@ -1,4 +1,4 @@
-//! The machine that runs: one flat memory, a record of what its steps told, and boundaries to go back to.
+//! The machine that runs: one flat memory, a record of what its steps reported, and boundaries to go back to.
 #![tactic(auto)]
 
 mod boundary;

@@ -47,7 +47,7 @@ impl<const PAGES: u32> Model for Live<PAGES> {
     ghost invariant = { λ live. SameOutside live.changed live.base.value.words live.memory.words.items };
 }
 
-/// A count of steps after so many more. It stands still at the greatest number.
+/// A count of steps after some more. It stands still at the greatest number.
 pub fn counted(before: u64, steps: u32) -> u64
     ensures { result ≡ counted before steps }
 {
@@ -102,7 +102,7 @@ impl<const PAGES: u32> Live<PAGES> {
         self.changed.clear();
     }
 
-    /// Runs so many steps, at most `SPAN`, from a time on, with the events of their times, and records what they tell in a
+    /// Runs `steps` steps, at most `SPAN`, from a time on, with the events of their times, and records what they report in a
     /// recorder that is empty. It takes no memory.
     pub fn run<const SPAN: u32>(
         &mut self,
@@ -124,7 +124,7 @@ impl<const PAGES: u32> Live<PAGES> {
         let _stopped = self.go_on(from, events, steps, NOWHERE, recorder);
     }
 
-    /// The same, but it ends behind the first step after which the PC holds an address, and gives the number of steps to there.
+    /// The same, but it ends after the first step that leaves this address in the PC, and gives the number of steps to there.
     pub fn visit<const SPAN: u32>(
         &mut self,
         from: u64,
@@ -149,7 +149,7 @@ impl<const PAGES: u32> Live<PAGES> {
         self.go_on(from, events, steps, address as u64, recorder)
     }
 
-    // Steps until the PC holds an address, or so many times.
+    // Steps until the PC holds an address, or `steps` times.
     fn go_on<const SPAN: u32>(
         &mut self,
         from: u64,
@@ -229,7 +229,7 @@ impl<const PAGES: u32> Live<PAGES> {
     }
 }
 
-// The one loop that steps: so many steps, or until the PC holds an address, all of which are recorded.
+// The one loop that steps: `steps` steps, or until the PC holds an address, all of which are recorded.
 #[inline(never)]
 fn step_until<const PAGES: u32, const SPAN: u32>(
     core: &mut Core,

@@ -1,4 +1,4 @@
-//! A record of what steps told: bytes sent, words stored into, and pages touched.
+//! A record of what steps reported: bytes sent, words stored into, and pages touched.
 
 ghost use Rattle.std.specs.Prelude.{◌≡◌, ◌+◌, ◌-◌, ◌*◌, ◌/◌, ◌^◌, ◌<◌, ◌≤◌, [], ◌∷◌, ◌++◌, All, ◌||◌, IfOk, IfSome, List, length, map, nat_eq, slice_index, slice_set, vec_capacity, vec_len, ℕ};
 ghost use Rattle.std.specs.List.{IsDistinct};
@@ -33,7 +33,7 @@ pub struct Written {
     pub step: u32,
 }
 
-/// What the steps of a run told, at most `SPAN` of them, on a machine with `PAGES` pages of RAM. All room is taken when it is made.
+/// What the steps of a run reported, at most `SPAN` of them, on a machine with `PAGES` pages of RAM. All room is taken when it is made.
 #[derive(Drop)]
 pub struct Recorder<const PAGES: u32, const SPAN: u32> {
     steps: u32,
@@ -149,7 +149,7 @@ impl<const PAGES: u32, const SPAN: u32> Recorder<PAGES, SPAN> {
         &self.dirty
     }
 
-    // Records what one more step told.
+    // Records what one more step reported.
     #[inline]
     pub(crate) fn note(&mut self, done: Done)
         requires room { self.old.steps < SPAN }

@@ -15,7 +15,7 @@ use input_log::Cursor;
 use r3k_machine::step::step;
 use r3k_machine::{CodePage, Core, code_page, quick_step, quiet_laws};
 
-// Makes quick steps in a page, at most so many, and ends after one that comes to an address. Their ticks and falls of Random are
+// Makes quick steps in a page, at most `most`, and ends after one that comes to an address. Their ticks and falls of Random are
 // still to come.
 #[inline(never)]
 fn quick_steps<const PAGES: u32, const SPAN: u32>(
@@ -54,7 +54,7 @@ fn quick_steps<const PAGES: u32, const SPAN: u32>(
     made
 }
 
-// Makes quick steps as long as they stay in the page where they begin, at most so many, and ends after one that comes to an address.
+// Makes quick steps as long as they stay in the page where they begin, at most `most`, and ends after one that comes to an address.
 // It makes none where none are wanted.
 #[inline(always)]
 fn stretch<const PAGES: u32, const SPAN: u32>(
@@ -94,7 +94,7 @@ fn stretch<const PAGES: u32, const SPAN: u32>(
     made
 }
 
-/// Makes steps, at most so many: quick ones, where these are wanted, and then one more, be it quick or not. It ends after a step that
+/// Makes steps, at most `most`: quick ones, where these are wanted, and then one more, be it quick or not. It ends after a step that
 /// comes to an address.
 #[inline(always)]
 pub(crate) fn advance<const PAGES: u32, const SPAN: u32>(

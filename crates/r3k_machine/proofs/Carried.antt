@@ -62,7 +62,7 @@ stored_apart set own other words (Some address) covered apart w =
     (eq-eqb (address / 4096) (page_of_place (address / 4)) (omega arith)))
     w
 
--- words that are told by the two memories are one list
+-- words that are taken from the two memories are one list
 pub one_list : (set : ℕ → Bool) (own other a b : List ℕ) → AreWithPages set own other a → AreWithPages set own other b → a ≡ b
 one_list set own other a b u w =
     same_number_lists a b (u.count ∙ sym w.count)

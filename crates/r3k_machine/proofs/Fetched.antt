@@ -1,4 +1,4 @@
--- An instruction that was fetched tells the page of its word first.
+-- An instruction that was fetched reports the page of its word first.
 use Rattle.std.proofs.Common.{◌≡◌, ℕ, ◌%◌, List, Option, Some, None, Result, Ok, Err, slice_index_or, inl, inr, refl}
 use Rattle.std.proofs.lemmas.Bool.{cases_Bool}
 use Rattle.r3k_decode.specs.Operation.{Operation}

@@ -195,7 +195,7 @@ before n core lines same is =
     ap (λ (l : Lines). record core { bus = after (suc n) core.bus; cop0 = control.sampled (control.fallen_by n core.cop0) l.board l.clock }) same
     ∙ ap (λ (c : Registers). record core { bus = after (suc n) core.bus; cop0 = control.fallen_by n c }) is
 
--- the fall of Random behind it
+-- the fall of Random after it
 falls : (n : ℕ) (o : Outcome) → with_fall (outcome_aged (suc n) n o) ≡ outcome_elapsed (suc n) o
 unfolding control.random_after
 falls n o = refl
@@ -408,7 +408,7 @@ quick_ran pages s quick o completes =
     plain_fetch pages s (meaning_of_fetch s.core) quick.physical quick.fetched quick.means quick.stands
     ∙ ap (outcome_of_completion s quick.fetched.page) (quick_word pages s quick ∙ completes)
 
--- what holds of what a quick step tells, if it is one
+-- what holds of what a quick step reports, if it is one
 pub if_both : {P Q R : Done → Type 0} (o : Option Done) → IfSome o P → IfSome o Q → ((done : Done) → P done → Q done → R done) → IfSome o R
 if_both None p q f = tt
 if_both (Some done) p q f = f done p q

@@ -1,4 +1,4 @@
--- A step tells pages of the machine alone.
+-- A step reports pages of the machine alone.
 use Rattle.std.proofs.Common.{ℕ, zero, suc, ◌+◌, ◌-◌, ◌*◌, ◌/◌, ◌%◌, List, [], ◌∷◌, All, Option, Some, None, IfSome, Result, Ok, Err, IfOk, if◌then◌else◌, slice_index, nat_lt, nat_le, ◌==◌, ◌&&◌, inl, inr, arith}
 use Rattle.std.proofs.lemmas.Bool.{and_parts, cases_Bool, ltb-true}
 use Rattle.input_log.specs.Event.{LogEvent}
@@ -32,7 +32,7 @@ use Rattle.r3k_machine.specs.LoadStore.{loaded_at, loaded_elsewhere, loaded_over
 use Rattle.r3k_machine.specs.Step.{Completion, Outcome, arrived, completion_of_effect, completion_of_load, completion_of_operation, completion_of_store, completion_of_word, fetching, operands_of, outcome_of_completion, outcome_of_fetch, outcome_of_interrupt_or_instruction, outcome_of_step, page_stored, sampled, ticked, told}
 use Rattle.r3k_machine.specs.Told.{IsPage}
 
--- a page that is told, or none
+-- a page that is reported, or none
 abbrev IsIn : ℕ → Option ℕ → Type 0
 IsIn pages page = IfSome page (IsPage pages)
 
@@ -104,7 +104,7 @@ store_in pages core covered (Ok physical) =
       | inr over_bus ↦ rw over_bus (bus_store_in pages core (region_of pages physical.address) covered (ram_word pages physical.address) (ram_in pages physical.address))
     ]
 
--- the pages that a step tells, and the one that it stored into
+-- the pages that a step reports, and the one that it stored into
 record IsWithin (pages : ℕ) (done : Done) : Type 0 where
   touched : All (IsIn pages) done.touched
   stored : IsIn pages (page_stored done.stored)
@@ -113,7 +113,7 @@ record IsWithin (pages : ℕ) (done : Done) : Type 0 where
 only_fetched : (pages : ℕ) (page : Option ℕ) → IsIn pages page → IsWithin pages (fetching page)
 only_fetched pages page here = record { touched = two pages page None here tt; stored = tt }
 
--- what an instruction tells, where it completes
+-- what an instruction reports, where it completes
 abbrev CompletesIn : ℕ → Completion → Type 0
 CompletesIn pages completion = IfOk completion (λ outcome. IsWithin pages outcome.done)
 
@@ -163,7 +163,7 @@ word_completes pages s i here =
       | inr usable ↦ rw usable (operation_completes pages s i (operation_of i.word) here)
     ]
 
--- what a step tells
+-- what a step reports
 abbrev TellsIn : ℕ → Outcome → Type 0
 TellsIn pages outcome = IsWithin pages outcome.done
 

@@ -1,5 +1,5 @@
 -- The meaning of an address, after Kane and Heinrich, chapter 4. That the lowest entry counts where several match, and that such an
--- access is told, is own.
+-- access is reported, is own.
 use Rattle.std.specs.Prelude.{ℕ, ◌%◌, ◌^◌, ◌&&◌, ◌||◌, Bool, true, false, not, Option, Some, None, Result, Ok, Err, nat_lt, nat_le, if◌then◌else◌}
 use Rattle.r3k_word.specs.Word.{has, merged}
 use Rattle.cop0.specs.Registers.{Registers}

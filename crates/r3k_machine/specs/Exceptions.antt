@@ -53,7 +53,7 @@ is_refill (TlbLoad address refill) = refill
 is_refill (TlbStore address refill) = refill
 is_refill exception = false
 
--- what an exception of the instruction at PC tells the control registers
+-- what an exception of the instruction at PC reports to the control registers
 abbrev pub exc_of : Core → Exception → Exc
 exc_of core exception = record {
   code = code_of exception;

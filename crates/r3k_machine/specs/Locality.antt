@@ -1,4 +1,4 @@
--- Locality (own): what a step tells and leaves depends on the pages that it touches, and on no other page.
+-- Locality (own): what a step reports and leaves depends on the pages that it touches, and on no other page.
 use Rattle.std.specs.Prelude.{◌≡◌, ℕ, Bool, false, ◌||◌, List, length, Option, Some, None, IsTrue, IsFalse, nat_eq, slice_index, slice_index_or}
 use Rattle.std.specs.List.{list_any}
 use Rattle.r3k_word.specs.Layout.{page_of_place}

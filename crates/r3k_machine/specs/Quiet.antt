@@ -1,5 +1,5 @@
 -- Quiet steps (own): nothing comes before the instruction but ticks that only count, and the instruction touches registers, PC and
--- memory alone. So all ticks and falls of Random of many such steps may come behind the last of them.
+-- memory alone. So all ticks and falls of Random of many such steps may come after the last of them.
 use Rattle.std.specs.Prelude.{◌≡◌, ℕ, ◌+◌, ◌*◌, ◌/◌, ◌%◌, ◌≤◌, false, true, IsFalse, IsTrue, Some, Ok}
 use Rattle.r3k_word.specs.Layout.{place_of_word}
 use Rattle.r3k_word.specs.declared.layout.TheConstants.{PAGE_BYTES, PAGE_WORDS}
@@ -25,14 +25,14 @@ use Rattle.r3k_machine.specs.Exceptions.{is_unusable}
 use Rattle.r3k_machine.specs.LoadStore.{meaning_of_fetch, meaning_of_load, meaning_of_store, ram_word, word_at}
 use Rattle.r3k_machine.specs.Step.{Outcome, operands_of}
 
--- For so many steps the ticks only count, and as long as Status and Cause stay no interrupt is wanted: Cause has the lines as they
+-- For n steps the ticks only count, and as long as Status and Cause stay no interrupt is wanted: Cause has the lines as they
 -- are over these ticks.
 pub record IsQuietFor (n : ℕ) (core : Core) : Type 0 where
   pub counts : n ≤ quiet_of core.bus
   pub sampled : control.sampled core.cop0 (lines_of core.bus).board (lines_of core.bus).clock ≡ core.cop0
   pub unwanted : IsFalse (control.is_wanted core.cop0)
 
--- after so many ticks and falls of Random
+-- after n ticks and falls of Random
 abbrev pub elapsed : ℕ → Core → Core
 elapsed n core = record core { bus = after n core.bus; cop0 = control.fallen_by n core.cop0 }
 

@@ -14,12 +14,12 @@ use Rattle.r3k_machine.specs.Step.{next, told}
 abbrev pub arriving : List LogEvent → ℕ → List LogEvent
 arriving log time = window_of time (time + 1) log
 
--- the state after so many steps of a machine with so many RAM pages, from a state at a time
+-- the state after a number of steps of a machine with this many RAM pages, from a state at a time
 unfoldable pub run : ℕ → List LogEvent → ℕ → State → ℕ → State
 run pages log time s zero = s
 run pages log time s (suc n) = next pages (arriving log (time + n)) (run pages log time s n)
 
--- what each of these steps told
+-- what each of these steps reported
 unfoldable pub trace : ℕ → List LogEvent → ℕ → State → ℕ → List Done
 trace pages log time s zero = []
 trace pages log time s (suc n) = trace pages log time s n ++ told pages (arriving log (time + n)) (run pages log time s n) ∷ []
@@ -28,7 +28,7 @@ trace pages log time s (suc n) = trace pages log time s n ++ told pages (arrivin
 abbrev pub state_at : ℕ → Boot → List LogEvent → ℕ → State
 state_at pages image log position = run pages log 0 (reset pages image) position
 
--- its trace: what the steps before a position told
+-- its trace: what the steps before a position reported
 abbrev pub trace_at : ℕ → Boot → List LogEvent → ℕ → List Done
 trace_at pages image log position = trace pages log 0 (reset pages image) position
 
@@ -56,7 +56,7 @@ abbrev pub stores_into : ℕ → Option ℕ → Option ℕ
 stores_into address None = None
 stores_into address (Some stored) = if stored == address then Some 0 else None
 
--- a place in the second of two lists of steps, behind so many of the first, or else the one in the first
+-- a place in the second of two lists of steps, after those of the first, or else the one in the first
 abbrev pub later : ℕ → Option ℕ → Option ℕ → Option ℕ
 later count None earlier = earlier
 later count (Some place) earlier = Some (count + place)
@@ -66,7 +66,7 @@ abbrev pub last_writer : ℕ → List Done → Option ℕ
 last_writer address [] = None
 last_writer address (done ∷ steps) = later 1 (last_writer address steps) (stores_into address done.stored)
 
--- the least position after one, at most so many steps behind it, at which the PC holds an address
+-- the least position after one, at most this many steps after it, at which the PC holds an address
 unfoldable pub next_visit : ℕ → Boot → List LogEvent → (address position limit : ℕ) → Option ℕ
 next_visit pages image log address position zero = None
 next_visit pages image log address position (suc limit) =

@@ -35,12 +35,12 @@ use Rattle.r3k_machine.specs.Translation.{with_entry_read, with_entry_written, w
 use Rattle.cop0.specs.declared.number.TheConstants.{INDEX, RANDOM}
 use Rattle.r3k_machine.specs.Exceptions.{entered, exception_of, is_unusable, without_row}
 
--- what a step leaves and tells
+-- what a step leaves and reports
 pub record Outcome : Type 0 where
   pub state : State
   pub done : Done
 
--- what it tells: it at most fetched, or it loaded too, from a page or from none, or stored, into a word of RAM or into none, and
+-- what it reports: it at most fetched, or it loaded too, from a page or from none, or stored, into a word of RAM or into none, and
 -- perhaps sent a byte
 abbrev pub fetching : Option ℕ → Done
 fetching page = record { sent = None; stored = None; touched = page ∷ None ∷ [] }
@@ -111,7 +111,7 @@ slot_after_load number value = if number == 0 then None else Some (record { regi
 abbrev pub with_slot : Core → (number value : ℕ) → Core
 with_slot core number value = record core { load = slot_after_load number value }
 
--- A branch marks the next instruction as one in a delay slot, taken or not; the target comes behind it.
+-- A branch marks the next instruction as one in a delay slot, taken or not; the target comes after it.
 abbrev pub next_pc_of : Core → Option ℕ → ℕ
 next_pc_of core None = core.next_pc
 next_pc_of core (Some target) = target
@@ -119,7 +119,7 @@ next_pc_of core (Some target) = target
 abbrev pub branched : Core → Option ℕ → Core
 branched core target = record core { next_pc = next_pc_of core target; delay = true }
 
--- what the instruction leaves and tells, or its exception, with the processor as its access left it
+-- what the instruction leaves and reports, or its exception, with the processor as its access left it
 pub record Raised : Type 0 where
   pub core : Core
   pub exception : Exception
@@ -226,7 +226,7 @@ unfoldable pub outcome_of_step : ℕ → List LogEvent → State → Outcome
 outcome_of_step pages events s =
     with_fall (outcome_of_interrupt_or_instruction pages (record { core = sampled (ticked (arrived events s.core)); words = s.words }))
 
--- the state after a step, and what the step tells
+-- the state after a step, and what the step reports
 abbrev pub next : ℕ → List LogEvent → State → State
 next pages events s = (outcome_of_step pages events s).state
 

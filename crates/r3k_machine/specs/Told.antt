@@ -1,4 +1,4 @@
--- What a step tells lies within the machine (own): of use to whoever keeps pages and words by what steps tell.
+-- What a step reports lies within the machine (own): of use to whoever keeps pages and words by what steps report.
 use Rattle.std.specs.Prelude.{◌≡◌, ℕ, ◌+◌, ◌*◌, ◌/◌, ◌%◌, ◌<◌, ◌≤◌, List, All, IfSome, Option, Some, None, slice_set}
 use Rattle.r3k_word.specs.declared.layout.TheConstants.{PAGE_BYTES, ROM_PAGES}
 use Rattle.r3k_machine.specs.declared.step.Done.{Done}
@@ -21,7 +21,7 @@ DifferAt (Some address) old new = (value : ℕ) × (new ≡ slice_set old (addre
 abbrev pub IsSent : Option Sent → Type 0
 IsSent sent = IfSome sent (λ sent. sent.line ≤ 3)
 
--- what is told of a step between these words
+-- what is reported of a step between these words
 pub record IsTold (pages : ℕ) (old new : List ℕ) (done : Done) : Type 0 where
   pub sent : IsSent done.sent
   pub stored : IfSome done.stored (IsRamWord pages)

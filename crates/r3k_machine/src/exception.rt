@@ -1,4 +1,4 @@
-//! Exceptions: what each tells the control registers, and what taking one does to the processor.
+//! Exceptions: what each reports to the control registers, and what taking one does to the processor.
 
 ghost use Rattle.std.specs.Prelude.{◌≡◌};
 ghost use Rattle.r3k_machine.specs.State.{landed};
@@ -137,7 +137,7 @@ impl Core {
         }
     }
 
-    // What an exception of the instruction at the PC tells the control registers.
+    // What an exception of the instruction at the PC reports to the control registers.
     fn exc(&self, exception: Exception) -> Exc
         ensures { result ≡ exc_of self.now exception }
     {

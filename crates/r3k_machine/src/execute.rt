@@ -109,7 +109,7 @@ impl Core {
         };
     }
 
-    // Marks the next instruction as one in a delay slot, with the target behind it.
+    // Marks the next instruction as one in a delay slot, with the target after it.
     #[inline]
     pub(crate) fn branch(&mut self, target: Option<u32>)
         ensures { self.new ≡ branched self.old target }

@@ -16,7 +16,7 @@ impl Core {
         physical.cacheable && self.cop0().is_isolated()
     }
 
-    /// The word of the slot of a physical address. CM tells whether it was a miss.
+    /// The word of the slot of a physical address. CM says whether it was a miss.
     #[inline(never)]
     pub(crate) fn load_isolated(&mut self, address: u32) -> u32
         ensures word { result ≡ (slot_at self.old address).word }

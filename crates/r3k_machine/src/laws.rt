@@ -36,7 +36,7 @@ pub fn run_laws()
 {}
 
 /// In a quiet step a tick is all that comes before the instruction. An instruction that is quick then does the same before the ticks
-/// and falls of Random of any steps as after them, so that these may come behind it, and it leaves the steps quiet and the page
+/// and falls of Random of any steps as after them, so that these may come after it, and it leaves the steps quiet and the page
 /// that is run in what it is.
 pub fn quiet_laws()
     ensures none { (s : State) → state_elapsed 0 s ≡ s }
@@ -53,7 +53,7 @@ pub fn quiet_laws()
     kn02_bus::laws::quiet_laws();
 }
 
-/// A step that touches no page of a set tells the same from the state with any other words in these pages, and the next
+/// A step that touches no page of a set reports the same from the state with any other words in these pages, and the next
 /// state is the same with these words in them. So it is with the trace and the end of a run. There is one such state alone.
 /// Any page that a step touches is one of the machine, and so is that of the word that it stores into.
 pub fn locality()

@@ -38,7 +38,7 @@ impl Core {
         Some(self.bus.quiet())
     }
 
-    /// So many ticks and falls of Random pass at once.
+    /// This many ticks and falls of Random pass at once.
     pub fn elapse(&mut self, steps: u32)
         ensures { self.new ≡ elapsed steps self.old }
     {

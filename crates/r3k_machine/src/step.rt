@@ -14,7 +14,7 @@ use input_log::{Event, Kind};
 use kn02_bus::Bus;
 use r3k_word::layout::PAGE_BYTES;
 
-/// What a step tells: the byte that it sent, the physical address of the word of RAM that it stored into, and the pages
+/// What a step reports: the byte that it sent, the physical address of the word of RAM that it stored into, and the pages
 /// that it fetched from and loaded from or stored into, of RAM first and then of ROM.
 #[derive(Clone, Copy, Debug, PartialEq, Eq)]
 pub struct Done {

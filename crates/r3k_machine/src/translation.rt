@@ -37,7 +37,7 @@ impl Core {
         self.tlb.write(place, entry);
     }
 
-    /// tlbp: Index tells the entry of the page and the process in EntryHi.
+    /// tlbp: Index gives the entry of the page and the process in EntryHi.
     pub(crate) fn probe_entry(&mut self)
         ensures { self.new ≡ with_probe self.old }
     {

@@ -17,7 +17,7 @@ pub overlaid_at : (set own other : List ℕ) (place : ℕ) → place < length ow
 overlaid_at set own other place within =
     get_or-map-range_with_len (λ (place : ℕ). if holds set (page_of_place place) then slice_index other place else slice_index own place) 0 (length own) place place 0 within (omega arith)
 
--- behind the last word
+-- after the last word
 past : (set own other : List ℕ) (place : ℕ) → length own ≤ place → slice_index (overlaid set own other) place ≡ 0
 past set own other place above = get_or_past (overlaid set own other) place 0 (subst (λ (n : ℕ). n ≤ place) (sym (overlaid_long set own other)) above)
 

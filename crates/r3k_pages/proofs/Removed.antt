@@ -52,6 +52,6 @@ marked_less pages room before after set out are long less = record {
     had true was false stays is same = is ∙ ap (λ (b : Bool). b && stays) same
     had false was held stays is same = refl
 
--- behind the last page nothing differs
+-- after the last page nothing differs
 pub past_same : (pages : ℕ) (a b : List ℕ) (page : ℕ) → length a ≡ word_count_of pages → length b ≡ word_count_of pages → page_count_of pages ≤ page → SamePage page a b
 past_same pages a b page long_a long_b past place of = get_or_past a place 0 (omega (arith, long_a, past, of)) ∙ sym (get_or_past b place 0 (omega (arith, long_b, past, of)))

@@ -5,7 +5,7 @@ use Rattle.std.specs.List.Sorted.{IsStrictlyIncreasing}
 use Rattle.r3k_word.specs.Layout.{page_of_place}
 use Rattle.r3k_word.specs.declared.layout.TheConstants.{ROM_PAGES}
 
--- how many pages there are with so many of RAM
+-- how many pages there are with this many of RAM
 abbrev pub page_count_of : ℕ → ℕ
 page_count_of pages = pages + ROM_PAGES
 

@@ -17,7 +17,7 @@ use std::rc::Rc;
 /// How many pages a group has.
 pub(crate) const GROUP_PAGES: usize = 32;
 
-/// Pages one behind another. Behind the last page of memory stand pages that nothing reads, up to the group's end.
+/// Pages one after another. After the last page of memory stand pages that nothing reads, up to the group's end.
 #[derive(Drop)]
 pub(crate) struct Group {
     pages: Vec<Rc<Page>>,

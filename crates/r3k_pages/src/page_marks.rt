@@ -158,7 +158,7 @@ fn mark_differing<const PAGES: u32>(
     ensures same { SameOutside pages.new.items a.now b.now }
     ensures exact { (page : ℕ) → IsTrue (holds pages.new.items page) ↔ (IsTrue (holds pages.old.items page) ⊎ ¬ SamePage page a.now b.now) }
 {
-    // Both memories are whole, so that no page behind the last one differs.
+    // Both memories are whole, so that no page after the last one differs.
     a.whole();
     b.whole();
     for page in 0..PAGES + ROM_PAGES {

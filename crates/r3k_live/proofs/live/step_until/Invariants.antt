@@ -5,7 +5,7 @@ use Rattle.r3k_live.specs.Living.{state_of}
 use Rattle.r3k_live.specs.Visits.{first_visit}
 use Rattle.r3k_live.proofs.live.step_until.Given as goal
 
--- so many steps of the run are made and recorded, none came to the address, and the events of later times are left
+-- `made` steps of the run are made and recorded, none came to the address, and the events of later times are left
 abbrev pub invariant-loop-made : goal.invariant-loop-made
 invariant-loop-made g l = record {
   gone : HasGone g.row.PAGES l.fn.events l.from (state_of l.fn.core l.fn.memory) l.made (state_of l.core l.memory) l.recorder;

@@ -6,7 +6,7 @@ use Rattle.r3k_live.specs.Going.{HasGone, IsFreeFor, PassesBy}
 use Rattle.r3k_live.specs.Living.{state_of}
 use Rattle.r3k_live.proofs.stretch.quick_steps.Given as goal
 
--- so many steps more are made and recorded, and none came to the address
+-- `made` steps more are made and recorded, and none came to the address
 abbrev pub invariant-loop-made : goal.invariant-loop-made
 invariant-loop-made g l = record {
   gone : (log : List LogEvent) (from : ℕ) (start : State) (before : ℕ) → IsFreeFor l.most log (from + before) →
