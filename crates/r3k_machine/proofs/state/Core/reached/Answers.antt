@@ -1,7 +1,6 @@
-use Rattle.std.proofs.Common.{◌≡◌, ◌^◌, ◌%◌, ℕ, sym, subst}
-use Rattle.std.specs.Prelude.{bit_and, nat_lt}
+use Rattle.std.proofs.Common.{ℕ, sym, subst}
+use Rattle.std.specs.Prelude.{nat_lt}
 use Rattle.std.proofs.lemmas.Nat.{and_mask}
-use Rattle.r3k_machine.specs.declared.address.Physical.{Physical}
 use Rattle.r3k_machine.specs.declared.address.TheConstants.{KSEG1}
 use Rattle.r3k_machine.specs.Address.{meaning}
 use Rattle.r3k_machine.specs.Quiet.{IsPlain}
