@@ -1,6 +1,6 @@
 //! The record of a span and the records that are kept, by direct calls: values by hand. In the echo program turn i of the loop
 //! begins at step 9 + 11 * i, stores RBUF in its third step, and for a byte 0 in its seventh, and sends it in its ninth.
-ghost use Rattle.std.specs.Prelude.{◌≡◌, ◌<◌, ◌≤◌, ℕ, All, IfOk, IfSome, List, Some};
+ghost use Rattle.std.specs.Prelude.{◌≡◌, ◌<◌, ◌≤◌, ℕ, All, IfOk, IfSome, List, None, Some};
 ghost use Rattle.r3k_word.specs.declared.layout.TheConstants.{MAX_RAM_PAGES};
 ghost use Rattle.r3k_pages.specs.Pages.{SameOutside, page_count_of};
 ghost use Rattle.checkpoints.specs.Kept.{span_at};
@@ -349,18 +349,33 @@ fn nearly_and_not_applies<const PAGES: u32, const SPAN: u32>(
     let mut machine = Running::<PAGES, SPAN>::boot(alloc)?;
     let start = machine.live.keep(alloc)?;
     let fact = record_of(alloc, &mut machine, &start, 0, &Log::new(alloc))?;
-    let none = PageMarks::new(alloc)?;
     let mut kept = Kept::<PAGES, SPAN>::new(alloc);
+    let none = PageMarks::new(alloc)?;
     assert!(rt; !is_near(&kept, 0, &start, &[], &none));
     kept.put(fact)?;
-    assert!(rt; is_near(&kept, 0, &start, &[], &none));
-    assert!(rt; !is_near(&kept, 1, &start, &[], &none));
-    assert!(rt; !is_near(&kept, 0, &start, &[EARLY], &none));
+    only_the_first_is_near(rt, alloc, &kept, &start)
+}
+
+// Of the span with its start and its events alone a record is near.
+fn only_the_first_is_near<const PAGES: u32, const SPAN: u32>(
+    rt: &impl Abort,
+    alloc: Global,
+    kept: &Kept<PAGES, SPAN>,
+    start: &Boundary<PAGES>,
+) -> Result<(), Fail>
+    requires few { PAGES ≤ MAX_RAM_PAGES }
+    requires first { IfSome (span_at kept.now 0) (λ s. s.start ≡ start.now) }
+    requires alone { span_at kept.now 1 ≡ None }
+{
+    let none = PageMarks::new(alloc)?;
+    assert!(rt; is_near(kept, 0, start, &[], &none));
+    assert!(rt; !is_near(kept, 1, start, &[], &none));
+    assert!(rt; !is_near(kept, 0, start, &[EARLY], &none));
     // Its end has the same words, and another core.
     let Some(fact) = kept.fact(0) else {
         return Err(AllocError.into());
     };
-    assert!(rt; !is_near_at_its_end(alloc, &kept, fact)?);
+    assert!(rt; !is_near_at_its_end(alloc, kept, fact)?);
     Ok(())
 }
 
