@@ -102,7 +102,11 @@ impl Code<'_> {
     fn rewriting(&mut self, count: u32) -> u32 {
         let register = 16 + self.random.below(4);
         match self.random.below(8) {
-            0..3 => 0xAC00_0000 | (8 + self.random.below(3)) << 21 | (11 + self.random.below(8)) << 16 | 4 * self.random.below(count),
+            0..3 => {
+                // Seldom what the counts hold, which may be no instruction.
+                let word = if self.random.one_in(32) { register } else { 11 + self.random.below(4) };
+                0xAC00_0000 | (8 + self.random.below(3)) << 21 | word << 16 | 4 * self.random.below(count)
+            }
             3 => branch(1 + self.random.below(2)),
             _ => 0x2400_0000 | register << 21 | register << 16 | self.random.below(0x100),
         }
@@ -167,7 +171,7 @@ pub fn reader(seed: u64) -> Image {
 }
 
 /// An image whose code stores instructions into its own page, into another one, and into one whose words stand a multiple of 64 K
-/// words away, through kseg0 and kseg1, and in delay slots.
+/// words away, through kseg0 and kseg1, and in delay slots. An exception goes on with one of the pages.
 pub fn rewriter(seed: u64) -> Image {
     let mut random = Random(seed ^ 0x7777_7777_7777_7777);
     let mut image = Image::raw_rom(&[]).expect("an empty ROM");
@@ -185,6 +189,7 @@ pub fn rewriter(seed: u64) -> Image {
     let first = 8 + code.random.below(3);
     code.words.extend([first << 21 | 8, NOP]);
     image.words.extend((ROM..).step_by(4).zip(code.words));
+    image.words.extend((ROM + 0x180..).step_by(4).zip([first << 21 | 8, NOP]));
     for body in bodies {
         let mut code = Code { random: &mut random, words: Vec::new() };
         for _ in 0..count {
