@@ -13,6 +13,7 @@ use Rattle.asm_line.specs.Span.{front_of, behind}
 use Rattle.asm_line.specs.Name.{is_name, register_of}
 use Rattle.asm_line.specs.Number.{number_of}
 
+-- one part after the other, as long as there is each
 infixl 10 ◌>>=◌
 abbrev pub ◌>>=◌ : {A B : Type 0} → Option A → (A → Option B) → Option B
 o >>= f = option_and_then f o
@@ -25,6 +26,7 @@ word_at read text = option_map (λ x. (x, behind class.Word text)) (read (front_
 abbrev pub register_at : ℕ → List ℕ → Option (ℕ × List ℕ)
 register_at letter text = word_at (register_of letter) text
 
+-- a number
 abbrev pub number_at : List ℕ → Option (ℕ × List ℕ)
 number_at text = word_at number_of text
 
@@ -68,13 +70,15 @@ abbrev pub aimed : Reach → Option Place → Operands
 aimed reach (Some place) = record { fields = 0; in_range = true; target = Some (record { reach = reach; place = place }) }
 aimed reach None = record { fields = 0; in_range = false; target = None }
 
--- a register and a number in their fields, and a target
+-- a register in its field
 unfoldable pub register_field : ℕ → ℕ → List ℕ → Option (Operands × List ℕ)
 register_field letter scale text = option_map (λ x. (checked (Some (x.0 * scale)), x.1)) (register_at letter text)
 
+-- a number in its field
 unfoldable pub number_field : ℕ → ℕ → List ℕ → Option (Operands × List ℕ)
 number_field limit scale text = option_map (λ x. (checked (option_map (λ n. n * scale) (below limit x.0)), x.1)) (number_at text)
 
+-- a target
 unfoldable pub target_at : Reach → List ℕ → Option (Operands × List ℕ)
 target_at reach text = option_map (λ x. (aimed reach x.0, x.1)) (place_at text)
 
@@ -101,11 +105,12 @@ operand_at Branch text = target_at reach.Branch text
 operand_at Jump text = target_at reach.Jump text
 operand_at Based text = based_at text
 
--- what operands say together
+-- the one of two that is there
 abbrev pub either : {A : Type 0} → Option A → Option A → Option A
 either (Some x) o = Some x
 either None o = o
 
+-- what two operands say together
 abbrev pub joined : Operands → Operands → Operands
 joined a b = record { fields = (a.fields + b.fields) % 2 ^ 32; in_range = a.in_range && b.in_range; target = either a.target b.target }
 

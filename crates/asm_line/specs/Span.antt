@@ -7,6 +7,7 @@ use Rattle.asm_line.specs.declared.span.Class.TheVariants.{Line, Code, Blank, Wo
 abbrev pub is_letter : ℕ → Bool
 is_letter b = (nat_le 97 b && nat_le b 122) || (nat_le 65 b && nat_le b 90) || (b == 95)
 
+-- a decimal digit
 abbrev pub is_decimal : ℕ → Bool
 is_decimal b = nat_le 48 b && nat_le b 57
 
@@ -22,7 +23,7 @@ unfoldable pub front_of : Class → List ℕ → List ℕ
 front_of class [] = []
 front_of class (b ∷ bs) = if is_in class b then b ∷ front_of class bs else []
 
--- what follows it
+-- what stands after that front
 unfoldable pub behind : Class → List ℕ → List ℕ
 behind class [] = []
 behind class (b ∷ bs) = if is_in class b then behind class bs else b ∷ bs

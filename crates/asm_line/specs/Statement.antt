@@ -16,6 +16,7 @@ use Rattle.asm_line.specs.Name.{is_name}
 use Rattle.asm_line.specs.Operand as operand
 use Rattle.asm_line.specs.Operand.{number_at, operands_at, is_blank, below}
 
+-- one part after the other, up to the first fault
 infixl 10 ◌>>=◌
 abbrev pub ◌>>=◌ : {A B : Type 0} → Result A AsmKind → (A → Result B AsmKind) → Result B AsmKind
 (Ok x) >>= f = f x
@@ -38,23 +39,24 @@ ends_word text = (length text == 0) || is_in class.Blank (slice_index text 0)
 abbrev pub one_number : List ℕ → Option ℕ
 one_number text = operand.◌>>=◌ (number_at (behind class.Blank text)) (λ x. if is_blank x.1 then Some x.0 else None)
 
--- an instruction of a row, with its operands
+-- an instruction of a row with its operands, `Syntax` before `Number`: its word, which lacks the part of a target
 unfoldable pub instruction_of : Instruction → List ℕ → Result Statement AsmKind
 instruction_of row text = do
   operands ← or_fault kind.Syntax (operands_at (operands_of row.shape) text)
   if operands.in_range then Ok (Word ((row.value + operands.fields) % 2 ^ 32) operands.target) else Err kind.Number
 
--- a directive with its number, if that is in range
+-- a number in the range of a constant, 1 to 65,535
 abbrev pub constant : ℕ → Option ℕ
 constant number = if nat_le 1 number && nat_lt number (2 ^ 16) then Some number else None
 
+-- a directive with its number, if that is in its range
 abbrev pub made_of : Directive → ℕ → Option Statement
 made_of directive.Origin number = option_map (λ n. Origin n) (below (2 ^ 32) number)
 made_of directive.Word number = option_map (λ n. Word n None) (below (2 ^ 32) number)
 made_of directive.ByteTime number = option_map (λ n. ByteTime n) (constant number)
 made_of directive.Unit number = option_map (λ n. Unit n) (constant number)
 
--- a directive with the text of its number
+-- a directive with the text of its number: no number is `Syntax`, one out of its range `Number`
 unfoldable pub numbered : Directive → List ℕ → Result Statement AsmKind
 numbered d text =
     if ends_word text then (or_fault kind.Syntax (one_number text) >>= λ n. or_fault kind.Number (made_of d n)) else Err kind.Syntax
@@ -65,14 +67,15 @@ numbers_at zero text = if is_blank text then Some [] else None
 numbers_at (suc n) text =
     operand.◌>>=◌ (number_at (behind class.Blank text)) (λ x. operand.◌>>=◌ (numbers_at n x.1) (λ more. Some (x.0 ∷ more)))
 
--- what the clock's first 12 registers may start with
+-- whether a clock may start with these registers 0 to 11
 abbrev pub is_start : List ℕ → Bool
 is_start numbers = list_all (λ n. nat_lt n 256) numbers && (nat_lt (slice_index numbers 10) 128 && (slice_index numbers 11 % 2 == 0))
 
+-- the 12 numbers of `.clock`, `Syntax` before `Number`
 unfoldable pub clock_of : List ℕ → Result (List ℕ) AsmKind
 clock_of text = or_fault kind.Syntax (numbers_at 12 text) >>= λ numbers. if is_start numbers then Ok numbers else Err kind.Number
 
--- a directive with the text after its name
+-- a directive with the text after its name: `.org`, `.word`, `.bytetime`, `.unit` or `.clock`
 unfoldable pub directive_of : List ℕ → List ℕ → Result Statement AsmKind
 directive_of name text =
     if bytes_eq name (codes "org") then numbered directive.Origin text
@@ -89,7 +92,7 @@ named word text =
     then (if is_name word && is_blank (drop 1 text) then Ok (Label word) else Err kind.Syntax)
     else or_fault kind.Name (row_named word) >>= λ row. if ends_word text then instruction_of row text else Err kind.Syntax
 
--- a line without its line feed and a carriage return before that: # begins a comment
+-- what a line says, or what is wrong with it, without its line feed and a carriage return before that: # begins a comment
 unfoldable pub statement_of : List ℕ → Result Statement AsmKind
 statement_of line =
     let text = behind class.Blank (front_of class.Code line) in

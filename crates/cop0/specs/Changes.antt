@@ -14,18 +14,20 @@ sampled c board clock = record c { cause = with_field_of 11 10 c.cause (2 * flag
 abbrev pub is_wanted : Registers → Bool
 is_wanted c = has c.status IEC && has (bit_and c.cause c.status) INTERRUPTS
 
--- Random falls by one, from 8 to 63
+-- Random after it falls by one, from 8 to 63
 abbrev pub random_below : ℕ → ℕ
 random_below random = if random == 8 then 63 else random - 1
 
+-- the registers after Random falls by one
 abbrev pub fallen : Registers → Registers
 fallen c = record c { random = random_below c.random }
 
--- and n times
+-- Random after it falls n times
 unfoldable pub random_after : ℕ → ℕ → ℕ
 random_after zero random = random
 random_after (suc n) random = random_below (random_after n random)
 
+-- the registers after Random falls n times
 abbrev pub fallen_by : ℕ → Registers → Registers
 fallen_by n c = record c { random = random_after n c.random }
 

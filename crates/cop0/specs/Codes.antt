@@ -5,6 +5,7 @@ use Rattle.cop0.specs.declared.exception.Coprocessor.TheVariants.{Cp0, Cp1, Cp2,
 use Rattle.cop0.specs.declared.exception.ExcCode.{ExcCode}
 use Rattle.cop0.specs.declared.exception.ExcCode.TheVariants.{Interrupt, Modification, TlbLoad, TlbStore, AddressLoad, AddressStore, BusFetch, BusLoad, SystemCall, Breakpoint, ReservedInstruction, CoprocessorUnusable, Overflow}
 
+-- the code of an exception
 abbrev pub code_of : ExcCode → ℕ
 code_of Interrupt = 0
 code_of Modification = 1
@@ -20,6 +21,7 @@ code_of ReservedInstruction = 10
 code_of (CoprocessorUnusable coprocessor) = 11
 code_of Overflow = 12
 
+-- the number of a coprocessor
 abbrev pub number_of : Coprocessor → ℕ
 number_of Cp0 = 0
 number_of Cp1 = 1

@@ -19,5 +19,6 @@ with_bad c None mapped = c
 with_bad c (Some address) mapped =
     if mapped then page_loaded (record c { bad_vaddr = address }) address else record c { bad_vaddr = address }
 
+-- the registers when an exception is taken: Status, Cause and EPC, and what a bad address loads
 abbrev pub entered : Registers → Exc → Registers
 entered c e = with_bad (record c { status = pushed c.status; cause = caused c.cause e.delay e.code; epc = epc_of e }) e.bad e.mapped

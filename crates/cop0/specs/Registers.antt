@@ -4,7 +4,7 @@ use Rattle.r3k_word.specs.Word.{merged}
 use Rattle.cop0.specs.declared.number.TheConstants.{INDEX, RANDOM, ENTRY_LO, CONTEXT, BAD_VADDR, ENTRY_HI, STATUS, CAUSE, EPC, PRID, INDEX_MASK, ENTRY_LO_MASK, CONTEXT_MASK, ENTRY_HI_MASK, STATUS_MASK, CAUSE_MASK, REVISION}
 use Rattle.cop0.specs.declared.status.TheConstants.{BEV}
 
--- Index, Random from 8 to 63, EntryLo, Context, BadVAddr, EntryHi, Status, Cause and EPC
+-- the control registers: Index, Random from 8 to 63, EntryLo, Context, BadVAddr, EntryHi, Status, Cause and EPC
 pub record Registers : Type 0 where
   pub index : ℕ
   pub random : ℕ

@@ -26,7 +26,7 @@ is_usable c = not (in_user_mode c) || has c.status CU0
 abbrev pub pushed : ℕ → ℕ
 pushed status = with_field_of 5 0 status (field_of 3 0 status * 2 ^ 2)
 
--- and after rfe: bits 5 to 2 go to 3 to 0, and 5 and 4 stay
+-- Status after rfe: bits 5 to 2 go to 3 to 0, and 5 and 4 stay
 abbrev pub popped : ℕ → ℕ
 popped status = with_field_of 3 0 status (field_of 5 2 status)
 

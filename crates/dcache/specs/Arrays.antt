@@ -5,7 +5,7 @@ use Rattle.std.specs.Prelude.{List, replicate, slice_index_or, slice_set}
 use Rattle.dcache.specs.declared.slot.Slot.{Slot}
 use Rattle.dcache.specs.declared.slot.TheConstants.{SLOTS, TAG_BYTES}
 
--- the two arrays
+-- the two arrays, each the list of its slots
 pub record Arrays : Type 0 where
   pub first : List Slot
   pub second : List Slot
@@ -49,6 +49,6 @@ with_slot arrays true address slot =
 abbrev pub filled : ℕ → ℕ → Slot
 filled address word = record { word = word; tag = tag_of address; valid = true }
 
--- the slot after a store of a part of a word: no longer valid, its word and tag stay
+-- the slot after a store of a part of a word (own): no longer valid, its word and tag stay
 abbrev pub emptied : Slot → Slot
 emptied slot = record slot { valid = false }

@@ -27,6 +27,6 @@ has_same_scanner a b =
 abbrev pub has_same_control : Serial → Serial → Bool
 has_same_control a b = beq a.tie b.tie && beq a.rie b.rie && beq a.mse b.mse && beq a.maint b.maint
 
--- all of it
+-- all that a part holds
 unfoldable pub is_same : Serial → Serial → Bool
 is_same a b = has_same_scanner a b && has_same_control a b && has_same_lines a b

@@ -24,7 +24,7 @@ abbrev pub offered : Serial → Option ℕ → Serial
 offered s None = s
 offered s (Some line) = record s { tline = line; trdy = true }
 
--- it goes on only if MSE is 1 and TRDY 0
+-- the scanner goes on only if MSE is 1 and TRDY 0
 abbrev pub scanned : Serial → Serial
 scanned s = if s.mse && not s.trdy then offered s (next_ready s) else s
 

@@ -3,7 +3,7 @@
 use Rattle.std.specs.Prelude.{ℕ, Bool, false, List, [], ◌∷◌, slice_index_or}
 use Rattle.dz_serial.specs.Character.{Character}
 
--- Lists of four have an entry for each line.
+-- what the part holds; lists of four have an entry for each line
 pub record Serial : Type 0 where
   -- the characters received and not yet read, the oldest first
   pub silo : List Character

@@ -64,6 +64,7 @@ tdr_written s lanes =
     }
     else s
 
+-- the byte that a write of TDR sends, on line TLINE
 abbrev pub sent_by_tdr : Serial → ℕ → ℕ → Option Sent
 sent_by_tdr s word lanes =
     if sends s lanes then Some (record { line = s.tline; byte = field_of 7 0 word }) else None

@@ -26,12 +26,12 @@ with_byte byte event = record event { byte = byte }
 abbrev pub at_time : ℕ → LogEvent → LogEvent
 at_time time event = record event { time = time }
 
--- what is made of an event of the log, if there is that event
+-- what is made of an event of the log, or `NoEvent` if there is no such event
 abbrev pub made_of : (LogEvent → Result (List LogEvent) Fault) → Option LogEvent → Result (List LogEvent) Fault
 made_of make (Some event) = make event
 made_of make None = Err NoEvent
 
--- an event is added, unless its kind or its time forbids it, or the log is full
+-- an event is added, unless its kind or its time forbids it, or the log is full: then it is `Range`
 abbrev pub adding : LogEvent → List LogEvent → Result (List LogEvent) Fault
 adding event events =
     if nat_le event.line (max_line event.kind) && (nat_le event.byte (max_byte event.kind)
@@ -43,13 +43,13 @@ adding event events =
 abbrev pub deleting : (place : ℕ) → List LogEvent → Result (List LogEvent) Fault
 deleting place events = made_of (λ _. Ok (without place events)) (slice_get events place)
 
--- the event at a place gets another byte, unless its kind forbids it
+-- the event at a place gets another byte, unless its kind forbids it: then it is `Range`
 abbrev pub setting : (place byte : ℕ) → List LogEvent → Result (List LogEvent) Fault
 setting place byte events =
     made_of (λ event. if nat_le byte (max_byte event.kind) then Ok (slice_set events place (with_byte byte event)) else Err Range)
     (slice_get events place)
 
--- the event at a place is deleted, and added again at another time
+-- the event at a place is deleted, and added again at another time. A time that is too great is `Range`, before `NoEvent`.
 abbrev pub moving : (place time : ℕ) → List LogEvent → Result (List LogEvent) Fault
 moving place time events =
     if nat_le time max_time
@@ -60,8 +60,8 @@ moving place time events =
 abbrev pub without_times : (from to : ℕ) → List LogEvent → List LogEvent
 without_times from to events = filter (λ event. not (nat_le from event.time && nat_lt event.time to)) events
 
--- The events of the times from one up to another, which is left out, are erased. This is refused if the first of the two is above
--- the second, or the second above the greatest position.
+-- The events of the times from one up to another, which is left out, are erased. It is `Range` if the first of the two is
+-- above the second, or the second above the greatest position.
 abbrev pub erasing : (from to : ℕ) → List LogEvent → Result (List LogEvent) Fault
 erasing from to events = if nat_le from to && nat_le to max_position then Ok (without_times from to events) else Err Range
 

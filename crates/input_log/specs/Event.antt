@@ -24,12 +24,14 @@ max_byte Byte = 255
 max_byte Framing = 255
 max_byte Wire = 1
 
+-- the line of an event is one of its kind
 abbrev pub LineExists : LogEvent → Type 0
 LineExists event = event.line ≤ max_line event.kind
 
+-- the byte of an event is one of its kind
 abbrev pub HoldsByte : LogEvent → Type 0
 HoldsByte event = event.byte ≤ max_byte event.kind
 
--- it is in a step that a run can have
+-- an event is in a step that a run can have
 abbrev pub IsInTime : LogEvent → Type 0
 IsInTime event = event.time ≤ max_time

@@ -4,11 +4,12 @@ use Rattle.std.specs.List.Sorted.{IsNonDecreasingBy}
 use Rattle.input_log.specs.Limits.{max_events}
 use Rattle.input_log.specs.Event.{LogEvent, LineExists, HoldsByte, IsInTime}
 
--- in order of time
+-- events in order of time
 abbrev pub AreInOrder : List LogEvent → Type 0
 AreInOrder events = IsNonDecreasingBy (λ event. event.time) events
 
--- in order of time, not too many, each in time, on a line of its kind, with a byte of its kind
+-- what every log keeps: events in order of time, not more than `max_events`, each in time, on a line of its kind, with a
+-- byte of its kind
 pub record IsLog (events : List LogEvent) : Type 0 where
   pub in_order : AreInOrder events
   pub few : length events ≤ max_events
@@ -20,7 +21,7 @@ pub record IsLog (events : List LogEvent) : Type 0 where
 abbrev pub window_of : ℕ → ℕ → List LogEvent → List LogEvent
 window_of from to events = filter (λ event. nat_le from event.time && nat_lt event.time to) events
 
--- all are of times from one up to another, which is left out
+-- all events are of times from one up to another, which is left out
 abbrev pub AreWithin : ℕ → ℕ → List LogEvent → Type 0
 AreWithin from to events = All (λ event. (from ≤ event.time) × (event.time < to)) events
 

@@ -15,6 +15,7 @@ use Rattle.input_log.specs.declared.fault.LogFault.TheVariants.{Memory, Bad}
 use Rattle.input_log.specs.Event.{LogEvent, max_line, max_byte}
 use Rattle.input_log.specs.Spelling.{last_time}
 
+-- for reading alone: one part after the other, up to the first fault
 infixl 10 ◌>>=◌
 abbrev pub ◌>>=◌ : {A B : Type 0} → Result A LogKind → (A → Result B LogKind) → Result B LogKind
 (Ok x) >>= f = f x
@@ -34,15 +35,15 @@ abbrev pub ReadsOrLacks : {X Y : Type 0} → (X → Y) → Result X LogFault →
 ReadsOrLacks view (Ok x) read = read ≡ Ok (view x)
 ReadsOrLacks view (Err fault) read = FailsOrLacks fault read
 
--- count bytes, and the bytes after them
+-- count bytes, and the bytes after them, or else `Short`
 abbrev pub bytes_at : ℕ → List ℕ → Result (List ℕ × List ℕ) LogKind
 bytes_at count bytes = if nat_lt (length bytes) count then Err kinds.Short else Ok (take count bytes, drop count bytes)
 
--- a number of four bytes, and the bytes after it
+-- a number of four bytes, and the bytes after it, or else `Short`
 abbrev pub number_at : List ℕ → Result (ℕ × List ℕ) LogKind
 number_at bytes = if nat_lt (length bytes) 4 then Err kinds.Short else Ok (word_of bytes, drop 4 bytes)
 
--- one byte, and the bytes after it
+-- one byte, and the bytes after it, or else `Short`
 abbrev pub byte_at : List ℕ → Result (ℕ × List ℕ) LogKind
 byte_at [] = Err kinds.Short
 byte_at (byte ∷ rest) = Ok (byte, rest)
@@ -80,7 +81,7 @@ kind_at Two bytes = do
   kind ← kind_of number.0
   Ok (kind, number.1)
 
--- an event after one of the time last
+-- an event after one of the time last, or its first fault
 unfoldable pub event_at : Version → ℕ → List ℕ → Result (LogEvent × List ℕ) LogKind
 event_at version last bytes = do
   time ← time_at version bytes
@@ -91,7 +92,7 @@ event_at version last bytes = do
       then Ok (record { time = time.0; kind = kind.0; line = line.0; byte = byte.0 }, byte.1)
       else Err kinds.Value
 
--- n events, after one of the time last
+-- n events, after one of the time last, or their first fault
 unfoldable pub events_at : Version → ℕ → ℕ → List ℕ → Result (List LogEvent × List ℕ) LogKind
 events_at version zero last bytes = Ok ([], bytes)
 events_at version (suc n) last bytes = do
@@ -99,7 +100,7 @@ events_at version (suc n) last bytes = do
   others ← events_at version n first.0.time first.1
   Ok (first.0 ∷ others.0, others.1)
 
--- the log that all of the bytes are
+-- the log that all of the bytes are, or the first fault in reading order
 unfoldable pub log_at : List ℕ → Result (List LogEvent) LogKind
 log_at bytes = do
   version ← version_at bytes

@@ -12,7 +12,7 @@ use Rattle.input_log.specs.declared.event.Kind.{Kind}
 use Rattle.input_log.specs.declared.event.Kind.TheVariants.{Byte, Framing, Wire}
 use Rattle.input_log.specs.Event.{LogEvent}
 
--- the first eight bytes
+-- the first eight bytes of a version
 abbrev pub magic_of : Version → List ℕ
 magic_of One = MAGIC_ONE
 magic_of Two = MAGIC_TWO
@@ -28,12 +28,13 @@ kind_number Byte = 0
 kind_number Framing = 1
 kind_number Wire = 2
 
+-- whether an event is a byte without a framing error
 abbrev pub is_byte : Kind → Bool
 is_byte Byte = true
 is_byte Framing = false
 is_byte Wire = false
 
--- the bytes of an event
+-- the bytes of an event in a version
 abbrev pub event_bytes : Version → LogEvent → List ℕ
 event_bytes One event = bytes_of event.time ++ event.line ∷ event.byte ∷ []
 event_bytes Two event =

@@ -52,6 +52,7 @@ abbrev pub counted_hours : Format → ℕ → Counted
 counted_hours format byte =
     if format.hours_24 then counted format 0 23 byte else counted_twelve format (has byte PM) (number_of format (byte % PM))
 
+-- the hours, counted where the minutes carry
 abbrev pub counted_hours_where : Format → Bool → ℕ → Counted
 counted_hours_where format carry byte = if carry then counted_hours format byte else kept byte
 

@@ -17,7 +17,7 @@ use Rattle.r3k_asm.specs.declared.reference.Reference.{Reference}
 abbrev pub LabelMap : Type 0
 LabelMap = map.FinMap (slice_cmp nat_cmp) ℕ
 
--- where a target is: a label that is not defined is Label
+-- the address of a target: a label that is not defined is Label
 abbrev pub target_of : LabelMap → Place → Result ℕ AsmKind
 target_of labels (Address address) = Ok address
 target_of labels (Label name) = or_fault kind.Label (map.get labels name)
@@ -32,7 +32,7 @@ field_of_target Branch address target =
     then (if nat_lt distance (2 ^ 17) || nat_le (2 ^ 32 - 2 ^ 17) distance then Ok (distance / 4 % 2 ^ 16) else Err kind.Reach)
     else Err kind.Reach
 
--- the whole word
+-- a word with the part that its target gives
 unfoldable pub word_of_reference : LabelMap → Reference → Result ℕ AsmKind
 word_of_reference labels r = do
   target ← target_of labels r.target.place

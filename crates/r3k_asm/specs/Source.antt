@@ -17,7 +17,8 @@ use Rattle.r3k_asm.specs.declared.reference.Reference.{Reference}
 use Rattle.r3k_asm.specs.declared.source.Source.{Source}
 use Rattle.r3k_asm.specs.Reference.{LabelMap}
 
--- the place, the set words (one with a target lacks the part of it), the labels, and the constants
+-- what the lines so far say: the place, the set words (one with a target lacks the part of it), the labels, and the
+-- constants
 pub record State : Type 0 where
   pub place : ℕ
   pub words : map.FinMap nat_cmp ℕ
@@ -27,14 +28,15 @@ pub record State : Type 0 where
   pub unit : Option ℕ
   pub clock : Option (List ℕ)
 
+-- what the first pass of the code holds, as the definition has it
 abbrev pub seen : Source → State
 seen s = record { place = s.place; words = s.words; labels = s.labels; references = s.references.items; byte_time = s.byte_time; unit = s.unit; clock = s.clock }
 
--- before the first line
+-- the same before the first line: the place is the start of ROM
 abbrev pub started : State
 started = record { place = ROM_START; words = map.empty; labels = map.empty; references = []; byte_time = None; unit = None; clock = None }
 
--- a word and its target
+-- the words that lack the part of a target, and one more if the new word has a target
 abbrev pub with_reference : ℕ → ℕ → ℕ → Option Target → List Reference → List Reference
 with_reference line address word None references = references
 with_reference line address word (Some target) references = references ++ record { line = line; address = address; word = word; target = target } ∷ []
@@ -51,7 +53,7 @@ with_word line s word target =
     }))
     else Err kind.Place
 
--- one more statement
+-- what the lines say after one more statement; a label or a constant that was there before is Twice
 unfoldable pub added : ℕ → State → Statement → Result State AsmKind
 added line s Empty = Ok s
 added line s (Label name) = if map.contains_key s.labels name then Err kind.Twice else Ok (record s { labels = map.insert s.labels name s.place })
@@ -61,7 +63,7 @@ added line s (ByteTime n) = if is_some s.byte_time then Err kind.Twice else Ok (
 added line s (UnitOf n) = if is_some s.unit then Err kind.Twice else Ok (record s { unit = Some n })
 added line s (Clock registers) = if is_some s.clock then Err kind.Twice else Ok (record s { clock = Some registers })
 
--- one more line
+-- the same after one more line
 unfoldable pub read : ℕ → State → List ℕ → Result State AsmKind
 read line s text = statement_of text >>= λ statement. added line s statement
 

@@ -5,7 +5,7 @@ use Rattle.std.specs.Prelude.{◌≡◌, ℕ, Bool, true, false, if◌then◌els
 abbrev pub kept : Bool → ℕ → ℕ
 kept has field = if has then field else 0
 
--- it is 0 where it is not there
+-- a field is 0 where it is not there
 abbrev pub IsZeroUnless : Bool → ℕ → Type 0
 IsZeroUnless true field = Unit {0}
 IsZeroUnless false field = field ≡ 0

@@ -56,7 +56,7 @@ pub record FitsFields (i : Operation) : Type 0 where
   pub index : i.index < 2 ^ 26
   pub code : i.code < 2 ^ 20
 
--- an instruction of the table
+-- an instruction of the table: its fields fit, and those that its shape lacks are 0
 pub record IsOperation (i : Operation) : Type 0 where
   pub fits : FitsFields i
   pub row : IsSomeAnd (slice_get instructions i.row) (λ r. IsZeroElsewhere r.shape i)

@@ -12,7 +12,7 @@ use Rattle.r3k_decode.specs.Decoding.{operation_of}
 use Rattle.r3k_disasm.specs.Number.{hexadecimal, signed_text}
 use Rattle.r3k_decode.specs.Target.{branch_target_of, jump_target_of}
 
--- a register
+-- r and the number of a register
 abbrev pub register_text : ℕ → List ℕ
 register_text register = codes "r" ++ decimal register
 
@@ -20,7 +20,7 @@ register_text register = codes "r" ++ decimal register
 abbrev pub hexadecimal_text : ℕ → ℕ → List ℕ
 hexadecimal_text count number = codes "0x" ++ hexadecimal count number
 
--- an operand of an instruction at an address
+-- an operand of an instruction at an address, one clause an operand
 abbrev pub operand_text : ℕ → Operation → Operand → List ℕ
 operand_text address i Rs = register_text i.rs
 operand_text address i Rt = register_text i.rt
@@ -54,11 +54,11 @@ unfoldable pub operands_text : List ℕ → ℕ → Operation → List Operand �
 operands_text separator address i [] = []
 operands_text separator address i (o ∷ os) = separator ++ operand_text address i o ++ operands_text (codes ", ") address i os
 
--- an instruction of a row at an address
+-- an instruction of a row at an address: the name of the row, and the operands of its shape
 abbrev pub instruction_text : ℕ → Operation → Instruction → List ℕ
 instruction_text address i row = row.name ++ operands_text (codes " ") address i (operands_of row.shape)
 
--- the text of a word at an address
+-- the text of a word at an address; one without a row is `.word` and its eight digits
 abbrev pub text_of : ℕ → ℕ → List ℕ
 text_of address word =
     option_map_or (λ i. option_map_or (instruction_text address i) (slice_get instructions i.row) [])

@@ -2,7 +2,7 @@
 use Rattle.std.specs.Prelude.{ℕ, zero, suc, ◌-◌, ◌/◌, ◌%◌, ◌^◌, List, [], ◌∷◌, ◌++◌, codes, false, nat_lt, if◌then◌else◌}
 use Rattle.std.specs.Fmt.{decimal, digit_glyph}
 
--- the lowest n hexadecimal digits of a number
+-- the lowest n hexadecimal digits of a number, in lower case
 unfoldable pub hexadecimal : ℕ → ℕ → List ℕ
 hexadecimal zero number = []
 hexadecimal (suc count) number = hexadecimal count (number / 16) ++ digit_glyph false (number % 16) ∷ []

@@ -12,7 +12,7 @@ use Rattle.r3k_exec.specs.declared.operands.Effect.TheVariants.{Write, WriteHi, 
 use Rattle.r3k_exec.specs.declared.operands.Operands.{Operands}
 use Rattle.r3k_exec.specs.declared.operands.Trap.TheVariants.{SystemCall, Breakpoint, Overflow}
 
--- a result that does not fit the signed readings is an overflow
+-- a result fits the signed readings; one that does not is an overflow
 abbrev pub fits_signed : ℤ → Bool
 fits_signed n = int_le (signed (2 ^ 31)) n && int_le n (signed (2 ^ 31 - 1))
 
@@ -305,7 +305,7 @@ sw_effect i o = Store store.Word (address_of i o) o.rt
 abbrev pub swr_effect : Operation → Operands → Effect
 swr_effect i o = Store store.Right (address_of i o) o.rt
 
--- the effects, a row each
+-- the effect of each row, in the order of the table
 abbrev pub effects : List (Operation → Operands → Effect)
 effects =
     sll_effect
@@ -375,7 +375,7 @@ effects =
     ∷ swr_effect
     ∷ []
 
--- what an instruction does
+-- what an instruction does: the effect of its row
 abbrev pub effect_of : Operation → Operands → Effect
 effect_of i = slice_index_or effects i.row sll_effect i
 

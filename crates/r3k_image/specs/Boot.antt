@@ -40,7 +40,7 @@ pub record IsClockStart (registers : List ℕ) : Type 0 where
   pub register_a : slice_index registers 10 < 128
   pub register_b : slice_index registers 11 % 2 ≡ 0
 
--- the byte time and the unit where nothing else is said (own)
+-- the byte time, 16, and the unit, 1, where nothing else is said (own)
 abbrev pub plain_byte_time : ℕ
 plain_byte_time = 16
 

@@ -12,6 +12,7 @@ use Rattle.r3k_image.specs.declared.header.Header.{Header}
 use Rattle.r3k_image.specs.Boot.{Boot, plain_byte_time, plain_clock_start, plain_unit}
 use Rattle.r3k_image.specs.Segments.{WordsAt, end_of, may_stand, boot_of}
 
+-- for reading alone: one part after the other, up to the first fault
 infixl 10 ◌>>=◌
 abbrev pub ◌>>=◌ : {A B : Type 0} → Result A ImageKind → (A → Result B ImageKind) → Result B ImageKind
 (Ok x) >>= f = f x
@@ -31,11 +32,11 @@ abbrev pub ReadsOrLacks : {X Y : Type 0} → (X → Y) → Result X ImageFault �
 ReadsOrLacks view (Ok x) read = read ≡ Ok (view x)
 ReadsOrLacks view (Err fault) read = FailsOrLacks fault read
 
--- `count` bytes, and the bytes after them
+-- `count` bytes, and the bytes after them, or else `Short`
 abbrev pub bytes_at : ℕ → List ℕ → Result (List ℕ × List ℕ) ImageKind
 bytes_at count bytes = if nat_lt (length bytes) count then Err kinds.Short else Ok (take count bytes, drop count bytes)
 
--- a number of four bytes, and the bytes after it
+-- a number of four bytes, and the bytes after it, or else `Short`
 abbrev pub number_at : List ℕ → Result (ℕ × List ℕ) ImageKind
 number_at bytes = if nat_lt (length bytes) 4 then Err kinds.Short else Ok (word_of bytes, drop 4 bytes)
 
@@ -49,7 +50,7 @@ constant_at fault bytes = do
 abbrev pub is_clock_start : List ℕ → Bool
 is_clock_start registers = nat_lt (slice_index registers 10) 128 && (slice_index registers 11 % 2 == 0)
 
--- what stands before the segments
+-- what stands before the segments, or its first fault
 unfoldable pub header_at : List ℕ → Result (Header × List ℕ) ImageKind
 header_at bytes = do
   magic ← bytes_at 8 bytes
@@ -73,7 +74,7 @@ segment_at start bytes = do
   words ← if may_stand start address.0 count.0 then bytes_at (4 * count.0) count.1 else Err kinds.Segment
   Ok (record { address = address.0; words = words_of count.0 words.0 }, words.1)
 
--- n segments, after one that ends at start
+-- n segments, after one that ends at start, or their first fault
 unfoldable pub segments_at : ℕ → ℕ → List ℕ → Result (List WordsAt × List ℕ) ImageKind
 segments_at zero start bytes = Ok ([], bytes)
 segments_at (suc n) start bytes = do
@@ -81,7 +82,7 @@ segments_at (suc n) start bytes = do
   others ← segments_at n (end_of first.0.address (length first.0.words)) first.1
   Ok (first.0 ∷ others.0, others.1)
 
--- the image that all of the bytes are
+-- the image that all of the bytes are, or the first fault in reading order
 unfoldable pub image_at : List ℕ → Result Boot ImageKind
 image_at bytes = do
   header ← header_at bytes

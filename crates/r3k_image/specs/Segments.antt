@@ -29,7 +29,7 @@ may_stand start address count =
     (address % 4 == 0) && nat_lt 0 count && nat_le start address
     && (nat_le (end_of address count) ram_end || (nat_le ROM_START address && nat_le (end_of address count) rom_end))
 
--- good segments, the first of them not before start
+-- good segments: each may stand where it does, the first of them not before start
 abbrev pub AreSegments : ℕ → List WordsAt → Type 0
 AreSegments start [] = Unit {0}
 AreSegments start (s ∷ ss) =

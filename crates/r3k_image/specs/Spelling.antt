@@ -6,7 +6,7 @@ use Rattle.r3k_image.specs.declared.header.TheConstants.{MAGIC}
 use Rattle.r3k_image.specs.Boot.{Boot}
 use Rattle.r3k_image.specs.Segments.{WordsAt, IsMadeOf}
 
--- the bytes of a segment
+-- the bytes of a segment: its address, the number of its words, and its words
 abbrev pub segment : WordsAt → List ℕ
 segment s = bytes_of s.address ++ bytes_of (length s.words) ++ flat_map bytes_of s.words
 

@@ -35,6 +35,6 @@ AreLongest (s ∷ ss) = (0 < length s.words) × BeginsElsewhere (end_of s.addres
 abbrev pub runs_in : Boot → List WordsAt
 runs_in boot = runs_of (map.entries boot.words)
 
--- the bytes of an image
+-- the bytes that an image is written as: its spelling with these runs as segments
 abbrev pub bytes_of_image : Boot → List ℕ
 bytes_of_image boot = spelling boot (runs_in boot)

@@ -4,9 +4,11 @@ use Rattle.r3k_table.specs.declared.row.Fields.{Fields}
 use Rattle.r3k_table.specs.declared.row.Shape.{Shape}
 use Rattle.r3k_table.specs.declared.row.Shape.TheVariants.{A, B, C, D, E, F, G, H, I, K, L, M, N, O, P, Q, Z}
 
+-- no field at all
 abbrev pub no_field : Fields
 no_field = record { rs = false; rt = false; rd = false; sa = false; imm = false; index = false; code = false }
 
+-- the fields of a shape
 abbrev pub fields_of : Shape → Fields
 fields_of A = record no_field { rt = true; rd = true; sa = true }
 fields_of B = record no_field { rs = true; rt = true; rd = true }

@@ -4,16 +4,18 @@ use Rattle.std.specs.List.{list_all, position_from}
 use Rattle.r3k_table.specs.declared.row.Shape.{Shape}
 use Rattle.r3k_table.specs.declared.row.Shape.TheVariants.{A, B, C, D, E, F, G, H, I, K, L, M, N, O, P, Q, Z}
 
--- a row of the table, with its name as text
+-- a row of the table: its mask, its value, its name as text, and its shape
 pub record Instruction : Type 0 where
   pub mask : ℕ
   pub value : ℕ
   pub name : List ℕ
   pub shape : Shape
 
+-- a row, written in one line
 abbrev pub row : List ℕ → ℕ → ℕ → Shape → Instruction
 row name mask value shape = record { mask = mask; value = value; name = name; shape = shape }
 
+-- the table: the 65 instructions
 abbrev pub instructions : List Instruction
 instructions =
     row (codes "sll") 0xFFE0_003F 0x0000_0000 A
@@ -87,7 +89,7 @@ instructions =
 abbrev pub matches : ℕ → Instruction → Bool
 matches word r = bit_and word r.mask == r.value
 
--- the number of the row of a word
+-- the number of the row of a word, if it has one
 abbrev pub row_of : ℕ → Option ℕ
 row_of word = position_from (matches word) 0 instructions
 
@@ -102,7 +104,7 @@ Matches word number = MatchesIn instructions word number
 abbrev pub are_apart : Instruction → Instruction → Bool
 are_apart a b = not (bit_and a.value b.mask == bit_and b.value a.mask)
 
--- any two rows of a list do
+-- any two rows of a list are apart
 abbrev pub all_apart : List Instruction → Bool
 all_apart [] = true
 all_apart (r ∷ rs) = list_all (are_apart r) rs && all_apart rs

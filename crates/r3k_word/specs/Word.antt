@@ -43,11 +43,11 @@ difference_of a b = (a + 2 ^ 32 - b) % 2 ^ 32
 abbrev pub halves : ℕ → HiLo
 halves number = record { hi = number / 2 ^ 32; lo = number % 2 ^ 32 }
 
--- the product of 64 bits
+-- the product of two words, 64 bits
 abbrev pub product_of : ℕ → ℕ → HiLo
 product_of a b = halves (a * b)
 
--- the product of the signed readings, as 64 bits
+-- the product of their signed readings, 64 bits
 abbrev pub signed_product_of : ℕ → ℕ → HiLo
 signed_product_of a b = halves (cast_unsigned w64 (signed a *ℤ signed b))
 
@@ -67,6 +67,6 @@ signed_division_of a b =
 abbrev pub bytes_of : ℕ → List ℕ
 bytes_of word = field_of 7 0 word ∷ field_of 15 8 word ∷ field_of 23 16 word ∷ field_of 31 24 word ∷ []
 
--- the word of these bytes
+-- the word of four bytes
 abbrev pub word_of : List ℕ → ℕ
 word_of bytes = slice_index bytes 0 + slice_index bytes 1 * 2 ^ 8 + slice_index bytes 2 * 2 ^ 16 + slice_index bytes 3 * 2 ^ 24

@@ -68,7 +68,7 @@ abbrev pub run_fault_of_source : AsmFault → RunFault
 run_fault_of_source SourceMemory = Memory
 run_fault_of_source (BadLine line kind) = BadSource line kind
 
--- the number, the name and the kind of a fault that has a number
+-- the number, the name and the kind of a fault that has a number, and the line of one of a source
 abbrev pub fault_name : RunFault → List ℕ
 fault_name Memory = codes "1 Memory"
 fault_name (BadImage kind) = codes "9 BadImage " ++ kind_name kind

@@ -18,7 +18,7 @@ use Rattle.wb_options.specs.declared.arguments.Kind.TheVariants.{Rom, Image, Sou
 abbrev pub option_rule : Text → Rule
 option_rule name = record (new_rule name) { long = Some name; value_names = 1 }
 
--- the command, with its three options; clap adds `--help` and `-h`
+-- the program's line, with its three options; clap adds `--help` and `-h`
 abbrev pub command_line : App
 command_line =
     with_rule (with_rule (with_rule (new_app (codes "r3kwb")) (option_rule (codes "kind")))
@@ -58,11 +58,11 @@ abbrev pub IsSize : Option Text → ℕ → Type 0
 IsSize None size = size ≡ 0
 IsSize (Some text) size = IsNumeral 10 text × (digits_value 10 text ≡ size)
 
--- the most bytes of an image or a log
+-- the most bytes of an image or a log, 2^26
 abbrev pub max_size : ℕ
 max_size = 67108864
 
--- the words are good, and give this kind, this size and this size of the log
+-- the words are good, and give this kind and these sizes of image and log, each at most `max_size`
 pub record IsLine (words : List Text) (kind : Kind) (size log_size : ℕ) : Type 0 where
   pub good : faults_of words ≡ []
   pub kind_is : IsKind (value_in (codes "kind") (drop 1 words)) kind

@@ -5,7 +5,7 @@ use Rattle.r3k_word.specs.Layout.{place_of_word}
 use Rattle.refusal.specs.declared.fault.Fault.{Fault}
 use Rattle.refusal.specs.declared.fault.Fault.TheVariants.{Unaligned, NotMemory}
 
--- a place after others, where all are there
+-- the place of one more word after others, where all are there
 abbrev pub place_behind : Option (List ℕ) → Option ℕ → Option (List ℕ)
 place_behind (Some places) (Some place) = Some (places ++ place ∷ [])
 place_behind (Some places) None = None
@@ -16,6 +16,6 @@ unfoldable pub places_from : (pages address count : ℕ) → Option (List ℕ)
 places_from pages address zero = Some []
 places_from pages address (suc count) = place_behind (places_from pages address count) (place_of_word pages (address + 4 * count))
 
--- those places, or why the words can't be shown
+-- those places, or why the words can't be shown: Unaligned comes before NotMemory
 abbrev pub places_of : (pages address count : ℕ) → Result (List ℕ) Fault
 places_of pages address count = if address % 4 == 0 then ok_or (places_from pages address count) NotMemory else Err Unaligned

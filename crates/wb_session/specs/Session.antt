@@ -41,7 +41,7 @@ use Rattle.wb_text.specs.declared.reply.Reply.{Reply}
 use Rattle.wb_text.specs.declared.reply.Reply.TheVariants.{Position, Registers, Register, Control, Entry as EntryReply, Where as Place, Memory as MemoryReply, Instructions, Console as ConsoleReply, Found, Writer as WriterReply, Log as LogReply, Event, Left, Patched, Nothing, Fault as Refused}
 use Rattle.wb_session.specs.Memory.{places_of}
 
--- what a session is
+-- what a session is: an image, a log and a position
 pub record Triple : Type 0 where
   pub image : Boot
   pub log : List LogEvent
@@ -53,6 +53,7 @@ pub record Held : Type 0 where
   pub timeline : Landed
   pub position : ℕ
 
+-- the image, the log and the position of what a session holds
 abbrev pub triple_of : Held → Triple
 triple_of s = record { image = s.timeline.history.image; log = s.timeline.history.log; position = s.position }
 
@@ -112,7 +113,7 @@ shown_control c = record {
 abbrev pub shown_entry : ℕ → Entry → Reply
 shown_entry number entry = EntryReply number entry.hi entry.lo
 
--- what `where` shows of an address
+-- what `where` shows of where an address leads
 abbrev pub shown_place : MachineWhere → Where
 shown_place (machine_where.Cached physical) = Cached physical
 shown_place (machine_where.Uncached physical) = Uncached physical
@@ -145,6 +146,7 @@ words_of pages s address (Ok places) =
     Ok (record { address = address; words = record { items = map (slice_index (state_at pages s.image s.log s.position).words) places } })
 words_of pages s address (Err fault) = Err fault
 
+-- what `mem` and `dis` show of the words from an address on
 abbrev pub words_shown : ℕ → Triple → (address count : ℕ) → Result Words Fault
 words_shown pages s address count = words_of pages s address (places_of pages address count)
 
@@ -178,7 +180,7 @@ abbrev pub patches : Triple → Result Boot Fault → Answer
 patches s (Ok image) = answer (record { image = image; log = s.log; position = s.position }) Patched
 patches s (Err fault) = refusal s fault
 
--- the answer that shows something of the processor
+-- the answer that shows something of the processor at the position
 abbrev pub of_core : ℕ → Triple → (Core → Reply) → Answer
 of_core pages s show = shows s show (core_at pages (history_of s) s.position)
 

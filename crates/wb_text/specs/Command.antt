@@ -15,7 +15,7 @@ abbrev pub first_of : Fault → Fault → Fault
 first_of Syntax other = Syntax
 first_of fault other = other
 
--- what two parts of a line say together, unless one is refused
+-- what two parts of a line say together, unless one is refused: Syntax comes before Range
 abbrev pub both_of : {A B : Type 0} → Result A Fault → Result B Fault → Result (A × B) Fault
 both_of (Ok first) (Ok other) = Ok (first, other)
 both_of (Ok first) (Err fault) = Err fault
@@ -174,7 +174,7 @@ abbrev pub some_command : Result Command Fault → Result (Option Command) Fault
 some_command (Ok command) = Ok (Some command)
 some_command (Err fault) = Err fault
 
--- A line without words has no command, and neither has a comment.
+-- The command of a line's words. A line without words has none, and neither has a comment.
 abbrev pub command_of_words : List (List ℕ) → Result (Option Command) Fault
 command_of_words [] = Ok None
 command_of_words (name ∷ words) =

@@ -7,13 +7,13 @@ use Rattle.std.specs.Str.Parse.{digits_value}
 use Rattle.refusal.specs.declared.fault.Fault.{Fault}
 use Rattle.refusal.specs.declared.fault.Fault.TheVariants.{Syntax, Range}
 
--- at least one digit, and all are digits of the base
+-- the number of these digits of a base: at least one, and all are digits of the base
 abbrev pub number_in : ℕ → List ℕ → Option ℕ
 number_in base digits =
     if nat_lt 0 (length digits) && list_all (λ digit. is_digit digit base) digits
     then Some (digits_value base digits) else None
 
--- the number that a word is: 0x comes before hexadecimal digits
+-- the number that a word is: decimal, or hexadecimal after 0x
 abbrev pub number_of : List ℕ → Option ℕ
 number_of word =
     if starts_with nat_eq word (codes "0x") then number_in 16 (drop 2 word) else number_in 10 word
@@ -23,7 +23,7 @@ abbrev pub number_in_range : Option ℕ → Result ℕ Fault
 number_in_range None = Err Syntax
 number_in_range (Some number) = if nat_lt number (2 ^ 64) then Ok number else Err Range
 
--- one number of a command that allows a range: another one is Range
+-- one number of a command that allows a range: no number is Syntax, one outside the range Range
 abbrev pub number_within : (least most : ℕ) → Option ℕ → Result ℕ Fault
 number_within least most None = Err Syntax
 number_within least most (Some number) = if nat_le least number && nat_le number most then Ok number else Err Range

@@ -39,19 +39,19 @@ flag_text false = codes "0"
 abbrev pub value_text : ℕ → ℕ → List ℕ
 value_text register value = register_text register ++ codes " " ++ word_text value
 
--- the load slot
+-- the load slot: a register and its value, or `none`
 abbrev pub load_text : Option Load → List ℕ
 load_text None = codes "none"
 load_text (Some load) = value_text load.register load.value
 
--- what the first line says: all that isn't one of the 32 registers
+-- the first line of `regs`: all that isn't one of the 32 registers
 unfoldable pub state_text : AllRegisters → List ℕ
 state_text r =
     codes "pc " ++ word_text r.pc ++ codes " next " ++ word_text r.next_pc
     ++ codes " hi " ++ word_text r.hi ++ codes " lo " ++ word_text r.lo
     ++ codes " delay " ++ flag_text r.delay ++ codes " load " ++ load_text r.load
 
--- what a row says: four registers, from one on
+-- a row of `regs`: four registers, from one on
 unfoldable pub row_text : List ℕ → ℕ → List ℕ
 row_text registers first =
     register_text first
@@ -65,7 +65,7 @@ unfoldable pub rows_text : List ℕ → ℕ → List ℕ
 rows_text registers zero = []
 rows_text registers (suc row) = rows_text registers row ++ line (row_text registers (4 * row))
 
--- the control registers
+-- the line of `cp0`: the control registers by name
 unfoldable pub control_text : ControlRegisters → List ℕ
 control_text c =
     codes "index " ++ word_text c.index ++ codes " random " ++ word_text c.random
@@ -91,7 +91,7 @@ unfoldable pub memory_text : (instruction : Bool) (address word : ℕ) → List 
 memory_text false address word = word_text address ++ codes " " ++ word_text word
 memory_text true address word = word_text address ++ codes " " ++ word_text word ++ codes " " ++ instruction_text address word
 
--- the lines of the first words from an address on
+-- the lines of the first words of `mem` or `dis`, from an address on
 unfoldable pub words_text : Bool → ℕ → List ℕ → ℕ → List ℕ
 words_text instruction address words zero = []
 words_text instruction address words (suc place) =
@@ -106,12 +106,12 @@ unfoldable pub bytes_text : List ℕ → List ℕ
 bytes_text [] = codes "none"
 bytes_text (byte ∷ bytes) = flat_map byte_text (byte ∷ bytes)
 
--- a line of the serial part, how many bytes were sent on it, and those that are shown
+-- the line of `console`: a serial line, how many bytes were sent on it, and those that are shown
 abbrev pub console_text : (number total : ℕ) → List ℕ → List ℕ
 console_text number total bytes =
     codes "console " ++ decimal number ++ codes " " ++ decimal total ++ codes " " ++ bytes_text bytes
 
--- the last writer of a word
+-- the last writer of a word: a step, `image` or `never`
 abbrev pub writer_text : Writer → List ℕ
 writer_text (Step step) = codes "writer " ++ decimal step
 writer_text Image = codes "writer image"
@@ -133,7 +133,7 @@ unfoldable pub events_text : ℕ → List LogEvent → List ℕ
 events_text number [] = []
 events_text number (event ∷ events) = line (event_text number event) ++ events_text ((number + 1) % 2 ^ 64) events
 
--- how many events the log has, and those that are shown
+-- the lines of `log`: how many events the log has, and those that are shown
 abbrev pub log_text : (total first : ℕ) → List LogEvent → List ℕ
 log_text total first events = line (codes "log " ++ decimal total) ++ events_text first events
 
@@ -157,13 +157,13 @@ text_of Patched = line (codes "ok")
 text_of Nothing = []
 text_of (Refused fault) = line (refusal_text fault)
 
--- a reply has a text: it isn't that of `quit`, and shows a word if it shows words
+-- a reply has a text: it is not that of `quit`, and shows a word if it shows words
 abbrev pub HasText : Reply → Type 0
 HasText Nothing = ⊥
 HasText (Memory w) = 0 < length w.words.items
 HasText (Instructions w) = 0 < length w.words.items
 HasText reply = Unit {0}
 
--- a text that isn't empty and whose last byte is a line feed
+-- a text that is not empty and whose last byte is a line feed
 abbrev pub EndsWithLineFeed : List ℕ → Type 0
 EndsWithLineFeed text = (front : List ℕ) × (text ≡ line front)

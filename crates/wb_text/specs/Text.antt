@@ -7,15 +7,15 @@ use Rattle.std.specs.Fmt.{decimal, digit_glyph}
 abbrev pub hexadecimal_digit : ℕ → ℕ → ℕ
 hexadecimal_digit word place = digit_glyph false (word / 16 ^ place % 16)
 
--- a word
+-- a word: 0x and eight lower-case digits
 unfoldable pub word_text : ℕ → List ℕ
 word_text word = codes "0x" ++ map (hexadecimal_digit word) (7 ∷ 6 ∷ 5 ∷ 4 ∷ 3 ∷ 2 ∷ 1 ∷ 0 ∷ [])
 
--- a byte
+-- a byte: two lower-case digits
 unfoldable pub byte_text : ℕ → List ℕ
 byte_text byte = map (hexadecimal_digit byte) (1 ∷ 0 ∷ [])
 
--- a register by its number
+-- a register: r and its number
 abbrev pub register_text : ℕ → List ℕ
 register_text register = codes "r" ++ decimal register
 

@@ -6,7 +6,7 @@ use Rattle.std.specs.List.{slice_split, starts_with}
 abbrev pub is_blank : ℕ → Bool
 is_blank byte = (byte == 32) || (byte == 9)
 
--- what stands between blanks and isn't empty
+-- the words of a line: what stands between blanks and isn't empty
 unfoldable pub words_of : List ℕ → List (List ℕ)
 words_of line = filter (λ word. nat_lt 0 (length word)) (slice_split is_blank line)
 

@@ -9,7 +9,7 @@ use Rattle.wb_options.specs.declared.fault.RunFault.TheVariants.{Memory, BadImag
 use Rattle.workbench.specs.Script.{IsText, Quits, QuitsAnyway, complete_lines, lines_of}
 use Rattle.wb_session.specs.Session.{Triple}
 
--- the most reads of a run, those before its script among them
+-- the most reads of a run, 2^20, those before its script among them
 abbrev pub max_reads : ℕ
 max_reads = 1048576
 

@@ -19,11 +19,12 @@ unfoldable pub lines_of : List ℕ → List (List ℕ)
 lines_of [] = []
 lines_of (byte ∷ bytes) = if byte == 10 then [] ∷ lines_of bytes else onto_first byte (lines_of bytes)
 
--- the front of a script up to its last line feed
+-- whether a text has a line feed
 abbrev pub has_feed : List ℕ → Bool
 has_feed [] = false
 has_feed (byte ∷ bytes) = (byte == 10) || has_feed bytes
 
+-- the front of a script up to its last line feed
 unfoldable pub complete_part : List ℕ → List ℕ
 complete_part [] = []
 complete_part (byte ∷ bytes) = if has_feed (byte ∷ bytes) then byte ∷ complete_part bytes else []
@@ -32,6 +33,7 @@ complete_part (byte ∷ bytes) = if has_feed (byte ∷ bytes) then byte ∷ comp
 abbrev pub complete_lines : List ℕ → List (List ℕ)
 complete_lines script = lines_of (complete_part script)
 
+-- whether a command is `quit`
 abbrev pub is_quit : Command → Bool
 is_quit Quit = true
 is_quit _ = false
@@ -52,7 +54,7 @@ FromLine pages s (Err fault) rest text = (more : List ℕ) × (text ≡ text_of 
 FromLine pages s (Ok None) rest text = rest s text
 FromLine pages s (Ok (Some command)) rest text = FromCommand pages s command (is_quit command) rest text
 
--- a text of these lines, from a session on
+-- a text of these lines, from a session on: the replies of one run of the session over them, in order
 abbrev pub IsText : ℕ → Triple → List (List ℕ) → List ℕ → Type 0
 IsText pages s [] text = text ≡ []
 IsText pages s (line ∷ lines) text = FromLine pages s (command_of line) (λ new more. IsText pages new lines more) text

@@ -42,12 +42,15 @@ pub record Layout : Type 0 where
   pub size : ℕ
   pub log_size : ℕ
 
+-- how many bytes stand before the script
 abbrev pub size_of : Layout → ℕ
 size_of layout = layout.size + layout.log_size
 
+-- the image that the first of these bytes make, or why they make none
 abbrev pub image_in : Layout → List ℕ → Result Boot RunFault
 image_in layout bytes = image_of layout.kind (take layout.size bytes)
 
+-- the log that the bytes after them spell, or why they spell none
 abbrev pub log_in : Layout → List ℕ → Result (List LogEvent) RunFault
 log_in layout bytes = log_of (drop layout.size bytes)
 

@@ -14,7 +14,7 @@ pages_at sets span = slice_index_or sets span []
 abbrev pub IsUnion : List ℕ → List ℕ → List ℕ → Type 0
 IsUnion a b both = (page : ℕ) → holds both page ≡ (holds a page || holds b page)
 
--- the greatest span below one that has a page, or none where none has
+-- the greatest span below one that has a page, or none where none has it
 abbrev pub IsLast : List (List ℕ) → ℕ → ℕ → Option ℕ → Type 0
 IsLast sets page before None = (i : ℕ) → i < before → IsFalse (holds (pages_at sets i) page)
 IsLast sets page before (Some span) =
