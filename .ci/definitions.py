@@ -85,20 +85,21 @@ def declared(line):
     return words[2] if words and "pub" in words[1].split() else None
 
 
-def source(head):
-    """Where the rules of a file come from, as its first comment says."""
-    chapters = re.search(rf"Kane and Heinrich, ({CHAPTERS}(?:,? (?:and )?{CHAPTERS})*)", head)
-    named = ["K&H " + re.sub(r"chapters? |appendix ", "", chapters[1])] if chapters else ["K&H"] * ("Kane and Heinrich" in head)
-    named += [it for it in ("KN02", "MC146818") if it in head]
+def named(text):
+    """The sources that a comment names."""
+    chapters = re.search(rf"Kane and Heinrich, ({CHAPTERS}(?:,? (?:and )?{CHAPTERS})*)", text)
+    found = ["K&H " + re.sub(r"chapters? |appendix ", "", chapters[1])] if chapters else ["K&H"] * ("Kane and Heinrich" in text)
+    return found + [it for it in ("KN02", "MC146818") if it in text]
+
+
+def source(group):
+    """Where the definitions under a comment come from: the comment says so, or else the first one of its file."""
+    head = group.file.head
+    found = named(group.told) or named(head)
     if re.search(r"\(own, after", head):
-        return "own, after " + ", ".join(named)
-    return ", ".join(named + ["own"] * (not named or "(own" in head))
-
-
-def source_of(group):
-    """The same for the definitions under one comment."""
-    known = source(group.file.head)
-    return known + ", own" if re.search(r"\(own|\b(?:is|are) own\b", group.told) and "own" not in known else known
+        return "own, after " + ", ".join(found)
+    is_own = not found or "(own" in group.told or re.search(r"\b(?:is|are) own\b", group.told) or "(own" in head and not named(group.told)
+    return ", ".join(found + ["own"] * bool(is_own))
 
 
 class Crate:
@@ -244,7 +245,7 @@ class Page:
             for spec, group, names in self.rows(crate, False):
                 tests, edits = self.held(crate, spec, names)
                 code = ", ".join(self.code(crate, spec, names))
-                lines.append(f"| {', '.join(f'`{it}`' for it in names)} | `{spec.name}` | {source_of(group)} | {cell(group.told)} | {code} | {tests} | {edits} |")
+                lines.append(f"| {', '.join(f'`{it}`' for it in names)} | `{spec.name}` | {source(group)} | {cell(group.told)} | {code} | {tests} | {edits} |")
             lines.append("")
         lines.append(PROOFS)
         for crate in self.crates:

@@ -11,7 +11,7 @@ use Rattle.cop0.specs.Registers.{Registers}
 abbrev pub in_user_mode : Registers → Bool
 in_user_mode c = has c.status KUC
 
--- IsC: loads and stores go to the isolated cache, and SwC: to its second array
+-- IsC: loads and stores go to the isolated cache, and SwC: to its second array (Kane and Heinrich, chapters 5 and 6)
 abbrev pub is_isolated : Registers → Bool
 is_isolated c = has c.status ISC
 
@@ -39,7 +39,7 @@ caused cause delay code =
 abbrev pub epc_of : Exc → ℕ
 epc_of e = if e.delay then difference_of e.pc 4 else e.pc
 
--- BadVPN of Context and VPN of EntryHi are those of an address
+-- BadVPN of Context and VPN of EntryHi are those of an address (Kane and Heinrich, chapter 4)
 abbrev pub page_loaded : Registers → ℕ → Registers
 page_loaded c address = record c {
   context = with_field_of 20 2 c.context (field_of 30 12 address);
