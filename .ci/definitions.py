@@ -1,9 +1,8 @@
 #!/usr/bin/env python3
 """Makes docs/DEFINITIONS.md from the comments above the definitions in crates/*/specs, in the order of .ci/definitions.txt.
 
-A row of the page is a comment with the definitions that it stands above. What a file is about and where it comes from is its first comment.
-The types of the code that definitions use are those that they import, as their comments in src/ say them. Code is each file of src/ that
-imports a definition. Tests and edits are those that .ci/definitions.txt names.
+A row of the page is a comment with the definitions that it stands above. The first comment of a file says what it is about and where it
+comes from. Code is each file of src/ that imports a definition. Tests and edits are those that .ci/definitions.txt names.
 
 `.ci/pages --write` writes the page, and `.ci/pages` compares.
 """
@@ -40,6 +39,7 @@ No reader of the meaning needs these: the tests by which two values are compared
 steps of a proof.
 """
 
+PUB = r"pub(?:\(\w+\))? "
 CHAPTERS = r"(?:chapters? \d+(?:(?:, | to | and )\d+)*|appendix [A-D])"
 
 
@@ -51,13 +51,13 @@ class Group:
 
 
 class Specs:
-    """A file of specs/: its first comment, its public definitions by comments, and the types of the code that it imports."""
+    """A file of specs/: its first comment, its public definitions by comments, and what it imports from the code of its crate."""
 
     def __init__(self, path):
-        self.name, self.head, self.groups, self.types = path.stem, "", [], []
-        lines = path.read_text().splitlines()
+        self.name, self.head, self.groups = path.stem, "", []
+        text = path.read_text()
         told, taken = [], None
-        for line in [*lines, ""]:
+        for line in text.splitlines():
             if line.startswith("--"):
                 told.append(line[2:].strip())
                 continue
@@ -71,9 +71,9 @@ class Specs:
                 if not taken.names:
                     self.groups.append(taken)
                 taken.names.append(name)
-        for module, name in re.findall(r"specs\.declared\.(\w+)\.(\w+)", "\n".join(re.findall(rf"(?m)^use Rattle\.{path.parts[-3]}\..*", path.read_text()))):
-            if name != "TheConstants" and (module, name) not in self.types:
-                self.types.append((module, name))
+        own = rf"(?m)^use Rattle\.{path.parts[-3]}\.specs\.declared\.(\w+)\."
+        self.types = [it for it in re.findall(own + r"(\w+)", text) if it[1] != "TheConstants"]
+        self.constants = [(module, it) for module, names in re.findall(own + r"TheConstants\.\{(.*?)\}", text) for it in names.split(", ")]
 
     def names(self):
         return [name for group in self.groups for name in group.names]
@@ -81,7 +81,7 @@ class Specs:
 
 def declared(line):
     """The name of the public definition that a line begins, if it begins one."""
-    words = re.match(r"((?:(?:pub|abbrev|unfoldable|opaque|record|data|infixl) +)+)(\S+)(?= |$)", line)
+    words = re.match(r"((?:(?:pub|abbrev|unfoldable|opaque|record|data) +)+)(?!use |mod )(\S+)(?= |$)", line)
     return words[2] if words and "pub" in words[1].split() else None
 
 
@@ -103,10 +103,17 @@ def source(group):
 
 
 class Crate:
-    """What .ci/definitions.txt says of a crate: its title, its files in order, what is of use to proofs, and what holds a rule."""
+    """What .ci/definitions.txt says of a crate: its title, its files in order, what is of use to proofs alone, and what holds rules. The last
+    two are lists of where it says so, a file, names, and tests and edits."""
 
     def __init__(self, name, title):
         self.name, self.title, self.files, self.proofs, self.rules = name, title, [], [], []
+
+    def all_files(self):
+        return [*self.files, *(file for _, file, names, _ in self.proofs if not names)]
+
+    def is_for_proofs(self, file, name):
+        return any(it == file and (not names or name in names) for _, it, names, _ in self.proofs)
 
 
 def plan():
@@ -122,7 +129,7 @@ def plan():
         elif words[0] == "files":
             crates[-1].files = words[1:]
         elif words[0] == "proofs":
-            crates[-1].proofs.append((at, words[1], words[2:]))
+            crates[-1].proofs.append((at, words[1], words[2:], []))
         elif words[0] == "rule" and ":" in words:
             middle = words.index(":")
             crates[-1].rules.append((at, words[1], words[2:middle], words[middle + 1 :]))
@@ -149,8 +156,12 @@ def edit_of(crate, name):
     return next((it for it in (folder / f"{name}.edit", folder / f"more/{name}.edit.md") if it.exists()), None)
 
 
-def cell(text):
-    return text.replace("|", "\\|").replace("*", "\\*")
+def says(group):
+    return (group.told or group.file.head).replace("|", "\\|").replace("*", "\\*")
+
+
+def row(group, names, *cells):
+    return f"| {', '.join(f'`{it}`' for it in names)} | `{group.file.name}` | {' | '.join(cells)} |"
 
 
 class Page:
@@ -167,18 +178,18 @@ class Page:
 
     def read(self, crate):
         folder = ROOT / "crates" / crate.name / "specs"
-        listed = [*crate.files, *(it for _, it, names in crate.proofs if not names)]
+        listed = {*crate.all_files()}
         found = {it.stem for it in folder.glob("*.antt")} - {"Lib"}
-        for name in sorted(found.symmetric_difference(listed)):
-            self.wrong.append(f".ci/definitions.txt: {crate.name} has " + ("a file" if name in found else "no file") + f" {name} in specs/")
-        for it in {*listed} & found:
+        self.wrong += [f".ci/definitions.txt: {crate.name} has a file specs/{it}.antt that is not listed" for it in sorted(found - listed)]
+        self.wrong += [f".ci/definitions.txt: {crate.name} has no file specs/{it}.antt" for it in sorted(listed - found)]
+        for it in listed & found:
             self.specs[crate.name, it] = Specs(folder / f"{it}.antt")
-        for at, file, names, *held in [*crate.proofs, *crate.rules]:
+        for at, file, names, held in crate.proofs + crate.rules:
             known = self.specs[crate.name, file].names() if (crate.name, file) in self.specs else []
             for name in {*names} - {*known}:
                 elsewhere = [f"{c}/{it.name}" for (c, _), it in self.specs.items() if name in it.names()]
                 self.wrong.append(f"{at}: {name} is not in crates/{crate.name}/specs/{file}.antt but in {' '.join(elsewhere) or 'none'}")
-            for it in held[0] if held else []:
+            for it in held:
                 self.check_holder(at, crate, it)
 
     def check_holder(self, at, crate, name):
@@ -191,67 +202,64 @@ class Page:
             same = [str(it.relative_to(ROOT)) for it in ROOT.glob("crates/acceptance*/src/**/*.rt") if f"fn {function}(" in it.read_text()]
             self.wrong.append(f"{at}: there is no test {name}; a function {function} stands in {' '.join(same) or 'no file of tests'}")
 
-    def is_for_proofs(self, crate, file, name):
-        return any(it == file and (not names or name in names) for _, it, names in crate.proofs)
+    def files(self, crate, names):
+        """Those of these files of a crate that are there."""
+        return [self.specs[crate.name, it] for it in names if (crate.name, it) in self.specs]
 
     def rows(self, crate, for_proofs):
         """The groups of a crate that are, or are not, of use to proofs alone, each with those of its names."""
-        files = [*crate.files, *(it for _, it, names in crate.proofs if not names)]
-        for spec in (self.specs[crate.name, it] for it in files if (crate.name, it) in self.specs):
-            for group in spec.groups:
-                names = [it for it in group.names if self.is_for_proofs(crate, spec.name, it) == for_proofs]
-                if names:
-                    yield spec, group, names
+        for file in self.files(crate, crate.all_files()):
+            for group in file.groups:
+                if names := [it for it in group.names if crate.is_for_proofs(file.name, it) == for_proofs]:
+                    yield group, names
 
-    def code(self, crate, spec, names):
+    def code(self, crate, file, names):
         """The files of src/ that import one of these definitions."""
-        for file in sorted((ROOT / "crates" / crate.name / "src").glob("**/*.rt")):
-            used = re.findall(rf"specs\.{spec.name}\.(?:\{{([^}}]*)\}}|(\w+))", file.read_text())
+        for source in sorted((ROOT / "crates" / crate.name / "src").glob("**/*.rt")):
+            used = re.findall(rf"specs\.{file.name}\.(?:\{{([^}}]*)\}}|(\w+))", source.read_text())
             if {*names} & {it.strip() for one, other in used for it in (one or other).split(",")}:
-                yield link(file.stem, file)
+                yield link(source.stem, source)
 
-    def held(self, crate, spec, names):
-        """The tests and the edits that hold these definitions."""
-        tests, edits = [], []
-        for _, file, ruled, held in crate.rules:
-            if file == spec.name and {*ruled} & {*names}:
+    def held(self, crate, file, names):
+        """The code, the tests and the edits that hold these definitions."""
+        code, tests, edits = list(self.code(crate, file, names)), [], []
+        for _, name, ruled, held in crate.rules:
+            if name == file.name and {*ruled} & {*names}:
                 for it in held:
                     if not it.endswith(".edit"):
                         tests.append(link(it.partition("::")[2], test_of(it)[0]))
                     elif path := edit_of(crate.name, it):
                         edits.append(link(it.removesuffix(".edit").rpartition("/")[2], path))
-        return [", ".join(dict.fromkeys(it)) for it in (tests, edits)]
+        return [", ".join(dict.fromkeys(it)) for it in (code, tests, edits)]
 
-    def types(self, crate):
-        """The types of the code that the definitions of a crate use, each with its comment there."""
-        for module, name in dict.fromkeys(it for file in crate.files if (crate.name, file) in self.specs for it in self.specs[crate.name, file].types):
+    def from_code(self, crate):
+        """What the definitions of a crate use of its code: the types, each with its comment there, and the constants with their values."""
+        files, constants = self.files(crate, crate.files), {}
+        for module, name in dict.fromkeys(it for file in files for it in file.types):
             path = ROOT / "crates" / crate.name / f"src/{module}.rt"
-            text = path.read_text() if path.exists() else ""
-            found = re.search(rf"((?:^ *///.*\n)*)(?:^ *#\[.*\n)*^ *pub(?:\(\w+\))? (?:struct|enum|trait|type) {name}\b", text, re.MULTILINE)
-            if found:
+            kind = rf"^ *(?:{PUB})?(?:struct|enum|trait|type) {name}\b"
+            if found := re.search(rf"(?m)((?:^ *///.*\n)*)(?:^ *#\[.*\n)*{kind}", path.read_text()):
                 yield f"- `{name}` in {link(module, path)}: " + " ".join(it.strip()[3:].strip() for it in found[1].splitlines())
+        for module, name in dict.fromkeys(it for file in files for it in file.constants):
+            constants.setdefault(module, []).append(name)
+        for module, names in constants.items():
+            path = ROOT / "crates" / crate.name / f"src/{module}.rt"
+            values = dict(re.findall(rf"(?m)^(?:{PUB})?const (\w+): [^=]*(= .*);$", path.read_text()))
+            yield f"- Constants in {link(module, path)}: " + ", ".join(f"`{it} {values.get(it, '')}`" for it in names)
 
     def made(self):
         lines = [HEAD]
-        for crate in self.crates:
-            if not crate.files:
-                continue
-            lines.append(f"## {crate.title}: `{crate.name}`\n")
+        for crate in (it for it in self.crates if it.files):
             folder = ROOT / "crates" / crate.name / "specs"
-            lines += [f"- {link(f'`{it}`', folder / f'{it}.antt')}: {self.specs[crate.name, it].head}" for it in crate.files if (crate.name, it) in self.specs]
-            if types := list(self.types(crate)):
-                lines += ["\nFrom the code:\n", *types]
+            lines.append(f"## {crate.title}: `{crate.name}`\n")
+            lines += [f"- {link(f'`{it.name}`', folder / f'{it.name}.antt')}: {it.head}" for it in self.files(crate, crate.files)]
+            if used := list(self.from_code(crate)):
+                lines += ["\nFrom the code:\n", *used]
             lines += ["\n| Definition | File | Source | Says | Code | Tests | Edits |", "|---|---|---|---|---|---|---|"]
-            for spec, group, names in self.rows(crate, False):
-                tests, edits = self.held(crate, spec, names)
-                code = ", ".join(self.code(crate, spec, names))
-                lines.append(f"| {', '.join(f'`{it}`' for it in names)} | `{spec.name}` | {source(group)} | {cell(group.told)} | {code} | {tests} | {edits} |")
+            lines += [row(it, names, source(it), says(it), *self.held(crate, it.file, names)) for it, names in self.rows(crate, False)]
             lines.append("")
         lines.append(PROOFS)
         for crate in self.crates:
-            rows = list(self.rows(crate, True))
-            if rows:
-                lines += [f"### `{crate.name}`\n", "| Definition | File | Says |", "|---|---|---|"]
-                lines += [f"| {', '.join(f'`{it}`' for it in names)} | `{spec.name}` | {cell(group.told or spec.head)} |" for spec, group, names in rows]
-                lines.append("")
+            if rows := [row(it, names, says(it)) for it, names in self.rows(crate, True)]:
+                lines += [f"### `{crate.name}`\n", "| Definition | File | Says |", "|---|---|---|", *rows, ""]
         return "\n".join(lines).replace("\n\n\n", "\n\n").rstrip() + "\n"
