@@ -172,6 +172,8 @@ class Page:
         self.specs = {}
         for crate in self.crates:
             self.read(crate)
+        for crate in self.crates:
+            self.check(crate)
         told = {it.name for it in self.crates}
         for name in sorted({it.parent.parent.name for it in ROOT.glob("crates/*/specs/*.antt")} - told):
             self.wrong.append(f".ci/definitions.txt: says nothing of the crate {name}")
@@ -184,6 +186,8 @@ class Page:
         self.wrong += [f".ci/definitions.txt: {crate.name} has no file specs/{it}.antt" for it in sorted(listed - found)]
         for it in listed & found:
             self.specs[crate.name, it] = Specs(folder / f"{it}.antt")
+
+    def check(self, crate):
         for at, file, names, held in crate.proofs + crate.rules:
             known = self.specs[crate.name, file].names() if (crate.name, file) in self.specs else []
             for name in {*names} - {*known}:
