@@ -1,4 +1,3 @@
-#!/usr/bin/env python3
 """Makes docs/DEFINITIONS.md from the comments above the definitions in crates/*/specs, in the order of .ci/definitions.txt.
 
 A row of the page is a comment with the definitions that it stands above. The first comment of a file says what it is about and where it
