@@ -163,9 +163,13 @@ command_of_words [] = Ok None
 command_of_words (name ∷ words) =
     if begins_comment name then Ok None else some_command (command_named name words)
 
+-- the most bytes of a line
+abbrev pub line_bytes : ℕ
+line_bytes = 256
+
 -- What a line without its line feed says: one carriage return at its end is dropped, and then more
--- than 256 bytes are Syntax, whatever they hold.
+-- bytes than that are Syntax, whatever they hold.
 abbrev pub command_of : List ℕ → Result (Option Command) Fault
 command_of line =
     let text = strip_carriage_return line in
-    if nat_lt 256 (length text) then Err Syntax else command_of_words (words_of text)
+    if nat_lt line_bytes (length text) then Err Syntax else command_of_words (words_of text)
