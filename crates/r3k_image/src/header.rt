@@ -1,6 +1,5 @@
 //! What stands before the segments of an image.
 
-ghost use Rattle.std.specs.Prelude.{◌≡◌, length, IfOk};
 ghost use Rattle.r3k_word.specs.Reading.{ReadsAs};
 ghost use Rattle.r3k_image.specs.Reading.{constant_at, header_at};
 
