@@ -12,6 +12,7 @@ abbrev pub is_same_character : Character → Character → Bool
 is_same_character a b =
     nat_eq a.line b.line && (nat_eq a.byte b.byte && (beq a.overrun b.overrun && beq a.framing b.framing))
 
+-- field by field, in the order of the part's own
 unfoldable pub is_same : Serial → Serial → Bool
 is_same a b =
     pointwise is_same_character a.silo b.silo && (pointwise nat_eq a.busy b.busy && (pointwise beq a.lost b.lost
@@ -22,6 +23,7 @@ is_same a b =
 is_same_character_decides : (a b : Character) → Decides (is_same_character a b) (a ≡ b)
 is_same_character_decides a b = search rules
 
+-- two tests together decide what each of them decides
 infixr 10 ◌and◌
 ◌and◌ : {p q : Bool} {P Q : Type 0} → Decides p P → Decides q Q → Decides (p && q) (P × Q)
 one and other = Decides-and _ _ one other
