@@ -16,7 +16,7 @@ use r3k_word::field::{field, with_field};
 use std::marker::Model;
 
 /// The control registers. Random is from 8 to 63.
-#[derive(Clone, Copy, Debug)]
+#[derive(Clone, Copy, Debug, PartialEq, Eq)]
 pub struct Cop0 {
     pub(crate) index: u32,
     pub(crate) random: u32,
@@ -269,37 +269,4 @@ impl Cop0 {
     {
         *self = *other;
     }
-}
-
-impl PartialEq for Cop0 {
-    ghost use Rattle.std.specs.Prelude.{◌≡◌, ◌↔◌, IsTrue};
-    ghost use Rattle.std.specs.Cmp.{decided, partial_equiv_from_equiv};
-    ghost use Rattle.cop0.specs.Same.{is_same, is_same_decides};
-
-    ghost eq = { is_same };
-
-    ghost laws = { partial_equiv_from_equiv (decided is_same is_same_decides) };
-
-    /// Whether all registers are equal.
-    fn eq(&self, other: &Cop0) -> bool
-        ensures value { result ≡ is_same self.now other.now }
-        ensures equal { IsTrue result ↔ (self.now ≡ other.now) }
-    {
-        self.index == other.index
-            && self.random == other.random
-            && self.entry_lo == other.entry_lo
-            && self.context == other.context
-            && self.bad_vaddr == other.bad_vaddr
-            && self.entry_hi == other.entry_hi
-            && self.status == other.status
-            && self.cause == other.cause
-            && self.epc == other.epc
-    }
-}
-
-impl Eq for Cop0 {
-    ghost use Rattle.std.specs.Cmp.{decided};
-    ghost use Rattle.cop0.specs.Same.{is_same, is_same_decides};
-
-    ghost laws = { decided is_same is_same_decides };
 }

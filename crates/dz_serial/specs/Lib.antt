@@ -8,4 +8,3 @@ pub mod Bits
 pub mod Reads
 pub mod Writes
 pub mod Same
-pub mod SameLaws

@@ -13,7 +13,7 @@ use std::marker::Model;
 pub(crate) const LINES: usize = 4;
 
 /// The serial part. It has four lines, 0 to 3, and takes no memory beyond its own.
-#[derive(Debug, Drop)]
+#[derive(Debug, Drop, PartialEq, Eq)]
 pub struct Dz {
     /// Characters received and not yet read, the oldest first.
     pub(crate) silo: ArrayVec<Received, SILO>,
@@ -60,6 +60,22 @@ impl Model for Dz {
     } };
 
     ghost invariant = { λ a. (a.tline ≤ 3) × (a.last_served ≤ 3) × (1 ≤ a.byte_time) };
+
+    ghost inverse = { λ s. record {
+      silo = record { items = s.silo };
+      busy = s.busy;
+      lost = s.lost;
+      receivers = s.receivers;
+      enabled = s.enabled;
+      tline = s.tline;
+      trdy = s.trdy;
+      tie = s.tie;
+      rie = s.rie;
+      mse = s.mse;
+      maint = s.maint;
+      last_served = s.last_served;
+      byte_time = s.byte_time;
+    } };
 }
 
 impl Dz {

@@ -4,7 +4,6 @@
 #![tactic(auto)]
 
 mod dz;
-mod equal;
 mod quiet;
 mod read;
 mod registers;

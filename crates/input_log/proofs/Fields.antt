@@ -1,11 +1,10 @@
 -- A field that is read is the field that was written, and what was written is read again.
-use Rattle.std.proofs.Common.{◌≡◌, ℕ, suc, ◌+◌, ◌*◌, ◌/◌, ◌%◌, ◌^◌, ◌<◌, ◌≤◌, ◌⊎◌, inl, inr, Bool, true, false, cond, eqb, ltb, List, [], ◌∷◌, ◌++◌, length, get_or, take, drop, Result, Ok, Err, refl, sym, ap, subst, ◌∙◌, append_assoc, arith}
+use Rattle.std.proofs.Common.{◌≡◌, ℕ, suc, ◌+◌, ◌*◌, ◌/◌, ◌%◌, ◌^◌, ◌<◌, ◌≤◌, ◌⊎◌, inl, inr, Bool, true, false, cond, eqb, List, [], ◌∷◌, ◌++◌, length, Result, Ok, Err, refl, sym, ap, subst, ◌∙◌, arith}
 use Rattle.std.specs.Prelude.{nat_le}
 use Rattle.std.specs.Str.{bytes_eq}
-use Rattle.std.proofs.lemmas.Bool.{eqb-true, ltb-false, le-ltb, le-leb, leb-true}
-use Rattle.std.proofs.lemmas.List.{take_at, drop_at, take-append-drop, length-append, get_or-drop}
+use Rattle.std.proofs.lemmas.Bool.{eqb-true, le-leb, leb-true}
 use Rattle.std.proofs.lemmas.Slice.Eq.{bytes_eq-Decides}
-use Rattle.r3k_word.specs.Word.{word_of, bytes_of}
+use Rattle.r3k_word.specs.Word.{bytes_of}
 use Rattle.input_log.specs.declared.fault.LogKind.{LogKind}
 use Rattle.input_log.specs.declared.fault.LogKind.TheVariants as kinds
 use Rattle.input_log.specs.declared.format.TheConstants.{MAGIC_ONE, MAGIC_TWO}
@@ -15,102 +14,20 @@ use Rattle.input_log.specs.declared.event.Kind.{Kind}
 use Rattle.input_log.specs.declared.event.Kind.TheVariants.{Byte, Framing, Wire}
 use Rattle.input_log.specs.Limits.{max_events}
 use Rattle.input_log.specs.Spelling.{magic_of, kind_number}
-use Rattle.input_log.specs.Reading.{◌>>=◌, bytes_at, number_at, byte_at, version_at, count_at, time_at, kind_of, kind_at}
-
--- every item is a byte
-abbrev pub AreBytes : List ℕ → Type 0
-AreBytes bytes = (i : ℕ) → get_or bytes i 0 < 256
-
-AreBytes-drop : (n : ℕ) (bytes : List ℕ) → AreBytes bytes → AreBytes (drop n bytes)
-AreBytes-drop n bytes h i = rw get_or-drop (h (n + i))
-
--- the value of a step that did not fail
-pub bind_ok : {A B : Type 0} (r : Result A LogKind) (f : A → Result B LogKind) (y : B) → (r >>= f) ≡ Ok y → (x : A) × (r ≡ Ok x) × (f x ≡ Ok y)
-bind_ok (Ok x) f y e = (x, refl, e)
-bind_ok (Err d) f y e = absurd cc
-
--- a test that did not fail
-pub passes : {A : Type 0} (b : Bool) (r : Result A LogKind) (d : LogKind) (y : A) → cond b r (Err d) ≡ Ok y → (b ≡ true) × (r ≡ Ok y)
-passes true r d y e = (refl, e)
-passes false r d y e = absurd cc
+use Rattle.r3k_word.proofs.Read.{AreBytes, bind_ok, passes, Takes, Takes-then, bytes_take, bytes_at_again, number_takes, number_at_again}
+use Rattle.r3k_word.specs.Reading.{◌>>=◌, bytes_at, number_at}
+use Rattle.input_log.specs.Reading.{byte_at, version_at, count_at, time_at, kind_of, kind_at}
 
 -- the branch of a choice that was taken
 chosen : {A : Type 0} (b : Bool) (r s : Result A LogKind) (y : A) → cond b r s ≡ Ok y → ((b ≡ true) × (r ≡ Ok y)) ⊎ ((b ≡ false) × (s ≡ Ok y))
 chosen true r s y e = inl (refl, e)
 chosen false r s y e = inr (refl, e)
 
-long_enough : {A : Type 0} (b : Bool) (d : LogKind) (x y : A) → cond b (Err d) (Ok x) ≡ Ok y → (b ≡ false) × (x ≡ y)
-long_enough true d x y e = absurd cc
-long_enough false d x y e = (refl, cc)
-
 abbrev done : {A : Type 0} → A → Result A LogKind
 done x = Ok x
 
 pub ok_is : {A : Type 0} (x y : A) → done x ≡ done y → x ≡ y
 ok_is x y e = cc
-
--- what a reader took from the front
-pub record Takes (bytes text rest : List ℕ) : Type 0 where
-  pub parts : bytes ≡ text ++ rest
-  pub rest_bytes : AreBytes rest
-
-pub Takes-then : (a x b y c : List ℕ) → Takes a x b → Takes b y c → Takes a (x ++ y) c
-Takes-then a x b y c p q = record { parts = p.parts ∙ ap (λ (t : List ℕ). x ++ t) q.parts ∙ sym (append_assoc x y c); rest_bytes = q.rest_bytes }
-
--- ---- some bytes
-
-pub bytes_take : (count : ℕ) (bytes front rest : List ℕ) → AreBytes bytes → bytes_at count bytes ≡ Ok (front, rest) → Takes bytes front rest
-bytes_take count bytes front rest are e =
-    let g = long_enough (ltb (length bytes) count) kinds.Short (take count bytes, drop count bytes) (front, rest) e in
-    let whole : Takes bytes (take count bytes) (drop count bytes) = record { parts = sym (take-append-drop count bytes); rest_bytes = AreBytes-drop count bytes are } in
-    subst (λ (p : List ℕ × List ℕ). Takes bytes p.0 p.1) g.1 whole
-
-pub bytes_at_again : (count : ℕ) (front rest : List ℕ) → length front ≡ count → bytes_at count (front ++ rest) ≡ Ok (front, rest)
-bytes_at_again count front rest len =
-    let long : ltb (length (front ++ rest)) count ≡ false = le-ltb _ _ (omega (arith, length-append front rest)) in
-    rw (long, take_at front rest count len, drop_at front rest count len) refl
-
--- ---- numbers
-
--- the bytes of the word that was read of them
-bytes_again : (bytes : List ℕ) → 4 ≤ length bytes → AreBytes bytes → bytes_of (word_of bytes) ≡ take 4 bytes
-bytes_again [] long h = absurd (omega arith)
-bytes_again (a ∷ []) long h = absurd (omega arith)
-bytes_again (a ∷ b ∷ []) long h = absurd (omega arith)
-bytes_again (a ∷ b ∷ c ∷ []) long h = absurd (omega arith)
-bytes_again (a ∷ b ∷ c ∷ d ∷ rest) long h =
-    let ha : a < 256 = h 0 in
-    let hb : b < 256 = h 1 in
-    let hc : c < 256 = h 2 in
-    let hd : d < 256 = h 3 in
-    let w : ℕ = a + b * 2 ^ 8 + c * 2 ^ 16 + d * 2 ^ 24 in
-    let ea : w / 2 ^ 0 % 2 ^ 8 ≡ a = omega arith in
-    let eb : w / 2 ^ 8 % 2 ^ 8 ≡ b = omega arith in
-    let ec : w / 2 ^ 16 % 2 ^ 8 ≡ c = omega arith in
-    let ed : w / 2 ^ 24 % 2 ^ 8 ≡ d = omega arith in
-    λ i. ea i ∷ eb i ∷ ec i ∷ ed i ∷ []
-
-word_fits : (bytes : List ℕ) → AreBytes bytes → word_of bytes < 2 ^ 32
-word_fits bytes are = omega (arith, are 0, are 1, are 2, are 3)
-
-pub number_takes : (bytes : List ℕ) (n : ℕ) (rest : List ℕ) → AreBytes bytes → number_at bytes ≡ Ok (n, rest) → Takes bytes (bytes_of n) rest × (n < 2 ^ 32)
-number_takes bytes n rest are e =
-    let g = long_enough (ltb (length bytes) 4) kinds.Short (word_of bytes, drop 4 bytes) (n, rest) e in
-    let long : 4 ≤ length bytes = ltb-false _ _ g.0 in
-    let front : bytes_of (word_of bytes) ≡ take 4 bytes = bytes_again bytes long are in
-    let whole : Takes bytes (bytes_of (word_of bytes)) (drop 4 bytes) =
-    record { parts = sym (take-append-drop 4 bytes) ∙ ap (λ (t : List ℕ). t ++ drop 4 bytes) (sym front); rest_bytes = AreBytes-drop 4 bytes are } in
-    subst (λ (p : ℕ × List ℕ). Takes bytes (bytes_of p.0) p.1 × (p.0 < 2 ^ 32)) g.1 (whole, word_fits bytes are)
-
--- a word is read of its own bytes
-word_again : (w : ℕ) (rest : List ℕ) → w < 2 ^ 32 → word_of (bytes_of w ++ rest) ≡ w
-word_again w rest h = omega arith
-
-pub number_at_again : (n : ℕ) (rest : List ℕ) → n < 2 ^ 32 → number_at (bytes_of n ++ rest) ≡ Ok (n, rest)
-number_at_again n rest lt =
-    let long : ltb (length (bytes_of n ++ rest)) 4 ≡ false = le-ltb _ _ (omega arith) in
-    let same : word_of (bytes_of n ++ rest) ≡ n = word_again n rest lt in
-    ap (λ b. cond b (Err kinds.Short) (Ok (word_of (bytes_of n ++ rest), rest))) long ∙ ap (λ (m : ℕ). Ok (m, rest)) same
 
 -- ---- one byte
 
@@ -127,8 +44,8 @@ byte_takes (b ∷ bytes) byte rest are e =
 pub version_takes : (bytes : List ℕ) (version : Version) (rest : List ℕ) → AreBytes bytes → version_at bytes ≡ Ok (version, rest) → Takes bytes (magic_of version) rest
 unfolding version_at
 version_takes bytes version rest are e =
-    let a = bind_ok (bytes_at 8 bytes) (λ magic. cond (bytes_eq magic.0 MAGIC_ONE) (Ok (One, magic.1)) (cond (bytes_eq magic.0 MAGIC_TWO) (Ok (Two, magic.1)) (Err kinds.Magic))) (version, rest) e in
-    let front = bytes_take 8 bytes a.0.0 a.0.1 are a.1 in
+    let a = bind_ok (bytes_at kinds.Short 8 bytes) (λ magic. cond (bytes_eq magic.0 MAGIC_ONE) (Ok (One, magic.1)) (cond (bytes_eq magic.0 MAGIC_TWO) (Ok (Two, magic.1)) (Err kinds.Magic))) (version, rest) e in
+    let front = (bytes_take kinds.Short 8 bytes a.0.0 a.0.1 are a.1).0 in
     elim (chosen (bytes_eq a.0.0 MAGIC_ONE) (Ok (One, a.0.1)) (cond (bytes_eq a.0.0 MAGIC_TWO) (Ok (Two, a.0.1)) (Err kinds.Magic)) (version, rest) a.2) [
       | inl one ↦
           let magic : a.0.0 ≡ MAGIC_ONE = (bytes_eq-Decides a.0.0 MAGIC_ONE).0 one.0 in
@@ -141,7 +58,7 @@ version_takes bytes version rest are e =
           subst (λ (p : Version × List ℕ). Takes bytes (magic_of p.0) p.1) (ok_is made (version, rest) two.1) (subst (λ (x : List ℕ). Takes bytes x a.0.1) magic front)
     ]
 
-version_step : (version : Version) (bytes rest : List ℕ) → bytes_at 8 bytes ≡ Ok (magic_of version, rest) → version_at bytes ≡ Ok (version, rest)
+version_step : (version : Version) (bytes rest : List ℕ) → bytes_at kinds.Short 8 bytes ≡ Ok (magic_of version, rest) → version_at bytes ≡ Ok (version, rest)
 unfolding version_at
 version_step One bytes rest e = rw e refl
 version_step Two bytes rest e = rw e refl
@@ -152,22 +69,22 @@ magic_length Two = refl
 
 pub version_at_again : (version : Version) (rest : List ℕ) → version_at (magic_of version ++ rest) ≡ Ok (version, rest)
 version_at_again version rest =
-    version_step version (magic_of version ++ rest) rest (bytes_at_again 8 (magic_of version) rest (magic_length version))
+    version_step version (magic_of version ++ rest) rest (bytes_at_again kinds.Short 8 (magic_of version) rest (magic_length version))
 
 pub count_takes : (bytes : List ℕ) (n : ℕ) (rest : List ℕ) → AreBytes bytes → count_at bytes ≡ Ok (n, rest) → Takes bytes (bytes_of n) rest × (n ≤ max_events)
 unfolding count_at
 count_takes bytes n rest are e =
-    let a = bind_ok (number_at bytes) (λ count. cond (nat_le count.0 max_events) (Ok count) (Err kinds.Count)) (n, rest) e in
+    let a = bind_ok (number_at kinds.Short bytes) (λ count. cond (nat_le count.0 max_events) (Ok count) (Err kinds.Count)) (n, rest) e in
     let few = passes (nat_le a.0.0 max_events) (Ok a.0) kinds.Count (n, rest) a.2 in
-    let text = (number_takes bytes a.0.0 a.0.1 are a.1).0 in
+    let text = (number_takes kinds.Short bytes a.0.0 a.0.1 are a.1).0 in
     subst (λ (p : ℕ × List ℕ). Takes bytes (bytes_of p.0) p.1 × (p.0 ≤ max_events)) (ok_is a.0 (n, rest) few.1) (text, leb-true _ _ few.0)
 
-count_step : (bytes rest : List ℕ) (n : ℕ) → number_at bytes ≡ Ok (n, rest) → nat_le n max_events ≡ true → count_at bytes ≡ Ok (n, rest)
+count_step : (bytes rest : List ℕ) (n : ℕ) → number_at kinds.Short bytes ≡ Ok (n, rest) → nat_le n max_events ≡ true → count_at bytes ≡ Ok (n, rest)
 unfolding count_at
 count_step bytes rest n e few = rw (e, few) refl
 
 pub count_at_again : (n : ℕ) (rest : List ℕ) → n ≤ max_events → count_at (bytes_of n ++ rest) ≡ Ok (n, rest)
-count_at_again n rest few = count_step (bytes_of n ++ rest) rest n (number_at_again n rest (omega (arith, few))) (le-leb _ _ few)
+count_at_again n rest few = count_step (bytes_of n ++ rest) rest n (number_at_again kinds.Short n rest (omega (arith, few))) (le-leb _ _ few)
 
 -- ---- a time and a kind
 
@@ -190,12 +107,12 @@ FitsKind Two kind = Unit {0}
 
 pub time_takes : (version : Version) (bytes : List ℕ) (time : ℕ) (rest : List ℕ) → AreBytes bytes → time_at version bytes ≡ Ok (time, rest) → Takes bytes (time_bytes version time) rest
 unfolding time_at
-time_takes One bytes time rest are e = (number_takes bytes time rest are e).0
+time_takes One bytes time rest are e = (number_takes kinds.Short bytes time rest are e).0
 time_takes Two bytes time rest are e =
-    let a = bind_ok (number_at bytes) (λ low. number_at low.1 >>= λ high. Ok (low.0 + high.0 * 2 ^ 32, high.1)) (time, rest) e in
-    let b = bind_ok (number_at a.0.1) (λ high. Ok (a.0.0 + high.0 * 2 ^ 32, high.1)) (time, rest) a.2 in
-    let low = number_takes bytes a.0.0 a.0.1 are a.1 in
-    let high = number_takes a.0.1 b.0.0 b.0.1 low.0.rest_bytes b.1 in
+    let a = bind_ok (number_at kinds.Short bytes) (λ low. number_at kinds.Short low.1 >>= λ high. Ok (low.0 + high.0 * 2 ^ 32, high.1)) (time, rest) e in
+    let b = bind_ok (number_at kinds.Short a.0.1) (λ high. Ok (a.0.0 + high.0 * 2 ^ 32, high.1)) (time, rest) a.2 in
+    let low = number_takes kinds.Short bytes a.0.0 a.0.1 are a.1 in
+    let high = number_takes kinds.Short a.0.1 b.0.0 b.0.1 low.0.rest_bytes b.1 in
     let made : ℕ × List ℕ = (a.0.0 + b.0.0 * 2 ^ 32, b.0.1) in
     let low_is : a.0.0 ≡ (a.0.0 + b.0.0 * 2 ^ 32) % 2 ^ 32 = omega (arith, low.1) in
     let high_is : b.0.0 ≡ (a.0.0 + b.0.0 * 2 ^ 32) / 2 ^ 32 = omega (arith, low.1) in
@@ -206,22 +123,22 @@ time_takes Two bytes time rest are e =
     subst (λ (n : ℕ). Takes bytes (bytes_of ((a.0.0 + b.0.0 * 2 ^ 32) % 2 ^ 32) ++ bytes_of n) b.0.1) high_is first in
     subst (λ (p : ℕ × List ℕ). Takes bytes (time_bytes Two p.0) p.1) (ok_is made (time, rest) b.2) whole
 
-time_one : (bytes rest : List ℕ) (time : ℕ) → number_at bytes ≡ Ok (time, rest) → time_at One bytes ≡ Ok (time, rest)
+time_one : (bytes rest : List ℕ) (time : ℕ) → number_at kinds.Short bytes ≡ Ok (time, rest) → time_at One bytes ≡ Ok (time, rest)
 unfolding time_at
 time_one bytes rest time e = e
 
-time_two : (bytes middle rest : List ℕ) (low high : ℕ) → number_at bytes ≡ Ok (low, middle) → number_at middle ≡ Ok (high, rest) → time_at Two bytes ≡ Ok (low + high * 2 ^ 32, rest)
+time_two : (bytes middle rest : List ℕ) (low high : ℕ) → number_at kinds.Short bytes ≡ Ok (low, middle) → number_at kinds.Short middle ≡ Ok (high, rest) → time_at Two bytes ≡ Ok (low + high * 2 ^ 32, rest)
 unfolding time_at
 time_two bytes middle rest low high e1 e2 = rw (e1, e2) refl
 
 pub time_at_again : (version : Version) (time : ℕ) (rest : List ℕ) → FitsTime version time → time_at version (time_bytes version time ++ rest) ≡ Ok (time, rest)
-time_at_again One time rest fits = time_one (bytes_of time ++ rest) rest time (number_at_again time rest fits)
+time_at_again One time rest fits = time_one (bytes_of time ++ rest) rest time (number_at_again kinds.Short time rest fits)
 time_at_again Two time rest fits =
     let low = time % 2 ^ 32 in
     let high = time / 2 ^ 32 in
     let same : low + high * 2 ^ 32 ≡ time = omega arith in
-    time_two (bytes_of low ++ (bytes_of high ++ rest)) (bytes_of high ++ rest) rest low high (number_at_again low (bytes_of high ++ rest) (omega arith))
-    (number_at_again high rest (omega (arith, fits)))
+    time_two (bytes_of low ++ (bytes_of high ++ rest)) (bytes_of high ++ rest) rest low high (number_at_again kinds.Short low (bytes_of high ++ rest) (omega arith))
+    (number_at_again kinds.Short high rest (omega (arith, fits)))
     ∙ ap (λ (n : ℕ). Ok (n, rest)) same
 
 kind_numbered : (number : ℕ) (kind : Kind) → kind_of number ≡ Ok kind → number ≡ kind_number kind

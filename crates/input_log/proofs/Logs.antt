@@ -15,8 +15,10 @@ use Rattle.input_log.specs.declared.fault.LogFault.{LogFault}
 use Rattle.input_log.specs.Event.{LogEvent, LineExists, HoldsByte, IsInTime, max_line, max_byte}
 use Rattle.input_log.specs.Log.{AreInOrder, IsLog}
 use Rattle.input_log.specs.Spelling.{magic_of, last_time, is_byte, event_bytes, spelled_in, has_room, version_for, spelling, Fits, IsSpelled}
-use Rattle.input_log.specs.Reading.{◌>>=◌, ReadsOrLacks, byte_at, version_at, count_at, time_at, kind_at, event_at, events_at, log_at}
-use Rattle.input_log.proofs.Fields.{AreBytes, bind_ok, passes, ok_is, Takes, Takes-then, byte_takes, version_takes, version_at_again, count_takes, count_at_again, time_bytes, FitsTime, time_takes, time_at_again, kind_bytes, FitsKind, kind_takes, kind_at_again}
+use Rattle.r3k_word.specs.Reading.{◌>>=◌}
+use Rattle.r3k_word.proofs.Read.{AreBytes, bind_ok, passes, Takes, Takes-then}
+use Rattle.input_log.specs.Reading.{ReadsOrLacks, byte_at, version_at, count_at, time_at, kind_at, event_at, events_at, log_at}
+use Rattle.input_log.proofs.Fields.{ok_is, byte_takes, version_takes, version_at_again, count_takes, count_at_again, time_bytes, FitsTime, time_takes, time_at_again, kind_bytes, FitsKind, kind_takes, kind_at_again}
 
 -- ---- events after one of the time last
 

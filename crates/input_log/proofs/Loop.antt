@@ -5,7 +5,8 @@ use Rattle.std.proofs.lemmas.List.{append-nil}
 use Rattle.input_log.specs.declared.fault.LogKind.{LogKind}
 use Rattle.input_log.specs.declared.format.Version.{Version}
 use Rattle.input_log.specs.Event.{LogEvent}
-use Rattle.input_log.specs.Reading.{◌>>=◌, event_at, events_at}
+use Rattle.r3k_word.specs.Reading.{◌>>=◌}
+use Rattle.input_log.specs.Reading.{event_at, events_at}
 
 -- what was read before, and what is still read
 abbrev pub with_front : List LogEvent → Result (List LogEvent × List ℕ) LogKind → Result (List LogEvent × List ℕ) LogKind

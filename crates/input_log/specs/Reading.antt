@@ -1,7 +1,7 @@
 -- Reading a log from left to right (own), with the first fault that is met.
-use Rattle.std.specs.Prelude.{◌≡◌, ℕ, ◌+◌, ◌*◌, ◌^◌, zero, suc, List, [], ◌∷◌, length, take, drop, Result, Ok, Err, IsOk, nat_lt, nat_le, ◌==◌, ◌&&◌, if◌then◌else◌}
+use Rattle.std.specs.Prelude.{◌≡◌, ℕ, ◌+◌, ◌*◌, ◌^◌, zero, suc, List, [], ◌∷◌, length, Result, Ok, Err, IsOk, nat_lt, nat_le, ◌==◌, ◌&&◌, if◌then◌else◌}
 use Rattle.std.specs.Str.{bytes_eq}
-use Rattle.r3k_word.specs.Word.{word_of}
+use Rattle.r3k_word.specs.Reading.{◌>>=◌, bytes_at, number_at}
 use Rattle.input_log.specs.Limits.{max_events}
 use Rattle.input_log.specs.declared.format.TheConstants.{MAGIC_ONE, MAGIC_TWO}
 use Rattle.input_log.specs.declared.format.Version.{Version}
@@ -15,18 +15,7 @@ use Rattle.input_log.specs.declared.fault.LogFault.TheVariants.{Memory, Bad}
 use Rattle.input_log.specs.Event.{LogEvent, max_line, max_byte}
 use Rattle.input_log.specs.Spelling.{last_time}
 
--- for reading alone: one part after the other, up to the first fault
-infixl 10 ◌>>=◌
-abbrev pub ◌>>=◌ : {A B : Type 0} → Result A LogKind → (A → Result B LogKind) → Result B LogKind
-(Ok x) >>= f = f x
-(Err e) >>= f = Err e
-
--- what a function without growth of memory returned, seen by view, is what reading gives
-abbrev pub ReadsAs : {X Y : Type 0} → (X → Y) → Result X LogKind → Result Y LogKind → Type 0
-ReadsAs view (Ok x) read = read ≡ Ok (view x)
-ReadsAs view (Err kind) read = read ≡ Err kind
-
--- the same for a function that may run out of memory
+-- what a function that may run out of memory returned, seen by view, is what reading gives
 abbrev pub FailsOrLacks : {Y : Type 0} → LogFault → Result Y LogKind → Type 0
 FailsOrLacks Memory read = Unit {0}
 FailsOrLacks (Bad kind) read = read ≡ Err kind
@@ -35,15 +24,7 @@ abbrev pub ReadsOrLacks : {X Y : Type 0} → (X → Y) → Result X LogFault →
 ReadsOrLacks view (Ok x) read = read ≡ Ok (view x)
 ReadsOrLacks view (Err fault) read = FailsOrLacks fault read
 
--- count bytes, and the bytes after them, or else `Short`
-abbrev pub bytes_at : ℕ → List ℕ → Result (List ℕ × List ℕ) LogKind
-bytes_at count bytes = if nat_lt (length bytes) count then Err kinds.Short else Ok (take count bytes, drop count bytes)
-
--- a number of four bytes, and the bytes after it, or else `Short`
-abbrev pub number_at : List ℕ → Result (ℕ × List ℕ) LogKind
-number_at bytes = if nat_lt (length bytes) 4 then Err kinds.Short else Ok (word_of bytes, drop 4 bytes)
-
--- one byte, and the bytes after it, or else `Short`
+-- one byte, and the bytes after it
 abbrev pub byte_at : List ℕ → Result (ℕ × List ℕ) LogKind
 byte_at [] = Err kinds.Short
 byte_at (byte ∷ rest) = Ok (byte, rest)
@@ -51,21 +32,21 @@ byte_at (byte ∷ rest) = Ok (byte, rest)
 -- the version that the first eight bytes name, and the bytes after them
 unfoldable pub version_at : List ℕ → Result (Version × List ℕ) LogKind
 version_at bytes = do
-  magic ← bytes_at 8 bytes
+  magic ← bytes_at kinds.Short 8 bytes
   if bytes_eq magic.0 MAGIC_ONE then Ok (One, magic.1) else if bytes_eq magic.0 MAGIC_TWO then Ok (Two, magic.1) else Err kinds.Magic
 
 -- the number of events, and the bytes after it: it is judged before any of them is read
 unfoldable pub count_at : List ℕ → Result (ℕ × List ℕ) LogKind
 count_at bytes = do
-  count ← number_at bytes
+  count ← number_at kinds.Short bytes
   if nat_le count.0 max_events then Ok count else Err kinds.Count
 
 -- a time, and the bytes after it
 unfoldable pub time_at : Version → List ℕ → Result (ℕ × List ℕ) LogKind
-time_at One bytes = number_at bytes
+time_at One bytes = number_at kinds.Short bytes
 time_at Two bytes = do
-  low ← number_at bytes
-  high ← number_at low.1
+  low ← number_at kinds.Short bytes
+  high ← number_at kinds.Short low.1
   Ok (low.0 + high.0 * 2 ^ 32, high.1)
 
 -- the kind of a number
@@ -81,7 +62,7 @@ kind_at Two bytes = do
   kind ← kind_of number.0
   Ok (kind, number.1)
 
--- an event after one of the time last, or its first fault
+-- an event after one of the time last
 unfoldable pub event_at : Version → ℕ → List ℕ → Result (LogEvent × List ℕ) LogKind
 event_at version last bytes = do
   time ← time_at version bytes
@@ -92,7 +73,7 @@ event_at version last bytes = do
       then Ok (record { time = time.0; kind = kind.0; line = line.0; byte = byte.0 }, byte.1)
       else Err kinds.Value
 
--- n events, after one of the time last, or their first fault
+-- n events, after one of the time last
 unfoldable pub events_at : Version → ℕ → ℕ → List ℕ → Result (List LogEvent × List ℕ) LogKind
 events_at version zero last bytes = Ok ([], bytes)
 events_at version (suc n) last bytes = do
@@ -100,7 +81,7 @@ events_at version (suc n) last bytes = do
   others ← events_at version n first.0.time first.1
   Ok (first.0 ∷ others.0, others.1)
 
--- the log that all of the bytes are, or the first fault in reading order
+-- the log that all of the bytes are
 unfoldable pub log_at : List ℕ → Result (List LogEvent) LogKind
 log_at bytes = do
   version ← version_at bytes

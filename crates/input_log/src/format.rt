@@ -1,12 +1,13 @@
 //! The versions of the log's format, and the fields that it is made of.
 
 ghost use Rattle.std.specs.Prelude.{◌≡◌};
-ghost use Rattle.input_log.specs.Reading.{ReadsAs, number_at, byte_at, version_at, count_at, time_at, kind_at};
+ghost use Rattle.r3k_word.specs.Reading.{ReadsAs};
+ghost use Rattle.input_log.specs.Reading.{byte_at, version_at, count_at, time_at, kind_at};
 
 use crate::event::Kind;
 use crate::fault::LogKind;
 use crate::limits::{MAX_EVENTS, MAX_TIME};
-use byteorder::{ByteOrder, LittleEndian};
+use r3k_word::reading::{read_bytes, read_number};
 
 /// A version of the log's format.
 #[derive(Clone, Copy, Debug, PartialEq, Eq)]
@@ -65,14 +66,6 @@ impl Version {
     }
 }
 
-/// A number of 32 bits, and the bytes after it.
-pub fn read_number(bytes: &[u8]) -> Result<(u32, &[u8]), LogKind>
-    ensures { ReadsAs (λ x. (x.0, x.1.now)) result (number_at bytes.now) }
-{
-    let (number, rest) = bytes.split_at_checked(4).ok_or(LogKind::Short)?;
-    Ok((LittleEndian::read_u32(number), rest))
-}
-
 /// One byte, and the bytes after it.
 pub fn read_byte(bytes: &[u8]) -> Result<(u8, &[u8]), LogKind>
     ensures { ReadsAs (λ x. (x.0, x.1.now)) result (byte_at bytes.now) }
@@ -88,7 +81,7 @@ pub fn read_byte(bytes: &[u8]) -> Result<(u8, &[u8]), LogKind>
 pub fn read_version(bytes: &[u8]) -> Result<(Version, &[u8]), LogKind>
     ensures { ReadsAs (λ x. (x.0, x.1.now)) result (version_at bytes.now) }
 {
-    let (magic, rest) = bytes.split_at_checked(8).ok_or(LogKind::Short)?;
+    let (magic, rest) = read_bytes(LogKind::Short, 8, bytes)?;
     if magic == MAGIC_ONE.as_slice() {
         Ok((Version::One, rest))
     } else if magic == MAGIC_TWO.as_slice() {
@@ -103,7 +96,7 @@ pub fn read_version(bytes: &[u8]) -> Result<(Version, &[u8]), LogKind>
 pub fn read_count(bytes: &[u8]) -> Result<(u32, &[u8]), LogKind>
     ensures { ReadsAs (λ x. (x.0, x.1.now)) result (count_at bytes.now) }
 {
-    let (count, rest) = read_number(bytes)?;
+    let (count, rest) = read_number(LogKind::Short, bytes)?;
     if count as usize > MAX_EVENTS {
         return Err(LogKind::Count);
     }
@@ -115,11 +108,11 @@ pub fn read_count(bytes: &[u8]) -> Result<(u32, &[u8]), LogKind>
 pub fn read_time(version: Version, bytes: &[u8]) -> Result<(u64, &[u8]), LogKind>
     ensures { ReadsAs (λ x. (x.0, x.1.now)) result (time_at version bytes.now) }
 {
-    let (low, rest) = read_number(bytes)?;
+    let (low, rest) = read_number(LogKind::Short, bytes)?;
     match version {
         Version::One => Ok((u64::from(low), rest)),
         Version::Two => {
-            let (high, rest) = read_number(rest)?;
+            let (high, rest) = read_number(LogKind::Short, rest)?;
             Ok((u64::from(low) + (u64::from(high) << 32), rest))
         }
     }

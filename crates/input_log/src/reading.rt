@@ -4,7 +4,8 @@ ghost use Rattle.std.specs.Prelude.{◌<◌, List, IfOk, Ok, IsOk, IsErrOf};
 ghost use Rattle.input_log.specs.Event.{LogEvent};
 ghost use Rattle.input_log.specs.Log.{IsLog};
 ghost use Rattle.input_log.specs.Spelling.{IsSpelled};
-ghost use Rattle.input_log.specs.Reading.{ReadsAs, ReadsOrLacks, event_at, events_at, log_at, HasEvent};
+ghost use Rattle.r3k_word.specs.Reading.{ReadsAs};
+ghost use Rattle.input_log.specs.Reading.{ReadsOrLacks, event_at, events_at, log_at, HasEvent};
 
 use crate::event::Event;
 use crate::fault::{LogFault, LogKind};

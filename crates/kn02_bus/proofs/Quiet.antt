@@ -1,5 +1,5 @@
 -- Ticks of the bus are ticks of its parts, and they are counted from the schedule.
-use Rattle.std.proofs.Common.{◌≡◌, ◌≢◌, ℕ, zero, suc, ◌+◌, ◌-◌, ◌≤◌, ap, refl, arith, ◌∙◌}
+use Rattle.std.proofs.Common.{◌≡◌, ◌≢◌, ℕ, zero, suc, ◌-◌, ◌≤◌, ap, refl, arith, ◌∙◌}
 use Rattle.dz_serial.specs.Quiet as serial_quiet
 use Rattle.mc146818.specs.Second as clock_second
 use Rattle.kn02_bus.specs.declared.schedule.Schedule.{Schedule}

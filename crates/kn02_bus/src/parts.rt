@@ -14,7 +14,7 @@ use std::marker::Model;
 pub(crate) const EXTERNAL: usize = 3;
 
 /// The serial part, the clock, and of the board's interrupt lines the enables and the external levels.
-#[derive(Drop)]
+#[derive(Drop, PartialEq, Eq)]
 pub(crate) struct Parts {
     pub(crate) serial: Dz,
     pub(crate) clock: Clock,
@@ -30,28 +30,8 @@ impl Model for Parts {
     ghost Value = { BusState };
 
     ghost view = { λ b. record { serial = b.serial; clock = b.clock; enables = b.enables; levels = b.levels } };
-}
 
-impl PartialEq for Parts {
-    ghost use Rattle.std.specs.Prelude.{◌≡◌, ◌↔◌, IsTrue};
-    ghost use Rattle.std.specs.Cmp.{decided, partial_equiv_from_equiv};
-    ghost use Rattle.kn02_bus.specs.Same.{is_same, is_same_decides};
-
-    ghost eq = { is_same };
-
-    ghost laws = { partial_equiv_from_equiv (decided is_same is_same_decides) };
-
-    /// Whether all that both hold is equal.
-    #[tactic(auto, unfolding(crate::specs::Same::is_same))]
-    fn eq(&self, other: &Parts) -> bool
-        ensures value { result ≡ is_same self.now other.now }
-        ensures equal { IsTrue result ↔ (self.now ≡ other.now) }
-    {
-        self.serial == other.serial
-            && self.clock == other.clock
-            && self.enables == other.enables
-            && self.levels == other.levels
-    }
+    ghost inverse = { λ b. record { serial = b.serial; clock = b.clock; enables = b.enables; levels = b.levels } };
 }
 
 impl Parts {

@@ -7,12 +7,13 @@ use Rattle.std.proofs.lemmas.Nat.{div-mul-add, mod-mul-add, and_mask, one_shl, p
 use Rattle.std.proofs.lemmas.Bool.{ne_eqb, eq-eqb, eqb-true, le-leb, lt-leb}
 use Rattle.std.proofs.lemmas.Bool.Decides.{leb_tells}
 use Rattle.std.proofs.Math.Logic.{⊎_elim}
+use Rattle.mc146818.specs.declared.divider.TheConstants.{UNITS, NEAR_END}
 use Rattle.mc146818.specs.Divider.{Ticks, next_count, is_near_end}
 
 -- whole units and ticks beyond them stay below a second
-below_second : (units unit ticks : ℕ) → units < 8192 → ticks < unit → units * unit + ticks < 8192 * unit
+below_second : (units unit ticks : ℕ) → units < UNITS → ticks < unit → units * unit + ticks < UNITS * unit
 below_second units unit ticks fits below =
-    let most : (units + 1) * unit ≤ 8192 * unit = mul-le-mul_right unit (let h : units + 1 ≤ 8192 = omega arith in h) in
+    let most : (units + 1) * unit ≤ UNITS * unit = mul-le-mul_right unit (let h : units + 1 ≤ UNITS = omega arith in h) in
     omega (arith, most)
 
 -- the divider at this count, with this many ticks a unit
@@ -20,19 +21,19 @@ abbrev pub at : (unit count : ℕ) → Ticks
 at unit count = record { count = count; unit = unit }
 
 -- a tick within a unit
-pub next_tick : (units unit ticks : ℕ) → units < 8192 → ticks + 1 < unit
+pub next_tick : (units unit ticks : ℕ) → units < UNITS → ticks + 1 < unit
     → at unit (units * unit + (ticks + 1)) ≡ at unit (next_count unit (units * unit + ticks))
 next_tick units unit ticks fits below =
-    let not_end : units * unit + ticks + 1 ≢ 8192 * unit = omega (arith, below_second units unit (ticks + 1) fits below) in
-    rw (ne_eqb (units * unit + ticks + 1) (8192 * unit) not_end) (ap (at unit) (omega arith))
+    let not_end : units * unit + ticks + 1 ≢ UNITS * unit = omega (arith, below_second units unit (ticks + 1) fits below) in
+    rw (ne_eqb (units * unit + ticks + 1) (UNITS * unit) not_end) (ap (at unit) (omega arith))
 
 -- the last tick of a unit that is not the last
-pub next_unit : (units unit ticks : ℕ) → units + 1 < 8192 → ticks < unit → unit ≤ ticks + 1
+pub next_unit : (units unit ticks : ℕ) → units + 1 < UNITS → ticks < unit → unit ≤ ticks + 1
     → at unit ((units + 1) * unit + 0) ≡ at unit (next_count unit (units * unit + ticks))
 next_unit units unit ticks fits below last =
-    let most : (units + 1 + 1) * unit ≤ 8192 * unit = mul-le-mul_right unit (let h : units + 1 + 1 ≤ 8192 = omega arith in h) in
-    let not_end : units * unit + ticks + 1 ≢ 8192 * unit = omega (arith, most) in
-    rw (ne_eqb (units * unit + ticks + 1) (8192 * unit) not_end) (ap (at unit) (omega arith))
+    let most : (units + 1 + 1) * unit ≤ UNITS * unit = mul-le-mul_right unit (let h : units + 1 + 1 ≤ UNITS = omega arith in h) in
+    let not_end : units * unit + ticks + 1 ≢ UNITS * unit = omega (arith, most) in
+    rw (ne_eqb (units * unit + ticks + 1) (UNITS * unit) not_end) (ap (at unit) (omega arith))
 
 -- a product is 0 only where a factor is
 zero_factor : (a b : ℕ) → 0 < b → a * b ≡ 0 → a ≡ 0
@@ -70,14 +71,14 @@ no_multiple units unit ticks power some below =
     (λ h. absurd (some (eqb-true _ 0 h)), λ h. absurd (some (omega (arith, sym rest ∙ h))))
 
 -- the end of the second is near by the whole units alone
-pub near_by_units : (units unit ticks : ℕ) → ticks < unit → nat_le 8190 units ≡ is_near_end unit (units * unit + ticks)
+pub near_by_units : (units unit ticks : ℕ) → ticks < unit → nat_le NEAR_END units ≡ is_near_end unit (units * unit + ticks)
 near_by_units units unit ticks below =
     ⊎_elim
-    (λ (h : (nat_le 8190 units ≡ true) × (8190 ≤ units)). h.0 ∙ sym (le-leb _ _ (omega (arith, mul-le-mul_right unit h.1))))
-    (λ (h : (nat_le 8190 units ≡ false) × (units < 8190)).
-    let most : (units + 1) * unit ≤ 8190 * unit = mul-le-mul_right unit (let k : units + 1 ≤ 8190 = omega arith in k) in
+    (λ (h : (nat_le NEAR_END units ≡ true) × (NEAR_END ≤ units)). h.0 ∙ sym (le-leb _ _ (omega (arith, mul-le-mul_right unit h.1))))
+    (λ (h : (nat_le NEAR_END units ≡ false) × (units < NEAR_END)).
+    let most : (units + 1) * unit ≤ NEAR_END * unit = mul-le-mul_right unit (let k : units + 1 ≤ NEAR_END = omega arith in k) in
     h.0 ∙ sym (lt-leb _ _ (omega (arith, most))))
-    (leb_tells 8190 units)
+    (leb_tells NEAR_END units)
 
 -- two counts of one unit are equal only where their parts are
 pub same_parts : (units ticks unit units' ticks' unit' : ℕ) → ticks < unit → ticks' < unit'

@@ -11,6 +11,7 @@ use Rattle.std.specs.Int.{bit_at}
 use Rattle.r3k_word.specs.Word.{has}
 use Rattle.mc146818.specs.declared.registers.TheConstants.{PF}
 use Rattle.mc146818.specs.declared.quiet.TheConstants.{FOREVER}
+use Rattle.mc146818.specs.declared.divider.TheConstants.{UNITS}
 use Rattle.mc146818.specs.Divider.{second_of, next_count, period_of, ends_at}
 use Rattle.mc146818.specs.Clock.{ClockState, runs, rate, is_set, requests_interrupt}
 use Rattle.mc146818.specs.Tick.{moved, with_period, updated, with_update, ticked}
@@ -76,9 +77,9 @@ keeps_flags clock count n false is h =
 moves_on : (clock : ClockState) (count n : ℕ) → count + (n + 1) < second_of clock.unit
     → moved (at clock (count + n)) ≡ at clock (count + (n + 1))
 moves_on clock count n below =
-    let not_end : count + n + 1 ≢ 8192 * clock.unit = omega arith in
+    let not_end : count + n + 1 ≢ UNITS * clock.unit = omega arith in
     let next : next_count clock.unit (count + n) ≡ count + (n + 1) =
-    rw (ne_eqb (count + n + 1) (8192 * clock.unit) not_end) (omega arith) in
+    rw (ne_eqb (count + n + 1) (UNITS * clock.unit) not_end) (omega arith) in
     ap (at clock) next
 
 -- there is no update within it
@@ -155,9 +156,9 @@ divider_stays clock =
 second_ends : (clock : ClockState) (n : ℕ) → clock.divider + n + 1 ≡ second_of clock.unit
     → ticked_where true (at clock (clock.divider + n)) ≢ at clock (clock.divider + (n + 1))
 second_ends clock n ends same =
-    let at_end : clock.divider + n + 1 ≡ 8192 * clock.unit = ends in
+    let at_end : clock.divider + n + 1 ≡ UNITS * clock.unit = ends in
     let next : next_count clock.unit (clock.divider + n) ≡ 0 =
-    rw (eq-eqb (clock.divider + n + 1) (8192 * clock.unit) at_end) refl in
+    rw (eq-eqb (clock.divider + n + 1) (UNITS * clock.unit) at_end) refl in
     let moved_to = divider_stays (moved (at clock (clock.divider + n))) in
     let stands : 0 ≡ clock.divider + (n + 1) = sym next ∙ (sym moved_to ∙ ap (λ (s : ClockState). s.divider) same) in
     absurd (omega (arith, stands))

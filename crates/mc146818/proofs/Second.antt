@@ -8,6 +8,7 @@ use Rattle.mc146818.specs.declared.registers.TheConstants.{PF, SET}
 use Rattle.mc146818.specs.declared.time.Time.{Time}
 use Rattle.r3k_word.specs.Word.{has}
 use Rattle.mc146818.specs.Clock.{ClockState, runs, rate, is_set}
+use Rattle.mc146818.specs.declared.divider.TheConstants.{UNITS}
 use Rattle.mc146818.specs.Divider.{second_of, next_count, period_of, ends_at}
 use Rattle.mc146818.specs.Second.{after, BeginsSecond}
 use Rattle.mc146818.specs.Tick.{moved, with_period, updated, with_update, ticked}
@@ -52,8 +53,8 @@ moves begun clock ticks next h w e = (
 tick_within : (begun clock : ClockState) (ticks : ℕ) → BeginsSecond begun → IsWithin begun clock ticks
     → suc ticks < second_of begun.unit → IsWithin begun (ticked clock) (suc ticks)
 tick_within begun clock ticks h w below =
-    let not_end : ticks + 1 ≢ 8192 * begun.unit = omega arith in
-    let next : next_count begun.unit ticks ≡ suc ticks = rw (ne_eqb (ticks + 1) (8192 * begun.unit) not_end) (omega arith) in
+    let not_end : ticks + 1 ≢ UNITS * begun.unit = omega arith in
+    let next : next_count begun.unit ticks ≡ suc ticks = rw (ne_eqb (ticks + 1) (UNITS * begun.unit) not_end) (omega arith) in
     let m = moves begun clock ticks (suc ticks) h w next in
     let p = with_period (moved clock) in
     let moved_on : p.divider ≢ 0 = λ z. absurd (omega (arith, m.0.divider, z)) in
@@ -64,8 +65,8 @@ tick_within begun clock ticks h w below =
 tick_last : (begun clock : ClockState) (ticks : ℕ) → BeginsSecond begun → IsWithin begun clock ticks
     → suc ticks ≡ second_of begun.unit → (ticked clock).time ≡ advanced (format_of begun.b) begun.time
 tick_last begun clock ticks h w last =
-    let at_end : ticks + 1 ≡ 8192 * begun.unit = omega arith in
-    let next : next_count begun.unit ticks ≡ 0 = rw (eq-eqb (ticks + 1) (8192 * begun.unit) at_end) refl in
+    let at_end : ticks + 1 ≡ UNITS * begun.unit = omega arith in
+    let next : next_count begun.unit ticks ≡ 0 = rw (eq-eqb (ticks + 1) (UNITS * begun.unit) at_end) refl in
     let m = moves begun clock ticks 0 h w next in
     let p = with_period (moved clock) in
     let not_set : is_set p ≡ false = ap (λ (b : ℕ). has b SET) m.0.b ∙ h.updating in
@@ -90,8 +91,8 @@ after_last clock ticks h last = tick_last clock (after ticks clock) ticks h (wit
 pub second : (clock : ClockState) → BeginsSecond clock → (after (second_of clock.unit) clock).time ≡ advanced (format_of clock.b) clock.time
 second clock h =
     let above = h.unit in
-    let last : suc (8192 * clock.unit - 1) ≡ second_of clock.unit = omega arith in
-    subst (λ (n : ℕ). (after n clock).time ≡ advanced (format_of clock.b) clock.time) last (after_last clock (8192 * clock.unit - 1) h last)
+    let last : suc (UNITS * clock.unit - 1) ≡ second_of clock.unit = omega arith in
+    subst (λ (n : ℕ). (after n clock).time ≡ advanced (format_of clock.b) clock.time) last (after_last clock (UNITS * clock.unit - 1) h last)
 
 -- a divider that is held
 still_held : (clock : ClockState) → runs clock ≡ false → (ticks : ℕ) → ((after ticks clock).time ≡ clock.time) × ((after ticks clock).a ≡ clock.a)

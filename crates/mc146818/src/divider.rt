@@ -27,13 +27,14 @@ pub struct Divider {
 impl Model for Divider {
     ghost use Rattle.std.specs.Prelude.{ℕ, ◌+◌, ◌*◌, ◌/◌, ◌%◌, ◌<◌};
     ghost use Rattle.mc146818.specs.Divider.{Ticks};
+    ghost use Rattle.mc146818.specs.declared.divider.TheConstants.{UNITS};
     ghost use Rattle.std.proofs.lemmas.Nat.{div-mul-add, mod-mul-add};
 
     ghost Value = { Ticks };
 
     ghost view = { λ d. record { count = d.units * d.unit + d.ticks; unit = d.unit } };
 
-    ghost invariant = { λ d. (d.units < 8192) × (d.ticks < d.unit) };
+    ghost invariant = { λ d. (d.units < UNITS) × (d.ticks < d.unit) };
 
     ghost inverse = { λ t. record { units = t.count / t.unit; ticks = t.count % t.unit; unit = t.unit } };
 

@@ -1,38 +1,19 @@
 -- A field that is read is the field that was written, and what was written is read again.
-use Rattle.std.proofs.Common.{◌≡◌, ℕ, zero, suc, ◌+◌, ◌*◌, ◌^◌, ◌<◌, ◌≤◌, Bool, true, false, cond, ltb, List, [], ◌∷◌, ◌++◌, length, take, drop, Result, Ok, Err, refl, sym, ap, subst, ◌∙◌, append_assoc, arith, inl, inr}
+use Rattle.std.proofs.Common.{◌≡◌, ℕ, zero, suc, ◌+◌, ◌*◌, ◌^◌, ◌≤◌, true, cond, List, [], ◌∷◌, ◌++◌, length, Result, Ok, Err, refl, sym, ap, subst, ◌∙◌, append_assoc, arith}
 use Rattle.std.specs.Prelude.{nat_le, nat_lt, ◌&&◌, flat_map}
-use Rattle.std.proofs.lemmas.Bool.{cases_lt, ltb-true, ltb-false, lt-ltb, le-ltb, leb-true, le-leb, and_parts, and_from}
-use Rattle.std.proofs.lemmas.List.{take_at, drop_at, take-append-drop, append-nil, length-append, length-take, get_or-take, get_or_past}
-use Rattle.r3k_word.specs.Word.{word_of, bytes_of}
+use Rattle.std.proofs.lemmas.Bool.{ltb-true, lt-ltb, leb-true, le-leb, and_parts, and_from}
+use Rattle.std.proofs.lemmas.List.{append-nil}
+use Rattle.r3k_word.specs.Word.{bytes_of}
 use Rattle.r3k_image.specs.declared.fault.ImageKind.{ImageKind}
 use Rattle.r3k_image.specs.declared.fault.ImageKind.TheVariants as kinds
 use Rattle.r3k_image.specs.Boot.{rom_end, IsConstant}
 use Rattle.r3k_image.specs.Segments.{WordsAt, may_stand, AreSegments, end_of}
 use Rattle.r3k_image.specs.Spelling.{segment}
-use Rattle.r3k_image.specs.Reading.{◌>>=◌, bytes_at, number_at, constant_at, words_of, segment_at, segments_at}
-use Rattle.r3k_image.proofs.Words.{AreBytes, AreBytes-drop, AreWords, word_again, word_of-fits, bytes_again, length-words_of, length-word_bytes, words_of-fits, word_bytes_again, words_again}
+use Rattle.r3k_word.specs.Reading.{◌>>=◌, bytes_at, number_at}
+use Rattle.r3k_word.proofs.Read.{AreBytes, bind_ok, passes, Takes, Takes-then, bytes_take, bytes_at_again, number_takes, number_at_again}
+use Rattle.r3k_image.specs.Reading.{constant_at, words_of, segment_at, segments_at}
+use Rattle.r3k_image.proofs.Words.{AreWords, length-words_of, length-word_bytes, words_of-fits, word_bytes_again, words_again}
 use Rattle.r3k_image.proofs.Placing.{stand, Stand-end}
-
-AreBytes-take : (n : ℕ) (bytes : List ℕ) → AreBytes bytes → AreBytes (take n bytes)
-AreBytes-take n bytes h i =
-    elim (cases_lt i n) [
-      | inl lt ↦ rw (get_or-take n bytes i 0 lt) (h i)
-      | inr le ↦ rw (get_or_past (take n bytes) i 0 (omega (arith, length-take n bytes))) (omega arith)
-    ]
-
--- the value of a step that did not fail
-pub bind_ok : {A B : Type 0} (r : Result A ImageKind) (f : A → Result B ImageKind) (y : B) → (r >>= f) ≡ Ok y → (x : A) × (r ≡ Ok x) × (f x ≡ Ok y)
-bind_ok (Ok x) f y e = (x, refl, e)
-bind_ok (Err d) f y e = absurd cc
-
--- a test that did not fail
-pub passes : {A : Type 0} (b : Bool) (r : Result A ImageKind) (d : ImageKind) (y : A) → cond b r (Err d) ≡ Ok y → (b ≡ true) × (r ≡ Ok y)
-passes true r d y e = (refl, e)
-passes false r d y e = absurd cc
-
-long_enough : {A : Type 0} (b : Bool) (d : ImageKind) (x y : A) → cond b (Err d) (Ok x) ≡ Ok y → (b ≡ false) × (x ≡ y)
-long_enough true d x y e = absurd cc
-long_enough false d x y e = (refl, cc)
 
 abbrev done : {A : Type 0} → A → Result A ImageKind
 done x = Ok x
@@ -40,61 +21,23 @@ done x = Ok x
 pub ok_is : {A : Type 0} (x y : A) → done x ≡ done y → x ≡ y
 ok_is x y e = cc
 
--- what a reader took from the front
-pub record Takes (bytes text rest : List ℕ) : Type 0 where
-  pub parts : bytes ≡ text ++ rest
-  pub rest_bytes : AreBytes rest
-
-pub Takes-then : (a x b y c : List ℕ) → Takes a x b → Takes b y c → Takes a (x ++ y) c
-Takes-then a x b y c p q = record { parts = p.parts ∙ ap (λ (t : List ℕ). x ++ t) q.parts ∙ sym (append_assoc x y c); rest_bytes = q.rest_bytes }
-
--- ---- bytes and numbers
-
-pub bytes_take : (count : ℕ) (bytes front rest : List ℕ) → AreBytes bytes → bytes_at count bytes ≡ Ok (front, rest) → Takes bytes front rest × (length front ≡ count) × AreBytes front
-bytes_take count bytes front rest are e =
-    let g = long_enough (ltb (length bytes) count) kinds.Short (take count bytes, drop count bytes) (front, rest) e in
-    let long : count ≤ length bytes = ltb-false _ _ g.0 in
-    let whole : Takes bytes (take count bytes) (drop count bytes) = record { parts = sym (take-append-drop count bytes); rest_bytes = AreBytes-drop count bytes are } in
-    let len : length (take count bytes) ≡ count = omega (arith, length-take count bytes) in
-    subst (λ (p : List ℕ × List ℕ). Takes bytes p.0 p.1 × (length p.0 ≡ count) × AreBytes p.0) g.1 (whole, len, AreBytes-take count bytes are)
-
-pub bytes_at_again : (count : ℕ) (front rest : List ℕ) → length front ≡ count → bytes_at count (front ++ rest) ≡ Ok (front, rest)
-bytes_at_again count front rest len =
-    let long : ltb (length (front ++ rest)) count ≡ false = le-ltb _ _ (omega (arith, length-append front rest)) in
-    rw (long, take_at front rest count len, drop_at front rest count len) refl
-
-pub number_takes : (bytes : List ℕ) (n : ℕ) (rest : List ℕ) → AreBytes bytes → number_at bytes ≡ Ok (n, rest) → Takes bytes (bytes_of n) rest × (n < 2 ^ 32)
-number_takes bytes n rest are e =
-    let g = long_enough (ltb (length bytes) 4) kinds.Short (word_of bytes, drop 4 bytes) (n, rest) e in
-    let long : 4 ≤ length bytes = ltb-false _ _ g.0 in
-    let front : bytes_of (word_of bytes) ≡ take 4 bytes = bytes_again bytes long are in
-    let whole : Takes bytes (bytes_of (word_of bytes)) (drop 4 bytes) =
-    record { parts = sym (take-append-drop 4 bytes) ∙ ap (λ (t : List ℕ). t ++ drop 4 bytes) (sym front); rest_bytes = AreBytes-drop 4 bytes are } in
-    subst (λ (p : ℕ × List ℕ). Takes bytes (bytes_of p.0) p.1 × (p.0 < 2 ^ 32)) g.1 (whole, word_of-fits bytes are)
-
-pub number_at_again : (n : ℕ) (rest : List ℕ) → n < 2 ^ 32 → number_at (bytes_of n ++ rest) ≡ Ok (n, rest)
-number_at_again n rest lt =
-    let long : ltb (length (bytes_of n ++ rest)) 4 ≡ false = le-ltb _ _ (omega arith) in
-    let same : word_of (bytes_of n ++ rest) ≡ n = word_again n rest lt in
-    ap (λ b. cond b (Err kinds.Short) (Ok (word_of (bytes_of n ++ rest), rest))) long ∙ ap (λ (m : ℕ). Ok (m, rest)) same
-
 -- ---- constants
 
 pub constant_takes : (fault : ImageKind) (bytes : List ℕ) (n : ℕ) (rest : List ℕ) → AreBytes bytes → constant_at fault bytes ≡ Ok (n, rest) → Takes bytes (bytes_of n) rest × IsConstant n
 unfolding constant_at
 constant_takes fault bytes n rest are e =
-    let b = bind_ok (number_at bytes) (λ x. cond (nat_le 1 x.0 && nat_lt x.0 (2 ^ 16)) (Ok x) (Err fault)) (n, rest) e in
+    let b = bind_ok (number_at kinds.Short bytes) (λ x. cond (nat_le 1 x.0 && nat_lt x.0 (2 ^ 16)) (Ok x) (Err fault)) (n, rest) e in
     let g = passes (nat_le 1 b.0.0 && nat_lt b.0.0 (2 ^ 16)) (Ok b.0) fault (n, rest) b.2 in
     let both = and_parts _ _ g.0 in
     let range : IsConstant b.0.0 = (leb-true _ _ both.0, ltb-true _ _ both.1) in
-    let t = number_takes bytes b.0.0 b.0.1 are b.1 in
+    let t = number_takes kinds.Short bytes b.0.0 b.0.1 are b.1 in
     subst (λ (p : ℕ × List ℕ). Takes bytes (bytes_of p.0) p.1 × IsConstant p.0) (ok_is b.0 (n, rest) g.1) (t.0, range)
 
 pub constant_at_again : (fault : ImageKind) (n : ℕ) (rest : List ℕ) → IsConstant n → constant_at fault (bytes_of n ++ rest) ≡ Ok (n, rest)
 unfolding constant_at
 constant_at_again fault n rest range =
     let good : (nat_le 1 n && nat_lt n (2 ^ 16)) ≡ true = and_from _ _ (le-leb 1 n range.0) (lt-ltb n 65536 range.1) in
-    ap (λ r. r >>= (λ x. cond (nat_le 1 x.0 && nat_lt x.0 (2 ^ 16)) (Ok x) (Err fault))) (number_at_again n rest (omega (arith, range.1)))
+    ap (λ r. r >>= (λ x. cond (nat_le 1 x.0 && nat_lt x.0 (2 ^ 16)) (Ok x) (Err fault))) (number_at_again kinds.Short n rest (omega (arith, range.1)))
     ∙ ap (λ b. cond b (Ok (n, rest)) (Err fault)) good
 
 -- ---- segments
@@ -103,15 +46,15 @@ segment_takes : (start : ℕ) (bytes : List ℕ) (s : WordsAt) (rest : List ℕ)
     → Takes bytes (segment s) rest × (may_stand start s.address (length s.words) ≡ true) × AreWords s.words
 unfolding segment_at
 segment_takes start bytes s rest are e =
-    let a = bind_ok (number_at bytes) (λ address. number_at address.1 >>= λ count. cond (may_stand start address.0 count.0) (bytes_at (4 * count.0) count.1) (Err kinds.Segment) >>= λ words. Ok (record { address = address.0; words = words_of count.0 words.0 }, words.1)) (s, rest) e in
-    let b = bind_ok (number_at a.0.1) (λ count. cond (may_stand start a.0.0 count.0) (bytes_at (4 * count.0) count.1) (Err kinds.Segment) >>= λ words. Ok (record { address = a.0.0; words = words_of count.0 words.0 }, words.1)) (s, rest) a.2 in
-    let d = bind_ok (cond (may_stand start a.0.0 b.0.0) (bytes_at (4 * b.0.0) b.0.1) (Err kinds.Segment)) (λ words. Ok (record { address = a.0.0; words = words_of b.0.0 words.0 }, words.1)) (s, rest) b.2 in
-    let g = passes (may_stand start a.0.0 b.0.0) (bytes_at (4 * b.0.0) b.0.1) kinds.Segment d.0 d.1 in
+    let a = bind_ok (number_at kinds.Short bytes) (λ address. number_at kinds.Short address.1 >>= λ count. cond (may_stand start address.0 count.0) (bytes_at kinds.Short (4 * count.0) count.1) (Err kinds.Segment) >>= λ words. Ok (record { address = address.0; words = words_of count.0 words.0 }, words.1)) (s, rest) e in
+    let b = bind_ok (number_at kinds.Short a.0.1) (λ count. cond (may_stand start a.0.0 count.0) (bytes_at kinds.Short (4 * count.0) count.1) (Err kinds.Segment) >>= λ words. Ok (record { address = a.0.0; words = words_of count.0 words.0 }, words.1)) (s, rest) a.2 in
+    let d = bind_ok (cond (may_stand start a.0.0 b.0.0) (bytes_at kinds.Short (4 * b.0.0) b.0.1) (Err kinds.Segment)) (λ words. Ok (record { address = a.0.0; words = words_of b.0.0 words.0 }, words.1)) (s, rest) b.2 in
+    let g = passes (may_stand start a.0.0 b.0.0) (bytes_at kinds.Short (4 * b.0.0) b.0.1) kinds.Segment d.0 d.1 in
     let count = b.0.0 in
     let words = words_of count d.0.0 in
-    let t0 = number_takes bytes a.0.0 a.0.1 are a.1 in
-    let t1 = number_takes a.0.1 b.0.0 b.0.1 t0.0.rest_bytes b.1 in
-    let t2 = bytes_take (4 * count) b.0.1 d.0.0 d.0.1 t1.0.rest_bytes g.1 in
+    let t0 = number_takes kinds.Short bytes a.0.0 a.0.1 are a.1 in
+    let t1 = number_takes kinds.Short a.0.1 b.0.0 b.0.1 t0.0.rest_bytes b.1 in
+    let t2 = bytes_take kinds.Short (4 * count) b.0.1 d.0.0 d.0.1 t1.0.rest_bytes g.1 in
     let len : length words ≡ count = length-words_of count d.0.0 in
     let text : flat_map bytes_of words ≡ d.0.0 = word_bytes_again count d.0.0 t2.1 t2.2 in
     let made : WordsAt × List ℕ = (record { address = a.0.0; words = words }, d.0.1) in
@@ -126,8 +69,8 @@ regroup3 : (a b c d : List ℕ) → a ++ b ++ c ++ d ≡ a ++ (b ++ (c ++ d))
 regroup3 a b c d = simp append_assoc
 
 -- the three parts of a segment, one after the other
-segment_steps : (start : ℕ) (bytes r1 r2 r3 text : List ℕ) (s : WordsAt) → number_at bytes ≡ Ok (s.address, r1) → number_at r1 ≡ Ok (length s.words, r2)
-    → may_stand start s.address (length s.words) ≡ true → bytes_at (4 * length s.words) r2 ≡ Ok (text, r3) → words_of (length s.words) text ≡ s.words → segment_at start bytes ≡ Ok (s, r3)
+segment_steps : (start : ℕ) (bytes r1 r2 r3 text : List ℕ) (s : WordsAt) → number_at kinds.Short bytes ≡ Ok (s.address, r1) → number_at kinds.Short r1 ≡ Ok (length s.words, r2)
+    → may_stand start s.address (length s.words) ≡ true → bytes_at kinds.Short (4 * length s.words) r2 ≡ Ok (text, r3) → words_of (length s.words) text ≡ s.words → segment_at start bytes ≡ Ok (s, r3)
 unfolding segment_at
 segment_steps start bytes r1 r2 r3 text s e1 e2 stands e3 same = rw (e1, e2, stands, e3, same) refl
 
@@ -138,10 +81,10 @@ segment_at_again start s rest stands words =
     let text = flat_map bytes_of s.words in
     ap (segment_at start) (regroup3 (bytes_of s.address) (bytes_of (length s.words)) text rest)
     ∙ segment_steps start (bytes_of s.address ++ (bytes_of (length s.words) ++ (text ++ rest))) (bytes_of (length s.words) ++ (text ++ rest)) (text ++ rest) rest text s
-    (number_at_again s.address (bytes_of (length s.words) ++ (text ++ rest)) (omega (arith, end)))
-    (number_at_again (length s.words) (text ++ rest) (omega (arith, end)))
+    (number_at_again kinds.Short s.address (bytes_of (length s.words) ++ (text ++ rest)) (omega (arith, end)))
+    (number_at_again kinds.Short (length s.words) (text ++ rest) (omega (arith, end)))
     stands
-    (bytes_at_again (4 * length s.words) text rest (length-word_bytes s.words))
+    (bytes_at_again kinds.Short (4 * length s.words) text rest (length-word_bytes s.words))
     (ap (words_of (length s.words)) (sym (append-nil text)) ∙ words_again s.words [] words)
 
 pub segments_take : (n start : ℕ) (bytes : List ℕ) (ss : List WordsAt) (rest : List ℕ) → AreBytes bytes → segments_at n start bytes ≡ Ok (ss, rest)

@@ -14,9 +14,10 @@ use Rattle.r3k_image.specs.declared.header.Header.{Header}
 use Rattle.r3k_image.specs.Boot.{Boot, IsBoot, IsConstant, IsClockStart}
 use Rattle.r3k_image.specs.Segments.{WordsAt, IsMadeOf, boot_of}
 use Rattle.r3k_image.specs.Spelling.{segment, spelling, Spells}
-use Rattle.r3k_image.specs.Reading.{◌>>=◌, ReadsOrLacks, bytes_at, number_at, constant_at, is_clock_start, header_at, segments_at, image_at}
-use Rattle.r3k_image.proofs.Words.{AreBytes}
-use Rattle.r3k_image.proofs.Fields.{bind_ok, passes, ok_is, Takes, Takes-then, bytes_take, bytes_at_again, number_takes, number_at_again, constant_takes, constant_at_again, segments_take, segments_at_again, few}
+use Rattle.r3k_word.specs.Reading.{◌>>=◌, bytes_at, number_at}
+use Rattle.r3k_word.proofs.Read.{AreBytes, bind_ok, passes, Takes, Takes-then, bytes_take, bytes_at_again, number_takes, number_at_again}
+use Rattle.r3k_image.specs.Reading.{ReadsOrLacks, constant_at, is_clock_start, header_at, segments_at, image_at}
+use Rattle.r3k_image.proofs.Fields.{ok_is, constant_takes, constant_at_again, segments_take, segments_at_again, few}
 use Rattle.r3k_image.proofs.Kept.{is_boot}
 
 -- the bytes of a header
@@ -40,20 +41,20 @@ good_clock_passes registers h = and_from _ _ (lt-ltb _ _ h.register_a) (eq-eqb _
 header_takes : (bytes : List ℕ) (h : Header) (rest : List ℕ) → AreBytes bytes → header_at bytes ≡ Ok (h, rest) → Takes bytes (header_bytes h) rest × IsHeader h
 unfolding header_at
 header_takes bytes h rest are e =
-    let a = bind_ok (bytes_at 8 bytes) (λ magic. cond (bytes_eq magic.0 MAGIC) (constant_at kinds.ByteTime magic.1) (Err kinds.Magic) >>= λ time. constant_at kinds.Unit time.1 >>= λ second. bytes_at 12 second.1 >>= λ clock. cond (is_clock_start clock.0) (number_at clock.1) (Err kinds.ClockStart) >>= λ count. Ok (record { byte_time = time.0; unit = second.0; clock_start = clock.0; segment_count = count.0 }, count.1)) (h, rest) e in
-    let b = bind_ok (cond (bytes_eq a.0.0 MAGIC) (constant_at kinds.ByteTime a.0.1) (Err kinds.Magic)) (λ time. constant_at kinds.Unit time.1 >>= λ second. bytes_at 12 second.1 >>= λ clock. cond (is_clock_start clock.0) (number_at clock.1) (Err kinds.ClockStart) >>= λ count. Ok (record { byte_time = time.0; unit = second.0; clock_start = clock.0; segment_count = count.0 }, count.1)) (h, rest) a.2 in
-    let d = bind_ok (constant_at kinds.Unit b.0.1) (λ second. bytes_at 12 second.1 >>= λ clock. cond (is_clock_start clock.0) (number_at clock.1) (Err kinds.ClockStart) >>= λ count. Ok (record { byte_time = b.0.0; unit = second.0; clock_start = clock.0; segment_count = count.0 }, count.1)) (h, rest) b.2 in
-    let f = bind_ok (bytes_at 12 d.0.1) (λ clock. cond (is_clock_start clock.0) (number_at clock.1) (Err kinds.ClockStart) >>= λ count. Ok (record { byte_time = b.0.0; unit = d.0.0; clock_start = clock.0; segment_count = count.0 }, count.1)) (h, rest) d.2 in
-    let g = bind_ok (cond (is_clock_start f.0.0) (number_at f.0.1) (Err kinds.ClockStart)) (λ count. Ok (record { byte_time = b.0.0; unit = d.0.0; clock_start = f.0.0; segment_count = count.0 }, count.1)) (h, rest) f.2 in
+    let a = bind_ok (bytes_at kinds.Short 8 bytes) (λ magic. cond (bytes_eq magic.0 MAGIC) (constant_at kinds.ByteTime magic.1) (Err kinds.Magic) >>= λ time. constant_at kinds.Unit time.1 >>= λ second. bytes_at kinds.Short 12 second.1 >>= λ clock. cond (is_clock_start clock.0) (number_at kinds.Short clock.1) (Err kinds.ClockStart) >>= λ count. Ok (record { byte_time = time.0; unit = second.0; clock_start = clock.0; segment_count = count.0 }, count.1)) (h, rest) e in
+    let b = bind_ok (cond (bytes_eq a.0.0 MAGIC) (constant_at kinds.ByteTime a.0.1) (Err kinds.Magic)) (λ time. constant_at kinds.Unit time.1 >>= λ second. bytes_at kinds.Short 12 second.1 >>= λ clock. cond (is_clock_start clock.0) (number_at kinds.Short clock.1) (Err kinds.ClockStart) >>= λ count. Ok (record { byte_time = time.0; unit = second.0; clock_start = clock.0; segment_count = count.0 }, count.1)) (h, rest) a.2 in
+    let d = bind_ok (constant_at kinds.Unit b.0.1) (λ second. bytes_at kinds.Short 12 second.1 >>= λ clock. cond (is_clock_start clock.0) (number_at kinds.Short clock.1) (Err kinds.ClockStart) >>= λ count. Ok (record { byte_time = b.0.0; unit = second.0; clock_start = clock.0; segment_count = count.0 }, count.1)) (h, rest) b.2 in
+    let f = bind_ok (bytes_at kinds.Short 12 d.0.1) (λ clock. cond (is_clock_start clock.0) (number_at kinds.Short clock.1) (Err kinds.ClockStart) >>= λ count. Ok (record { byte_time = b.0.0; unit = d.0.0; clock_start = clock.0; segment_count = count.0 }, count.1)) (h, rest) d.2 in
+    let g = bind_ok (cond (is_clock_start f.0.0) (number_at kinds.Short f.0.1) (Err kinds.ClockStart)) (λ count. Ok (record { byte_time = b.0.0; unit = d.0.0; clock_start = f.0.0; segment_count = count.0 }, count.1)) (h, rest) f.2 in
     let m = passes (bytes_eq a.0.0 MAGIC) (constant_at kinds.ByteTime a.0.1) kinds.Magic b.0 b.1 in
-    let k = passes (is_clock_start f.0.0) (number_at f.0.1) kinds.ClockStart g.0 g.1 in
+    let k = passes (is_clock_start f.0.0) (number_at kinds.Short f.0.1) kinds.ClockStart g.0 g.1 in
     let magic : a.0.0 ≡ MAGIC = (bytes_eq-Decides a.0.0 MAGIC).0 m.0 in
-    let t0 = bytes_take 8 bytes a.0.0 a.0.1 are a.1 in
+    let t0 = bytes_take kinds.Short 8 bytes a.0.0 a.0.1 are a.1 in
     let t0m : Takes bytes MAGIC a.0.1 = subst (λ (x : List ℕ). Takes bytes x a.0.1) magic t0.0 in
     let t1 = constant_takes kinds.ByteTime a.0.1 b.0.0 b.0.1 t0.0.rest_bytes m.1 in
     let t2 = constant_takes kinds.Unit b.0.1 d.0.0 d.0.1 t1.0.rest_bytes d.1 in
-    let t3 = bytes_take 12 d.0.1 f.0.0 f.0.1 t2.0.rest_bytes f.1 in
-    let t4 = number_takes f.0.1 g.0.0 g.0.1 t3.0.rest_bytes k.1 in
+    let t3 = bytes_take kinds.Short 12 d.0.1 f.0.0 f.0.1 t2.0.rest_bytes f.1 in
+    let t4 = number_takes kinds.Short f.0.1 g.0.0 g.0.1 t3.0.rest_bytes k.1 in
     let t01 = Takes-then bytes MAGIC a.0.1 (bytes_of b.0.0) b.0.1 t0m t1.0 in
     let t02 = Takes-then bytes (MAGIC ++ bytes_of b.0.0) b.0.1 (bytes_of d.0.0) d.0.1 t01 t2.0 in
     let t03 = Takes-then bytes (MAGIC ++ bytes_of b.0.0 ++ bytes_of d.0.0) d.0.1 f.0.0 f.0.1 t02 t3.0 in
@@ -62,8 +63,8 @@ header_takes bytes h rest are e =
     let good : IsHeader made.0 = record { byte_time = t1.1; unit = t2.1; clock_start = clock_is_good f.0.0 t3.1 t3.2 k.0; segment_count = t4.1 } in
     subst (λ (p : Header × List ℕ). Takes bytes (header_bytes p.0) p.1 × IsHeader p.0) (ok_is made (h, rest) g.2) (t04, good)
 
-header_steps : (bytes r1 r2 r3 r4 r5 : List ℕ) (h : Header) → bytes_at 8 bytes ≡ Ok (MAGIC, r1) → constant_at kinds.ByteTime r1 ≡ Ok (h.byte_time, r2) → constant_at kinds.Unit r2 ≡ Ok (h.unit, r3)
-    → bytes_at 12 r3 ≡ Ok (h.clock_start, r4) → is_clock_start h.clock_start ≡ true → number_at r4 ≡ Ok (h.segment_count, r5) → header_at bytes ≡ Ok (h, r5)
+header_steps : (bytes r1 r2 r3 r4 r5 : List ℕ) (h : Header) → bytes_at kinds.Short 8 bytes ≡ Ok (MAGIC, r1) → constant_at kinds.ByteTime r1 ≡ Ok (h.byte_time, r2) → constant_at kinds.Unit r2 ≡ Ok (h.unit, r3)
+    → bytes_at kinds.Short 12 r3 ≡ Ok (h.clock_start, r4) → is_clock_start h.clock_start ≡ true → number_at kinds.Short r4 ≡ Ok (h.segment_count, r5) → header_at bytes ≡ Ok (h, r5)
 unfolding header_at
 header_steps bytes r1 r2 r3 r4 r5 h e1 e2 e3 e4 good e5 = rw (e1, e2, e3, e4, good, e5) refl
 
@@ -78,12 +79,12 @@ header_at_again h rest good =
     let r1 = bytes_of h.byte_time ++ r2 in
     ap header_at (regroup5 MAGIC (bytes_of h.byte_time) (bytes_of h.unit) h.clock_start (bytes_of h.segment_count) rest)
     ∙ header_steps (MAGIC ++ r1) r1 r2 r3 r4 rest h
-    (bytes_at_again 8 MAGIC r1 refl)
+    (bytes_at_again kinds.Short 8 MAGIC r1 refl)
     (constant_at_again kinds.ByteTime h.byte_time r2 good.byte_time)
     (constant_at_again kinds.Unit h.unit r3 good.unit)
-    (bytes_at_again 12 h.clock_start r4 good.clock_start.count)
+    (bytes_at_again kinds.Short 12 h.clock_start r4 good.clock_start.count)
     (good_clock_passes h.clock_start good.clock_start)
-    (number_at_again h.segment_count rest good.segment_count)
+    (number_at_again kinds.Short h.segment_count rest good.segment_count)
 
 pub image_takes : (bytes : List ℕ) (boot : Boot) → AreBytes bytes → image_at bytes ≡ Ok boot → Spells bytes boot
 unfolding image_at

@@ -6,7 +6,8 @@ use Rattle.r3k_image.specs.declared.fault.ImageKind.{ImageKind}
 use Rattle.r3k_image.specs.declared.fault.ImageFault.{ImageFault}
 use Rattle.r3k_image.specs.declared.fault.ImageFault.TheVariants.{Memory, Bad}
 use Rattle.r3k_image.specs.Segments.{WordsAt, end_of}
-use Rattle.r3k_image.specs.Reading.{◌>>=◌, FailsOrLacks, segment_at, segments_at}
+use Rattle.r3k_word.specs.Reading.{◌>>=◌}
+use Rattle.r3k_image.specs.Reading.{FailsOrLacks, segment_at, segments_at}
 
 -- what was read before, and what is still read
 abbrev pub with_front : List WordsAt → Result (List WordsAt × List ℕ) ImageKind → Result (List WordsAt × List ℕ) ImageKind

@@ -8,8 +8,9 @@ use Rattle.r3k_word.specs.Word.{word_of}
 use Rattle.r3k_word.specs.declared.layout.TheConstants.{ROM_START, ROM_BYTES}
 use Rattle.r3k_image.specs.Boot.{rom_end, IsClockStart}
 use Rattle.r3k_image.specs.Segments.{WordsAt, IsMadeOf, boot_of, may_stand, end_of}
+use Rattle.r3k_word.proofs.Read.{AreBytes}
 use Rattle.r3k_image.specs.Reading.{words_of, rom_words}
-use Rattle.r3k_image.proofs.Words.{AreBytes, length-words_of, words_of-fits}
+use Rattle.r3k_image.proofs.Words.{length-words_of, words_of-fits}
 
 word_of-append : (xs ys : List ℕ) → 4 ≤ length xs → word_of (xs ++ ys) ≡ word_of xs
 word_of-append xs ys le = rw (get_or_append_left xs ys 0 0 (omega arith), get_or_append_left xs ys 0 1 (omega arith), get_or_append_left xs ys 0 2 (omega arith), get_or_append_left xs ys 0 3 (omega arith)) refl

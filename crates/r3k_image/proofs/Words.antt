@@ -1,18 +1,12 @@
 -- Words and their bytes, one after the other.
-use Rattle.std.proofs.Common.{◌≡◌, ℕ, zero, suc, ◌+◌, ◌*◌, ◌/◌, ◌%◌, ◌^◌, ◌<◌, ◌≤◌, List, [], ◌∷◌, ◌++◌, length, take, drop, get_or, refl, sym, ap, ◌∙◌, arith}
+use Rattle.std.proofs.Common.{◌≡◌, ℕ, zero, suc, ◌+◌, ◌*◌, ◌^◌, ◌<◌, List, [], ◌∷◌, ◌++◌, length, take, drop, refl, sym, ap, ◌∙◌, arith}
 use Rattle.std.specs.Prelude.{All, flat_map}
-use Rattle.std.proofs.lemmas.List.{drop-drop, length-drop, get_or-drop, get_or-take, take-append-drop, nil_from_length}
+use Rattle.std.proofs.lemmas.List.{drop-drop, length-drop, get_or-take, take-append-drop, nil_from_length}
 use Rattle.std.proofs.lemmas.List.Elements.{All-nil, All-cons, All-head, All-tail}
 use Rattle.byteorder.specs.Endian.{little_number, IsRead}
 use Rattle.r3k_word.specs.Word.{word_of, bytes_of}
+use Rattle.r3k_word.proofs.Read.{AreBytes, AreBytes-drop, word_of-fits, word_again, bytes_again}
 use Rattle.r3k_image.specs.Reading.{words_of}
-
--- every item is a byte
-abbrev pub AreBytes : List ℕ → Type 0
-AreBytes bytes = (i : ℕ) → get_or bytes i 0 < 256
-
-pub AreBytes-drop : (n : ℕ) (bytes : List ℕ) → AreBytes bytes → AreBytes (drop n bytes)
-AreBytes-drop n bytes h i = rw get_or-drop (h (n + i))
 
 -- every item is a word
 abbrev pub AreWords : List ℕ → Type 0
@@ -25,31 +19,6 @@ word_of-little bytes = omega arith
 -- a word reads its first four bytes alone
 pub word_of-take : (bytes : List ℕ) → word_of (take 4 bytes) ≡ word_of bytes
 word_of-take bytes = rw (get_or-take 4 bytes 0 0 (omega arith), get_or-take 4 bytes 1 0 (omega arith), get_or-take 4 bytes 2 0 (omega arith), get_or-take 4 bytes 3 0 (omega arith)) refl
-
-pub word_of-fits : (bytes : List ℕ) → AreBytes bytes → word_of bytes < 2 ^ 32
-word_of-fits bytes h = omega (arith, h 0, h 1, h 2, h 3)
-
--- a word is read of its own bytes
-pub word_again : (w : ℕ) (rest : List ℕ) → w < 2 ^ 32 → word_of (bytes_of w ++ rest) ≡ w
-word_again w rest h = omega arith
-
--- the bytes of the word that was read of them
-pub bytes_again : (bytes : List ℕ) → 4 ≤ length bytes → AreBytes bytes → bytes_of (word_of bytes) ≡ take 4 bytes
-bytes_again [] long h = absurd (omega arith)
-bytes_again (a ∷ []) long h = absurd (omega arith)
-bytes_again (a ∷ b ∷ []) long h = absurd (omega arith)
-bytes_again (a ∷ b ∷ c ∷ []) long h = absurd (omega arith)
-bytes_again (a ∷ b ∷ c ∷ d ∷ rest) long h =
-    let ha : a < 256 = h 0 in
-    let hb : b < 256 = h 1 in
-    let hc : c < 256 = h 2 in
-    let hd : d < 256 = h 3 in
-    let w : ℕ = a + b * 2 ^ 8 + c * 2 ^ 16 + d * 2 ^ 24 in
-    let ea : w / 2 ^ 0 % 2 ^ 8 ≡ a = omega arith in
-    let eb : w / 2 ^ 8 % 2 ^ 8 ≡ b = omega arith in
-    let ec : w / 2 ^ 16 % 2 ^ 8 ≡ c = omega arith in
-    let ed : w / 2 ^ 24 % 2 ^ 8 ≡ d = omega arith in
-    λ i. ea i ∷ eb i ∷ ec i ∷ ed i ∷ []
 
 -- words that a bulk read gave, one by one
 pub words_from_reads : (words bytes : List ℕ) → IsRead little_number 4 bytes words → words ≡ words_of (length words) bytes

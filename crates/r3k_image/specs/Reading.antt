@@ -1,7 +1,8 @@
 -- Reading an image from left to right (own), with the first fault that is met.
-use Rattle.std.specs.Prelude.{◌≡◌, ℕ, zero, suc, ◌+◌, ◌*◌, ◌/◌, ◌%◌, ◌^◌, List, [], ◌∷◌, ◌++◌, length, take, drop, replicate, slice_index, Bool, Result, Ok, Err, IsOk, nat_lt, nat_le, ◌==◌, ◌&&◌, if◌then◌else◌}
+use Rattle.std.specs.Prelude.{◌≡◌, ℕ, zero, suc, ◌+◌, ◌*◌, ◌/◌, ◌%◌, ◌^◌, List, [], ◌∷◌, ◌++◌, length, drop, replicate, slice_index, Bool, Result, Ok, Err, IsOk, nat_lt, nat_le, ◌==◌, ◌&&◌, if◌then◌else◌}
 use Rattle.std.specs.Str.{bytes_eq}
 use Rattle.r3k_word.specs.Word.{word_of}
+use Rattle.r3k_word.specs.Reading.{◌>>=◌, bytes_at, number_at}
 use Rattle.r3k_word.specs.declared.layout.TheConstants.{ROM_START, ROM_BYTES}
 use Rattle.r3k_image.specs.declared.fault.ImageKind.{ImageKind}
 use Rattle.r3k_image.specs.declared.fault.ImageKind.TheVariants as kinds
@@ -12,18 +13,7 @@ use Rattle.r3k_image.specs.declared.header.Header.{Header}
 use Rattle.r3k_image.specs.Boot.{Boot, plain_byte_time, plain_clock_start, plain_unit}
 use Rattle.r3k_image.specs.Segments.{WordsAt, end_of, may_stand, boot_of}
 
--- for reading alone: one part after the other, up to the first fault
-infixl 10 ◌>>=◌
-abbrev pub ◌>>=◌ : {A B : Type 0} → Result A ImageKind → (A → Result B ImageKind) → Result B ImageKind
-(Ok x) >>= f = f x
-(Err e) >>= f = Err e
-
--- what a function without growth of memory returned, seen by view, is what reading gives
-abbrev pub ReadsAs : {X Y : Type 0} → (X → Y) → Result X ImageKind → Result Y ImageKind → Type 0
-ReadsAs view (Ok x) read = read ≡ Ok (view x)
-ReadsAs view (Err kind) read = read ≡ Err kind
-
--- the same for a function that may run out of memory
+-- what a function that may run out of memory returned, seen by view, is what reading gives
 abbrev pub FailsOrLacks : {Y : Type 0} → ImageFault → Result Y ImageKind → Type 0
 FailsOrLacks Memory read = Unit {0}
 FailsOrLacks (Bad kind) read = read ≡ Err kind
@@ -32,32 +22,24 @@ abbrev pub ReadsOrLacks : {X Y : Type 0} → (X → Y) → Result X ImageFault �
 ReadsOrLacks view (Ok x) read = read ≡ Ok (view x)
 ReadsOrLacks view (Err fault) read = FailsOrLacks fault read
 
--- `count` bytes, and the bytes after them, or else `Short`
-abbrev pub bytes_at : ℕ → List ℕ → Result (List ℕ × List ℕ) ImageKind
-bytes_at count bytes = if nat_lt (length bytes) count then Err kinds.Short else Ok (take count bytes, drop count bytes)
-
--- a number of four bytes, and the bytes after it, or else `Short`
-abbrev pub number_at : List ℕ → Result (ℕ × List ℕ) ImageKind
-number_at bytes = if nat_lt (length bytes) 4 then Err kinds.Short else Ok (word_of bytes, drop 4 bytes)
-
 -- a number from 1 to 65,535, or else this fault
 unfoldable pub constant_at : ImageKind → List ℕ → Result (ℕ × List ℕ) ImageKind
 constant_at fault bytes = do
-  n ← number_at bytes
+  n ← number_at kinds.Short bytes
   if nat_le 1 n.0 && nat_lt n.0 (2 ^ 16) then Ok n else Err fault
 
 -- whether bit 7 of register A and bit 0 of register B are 0
 abbrev pub is_clock_start : List ℕ → Bool
 is_clock_start registers = nat_lt (slice_index registers 10) 128 && (slice_index registers 11 % 2 == 0)
 
--- what stands before the segments, or its first fault
+-- what stands before the segments
 unfoldable pub header_at : List ℕ → Result (Header × List ℕ) ImageKind
 header_at bytes = do
-  magic ← bytes_at 8 bytes
+  magic ← bytes_at kinds.Short 8 bytes
   time ← if bytes_eq magic.0 MAGIC then constant_at kinds.ByteTime magic.1 else Err kinds.Magic
   second ← constant_at kinds.Unit time.1
-  clock ← bytes_at 12 second.1
-  count ← if is_clock_start clock.0 then number_at clock.1 else Err kinds.ClockStart
+  clock ← bytes_at kinds.Short 12 second.1
+  count ← if is_clock_start clock.0 then number_at kinds.Short clock.1 else Err kinds.ClockStart
   Ok (record { byte_time = time.0; unit = second.0; clock_start = clock.0; segment_count = count.0 }, count.1)
 
 -- n words, one after the other
@@ -69,12 +51,12 @@ words_of (suc n) bytes = word_of bytes ∷ words_of n (drop 4 bytes)
 -- judged before the words are read
 unfoldable pub segment_at : ℕ → List ℕ → Result (WordsAt × List ℕ) ImageKind
 segment_at start bytes = do
-  address ← number_at bytes
-  count ← number_at address.1
-  words ← if may_stand start address.0 count.0 then bytes_at (4 * count.0) count.1 else Err kinds.Segment
+  address ← number_at kinds.Short bytes
+  count ← number_at kinds.Short address.1
+  words ← if may_stand start address.0 count.0 then bytes_at kinds.Short (4 * count.0) count.1 else Err kinds.Segment
   Ok (record { address = address.0; words = words_of count.0 words.0 }, words.1)
 
--- n segments, after one that ends at start, or their first fault
+-- n segments, after one that ends at start
 unfoldable pub segments_at : ℕ → ℕ → List ℕ → Result (List WordsAt × List ℕ) ImageKind
 segments_at zero start bytes = Ok ([], bytes)
 segments_at (suc n) start bytes = do
@@ -82,7 +64,7 @@ segments_at (suc n) start bytes = do
   others ← segments_at n (end_of first.0.address (length first.0.words)) first.1
   Ok (first.0 ∷ others.0, others.1)
 
--- the image that all of the bytes are, or the first fault in reading order
+-- the image that all of the bytes are
 unfoldable pub image_at : List ℕ → Result Boot ImageKind
 image_at bytes = do
   header ← header_at bytes

@@ -7,11 +7,12 @@ ghost use Rattle.r3k_image.specs.Spelling.{Spells};
 ghost use Rattle.r3k_image.specs.Reading.{ReadsOrLacks, words_of, segment_at, segments_at, image_at, HasSegment};
 
 use crate::fault::{ImageFault, ImageKind};
-use crate::header::{read_bytes, read_header, read_number};
+use crate::header::read_header;
 use crate::image::Image;
 use crate::segment::Segment;
 use byteorder::{ByteOrder, LittleEndian};
 use r3k_word::layout::{MAX_RAM_PAGES, PAGE_WORDS, ROM_BYTES, ROM_START};
+use r3k_word::reading::{read_bytes, read_number};
 use std::alloc::{AllocError, Global};
 
 /// The words of the bytes, which are four for each word.
@@ -44,12 +45,12 @@ fn read_segment(alloc: Global, start: u64, bytes: &[u8]) -> Result<(Segment, &[u
     ensures value { ReadsOrLacks (λ x. (view x.0, x.1.now)) result (segment_at start bytes.now) }
     ensures memory { IsErrOf result ImageFault.Memory → IsOk (segment_at start bytes.now) }
 {
-    let (address, rest) = read_number(bytes)?;
-    let (count, rest) = read_number(rest)?;
+    let (address, rest) = read_number(ImageKind::Short, bytes)?;
+    let (count, rest) = read_number(ImageKind::Short, rest)?;
     if !is_place(start, address, count) {
         return Err(ImageFault::Bad(ImageKind::Segment));
     }
-    let (words, rest) = read_bytes(4 * count as usize, rest)?;
+    let (words, rest) = read_bytes(ImageKind::Short, 4 * count as usize, rest)?;
     let words = read_words(alloc, words)?;
     Ok((Segment { address, words }, rest))
 }

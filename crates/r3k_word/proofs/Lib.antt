@@ -1,3 +1,4 @@
 pub mod Fields
 pub mod FieldLaws
 pub mod Division
+pub mod Read

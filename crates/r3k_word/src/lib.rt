@@ -1,5 +1,5 @@
 //! Words of the R3000 and where they stand in memory: bit fields, sign extension, arithmetic of 32 and 64 bits, bytes,
-//! and the layout of RAM and ROM as one list of words.
+//! numbers that are read from bytes, and the layout of RAM and ROM as one list of words.
 #![tactic(auto)]
 
 pub mod arithmetic;
@@ -8,3 +8,4 @@ pub mod bytes;
 pub mod field;
 pub mod laws;
 pub mod layout;
+pub mod reading;

@@ -1,7 +1,6 @@
 pub mod Decimal
 pub mod Digits
 pub mod LineFeeds
-pub mod Names
 pub mod Numbers
 pub mod Rows
 pub mod Shown

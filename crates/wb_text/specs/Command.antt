@@ -80,94 +80,77 @@ event_count = (1, 32)
 abbrev pub step_count : ℕ × ℕ
 step_count = (1, 2 ^ 20)
 
+-- A row of the table of commands: a name, the ranges of the numbers after it, and the command that they make.
+pub record Form : Type 0 where
+  pub name : List ℕ
+  pub ranges : List (ℕ × ℕ)
+  pub make : List ℕ → Command
+
+-- the rows of commands that take no number, one, two and three
+abbrev pub none : List ℕ → Command → Form
+none name command = record { name = name; ranges = []; make = λ _. command }
+
+abbrev pub one : List ℕ → ℕ × ℕ → (ℕ → Command) → Form
+one name range make = record { name = name; ranges = range ∷ []; make = λ numbers. make (slice_index numbers 0) }
+
+abbrev pub two : List ℕ → ℕ × ℕ → ℕ × ℕ → (ℕ → ℕ → Command) → Form
+two name range next make = record {
+  name = name;
+  ranges = range ∷ next ∷ [];
+  make = λ numbers. make (slice_index numbers 0) (slice_index numbers 1);
+}
+
+abbrev pub three : List ℕ → ℕ × ℕ → ℕ × ℕ → ℕ × ℕ → (ℕ → ℕ → ℕ → Command) → Form
+three name range next last make = record {
+  name = name;
+  ranges = range ∷ next ∷ last ∷ [];
+  make = λ numbers. make (slice_index numbers 0) (slice_index numbers 1) (slice_index numbers 2);
+}
+
+-- the table of commands
+abbrev pub commands : List Form
+commands =
+    none (codes "pos") Pos
+    ∷ one (codes "goto") any_number Goto
+    ∷ one (codes "step") any_number Step
+    ∷ one (codes "back") any_number Back
+    ∷ two (codes "visit") address step_count Visit
+    ∷ none (codes "quit") Quit
+    ∷ none (codes "regs") Regs
+    ∷ one (codes "reg") register_number Reg
+    ∷ none (codes "cp0") Cp0
+    ∷ one (codes "tlb") entry_number Tlb
+    ∷ one (codes "where") address Where
+    ∷ two (codes "mem") address word_count Mem
+    ∷ two (codes "dis") address word_count Dis
+    ∷ three (codes "console") line_number any_number byte_count Console
+    ∷ two (codes "find") line_number any_number Find
+    ∷ one (codes "writer") address Writer
+    ∷ two (codes "log") any_number event_count Log
+    ∷ three (codes "add") event_time line_number byte_value Add
+    ∷ three (codes "ferr") event_time line_number byte_value Ferr
+    ∷ three (codes "wire") event_time wire_number level Wire
+    ∷ one (codes "del") any_number Del
+    ∷ two (codes "set") any_number byte_value Set
+    ∷ two (codes "move") any_number event_time Move
+    ∷ two (codes "erase") any_number any_number Erase
+    ∷ two (codes "patch") address word_value Patch
+    ∷ []
+
 -- the command that its numbers make
 abbrev pub made_by : (List ℕ → Command) → Result (List ℕ) Fault → Result Command Fault
 made_by make (Ok numbers) = Ok (make numbers)
 made_by make (Err fault) = Err fault
 
--- the edits of the log and the image that put no event into the log
-abbrev pub edit_named : List ℕ → List (List ℕ) → Result Command Fault
-edit_named name words =
-    if bytes_eq name (codes "del") then
-    made_by (λ numbers. Del (slice_index numbers 0)) (numbers_of (any_number ∷ []) words)
-    else (if bytes_eq name (codes "set") then
-    made_by (λ numbers. Set (slice_index numbers 0) (slice_index numbers 1))
-    (numbers_of (any_number ∷ byte_value ∷ []) words)
-    else (if bytes_eq name (codes "move") then
-    made_by (λ numbers. Move (slice_index numbers 0) (slice_index numbers 1))
-    (numbers_of (any_number ∷ event_time ∷ []) words)
-    else (if bytes_eq name (codes "erase") then
-    made_by (λ numbers. Erase (slice_index numbers 0) (slice_index numbers 1))
-    (numbers_of (any_number ∷ any_number ∷ []) words)
-    else (if bytes_eq name (codes "patch") then
-    made_by (λ numbers. Patch (slice_index numbers 0) (slice_index numbers 1))
-    (numbers_of (address ∷ word_value ∷ []) words)
-    else Err Syntax))))
+-- the command of a name and the words after it, by the rows of a table
+abbrev pub command_among : List Form → List ℕ → List (List ℕ) → Result Command Fault
+command_among [] name words = Err Syntax
+command_among (form ∷ forms) name words =
+    if bytes_eq name form.name then made_by form.make (numbers_of form.ranges words) else command_among forms name words
 
--- the events that are put into the log
-abbrev pub event_named : List ℕ → List (List ℕ) → Result Command Fault
-event_named name words =
-    if bytes_eq name (codes "add") then
-    made_by (λ numbers. Add (slice_index numbers 0) (slice_index numbers 1) (slice_index numbers 2))
-    (numbers_of (event_time ∷ line_number ∷ byte_value ∷ []) words)
-    else (if bytes_eq name (codes "ferr") then
-    made_by (λ numbers. Ferr (slice_index numbers 0) (slice_index numbers 1) (slice_index numbers 2))
-    (numbers_of (event_time ∷ line_number ∷ byte_value ∷ []) words)
-    else (if bytes_eq name (codes "wire") then
-    made_by (λ numbers. Wire (slice_index numbers 0) (slice_index numbers 1) (slice_index numbers 2))
-    (numbers_of (event_time ∷ wire_number ∷ level ∷ []) words)
-    else edit_named name words))
-
--- the queries of the steps before the position, and of the log
-abbrev pub history_query_named : List ℕ → List (List ℕ) → Result Command Fault
-history_query_named name words =
-    if bytes_eq name (codes "console") then
-    made_by (λ numbers. Console (slice_index numbers 0) (slice_index numbers 1) (slice_index numbers 2))
-    (numbers_of (line_number ∷ any_number ∷ byte_count ∷ []) words)
-    else (if bytes_eq name (codes "find") then
-    made_by (λ numbers. Find (slice_index numbers 0) (slice_index numbers 1))
-    (numbers_of (line_number ∷ any_number ∷ []) words)
-    else (if bytes_eq name (codes "writer") then
-    made_by (λ numbers. Writer (slice_index numbers 0)) (numbers_of (address ∷ []) words)
-    else (if bytes_eq name (codes "log") then
-    made_by (λ numbers. Log (slice_index numbers 0) (slice_index numbers 1))
-    (numbers_of (any_number ∷ event_count ∷ []) words)
-    else event_named name words)))
-
--- the queries of the state
-abbrev pub state_query_named : List ℕ → List (List ℕ) → Result Command Fault
-state_query_named name words =
-    if bytes_eq name (codes "regs") then made_by (λ _. Regs) (numbers_of [] words)
-    else (if bytes_eq name (codes "reg") then
-    made_by (λ numbers. Reg (slice_index numbers 0)) (numbers_of (register_number ∷ []) words)
-    else (if bytes_eq name (codes "cp0") then made_by (λ _. Cp0) (numbers_of [] words)
-    else (if bytes_eq name (codes "tlb") then
-    made_by (λ numbers. Tlb (slice_index numbers 0)) (numbers_of (entry_number ∷ []) words)
-    else (if bytes_eq name (codes "where") then
-    made_by (λ numbers. Where (slice_index numbers 0)) (numbers_of (address ∷ []) words)
-    else (if bytes_eq name (codes "mem") then
-    made_by (λ numbers. Mem (slice_index numbers 0) (slice_index numbers 1))
-    (numbers_of (address ∷ word_count ∷ []) words)
-    else (if bytes_eq name (codes "dis") then
-    made_by (λ numbers. Dis (slice_index numbers 0) (slice_index numbers 1))
-    (numbers_of (address ∷ word_count ∷ []) words)
-    else history_query_named name words))))))
-
--- the command of a name and the words after it: another name is Syntax
+-- the same by the table of commands: another name is Syntax
 abbrev pub command_named : List ℕ → List (List ℕ) → Result Command Fault
-command_named name words =
-    if bytes_eq name (codes "pos") then made_by (λ _. Pos) (numbers_of [] words)
-    else (if bytes_eq name (codes "goto") then
-    made_by (λ numbers. Goto (slice_index numbers 0)) (numbers_of (any_number ∷ []) words)
-    else (if bytes_eq name (codes "step") then
-    made_by (λ numbers. Step (slice_index numbers 0)) (numbers_of (any_number ∷ []) words)
-    else (if bytes_eq name (codes "back") then
-    made_by (λ numbers. Back (slice_index numbers 0)) (numbers_of (any_number ∷ []) words)
-    else (if bytes_eq name (codes "visit") then
-    made_by (λ numbers. Visit (slice_index numbers 0) (slice_index numbers 1))
-    (numbers_of (address ∷ step_count ∷ []) words)
-    else (if bytes_eq name (codes "quit") then made_by (λ _. Quit) (numbers_of [] words)
-    else state_query_named name words)))))
+command_named = command_among commands
 
 -- what a line with a command says
 abbrev pub some_command : Result Command Fault → Result (Option Command) Fault
@@ -180,9 +163,13 @@ command_of_words [] = Ok None
 command_of_words (name ∷ words) =
     if begins_comment name then Ok None else some_command (command_named name words)
 
+-- the most bytes of a line
+abbrev pub line_bytes : ℕ
+line_bytes = 256
+
 -- What a line without its line feed says: one carriage return at its end is dropped, and then more
--- than 256 bytes are Syntax, whatever they hold.
+-- bytes than that are Syntax, whatever they hold.
 abbrev pub command_of : List ℕ → Result (Option Command) Fault
 command_of line =
     let text = strip_carriage_return line in
-    if nat_lt 256 (length text) then Err Syntax else command_of_words (words_of text)
+    if nat_lt line_bytes (length text) then Err Syntax else command_of_words (words_of text)

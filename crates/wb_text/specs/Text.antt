@@ -3,6 +3,10 @@
 use Rattle.std.specs.Prelude.{ℕ, ◌/◌, ◌%◌, ◌^◌, List, [], ◌∷◌, ◌++◌, map, codes, false}
 use Rattle.std.specs.Fmt.{decimal, digit_glyph}
 
+-- the most bytes of a reply
+abbrev pub text_bytes : ℕ
+text_bytes = 4096
+
 -- the hexadecimal digit of a word at a place, counted from the right
 abbrev pub hexadecimal_digit : ℕ → ℕ → ℕ
 hexadecimal_digit word place = digit_glyph false (word / 16 ^ place % 16)

@@ -3,8 +3,7 @@
 ghost use Rattle.std.specs.Prelude.{◌≡◌, ◌<◌, MatchResult, Ok, Err, ℕ, List, [], ◌∷◌, length};
 ghost use Rattle.wb_text.specs.Words.{words_of};
 ghost use Rattle.wb_text.specs.Number.{number_of, number_within};
-ghost use Rattle.wb_text.specs.Command.{command_of, command_of_words, first_of, both_of, numbers_of};
-ghost use Rattle.wb_text.specs.Command.{command_named, state_query_named, history_query_named, event_named, edit_named};
+ghost use Rattle.wb_text.specs.Command.{command_of, command_of_words, command_named, first_of, both_of, numbers_of};
 
 use crate::bounded::{
     Address, AnyNumber, Bounded, ByteCount, ByteValue, EntryNumber, EventCount, EventTime, Level,
@@ -143,138 +142,68 @@ fn command_in(text: &[u8]) -> Result<Option<Command>, Fault>
     }
 }
 
-// The command of a name and the text after it.
+// The command of a row: its numbers are read, each in its range.
+macro_rules! command {
+    ($rest:ident () $command:expr) => {{
+        no_number($rest)?;
+        Ok($command)
+    }};
+    ($rest:ident ($number:ident: $range:ty) $command:expr) => {{
+        let $number: $range = one_number($rest)?;
+        Ok($command)
+    }};
+    ($rest:ident ($number:ident: $range:ty, $next:ident: $next_range:ty) $command:expr) => {{
+        let ($number, $next): ($range, $next_range) = two_numbers($rest)?;
+        Ok($command)
+    }};
+    ($rest:ident ($number:ident: $range:ty, $next:ident: $next_range:ty, $last:ident: $last_range:ty) $command:expr) => {{
+        let ($number, $next, $last): ($range, $next_range, $last_range) = three_numbers($rest)?;
+        Ok($command)
+    }};
+}
+
+// The command of a name and the text after it, by the rows of a table. Another name is Syntax.
+macro_rules! command_among {
+    (($name:ident, $rest:ident) $($row_name:literal $numbers:tt => $command:expr,)*) => {
+        $(if $name == $row_name.as_slice() {
+            command!($rest $numbers $command)
+        } else)* {
+            Err(Fault::Syntax)
+        }
+    };
+}
+
+// The same by the table of commands.
 fn command_by_name(name: &[u8], rest: &[u8]) -> Result<Command, Fault>
     ensures { result ≡ command_named name.now (words_of rest.now) }
 {
-    if name == b"pos".as_slice() {
-        no_number(rest)?;
-        Ok(Command::Pos)
-    } else if name == b"goto".as_slice() {
-        let position: AnyNumber = one_number(rest)?;
-        Ok(Command::Goto(position.get()))
-    } else if name == b"step".as_slice() {
-        let count: AnyNumber = one_number(rest)?;
-        Ok(Command::Step(count.get()))
-    } else if name == b"back".as_slice() {
-        let count: AnyNumber = one_number(rest)?;
-        Ok(Command::Back(count.get()))
-    } else if name == b"visit".as_slice() {
-        let (address, limit) = two_numbers(rest)?;
-        Ok(Command::Visit { address, limit })
-    } else if name == b"quit".as_slice() {
-        no_number(rest)?;
-        Ok(Command::Quit)
-    } else {
-        state_query_by_name(name, rest)
-    }
-}
-
-// The same for a name that neither moves nor ends the script.
-fn state_query_by_name(name: &[u8], rest: &[u8]) -> Result<Command, Fault>
-    ensures { result ≡ state_query_named name.now (words_of rest.now) }
-{
-    if name == b"regs".as_slice() {
-        no_number(rest)?;
-        Ok(Command::Regs)
-    } else if name == b"reg".as_slice() {
-        Ok(Command::Reg(one_number(rest)?))
-    } else if name == b"cp0".as_slice() {
-        no_number(rest)?;
-        Ok(Command::Cp0)
-    } else if name == b"tlb".as_slice() {
-        Ok(Command::Tlb(one_number(rest)?))
-    } else if name == b"where".as_slice() {
-        Ok(Command::Where(one_number(rest)?))
-    } else if name == b"mem".as_slice() {
-        let (address, count) = two_numbers(rest)?;
-        Ok(Command::Mem { address, count })
-    } else if name == b"dis".as_slice() {
-        let (address, count) = two_numbers(rest)?;
-        Ok(Command::Dis { address, count })
-    } else {
-        history_query_by_name(name, rest)
-    }
-}
-
-// The same for a name that does not ask for the state either.
-fn history_query_by_name(name: &[u8], rest: &[u8]) -> Result<Command, Fault>
-    ensures { result ≡ history_query_named name.now (words_of rest.now) }
-{
-    if name == b"console".as_slice() {
-        let (line, from, count): (_, AnyNumber, _) = three_numbers(rest)?;
-        Ok(Command::Console {
-            line,
-            from: from.get(),
-            count,
-        })
-    } else if name == b"find".as_slice() {
-        let (line, place): (_, AnyNumber) = two_numbers(rest)?;
-        Ok(Command::Find {
-            line,
-            place: place.get(),
-        })
-    } else if name == b"writer".as_slice() {
-        Ok(Command::Writer(one_number(rest)?))
-    } else if name == b"log".as_slice() {
-        let (from, count): (AnyNumber, _) = two_numbers(rest)?;
-        Ok(Command::Log {
-            from: from.get(),
-            count,
-        })
-    } else {
-        event_by_name(name, rest)
-    }
-}
-
-// The same for a name that asks for nothing.
-fn event_by_name(name: &[u8], rest: &[u8]) -> Result<Command, Fault>
-    ensures { result ≡ event_named name.now (words_of rest.now) }
-{
-    if name == b"add".as_slice() {
-        let (time, line, byte) = three_numbers(rest)?;
-        Ok(Command::Add { time, line, byte })
-    } else if name == b"ferr".as_slice() {
-        let (time, line, byte) = three_numbers(rest)?;
-        Ok(Command::Ferr { time, line, byte })
-    } else if name == b"wire".as_slice() {
-        let (time, line, level) = three_numbers(rest)?;
-        Ok(Command::Wire { time, line, level })
-    } else {
-        edit_by_name(name, rest)
-    }
-}
-
-// The same for a name that puts no event into the log.
-fn edit_by_name(name: &[u8], rest: &[u8]) -> Result<Command, Fault>
-    ensures { result ≡ edit_named name.now (words_of rest.now) }
-{
-    if name == b"del".as_slice() {
-        let event: AnyNumber = one_number(rest)?;
-        Ok(Command::Del(event.get()))
-    } else if name == b"set".as_slice() {
-        let (event, byte): (AnyNumber, _) = two_numbers(rest)?;
-        Ok(Command::Set {
-            event: event.get(),
-            byte,
-        })
-    } else if name == b"move".as_slice() {
-        let (event, time): (AnyNumber, _) = two_numbers(rest)?;
-        Ok(Command::Move {
-            event: event.get(),
-            time,
-        })
-    } else if name == b"erase".as_slice() {
-        let (from, to): (AnyNumber, AnyNumber) = two_numbers(rest)?;
-        Ok(Command::Erase {
-            from: from.get(),
-            to: to.get(),
-        })
-    } else if name == b"patch".as_slice() {
-        let (address, word) = two_numbers(rest)?;
-        Ok(Command::Patch { address, word })
-    } else {
-        Err(Fault::Syntax)
+    command_among! {
+        (name, rest)
+        b"pos" () => Command::Pos,
+        b"goto" (position: AnyNumber) => Command::Goto(position.get()),
+        b"step" (steps: AnyNumber) => Command::Step(steps.get()),
+        b"back" (steps: AnyNumber) => Command::Back(steps.get()),
+        b"visit" (address: Address, limit: StepCount) => Command::Visit { address, limit },
+        b"quit" () => Command::Quit,
+        b"regs" () => Command::Regs,
+        b"reg" (number: RegisterNumber) => Command::Reg(number),
+        b"cp0" () => Command::Cp0,
+        b"tlb" (number: EntryNumber) => Command::Tlb(number),
+        b"where" (address: Address) => Command::Where(address),
+        b"mem" (address: Address, count: WordCount) => Command::Mem { address, count },
+        b"dis" (address: Address, count: WordCount) => Command::Dis { address, count },
+        b"console" (line: LineNumber, from: AnyNumber, count: ByteCount) => Command::Console { line, from: from.get(), count },
+        b"find" (line: LineNumber, place: AnyNumber) => Command::Find { line, place: place.get() },
+        b"writer" (address: Address) => Command::Writer(address),
+        b"log" (from: AnyNumber, count: EventCount) => Command::Log { from: from.get(), count },
+        b"add" (time: EventTime, line: LineNumber, byte: ByteValue) => Command::Add { time, line, byte },
+        b"ferr" (time: EventTime, line: LineNumber, byte: ByteValue) => Command::Ferr { time, line, byte },
+        b"wire" (time: EventTime, line: WireNumber, level: Level) => Command::Wire { time, line, level },
+        b"del" (event: AnyNumber) => Command::Del(event.get()),
+        b"set" (event: AnyNumber, byte: ByteValue) => Command::Set { event: event.get(), byte },
+        b"move" (event: AnyNumber, time: EventTime) => Command::Move { event: event.get(), time },
+        b"erase" (from: AnyNumber, to: AnyNumber) => Command::Erase { from: from.get(), to: to.get() },
+        b"patch" (address: Address, word: WordValue) => Command::Patch { address, word },
     }
 }
 

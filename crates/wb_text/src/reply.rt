@@ -3,7 +3,7 @@
 ghost use Rattle.std.specs.Prelude.{◌≡◌, ◌+◌, ◌≤◌, ◌++◌, length};
 ghost use Rattle.arrayvec.specs.ArrayVec.{array_vec_len};
 ghost use Rattle.std.specs.Fmt.{decimal};
-ghost use Rattle.wb_text.specs.Text.{line, word_text};
+ghost use Rattle.wb_text.specs.Text.{line, text_bytes, word_text};
 ghost use Rattle.wb_text.specs.Reply.{text_of, EndsWithLineFeed, HasText, refusal_text, flag_text, value_text, load_text};
 ghost use Rattle.wb_text.specs.Reply.{state_text, row_text, rows_text, control_text, entry_text, where_text, memory_text, all_words_text};
 ghost use Rattle.wb_text.specs.Reply.{bytes_text, console_text, writer_text, kind_text, event_text, events_text, log_text};
@@ -133,7 +133,7 @@ pub enum Reply {
 }
 
 /// The text of a reply, each of its lines with a line feed.
-pub fn reply_text(reply: &Reply) -> ArrayVec<u8, 4096>
+pub fn reply_text(reply: &Reply) -> Text
     ensures { result.items ≡ text_of reply.now }
 {
     let mut text = ArrayVec::new();
@@ -253,7 +253,7 @@ fn push_register(text: &mut Text, number: u64, value: u32)
 
 // Appends a name and a word.
 fn push_field(text: &mut Text, name: &[u8], word: u32)
-    requires { array_vec_len text.old + (length name.now + 10) ≤ 4096 }
+    requires { array_vec_len text.old + (length name.now + 10) ≤ text_bytes }
     ensures items { text.new.items ≡ text.old.items ++ (name.now ++ word_text word) }
     ensures len { array_vec_len text.new ≡ array_vec_len text.old + (length name.now + 10) }
 {

@@ -3,16 +3,19 @@
 ghost use Rattle.std.specs.Prelude.{◌≡◌, ◌+◌, ◌%◌, ◌≤◌, ◌<◌, ◌++◌, length, false};
 ghost use Rattle.std.specs.Fmt.{decimal, digit_glyph};
 ghost use Rattle.arrayvec.specs.ArrayVec.{array_vec_len};
-ghost use Rattle.wb_text.specs.Text.{word_text, byte_text};
+ghost use Rattle.wb_text.specs.Text.{text_bytes, word_text, byte_text};
 
 use arrayvec::ArrayVec;
 
+/// The most bytes of a reply.
+pub const TEXT_BYTES: usize = 4096;
+
 /// The text of a reply.
-pub type Text = ArrayVec<u8, 4096>;
+pub type Text = ArrayVec<u8, TEXT_BYTES>;
 
 /// Appends a text.
 pub fn push_text(text: &mut Text, piece: &[u8])
-    requires { array_vec_len text.old + length piece.now ≤ 4096 }
+    requires { array_vec_len text.old + length piece.now ≤ text_bytes }
     ensures items { text.new.items ≡ text.old.items ++ piece.now }
     ensures len { array_vec_len text.new ≡ array_vec_len text.old + length piece.now }
 {
@@ -35,7 +38,7 @@ pub fn decimal_digits(number: u64) -> ArrayVec<u8, 20>
 
 /// Appends a number in decimal, of at most 20 digits.
 pub fn push_decimal(text: &mut Text, number: u64)
-    requires { array_vec_len text.old + 20 ≤ 4096 }
+    requires { array_vec_len text.old + 20 ≤ text_bytes }
     ensures items { text.new.items ≡ text.old.items ++ decimal number }
     ensures room { array_vec_len text.new ≤ array_vec_len text.old + 20 }
 {
@@ -44,7 +47,7 @@ pub fn push_decimal(text: &mut Text, number: u64)
 
 /// Appends a word: 0x and eight hexadecimal digits.
 pub fn push_word(text: &mut Text, word: u32)
-    requires { array_vec_len text.old + 10 ≤ 4096 }
+    requires { array_vec_len text.old + 10 ≤ text_bytes }
     ensures items { text.new.items ≡ text.old.items ++ word_text word }
     ensures len { array_vec_len text.new ≡ array_vec_len text.old + 10 }
 {
@@ -65,7 +68,7 @@ pub fn push_word(text: &mut Text, word: u32)
 
 /// Appends a byte: two hexadecimal digits.
 pub fn push_byte(text: &mut Text, byte: u8)
-    requires { array_vec_len text.old + 2 ≤ 4096 }
+    requires { array_vec_len text.old + 2 ≤ text_bytes }
     ensures items { text.new.items ≡ text.old.items ++ byte_text byte }
     ensures len { array_vec_len text.new ≡ array_vec_len text.old + 2 }
 {
