@@ -74,6 +74,7 @@ quiet_kept n old new keeps quiet = record {
 pub code_kept : (pages : ℕ) (page : CodePage) (old new : Core) → Keeps old new → IsCodePage pages old page → IsCodePage pages new page
 unfolding meaning
 code_kept pages page old new keeps code = record {
+  within = code.within;
   fetched = λ address here aligned. rw (keeps.entries, keeps.cop0) (code.fetched address here aligned);
   plain = λ on. record { kernel = rw keeps.cop0 (code.plain on).kernel; shared = rw keeps.cop0 (code.plain on).shared };
 }

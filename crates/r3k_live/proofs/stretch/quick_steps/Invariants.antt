@@ -1,7 +1,8 @@
-use Rattle.std.proofs.Common.{◌≡◌, ℕ, ◌+◌, ◌-◌, ◌≤◌, List}
+use Rattle.std.proofs.Common.{◌≡◌, ℕ, ◌+◌, ◌-◌, ◌≤◌, IsTrue, List}
 use Rattle.input_log.specs.Event.{LogEvent}
 use Rattle.r3k_machine.specs.Quiet.{IsCodePage, IsQuietFor, state_elapsed}
 use Rattle.r3k_machine.specs.State.{State}
+use Rattle.r3k_pages.specs.Pages.{holds}
 use Rattle.r3k_live.specs.Going.{HasGone, IsFreeFor, PassesBy}
 use Rattle.r3k_live.specs.Living.{state_of}
 use Rattle.r3k_live.proofs.stretch.quick_steps.Given as goal
@@ -17,6 +18,7 @@ invariant-loop-made g l = record {
       PassesBy g.row.PAGES log from start l.stop before (before + l.made + 1);
   quiet : IsQuietFor l.most l.core;
   code : IsCodePage g.row.PAGES l.core l.page;
+  again : IsTrue (holds l.recorder.touched l.page.page);
   steps : l.recorder.steps ≡ l.fn.recorder.steps + l.made;
   bound : l.made ≤ l.most;
 }
