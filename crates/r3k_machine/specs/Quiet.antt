@@ -68,11 +68,6 @@ IsQuickEffect pages core (Store kind address value) =
     × (ram_word pages physical.address ≡ Some word)
 IsQuickEffect pages core effect = ⊥
 
--- a word that is an instruction, and usable in any mode
-pub record IsDecoded (word : ℕ) (operation : Operation) : Type 0 where
-  pub decoded : operation_of word ≡ Some operation
-  pub usable : (core : Core) → IsFalse (is_unusable core word)
-
 -- the instruction at PC has such an effect
 pub record IsQuick (pages : ℕ) (s : State) : Type 0 where
   pub physical : Physical
@@ -101,8 +96,8 @@ pub record IsCodePage (pages : ℕ) (core : Core) (page : CodePage) : Type 0 whe
   pub fetched : IsFetchedFrom pages core page.number page.page
   pub plain : IsTrue page.plain → GoesOverBus core
 
--- the place of an aligned address of the page
-pub record IsPlaceIn (page : CodePage) (address place : ℕ) : Type 0 where
+-- the number in the page of the word at an aligned address
+pub record IsIndexIn (page : CodePage) (address index : ℕ) : Type 0 where
   pub here : address / PAGE_BYTES ≡ page.number
   pub aligned : address % 4 ≡ 0
-  pub is : place ≡ page.page * PAGE_WORDS + address % PAGE_BYTES / 4
+  pub is : index ≡ address % PAGE_BYTES / 4

@@ -1,8 +1,9 @@
 //! Quick steps: those before which nothing happens but counting, and whose instruction touches registers, PC and memory alone.
 
-ghost use Rattle.std.specs.Prelude.{◌≡◌, ◌^◌, ◌<◌, IfSome, IsTrue, None, Ok, Some, length};
+ghost use Rattle.std.specs.Prelude.{◌≡◌, ◌^◌, ◌<◌, ℕ, IfSome, IsTrue, None, Ok, Some};
 ghost use Rattle.r3k_exec.specs.Effects.{NamesRegisters};
-ghost use Rattle.r3k_machine.specs.Quiet.{GoesOverBus, IsCodePage, IsPlaceIn, IsQuick, IsQuickEffect, IsQuietFor, IsReached, elapsed};
+ghost use Rattle.r3k_word.specs.declared.layout.TheConstants.{PAGE_WORDS};
+ghost use Rattle.r3k_machine.specs.Quiet.{GoesOverBus, IsCodePage, IsIndexIn, IsQuick, IsQuickEffect, IsQuietFor, IsReached, elapsed};
 ghost use Rattle.r3k_machine.specs.Address.{meaning};
 ghost use Rattle.r3k_machine.specs.Locality.{fetched_page};
 ghost use Rattle.r3k_machine.specs.Step.{completion_of_effect, outcome_of_instruction};
@@ -15,7 +16,7 @@ use crate::state::Core;
 use crate::step::Done;
 use r3k_exec::{Effect, effect};
 use r3k_word::arithmetic::subtract;
-use r3k_word::layout::{PAGE_BYTES, PAGE_WORDS, page_of, place_of};
+use r3k_word::layout::{PAGE_BYTES, page_of, place_of};
 
 /// A page that is run in: the number of the virtual page, the page of RAM or ROM that its words are fetched from, and whether loads
 /// and stores of kseg0 and kseg1 go over the bus, as the mode is the kernel's and the cache is not isolated.
@@ -73,17 +74,18 @@ impl Core {
 }
 
 impl CodePage {
-    // The place of the word at an address, if that is aligned and lies in the page.
+    // The number in the page of the word at an address, if that is aligned and lies in the page.
     #[inline(always)]
-    fn place(self, address: u32) -> Option<usize>
+    fn index(self, address: u32) -> Option<usize>
         requires { self.number < 2 ^ 20 }
-        ensures { IfSome result (IsPlaceIn self address) }
+        ensures index { IfSome result (IsIndexIn self address) }
+        ensures within { IfSome result (λ index. index < PAGE_WORDS) }
     {
         let offset = subtract(address, self.number * PAGE_BYTES);
         if offset >= PAGE_BYTES || offset % 4 != 0 {
             return None;
         }
-        Some(self.page as usize * PAGE_WORDS as usize + (offset / 4) as usize)
+        Some((offset / 4) as usize)
     }
 }
 
@@ -124,6 +126,7 @@ fn perform_quick<M: Mem>(
     ensures core { result ≡ None → core.new ≡ core.old }
     ensures words { result ≡ None → M.words memory.new ≡ M.words memory.old }
     ensures same { M.ram memory.new ≡ M.ram memory.old }
+    ensures open { (other : ℕ) → M.is_open memory.new other ≡ M.is_open memory.old other }
 {
     match effect {
         Effect::Write { register, value } => {
@@ -188,23 +191,12 @@ fn perform_quick<M: Mem>(
     Some(Done::fetching(Some(page)))
 }
 
-// Decodes the word at a place, unless its instruction is known.
+// Runs the instruction at the PC if that lies in this page, and it is known and quick. Else it changes nothing.
 #[inline(always)]
-fn decode_at<M: Mem>(memory: &mut M, place: usize)
-    requires { place < length (M.words memory.old) }
-    ensures words { M.words memory.new ≡ M.words memory.old }
-    ensures same { M.ram memory.new ≡ M.ram memory.old }
-{
-    if memory.insn(place).is_none() {
-        memory.learn(place);
-    }
-}
-
-/// Runs the instruction at the PC if that lies in this page and the instruction is quick. Else it changes nothing.
-#[inline(always)]
-pub fn quick_step<M: Mem>(core: &mut Core, memory: &mut M, page: CodePage) -> Option<Done>
+fn known_step<M: Mem>(core: &mut Core, memory: &mut M, page: CodePage) -> Option<Done>
     requires code { IsCodePage (M.ram memory.old) core.old page }
     requires page { IsPage (M.ram memory.old) page.page }
+    requires open { IsTrue (M.is_open memory.old page.page) }
     ensures quick { IfSome result (λ done. IsQuick (M.ram memory.old) (record { core = core.old; words = M.words memory.old })) }
     ensures ran { IfSome result (λ done. outcome_of_instruction (M.ram memory.old) (record { core = core.old; words = M.words memory.old })
         ≡ record { state = record { core = core.new; words = M.words memory.new }; done = done }) }
@@ -213,10 +205,56 @@ pub fn quick_step<M: Mem>(core: &mut Core, memory: &mut M, page: CodePage) -> Op
     ensures core { result ≡ None → core.new ≡ core.old }
     ensures words { result ≡ None → M.words memory.new ≡ M.words memory.old }
     ensures same { M.ram memory.new ≡ M.ram memory.old }
+    ensures open { (other : ℕ) → M.is_open memory.new other ≡ M.is_open memory.old other }
 {
-    let place = page.place(core.pc())?;
-    decode_at(memory, place);
-    let insn = memory.insn(place)?;
+    let index = page.index(core.pc())?;
+    let insn = memory.insn(page.page, index);
     let effect = effect(insn, core.operands(insn));
     perform_quick(core, memory, page.page, page.plain, effect)
+}
+
+// Decodes the word at the PC, and then does the same.
+#[cold]
+#[inline(never)]
+fn learned_step<M: Mem>(core: &mut Core, memory: &mut M, page: CodePage) -> Option<Done>
+    requires code { IsCodePage (M.ram memory.old) core.old page }
+    requires page { IsPage (M.ram memory.old) page.page }
+    requires open { IsTrue (M.is_open memory.old page.page) }
+    ensures quick { IfSome result (λ done. IsQuick (M.ram memory.old) (record { core = core.old; words = M.words memory.old })) }
+    ensures ran { IfSome result (λ done. outcome_of_instruction (M.ram memory.old) (record { core = core.old; words = M.words memory.old })
+        ≡ record { state = record { core = core.new; words = M.words memory.new }; done = done }) }
+    ensures within { IfSome result (IsTold (M.ram memory.old) (M.words memory.old) (M.words memory.new)) }
+    ensures fetched { IfSome result (λ done. fetched_page done ≡ Some page.page) }
+    ensures core { result ≡ None → core.new ≡ core.old }
+    ensures words { result ≡ None → M.words memory.new ≡ M.words memory.old }
+    ensures same { M.ram memory.new ≡ M.ram memory.old }
+    ensures open { (other : ℕ) → M.is_open memory.new other ≡ M.is_open memory.old other }
+{
+    let index = page.index(core.pc())?;
+    if !memory.learn(page.page, index) {
+        return None;
+    }
+    known_step(core, memory, page)
+}
+
+/// Runs the instruction at the PC if that lies in this page, which is open, and the instruction is quick. Else it changes nothing.
+#[inline(always)]
+pub fn quick_step<M: Mem>(core: &mut Core, memory: &mut M, page: CodePage) -> Option<Done>
+    requires code { IsCodePage (M.ram memory.old) core.old page }
+    requires page { IsPage (M.ram memory.old) page.page }
+    requires open { IsTrue (M.is_open memory.old page.page) }
+    ensures quick { IfSome result (λ done. IsQuick (M.ram memory.old) (record { core = core.old; words = M.words memory.old })) }
+    ensures ran { IfSome result (λ done. outcome_of_instruction (M.ram memory.old) (record { core = core.old; words = M.words memory.old })
+        ≡ record { state = record { core = core.new; words = M.words memory.new }; done = done }) }
+    ensures within { IfSome result (IsTold (M.ram memory.old) (M.words memory.old) (M.words memory.new)) }
+    ensures fetched { IfSome result (λ done. fetched_page done ≡ Some page.page) }
+    ensures core { result ≡ None → core.new ≡ core.old }
+    ensures words { result ≡ None → M.words memory.new ≡ M.words memory.old }
+    ensures same { M.ram memory.new ≡ M.ram memory.old }
+    ensures open { (other : ℕ) → M.is_open memory.new other ≡ M.is_open memory.old other }
+{
+    match known_step(core, memory, page) {
+        Some(done) => Some(done),
+        None => learned_step(core, memory, page),
+    }
 }

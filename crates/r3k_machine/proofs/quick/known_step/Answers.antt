@@ -1,0 +1,28 @@
+use Rattle.std.proofs.Common.{◌≡◌, ◌*◌, ◌+◌, ◌/◌, ◌%◌, inl, inr, refl, slice_index}
+use Rattle.r3k_exec.specs.Effects.{effect_of}
+use Rattle.r3k_machine.specs.Known.{IsDecoded, IsKnown}
+use Rattle.r3k_machine.specs.Quiet.{IsIndexIn, IsQuick}
+use Rattle.r3k_machine.specs.State.{State}
+use Rattle.r3k_machine.specs.Step.{operands_of}
+use Rattle.r3k_machine.proofs.Quiet.{if_both, quick_known, quick_ran}
+use Rattle.r3k_machine.proofs.quick.known_step.Goals as goal
+
+pub returns-clause-quick : goal.returns-clause-quick
+returns-clause-quick g c =
+    let s : State = record { core = c.args.core.now; words = g.M.Mem.words c.args.memory.now } in
+    let there : IsIndexIn c.args.page s.core.pc c.in_ok-index.index = rw c.pc.ensures at c.in_ok-index.ensures.index in
+    if_both c.perform_quick.result c.perform_quick.ensures.quick c.perform_quick.ensures.ran
+    (λ done effect ran.
+    quick_known (g.M.Mem.ram c.args.memory.now) s c.args.page c.in_ok-index.index c.insn-insn.result.now c.requires.code there c.insn-insn.ensures
+    (rw (c.effect-effect.ensures.effect, c.operands.ensures) at effect))
+
+pub returns-clause-ran : goal.returns-clause-ran
+returns-clause-ran g c =
+    let s : State = record { core = c.args.core.now; words = g.M.Mem.words c.args.memory.now } in
+    let there : IsIndexIn c.args.page s.core.pc c.in_ok-index.index = rw c.pc.ensures at c.in_ok-index.ensures.index in
+    if_both c.perform_quick.result c.perform_quick.ensures.quick c.perform_quick.ensures.ran
+    (λ done effect ran.
+    let quick = quick_known (g.M.Mem.ram c.args.memory.now) s c.args.page c.in_ok-index.index c.insn-insn.result.now c.requires.code there c.insn-insn.ensures
+    (rw (c.effect-effect.ensures.effect, c.operands.ensures) at effect) in
+    quick_ran (g.M.Mem.ram c.args.memory.now) s quick _
+    (rw (c.effect-effect.ensures.effect, c.operands.ensures) at ran))
