@@ -9,14 +9,15 @@ ghost use Rattle.r3k_machine.specs.Told.{IsPage};
 ghost use Rattle.r3k_pages.specs.Pages.{holds};
 ghost use Rattle.r3k_live.specs.Going.{HasGone, IsFreeFor, PassesBy};
 ghost use Rattle.r3k_live.specs.Living.{state_of};
+ghost use Rattle.r3k_live.specs.Slots.{is_open};
 
 use crate::flat::FlatMemory;
 use crate::recorder::Recorder;
 use input_log::Cursor;
 use r3k_machine::step::step;
-use r3k_machine::{CodePage, Core, code_page, quick_step, quiet_laws};
+use r3k_machine::{CodePage, Core, Mem, code_page, quick_step, quiet_laws};
 
-// Makes quick steps in a page that was touched before, at most `most`, and ends after one that comes to an address. Their ticks and falls of Random are
+// Makes quick steps in an open page that was touched before, at most `most`, and ends after one that comes to an address. Their ticks and falls of Random are
 // still to come.
 #[inline(never)]
 fn quick_steps<const PAGES: u32, const SPAN: u32>(
@@ -30,6 +31,7 @@ fn quick_steps<const PAGES: u32, const SPAN: u32>(
     requires quiet { IsQuietFor most core.old }
     requires code { IsCodePage PAGES core.old page }
     requires page { IsPage PAGES page.page }
+    requires opened { IsTrue (is_open PAGES memory.old.opened.items page.page) }
     requires room { recorder.old.steps + most ≤ SPAN }
     requires again { IsTrue (holds recorder.old.touched page.page) }
     ensures bound { result ≤ most }
@@ -93,6 +95,7 @@ fn stretch<const PAGES: u32, const SPAN: u32>(
     if !recorder.has_touched(page.page) {
         return 0;
     }
+    memory.open_page(page.page);
     let free = u64::from(most.min(quiet)).min(events.free(time)) as u32;
     let made = quick_steps(core, memory, page, free, stop, recorder);
     core.elapse(made);

@@ -1,6 +1,6 @@
 -- Steps that are quiet and quick, before ticks and falls of Random and after them.
 use Rattle.std.proofs.Math.Path.{ap₂}
-use Rattle.std.proofs.Common.{Err, IfSome, ◌≡◌, ℕ, suc, ◌+◌, ◌*◌, ◌/◌, ◌%◌, ◌^◌, ◌<◌, ◌≤◌, Bool, true, false, not, ◌&&◌, ◌||◌, nat_le, nat_lt, List, [], IsFalse, Option, Some, None, Ok, slice_index, refl, sym, subst, ap, ◌∙◌, arith, inl, inr}
+use Rattle.std.proofs.Common.{Err, IfSome, ◌≡◌, ℕ, suc, ◌+◌, ◌*◌, ◌/◌, ◌%◌, ◌^◌, ◌<◌, ◌≤◌, Bool, true, false, not, ◌&&◌, ◌||◌, nat_le, nat_lt, List, [], IsFalse, Option, Some, None, Ok, slice_index, refl, sym, subst, ap, ◌∙◌, arith}
 use Rattle.std.specs.Prelude.{◌==◌, if◌then◌else◌}
 use Rattle.std.specs.Prelude.{nat_eq, slice_index_or, position, count_by, bit_and, bit_or}
 use Rattle.std.specs.Option.{option_map}
@@ -28,6 +28,8 @@ use Rattle.r3k_exec.specs.declared.access.LoadKind.{LoadKind}
 use Rattle.r3k_exec.specs.declared.access.StoreKind.{StoreKind}
 use Rattle.r3k_exec.specs.declared.operands.Effect.{Effect}
 use Rattle.r3k_exec.specs.declared.operands.Effect.TheVariants.{Write, WriteHi, WriteLo, WriteHiLo, Jump, JumpAndLink, Trap, Load, Store, MoveFromControl, MoveToControl, ReadEntry, WriteIndexedEntry, WriteRandomEntry, ProbeEntry, ReturnFromException}
+use Rattle.r3k_exec.specs.declared.operands.Operands.{Operands}
+use Rattle.r3k_exec.specs.declared.operands.Trap.TheVariants.{Breakpoint}
 use Rattle.r3k_machine.specs.declared.address.Physical.{Physical}
 use Rattle.r3k_machine.specs.declared.address.Segment.{Segment}
 use Rattle.r3k_machine.specs.declared.address.Segment.TheVariants.{Forbidden, Unmapped, Mapped}
@@ -45,7 +47,7 @@ use Rattle.r3k_machine.specs.Exceptions.{is_unusable}
 use Rattle.r3k_machine.specs.LoadStore.{after_load, after_store, loaded_at, meaning_of_fetch, meaning_of_load, meaning_of_store, ram_word, stored_at, word_at, word_of_place, word_read, words_after, words_with}
 use Rattle.r3k_machine.specs.Step.{Completion, Outcome, arrived, completion_of_effect, completion_of_load, completion_of_store, completion_of_word, operands_of, outcome_of_completion, outcome_of_fetch, outcome_of_instruction, outcome_of_interrupt_or_instruction, outcome_of_step, sampled, ticked, with_fall}
 use Rattle.r3k_machine.specs.declared.quick.CodePage.{CodePage}
-use Rattle.r3k_machine.specs.Known.{IsDecoded, IsKnown}
+use Rattle.r3k_machine.specs.Known.{IsDecoded, IsKnown, IsStop}
 use Rattle.r3k_machine.specs.Quiet.{GoesOverBus, IsCodePage, IsFetchedFrom, IsIndexIn, IsPlain, IsQuick, IsQuickEffect, IsQuietFor, elapsed, outcome_elapsed, state_elapsed}
 
 -- after ticks and falls of Random
@@ -385,6 +387,10 @@ fetched_from pages words page offset physical within stands =
 pub aligned_fetch : (core : Core) → core.pc % 4 ≡ 0 → meaning_of_fetch core ≡ meaning core Fetch true core.pc
 aligned_fetch core aligned = ap (λ (b : Bool). meaning core Fetch b core.pc) (eq-eqb (core.pc % 4) 0 aligned)
 
+-- what stands for a word that is not known
+pub stop_traps : (operation : Operation) (operands : Operands) → IsStop operation → effect_of operation operands ≡ Trap Breakpoint
+stop_traps operation operands is = subst (λ (o : Option Operation). IfSome o (λ operation. effect_of operation operands ≡ Trap Breakpoint)) is refl
+
 -- a known instruction of the page that is quick
 abbrev pub quick_known : (pages : ℕ) (s : State) (page : CodePage) (index : ℕ) (operation : Operation) → IsCodePage pages s.core page
     → IsIndexIn page s.core.pc index → IsKnown (slice_index s.words (page.page * 1024 + index)) operation
@@ -392,10 +398,7 @@ abbrev pub quick_known : (pages : ℕ) (s : State) (page : CodePage) (index : �
 quick_known pages s page index operation code at known effect =
     let found = code.fetched s.core.pc at.here at.aligned in
     let decoded : IsDecoded (slice_index s.words (page.page * 1024 + index)) operation =
-    elim known [
-      | inl decoded ↦ decoded
-      | inr stops ↦ absurd (rw (stops (operands_of s.core operation)) at effect)
-    ] in record {
+    known (λ stops. rw (stop_traps operation (operands_of s.core operation) stops) at effect) in record {
       physical = found.0;
       fetched = record { word = slice_index s.words (page.page * 1024 + index); page = page.page };
       operation = operation;

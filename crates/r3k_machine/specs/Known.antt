@@ -1,11 +1,7 @@
 -- What is known of words before they are run (own).
-use Rattle.std.specs.Prelude.{◌≡◌, ◌⊎◌, ℕ, IsFalse, Some}
+use Rattle.std.specs.Prelude.{◌≡◌, ℕ, IsFalse, Some}
 use Rattle.r3k_decode.specs.Operation.{Operation}
 use Rattle.r3k_decode.specs.Decoding.{operation_of}
-use Rattle.r3k_exec.specs.Effects.{effect_of}
-use Rattle.r3k_exec.specs.declared.operands.Effect.TheVariants.{Trap}
-use Rattle.r3k_exec.specs.declared.operands.Operands.{Operands}
-use Rattle.r3k_exec.specs.declared.operands.Trap.TheVariants.{Breakpoint}
 use Rattle.r3k_machine.specs.Core.{Core}
 use Rattle.r3k_machine.specs.Exceptions.{is_unusable}
 
@@ -14,10 +10,10 @@ pub record IsDecoded (word : ℕ) (operation : Operation) : Type 0 where
   pub decoded : operation_of word ≡ Some operation
   pub usable : (core : Core) → IsFalse (is_unusable core word)
 
--- an instruction that traps
+-- the instruction `break`, which traps
 abbrev pub IsStop : Operation → Type 0
-IsStop operation = (operands : Operands) → effect_of operation operands ≡ Trap Breakpoint
+IsStop operation = operation_of 0xD ≡ Some operation
 
--- what is known of a word: its instruction, or nothing, for which one stands that traps
+-- what is known of a word: its instruction, or nothing, for which `break` stands
 abbrev pub IsKnown : ℕ → Operation → Type 0
-IsKnown word operation = IsDecoded word operation ⊎ IsStop operation
+IsKnown word operation = ¬ IsStop operation → IsDecoded word operation

@@ -83,7 +83,7 @@ pub(crate) fn put<M: Mem>(memory: &mut M, physical: u32, covered: Covered) -> Op
     ensures within { IfSome result (IsRamWord (M.ram memory.old)) }
     ensures differ { DifferAt result (M.words memory.old) (M.words memory.new) }
     ensures same { M.ram memory.new ≡ M.ram memory.old }
-    ensures open { (page : ℕ) → M.is_open memory.new page ≡ M.is_open memory.old page }
+    ensures opened { (page : ℕ) → M.is_open memory.new page ≡ M.is_open memory.old page }
 {
     if physical / PAGE_BYTES >= memory.ram_pages() {
         return None;

@@ -31,33 +31,33 @@ pub trait Mem {
         requires { place < length (words self.old) }
         ensures set { words self.new ≡ slice_set (words self.old) place value }
         ensures same { ram self.new ≡ ram self.old }
-        ensures open { (page : ℕ) → is_open self.new page ≡ is_open self.old page };
+        ensures opened { (page : ℕ) → is_open self.new page ≡ is_open self.old page };
 
     /// Whether a page is open: what is known of its words can be asked.
     ghost is_open: { Self → ℕ → Bool };
 
     /// Opens a page. Another page may be closed, and what was known of its words is lost.
-    fn open(&mut self, page: u32)
+    fn open_page(&mut self, page: u32)
         requires { IsPage (ram self.old) page }
-        ensures open { IsTrue (is_open self.new page) }
+        ensures opened { IsTrue (is_open self.new page) }
         ensures words { words self.new ≡ words self.old }
         ensures same { ram self.new ≡ ram self.old };
 
     /// What is known of a word of an open page, by its number in the page: its instruction, or one that traps.
     fn insn(&self, page: u32, index: usize) -> &Insn
         requires page { IsPage (ram self.now) page }
-        requires open { IsTrue (is_open self.now page) }
+        requires opened { IsTrue (is_open self.now page) }
         requires index { index < PAGE_WORDS }
         ensures { IsKnown (slice_index (words self.now) (page * PAGE_WORDS + index)) result.now };
 
     /// Decodes a word of an open page, so that its instruction is known until the word is stored into. Says whether it is one.
     fn learn(&mut self, page: u32, index: usize) -> bool
         requires page { IsPage (ram self.old) page }
-        requires open { IsTrue (is_open self.old page) }
+        requires opened { IsTrue (is_open self.old page) }
         requires index { index < PAGE_WORDS }
         ensures words { words self.new ≡ words self.old }
         ensures same { ram self.new ≡ ram self.old }
-        ensures open { (other : ℕ) → is_open self.new other ≡ is_open self.old other };
+        ensures opened { (other : ℕ) → is_open self.new other ≡ is_open self.old other };
 
     /// There are as many words as the pages hold.
     ghost whole: { (memory : Self) → length (words memory) ≡ word_count_of (ram memory) };

@@ -126,7 +126,7 @@ fn perform_quick<M: Mem>(
     ensures core { result ≡ None → core.new ≡ core.old }
     ensures words { result ≡ None → M.words memory.new ≡ M.words memory.old }
     ensures same { M.ram memory.new ≡ M.ram memory.old }
-    ensures open { (other : ℕ) → M.is_open memory.new other ≡ M.is_open memory.old other }
+    ensures opened { (other : ℕ) → M.is_open memory.new other ≡ M.is_open memory.old other }
 {
     match effect {
         Effect::Write { register, value } => {
@@ -196,7 +196,7 @@ fn perform_quick<M: Mem>(
 fn known_step<M: Mem>(core: &mut Core, memory: &mut M, page: CodePage) -> Option<Done>
     requires code { IsCodePage (M.ram memory.old) core.old page }
     requires page { IsPage (M.ram memory.old) page.page }
-    requires open { IsTrue (M.is_open memory.old page.page) }
+    requires opened { IsTrue (M.is_open memory.old page.page) }
     ensures quick { IfSome result (λ done. IsQuick (M.ram memory.old) (record { core = core.old; words = M.words memory.old })) }
     ensures ran { IfSome result (λ done. outcome_of_instruction (M.ram memory.old) (record { core = core.old; words = M.words memory.old })
         ≡ record { state = record { core = core.new; words = M.words memory.new }; done = done }) }
@@ -205,7 +205,7 @@ fn known_step<M: Mem>(core: &mut Core, memory: &mut M, page: CodePage) -> Option
     ensures core { result ≡ None → core.new ≡ core.old }
     ensures words { result ≡ None → M.words memory.new ≡ M.words memory.old }
     ensures same { M.ram memory.new ≡ M.ram memory.old }
-    ensures open { (other : ℕ) → M.is_open memory.new other ≡ M.is_open memory.old other }
+    ensures opened { (other : ℕ) → M.is_open memory.new other ≡ M.is_open memory.old other }
 {
     let index = page.index(core.pc())?;
     let insn = memory.insn(page.page, index);
@@ -219,7 +219,7 @@ fn known_step<M: Mem>(core: &mut Core, memory: &mut M, page: CodePage) -> Option
 fn learned_step<M: Mem>(core: &mut Core, memory: &mut M, page: CodePage) -> Option<Done>
     requires code { IsCodePage (M.ram memory.old) core.old page }
     requires page { IsPage (M.ram memory.old) page.page }
-    requires open { IsTrue (M.is_open memory.old page.page) }
+    requires opened { IsTrue (M.is_open memory.old page.page) }
     ensures quick { IfSome result (λ done. IsQuick (M.ram memory.old) (record { core = core.old; words = M.words memory.old })) }
     ensures ran { IfSome result (λ done. outcome_of_instruction (M.ram memory.old) (record { core = core.old; words = M.words memory.old })
         ≡ record { state = record { core = core.new; words = M.words memory.new }; done = done }) }
@@ -228,7 +228,7 @@ fn learned_step<M: Mem>(core: &mut Core, memory: &mut M, page: CodePage) -> Opti
     ensures core { result ≡ None → core.new ≡ core.old }
     ensures words { result ≡ None → M.words memory.new ≡ M.words memory.old }
     ensures same { M.ram memory.new ≡ M.ram memory.old }
-    ensures open { (other : ℕ) → M.is_open memory.new other ≡ M.is_open memory.old other }
+    ensures opened { (other : ℕ) → M.is_open memory.new other ≡ M.is_open memory.old other }
 {
     let index = page.index(core.pc())?;
     if !memory.learn(page.page, index) {
@@ -242,7 +242,7 @@ fn learned_step<M: Mem>(core: &mut Core, memory: &mut M, page: CodePage) -> Opti
 pub fn quick_step<M: Mem>(core: &mut Core, memory: &mut M, page: CodePage) -> Option<Done>
     requires code { IsCodePage (M.ram memory.old) core.old page }
     requires page { IsPage (M.ram memory.old) page.page }
-    requires open { IsTrue (M.is_open memory.old page.page) }
+    requires opened { IsTrue (M.is_open memory.old page.page) }
     ensures quick { IfSome result (λ done. IsQuick (M.ram memory.old) (record { core = core.old; words = M.words memory.old })) }
     ensures ran { IfSome result (λ done. outcome_of_instruction (M.ram memory.old) (record { core = core.old; words = M.words memory.old })
         ≡ record { state = record { core = core.new; words = M.words memory.new }; done = done }) }
@@ -251,7 +251,7 @@ pub fn quick_step<M: Mem>(core: &mut Core, memory: &mut M, page: CodePage) -> Op
     ensures core { result ≡ None → core.new ≡ core.old }
     ensures words { result ≡ None → M.words memory.new ≡ M.words memory.old }
     ensures same { M.ram memory.new ≡ M.ram memory.old }
-    ensures open { (other : ℕ) → M.is_open memory.new other ≡ M.is_open memory.old other }
+    ensures opened { (other : ℕ) → M.is_open memory.new other ≡ M.is_open memory.old other }
 {
     match known_step(core, memory, page) {
         Some(done) => Some(done),

@@ -1,4 +1,4 @@
-use Rattle.std.proofs.Common.{ℕ, ◌+◌, List, refl, sym, ap, subst, ◌∙◌, arith}
+use Rattle.std.proofs.Common.{◌≡◌, ℕ, ◌+◌, List, refl, sym, ap, subst, ◌∙◌, arith}
 use Rattle.input_log.specs.Event.{LogEvent}
 use Rattle.r3k_machine.specs.Core.{Core}
 use Rattle.r3k_machine.specs.State.{State}
@@ -19,6 +19,7 @@ loop-made-init g c =
       quiet = c.requires.quiet;
       code = c.requires.code;
       again = c.requires.again;
+      opened = c.requires.opened;
       steps = omega arith;
       bound = omega arith;
     }
@@ -63,6 +64,13 @@ loop-made-preserved g c =
       quiet = subst (λ (core : Core). IsQuietFor c.args.most core) new (c.quiet_laws.ensures.stays_quiet g.row.PAGES c.args.most s c.in-Some.ensures.quick c.loop-made.invariant.quiet);
       code = subst (λ (core : Core). IsCodePage g.row.PAGES core c.args.page) new (c.quiet_laws.ensures.stays_code g.row.PAGES s c.args.page c.in-Some.ensures.quick c.loop-made.invariant.code);
       again = c.note_again.ensures.touched c.args.page.page c.loop-made.invariant.again;
+      opened = c.in-Some.ensures.opened c.args.page.page ∙ c.loop-made.invariant.opened;
       steps = omega (arith, c.note_again.ensures.steps, c.loop-made.invariant.steps);
       bound = omega (arith, c.loop-made-test.true);
     }
+
+pub returns-then-pc-stop-clause-before : goal.returns-then-pc-stop-clause-before
+returns-then-pc-stop-clause-before g c = λ log from start before free gone.
+    subst (λ (n : ℕ). PassesBy g.row.PAGES log from start c.args.stop before n)
+    (let e : before + c.loop-made.made + 1 ≡ before + (c.loop-made.made + 1) = omega arith in e)
+    (c.loop-made.invariant.passed log from start before free gone)

@@ -4,6 +4,7 @@ use Rattle.r3k_machine.specs.Quiet.{IsCodePage, IsQuietFor, state_elapsed}
 use Rattle.r3k_machine.specs.State.{State}
 use Rattle.r3k_pages.specs.Pages.{holds}
 use Rattle.r3k_live.specs.Going.{HasGone, IsFreeFor, PassesBy}
+use Rattle.r3k_live.specs.Slots.{is_open}
 use Rattle.r3k_live.specs.Living.{state_of}
 use Rattle.r3k_live.proofs.stretch.quick_steps.Given as goal
 
@@ -19,6 +20,7 @@ invariant-loop-made g l = record {
   quiet : IsQuietFor l.most l.core;
   code : IsCodePage g.row.PAGES l.core l.page;
   again : IsTrue (holds l.recorder.touched l.page.page);
+  opened : IsTrue (is_open g.row.PAGES l.memory.opened.items l.page.page);
   steps : l.recorder.steps ≡ l.fn.recorder.steps + l.made;
   bound : l.made ≤ l.most;
 }
