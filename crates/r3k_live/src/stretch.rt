@@ -15,7 +15,7 @@ use crate::flat::FlatMemory;
 use crate::recorder::Recorder;
 use input_log::Cursor;
 use r3k_machine::step::step;
-use r3k_machine::{CodePage, Core, Mem, code_page, quick_step, quiet_laws};
+use r3k_machine::{CodePage, Core, Mem, code_page, learn, quick_step, quiet_laws};
 
 // Makes quick steps in an open page that was touched before, at most `most`, and ends after one that comes to an address. Their ticks and falls of Random are
 // still to come.
@@ -45,12 +45,19 @@ fn quick_steps<const PAGES: u32, const SPAN: u32>(
 {
     quiet_laws();
     let mut made = 0;
+    // How often the word at the PC was decoded for the next step.
+    let mut tries = 0u32;
     while made < most {
         let Some(done) = quick_step(core, memory, page) else {
-            return made;
+            if tries > 0 || !learn(core, memory, page) {
+                return made;
+            }
+            tries = 1;
+            continue;
         };
         recorder.note_again(done);
         made += 1;
+        tries = 0;
         if core.pc() as u64 == stop {
             return made;
         }

@@ -50,7 +50,8 @@ pub trait Mem {
         requires index { index < PAGE_WORDS }
         ensures { IsKnown (slice_index (words self.now) (page * PAGE_WORDS + index)) result.now };
 
-    /// Decodes a word of an open page, so that its instruction is known until the word is stored into. Says whether it is one.
+    /// Decodes a word of an open page, so that its instruction is known until the word is stored into. Says whether it was not
+    /// known.
     fn learn(&mut self, page: u32, index: usize) -> bool
         requires page { IsPage (ram self.old) page }
         requires opened { IsTrue (is_open self.old page) }

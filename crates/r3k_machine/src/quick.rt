@@ -191,9 +191,10 @@ fn perform_quick<M: Mem>(
     Some(Done::fetching(Some(page)))
 }
 
-// Runs the instruction at the PC if that lies in this page, and it is known and quick. Else it changes nothing.
+/// Runs the instruction at the PC if that lies in this page, which is open, and the instruction is known and quick. Else it changes
+/// nothing.
 #[inline(always)]
-fn known_step<M: Mem>(core: &mut Core, memory: &mut M, page: CodePage) -> Option<Done>
+pub fn quick_step<M: Mem>(core: &mut Core, memory: &mut M, page: CodePage) -> Option<Done>
     requires code { IsCodePage (M.ram memory.old) core.old page }
     requires page { IsPage (M.ram memory.old) page.page }
     requires opened { IsTrue (M.is_open memory.old page.page) }
@@ -213,48 +214,19 @@ fn known_step<M: Mem>(core: &mut Core, memory: &mut M, page: CodePage) -> Option
     perform_quick(core, memory, page.page, page.plain, effect)
 }
 
-// Decodes the word at the PC, and then does the same.
+/// Decodes the word at the PC, if that lies in this page, which is open. Says whether its instruction was not known.
 #[cold]
 #[inline(never)]
-fn learned_step<M: Mem>(core: &mut Core, memory: &mut M, page: CodePage) -> Option<Done>
-    requires code { IsCodePage (M.ram memory.old) core.old page }
+pub fn learn<M: Mem>(core: &Core, memory: &mut M, page: CodePage) -> bool
+    requires code { IsCodePage (M.ram memory.old) core.now page }
     requires page { IsPage (M.ram memory.old) page.page }
     requires opened { IsTrue (M.is_open memory.old page.page) }
-    ensures quick { IfSome result (λ done. IsQuick (M.ram memory.old) (record { core = core.old; words = M.words memory.old })) }
-    ensures ran { IfSome result (λ done. outcome_of_instruction (M.ram memory.old) (record { core = core.old; words = M.words memory.old })
-        ≡ record { state = record { core = core.new; words = M.words memory.new }; done = done }) }
-    ensures within { IfSome result (IsTold (M.ram memory.old) (M.words memory.old) (M.words memory.new)) }
-    ensures fetched { IfSome result (λ done. fetched_page done ≡ Some page.page) }
-    ensures core { result ≡ None → core.new ≡ core.old }
-    ensures words { result ≡ None → M.words memory.new ≡ M.words memory.old }
+    ensures words { M.words memory.new ≡ M.words memory.old }
     ensures same { M.ram memory.new ≡ M.ram memory.old }
     ensures opened { (other : ℕ) → M.is_open memory.new other ≡ M.is_open memory.old other }
 {
-    let index = page.index(core.pc())?;
-    if !memory.learn(page.page, index) {
-        return None;
-    }
-    known_step(core, memory, page)
-}
-
-/// Runs the instruction at the PC if that lies in this page, which is open, and the instruction is quick. Else it changes nothing.
-#[inline(always)]
-pub fn quick_step<M: Mem>(core: &mut Core, memory: &mut M, page: CodePage) -> Option<Done>
-    requires code { IsCodePage (M.ram memory.old) core.old page }
-    requires page { IsPage (M.ram memory.old) page.page }
-    requires opened { IsTrue (M.is_open memory.old page.page) }
-    ensures quick { IfSome result (λ done. IsQuick (M.ram memory.old) (record { core = core.old; words = M.words memory.old })) }
-    ensures ran { IfSome result (λ done. outcome_of_instruction (M.ram memory.old) (record { core = core.old; words = M.words memory.old })
-        ≡ record { state = record { core = core.new; words = M.words memory.new }; done = done }) }
-    ensures within { IfSome result (IsTold (M.ram memory.old) (M.words memory.old) (M.words memory.new)) }
-    ensures fetched { IfSome result (λ done. fetched_page done ≡ Some page.page) }
-    ensures core { result ≡ None → core.new ≡ core.old }
-    ensures words { result ≡ None → M.words memory.new ≡ M.words memory.old }
-    ensures same { M.ram memory.new ≡ M.ram memory.old }
-    ensures opened { (other : ℕ) → M.is_open memory.new other ≡ M.is_open memory.old other }
-{
-    match known_step(core, memory, page) {
-        Some(done) => Some(done),
-        None => learned_step(core, memory, page),
+    match page.index(core.pc()) {
+        Some(index) => memory.learn(page.page, index),
+        None => false,
     }
 }

@@ -5,7 +5,7 @@ use Rattle.r3k_machine.specs.Quiet.{IsIndexIn, IsQuick}
 use Rattle.r3k_machine.specs.State.{State}
 use Rattle.r3k_machine.specs.Step.{operands_of}
 use Rattle.r3k_machine.proofs.Quiet.{if_both, quick_known, quick_ran}
-use Rattle.r3k_machine.proofs.quick.known_step.Goals as goal
+use Rattle.r3k_machine.proofs.quick.quick_step.Goals as goal
 
 pub returns-clause-quick : goal.returns-clause-quick
 returns-clause-quick g c =
