@@ -45,10 +45,11 @@ fn quick_steps<const PAGES: u32, const SPAN: u32>(
 {
     quiet_laws();
     let mut made = 0;
+    let mut address = core.pc();
     // How often the word at the PC was decoded for the next step.
     let mut tries = 0u32;
     while made < most {
-        let Some(done) = quick_step(core, memory, page) else {
+        let Some(done) = quick_step(core, memory, page, address) else {
             if tries > 0 || !learn(core, memory, page) {
                 return made;
             }
@@ -58,7 +59,8 @@ fn quick_steps<const PAGES: u32, const SPAN: u32>(
         recorder.note_again(done);
         made += 1;
         tries = 0;
-        if core.pc() as u64 == stop {
+        address = core.pc();
+        if address as u64 == stop {
             return made;
         }
     }

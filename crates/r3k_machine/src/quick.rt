@@ -16,7 +16,7 @@ use crate::state::Core;
 use crate::step::Done;
 use r3k_exec::{Effect, effect};
 use r3k_word::arithmetic::subtract;
-use r3k_word::layout::{PAGE_BYTES, page_of, place_of};
+use r3k_word::layout::{PAGE_BYTES, PAGE_WORDS, page_of, place_of};
 
 /// A page that is run in: the number of the virtual page, the page of RAM or ROM that its words are fetched from, and whether loads
 /// and stores of kseg0 and kseg1 go over the bus, as the mode is the kernel's and the cache is not isolated.
@@ -82,10 +82,12 @@ impl CodePage {
         ensures within { IfSome result (λ index. index < PAGE_WORDS) }
     {
         let offset = subtract(address, self.number * PAGE_BYTES);
-        if offset >= PAGE_BYTES || offset % 4 != 0 {
+        // Rotated, so that one comparison finds what is not aligned and what is outside.
+        let index = offset / 4 + offset % 4 * 0x4000_0000;
+        if index >= PAGE_WORDS {
             return None;
         }
-        Some((offset / 4) as usize)
+        Some(index as usize)
     }
 }
 
@@ -191,10 +193,16 @@ fn perform_quick<M: Mem>(
     Some(Done::fetching(Some(page)))
 }
 
-/// Runs the instruction at the PC if that lies in this page, which is open, and the instruction is known and quick. Else it changes
-/// nothing.
+/// Runs the instruction at this address, which is the PC, if it lies in this page, which is open, and the instruction is known and
+/// quick. Else it changes nothing.
 #[inline(always)]
-pub fn quick_step<M: Mem>(core: &mut Core, memory: &mut M, page: CodePage) -> Option<Done>
+pub fn quick_step<M: Mem>(
+    core: &mut Core,
+    memory: &mut M,
+    page: CodePage,
+    address: u32,
+) -> Option<Done>
+    requires pc { address ≡ core.old.pc }
     requires code { IsCodePage (M.ram memory.old) core.old page }
     requires page { IsPage (M.ram memory.old) page.page }
     requires opened { IsTrue (M.is_open memory.old page.page) }
@@ -208,7 +216,7 @@ pub fn quick_step<M: Mem>(core: &mut Core, memory: &mut M, page: CodePage) -> Op
     ensures same { M.ram memory.new ≡ M.ram memory.old }
     ensures opened { (other : ℕ) → M.is_open memory.new other ≡ M.is_open memory.old other }
 {
-    let index = page.index(core.pc())?;
+    let index = page.index(address)?;
     let insn = memory.insn(page.page, index);
     let effect = effect(insn, core.operands(insn));
     perform_quick(core, memory, page.page, page.plain, effect)

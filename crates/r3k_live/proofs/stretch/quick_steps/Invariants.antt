@@ -24,6 +24,7 @@ invariant-loop-made g l = record {
   steps : l.recorder.steps ≡ l.fn.recorder.steps + l.made;
   bound : l.made ≤ l.most;
   tries : l.tries ≤ 1;
+  address : l.address ≡ l.core.pc;
 }
 
 abbrev pub decreases-loop-made : goal.decreases-loop-made
