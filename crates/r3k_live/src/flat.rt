@@ -196,13 +196,11 @@ impl<const PAGES: u32> Mem for FlatMemory<PAGES> {
         if self.known[place].row() != self.stop.row() {
             return false;
         }
-        match decoded(self.words[page as usize * WORDS + index]) {
-            Some(insn) => {
-                self.known[place] = insn;
-                true
-            }
-            None => false,
-        }
+        let Some(insn) = decoded(self.words[page as usize * WORDS + index]) else {
+            return false;
+        };
+        self.known[place] = insn;
+        true
     }
 
     ghost whole = { λ memory. memory.whole };

@@ -46,19 +46,13 @@ fn quick_steps<const PAGES: u32, const SPAN: u32>(
     quiet_laws();
     let mut made = 0;
     let mut address = core.pc();
-    // How often the word at the PC was decoded for the next step.
-    let mut tries = 0u32;
     while made < most {
         let Some(done) = quick_step(core, memory, page, address) else {
-            if tries > 0 || !learn(core, memory, page) {
-                return made;
-            }
-            tries = 1;
-            continue;
+            learn(memory, page, address);
+            return made;
         };
         recorder.note_again(done);
         made += 1;
-        tries = 0;
         address = core.pc();
         if address as u64 == stop {
             return made;

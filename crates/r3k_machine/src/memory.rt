@@ -51,7 +51,7 @@ pub trait Mem {
         ensures { IsKnown (slice_index (words self.now) (page * PAGE_WORDS + index)) result.now };
 
     /// Decodes a word of an open page, so that its instruction is known until the word is stored into. Says whether it was not
-    /// known.
+    /// known, and can be.
     fn learn(&mut self, page: u32, index: usize) -> bool
         requires page { IsPage (ram self.old) page }
         requires opened { IsTrue (is_open self.old page) }

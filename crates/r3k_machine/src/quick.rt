@@ -222,19 +222,26 @@ pub fn quick_step<M: Mem>(
     perform_quick(core, memory, page.page, page.plain, effect)
 }
 
-/// Decodes the word at the PC, if that lies in this page, which is open. Says whether its instruction was not known.
+// How many words are decoded at once.
+const AHEAD: usize = 16;
+
+/// Decodes the word at an address, if that lies in this page, which is open, and some words after it, up to one that is known.
 #[cold]
 #[inline(never)]
-pub fn learn<M: Mem>(core: &Core, memory: &mut M, page: CodePage) -> bool
-    requires code { IsCodePage (M.ram memory.old) core.now page }
+pub fn learn<M: Mem>(memory: &mut M, page: CodePage, address: u32)
+    requires number { page.number < 2 ^ 20 }
     requires page { IsPage (M.ram memory.old) page.page }
     requires opened { IsTrue (M.is_open memory.old page.page) }
     ensures words { M.words memory.new ≡ M.words memory.old }
     ensures same { M.ram memory.new ≡ M.ram memory.old }
     ensures opened { (other : ℕ) → M.is_open memory.new other ≡ M.is_open memory.old other }
 {
-    match page.index(core.pc()) {
-        Some(index) => memory.learn(page.page, index),
-        None => false,
+    let Some(first) = page.index(address) else {
+        return;
+    };
+    for index in first..(first + AHEAD).min(PAGE_WORDS as usize) {
+        if !memory.learn(page.page, index) {
+            return;
+        }
     }
 }

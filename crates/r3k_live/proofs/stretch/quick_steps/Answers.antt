@@ -7,7 +7,6 @@ use Rattle.r3k_machine.specs.Quiet.{IsQuietFor, IsCodePage}
 use Rattle.r3k_live.specs.Going.{HasGone, IsFreeFor, PassesBy}
 use Rattle.r3k_live.specs.Living.{state_of}
 use Rattle.r3k_live.proofs.Gone.{passes_more, quick_more}
-use Rattle.r3k_live.proofs.stretch.quick_steps.Goals.{then-tries-gt0-via-then-tries-gt0, then-tries-gt0-via-else-tries-gt0+then-not-learn}
 use Rattle.r3k_live.proofs.stretch.quick_steps.Goals as goal
 
 pub loop-made-init : goal.loop-made-init
@@ -21,7 +20,6 @@ loop-made-init g c =
       code = c.requires.code;
       again = c.requires.again;
       opened = c.requires.opened;
-      tries = omega arith;
       address = c.pc-address.ensures;
       steps = omega arith;
       bound = omega arith;
@@ -64,7 +62,6 @@ loop-made-preserved g c =
       code = subst (λ (core : Core). IsCodePage g.row.PAGES core c.args.page) new (c.quiet_laws.ensures.stays_code g.row.PAGES s c.args.page c.in-Some.ensures.quick c.loop-made.invariant.code);
       again = c.note_again.ensures.touched c.args.page.page c.loop-made.invariant.again;
       opened = c.in-Some.ensures.opened c.args.page.page ∙ c.loop-made.invariant.opened;
-      tries = omega arith;
       address = c.pc-address-in-loop-made.ensures;
       steps = omega (arith, c.note_again.ensures.steps, c.loop-made.invariant.steps);
       bound = omega (arith, c.loop-made-test.true);
@@ -76,28 +73,7 @@ returns-then-address-stop-clause-before g c = λ log from start before free gone
     (let e : before + c.loop-made.made + 1 ≡ before + (c.loop-made.made + 1) = omega arith in e)
     (c.loop-made.invariant.passed log from start before free gone)
 
-pub returns-then-tries-gt0-clause-gone : goal.returns-then-tries-gt0-clause-gone
-returns-then-tries-gt0-clause-gone g c = λ log from start before free gone.
-    let here = c.loop-made.invariant.gone log from start before free gone in
-    let core = c.quick_step.ensures.core c.in_default.is in
-    let words = c.quick_step.ensures.words c.in_default.is in
-    elim c.then-tries-gt0.branch [
-      | then-tries-gt0-via-then-tries-gt0 w ↦ rw (w.memory-is, core, words) here
-      | then-tries-gt0-via-else-tries-gt0+then-not-learn w ↦ rw (w.memory-is, core, w.learn.ensures.words, words) here
-    ]
-
-pub loop-made-preserved-in_default : goal.loop-made-preserved-in_default
-loop-made-preserved-in_default g c =
-    let core = c.quick_step.ensures.core c.in_default.is in
-    let words = c.quick_step.ensures.words c.in_default.is in record {
-      gone = λ log from start before free gone. rw (core, c.learn.ensures.words, words) (c.loop-made.invariant.gone log from start before free gone);
-      passed = c.loop-made.invariant.passed;
-      quiet = rw core c.loop-made.invariant.quiet;
-      code = rw core c.loop-made.invariant.code;
-      again = c.loop-made.invariant.again;
-      opened = c.learn.ensures.opened c.args.page.page ∙ (c.quick_step.ensures.opened c.args.page.page ∙ c.loop-made.invariant.opened);
-      steps = c.loop-made.invariant.steps;
-      bound = c.loop-made.invariant.bound;
-      tries = omega arith;
-      address = rw core c.loop-made.invariant.address;
-    }
+pub returns-in_default-clause-gone : goal.returns-in_default-clause-gone
+returns-in_default-clause-gone g c = λ log from start before free gone.
+    rw (c.quick_step.ensures.core c.in_default.is, c.learn.ensures.words, c.quick_step.ensures.words c.in_default.is)
+    (c.loop-made.invariant.gone log from start before free gone)

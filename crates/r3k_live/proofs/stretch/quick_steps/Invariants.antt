@@ -1,4 +1,4 @@
-use Rattle.std.proofs.Common.{◌≡◌, ℕ, ◌+◌, ◌-◌, ◌*◌, ◌≤◌, IsTrue, List}
+use Rattle.std.proofs.Common.{◌≡◌, ℕ, ◌+◌, ◌-◌, ◌≤◌, IsTrue, List}
 use Rattle.input_log.specs.Event.{LogEvent}
 use Rattle.r3k_machine.specs.Quiet.{IsCodePage, IsQuietFor, state_elapsed}
 use Rattle.r3k_machine.specs.State.{State}
@@ -23,9 +23,8 @@ invariant-loop-made g l = record {
   opened : IsTrue (is_open g.row.PAGES l.memory.opened.items l.page.page);
   steps : l.recorder.steps ≡ l.fn.recorder.steps + l.made;
   bound : l.made ≤ l.most;
-  tries : l.tries ≤ 1;
   address : l.address ≡ l.core.pc;
 }
 
 abbrev pub decreases-loop-made : goal.decreases-loop-made
-decreases-loop-made g l = 2 * (l.most - l.made) - l.tries
+decreases-loop-made g l = l.most - l.made
