@@ -45,16 +45,14 @@ fn quick_steps<const PAGES: u32, const SPAN: u32>(
 {
     quiet_laws();
     let mut made = 0;
-    let mut address = core.pc();
     while made < most {
-        let Some(done) = quick_step(core, memory, page, address) else {
-            learn(memory, page, address);
+        let Some(done) = quick_step(core, memory, page) else {
+            learn(memory, page, core.pc());
             return made;
         };
         recorder.note_again(done);
         made += 1;
-        address = core.pc();
-        if address as u64 == stop {
+        if core.pc() as u64 == stop {
             return made;
         }
     }

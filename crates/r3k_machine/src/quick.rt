@@ -193,16 +193,10 @@ fn perform_quick<M: Mem>(
     Some(Done::fetching(Some(page)))
 }
 
-/// Runs the instruction at this address, which is the PC, if it lies in this page, which is open, and the instruction is known and
-/// quick. Else it changes nothing.
+/// Runs the instruction at the PC if that lies in this page, which is open, and the instruction is known and quick. Else it changes
+/// nothing.
 #[inline(always)]
-pub fn quick_step<M: Mem>(
-    core: &mut Core,
-    memory: &mut M,
-    page: CodePage,
-    address: u32,
-) -> Option<Done>
-    requires pc { address ≡ core.old.pc }
+pub fn quick_step<M: Mem>(core: &mut Core, memory: &mut M, page: CodePage) -> Option<Done>
     requires code { IsCodePage (M.ram memory.old) core.old page }
     requires page { IsPage (M.ram memory.old) page.page }
     requires opened { IsTrue (M.is_open memory.old page.page) }
@@ -216,7 +210,7 @@ pub fn quick_step<M: Mem>(
     ensures same { M.ram memory.new ≡ M.ram memory.old }
     ensures opened { (other : ℕ) → M.is_open memory.new other ≡ M.is_open memory.old other }
 {
-    let index = page.index(address)?;
+    let index = page.index(core.pc())?;
     let insn = memory.insn(page.page, index);
     let effect = effect(insn, core.operands(insn));
     perform_quick(core, memory, page.page, page.plain, effect)

@@ -20,13 +20,12 @@ loop-made-init g c =
       code = c.requires.code;
       again = c.requires.again;
       opened = c.requires.opened;
-      address = c.pc-address.ensures;
       steps = omega arith;
       bound = omega arith;
     }
 
-pub returns-then-address-stop-clause-gone : goal.returns-then-address-stop-clause-gone
-returns-then-address-stop-clause-gone g c = λ log from start before free gone.
+pub returns-then-pc-stop-clause-gone : goal.returns-then-pc-stop-clause-gone
+returns-then-pc-stop-clause-gone g c = λ log from start before free gone.
     let made = c.loop-made.made in
     let s = state_of c.loop-made.core c.loop-made.memory in
     let quiet : IsQuietFor (made + 1) s.core = record {
@@ -57,18 +56,17 @@ loop-made-preserved g c =
       passed = λ log from start before free gone.
           passes_more g.row.PAGES log from start c.args.stop before (before + (made + 1))
           (subst (λ (n : ℕ). PassesBy g.row.PAGES log from start c.args.stop before n) (omega arith) (c.loop-made.invariant.passed log from start before free gone))
-          (λ here. c.if-address-stop.false (c.pc-address-in-loop-made.ensures ∙ (ap (λ (u : State). u.core.pc) (goes log from start before free gone).state ∙ here)));
+          (λ here. c.if-pc-stop.false (c.pc-in-loop-made.ensures ∙ (ap (λ (u : State). u.core.pc) (goes log from start before free gone).state ∙ here)));
       quiet = subst (λ (core : Core). IsQuietFor c.args.most core) new (c.quiet_laws.ensures.stays_quiet g.row.PAGES c.args.most s c.in-Some.ensures.quick c.loop-made.invariant.quiet);
       code = subst (λ (core : Core). IsCodePage g.row.PAGES core c.args.page) new (c.quiet_laws.ensures.stays_code g.row.PAGES s c.args.page c.in-Some.ensures.quick c.loop-made.invariant.code);
       again = c.note_again.ensures.touched c.args.page.page c.loop-made.invariant.again;
       opened = c.in-Some.ensures.opened c.args.page.page ∙ c.loop-made.invariant.opened;
-      address = c.pc-address-in-loop-made.ensures;
       steps = omega (arith, c.note_again.ensures.steps, c.loop-made.invariant.steps);
       bound = omega (arith, c.loop-made-test.true);
     }
 
-pub returns-then-address-stop-clause-before : goal.returns-then-address-stop-clause-before
-returns-then-address-stop-clause-before g c = λ log from start before free gone.
+pub returns-then-pc-stop-clause-before : goal.returns-then-pc-stop-clause-before
+returns-then-pc-stop-clause-before g c = λ log from start before free gone.
     subst (λ (n : ℕ). PassesBy g.row.PAGES log from start c.args.stop before n)
     (let e : before + c.loop-made.made + 1 ≡ before + (c.loop-made.made + 1) = omega arith in e)
     (c.loop-made.invariant.passed log from start before free gone)

@@ -23,7 +23,6 @@ invariant-loop-made g l = record {
   opened : IsTrue (is_open g.row.PAGES l.memory.opened.items l.page.page);
   steps : l.recorder.steps ≡ l.fn.recorder.steps + l.made;
   bound : l.made ≤ l.most;
-  address : l.address ≡ l.core.pc;
 }
 
 abbrev pub decreases-loop-made : goal.decreases-loop-made

@@ -10,7 +10,7 @@ use Rattle.r3k_machine.proofs.quick.quick_step.Goals as goal
 pub returns-clause-quick : goal.returns-clause-quick
 returns-clause-quick g c =
     let s : State = record { core = c.args.core.now; words = g.M.Mem.words c.args.memory.now } in
-    let there : IsIndexIn c.args.page s.core.pc c.in_ok-index.index = rw c.requires.pc at c.in_ok-index.ensures.index in
+    let there : IsIndexIn c.args.page s.core.pc c.in_ok-index.index = rw c.pc.ensures at c.in_ok-index.ensures.index in
     if_both c.perform_quick.result c.perform_quick.ensures.quick c.perform_quick.ensures.ran
     (λ done effect ran.
     quick_known (g.M.Mem.ram c.args.memory.now) s c.args.page c.in_ok-index.index c.insn-insn.result.now c.requires.code there c.insn-insn.ensures
@@ -19,7 +19,7 @@ returns-clause-quick g c =
 pub returns-clause-ran : goal.returns-clause-ran
 returns-clause-ran g c =
     let s : State = record { core = c.args.core.now; words = g.M.Mem.words c.args.memory.now } in
-    let there : IsIndexIn c.args.page s.core.pc c.in_ok-index.index = rw c.requires.pc at c.in_ok-index.ensures.index in
+    let there : IsIndexIn c.args.page s.core.pc c.in_ok-index.index = rw c.pc.ensures at c.in_ok-index.ensures.index in
     if_both c.perform_quick.result c.perform_quick.ensures.quick c.perform_quick.ensures.ran
     (λ done effect ran.
     let quick = quick_known (g.M.Mem.ram c.args.memory.now) s c.args.page c.in_ok-index.index c.insn-insn.result.now c.requires.code there c.insn-insn.ensures
