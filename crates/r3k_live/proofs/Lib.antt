@@ -4,3 +4,4 @@ pub mod Writers
 pub mod Apart
 pub mod Overlaid
 pub mod Gone
+mod Slots

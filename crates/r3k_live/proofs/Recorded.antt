@@ -1,5 +1,5 @@
 -- What is recorded of a run, after one more step.
-use Rattle.std.proofs.Common.{◌≡◌, ℕ, zero, suc, ◌+◌, ◌*◌, ◌/◌, ◌%◌, ◌<◌, Bool, true, false, ◌||◌, List, [], ◌∷◌, ◌++◌, length, Option, Some, None, IfSome, IsFalse, nat_eq, slice_index, slice_index_or, slice_set, refl, sym, ap, ◌∙◌, arith, inl, inr, get_or}
+use Rattle.std.proofs.Common.{◌≡◌, ℕ, zero, suc, ◌+◌, ◌*◌, ◌/◌, ◌%◌, ◌<◌, Bool, true, false, ◌||◌, List, [], ◌∷◌, ◌++◌, length, Option, Some, None, IfSome, IsFalse, IsTrue, nat_eq, slice_index, slice_index_or, slice_set, refl, sym, ap, subst, ◌∙◌, arith, inl, inr, get_or}
 use Rattle.std.specs.List.{list_any}
 use Rattle.std.proofs.lemmas.Bool.{cases_Bool, eq-eqb, eqb-true, true≢false}
 use Rattle.std.proofs.lemmas.List.{get_or-set_same, get_or-set_other}
@@ -29,6 +29,16 @@ or-assoc false b c = refl
 pub any_more : {A : Type 0} (p : A → Bool) (xs : List A) (x : A) → list_any p (xs ++ x ∷ []) ≡ (list_any p xs || p x)
 any_more p [] x = or-false (p x)
 any_more p (y ∷ xs) x = ap (λ (b : Bool). p y || b) (any_more p xs x) ∙ or-assoc (p y) (list_any p xs) (p x)
+
+-- a page that is marked is marked again
+pub marked_again : (page : ℕ) (set : List ℕ) (first : Option ℕ) → IfSome first (λ marked. IsTrue (holds set marked))
+    → holds set page ≡ (holds set page || is_page page first)
+marked_again page set None marked = sym (or-false (holds set page))
+marked_again page set (Some other) marked =
+    elim (cases_Bool (nat_eq other page)) [
+      | inl here ↦ rw (subst (λ (n : ℕ). IsTrue (holds set n)) (eqb-true other page here) marked) refl
+      | inr apart ↦ rw apart (sym (or-false (holds set page)))
+    ]
 
 -- the bytes that were sent
 in_front : (first : ℕ) (sent : Option Sent) (xs ys : List SentAt) → with_sent first sent (xs ++ ys) ≡ with_sent first sent xs ++ ys

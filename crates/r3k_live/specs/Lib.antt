@@ -7,3 +7,4 @@ pub mod Recording
 pub mod Visits
 pub mod Living
 pub mod Going
+pub mod Slots

@@ -1,38 +1,98 @@
-//! A plain memory: all words in one vector.
+//! A plain memory: all words in one vector, and those of some pages decoded.
 
-ghost use Rattle.std.specs.Prelude.{◌≡◌, ◌≤◌, IfOk, length};
+ghost use Rattle.std.specs.Prelude.{◌≡◌, ◌+◌, ◌*◌, ◌/◌, ◌≤◌, ◌<◌, ℕ, IfOk, IsTrue, length, slice_index, slice_index_or};
+ghost use Rattle.r3k_decode.specs.Operation.{Operation};
 ghost use Rattle.r3k_word.specs.Layout.{word_count_of};
 ghost use Rattle.r3k_word.specs.declared.layout.TheConstants.{MAX_RAM_PAGES};
 ghost use Rattle.r3k_pages.specs.Pages.{SameOutside};
+ghost use Rattle.r3k_machine.specs.Known.{IsStop};
 ghost use Rattle.r3k_machine.specs.Reset.{reset_words};
-ghost use Rattle.r3k_live.specs.declared.flat.TheConstants.{SLOTS};
+ghost use Rattle.r3k_machine.specs.Told.{IsPage};
+ghost use Rattle.r3k_live.specs.Slots.{AreKnown, is_open, slot_of};
 
 use r3k_decode::Insn;
 use r3k_image::Image;
-use r3k_machine::{Decoded, Mem};
+use r3k_machine::{Mem, decoded, stop};
 use r3k_pages::{PageMarks, Snapshot};
-use r3k_word::layout::{address_of, word_count};
+use r3k_word::layout::{PAGE_WORDS, address_of, word_count};
 use std::alloc::{AllocError, Global};
 
-// How many decoded words are kept.
-const SLOTS: usize = 1 << 16;
+// How many pages of RAM may be open.
+const RAM_SLOTS: u32 = 64;
 
-/// All words of RAM and ROM, in one vector.
+// How many pages may be open.
+const SLOTS: usize = 128;
+
+// Words in a page.
+const WORDS: usize = PAGE_WORDS as usize;
+
+/// All words of RAM and ROM, in one vector. The words of some pages are kept decoded.
 #[derive(Debug, Drop)]
 pub struct FlatMemory<const PAGES: u32> {
     words: Vec<u32>,
-    // Words that were decoded, each at its place modulo `SLOTS`.
-    decoded: Vec<Decoded>,
+    // What is known of the words of open pages, by slots.
+    known: Vec<Insn>,
+    // For each slot one more than the page that is open in it, or 0.
+    opened: Vec<u32>,
+    // It stands for a word of which nothing is known.
+    stop: Insn,
     ghost whole: { length words.items ≡ word_count_of PAGES },
     ghost range: { PAGES ≤ MAX_RAM_PAGES },
-    ghost slots: { length decoded.items ≡ SLOTS },
+    ghost stops: { IsStop stop },
+    ghost kept: { AreKnown PAGES words.items known.items opened.items },
 }
 
-// Room for decoded words.
-fn slots(alloc: Global) -> Result<Vec<Decoded>, AllocError>
-    ensures { IfOk result (λ decoded. length decoded.items ≡ SLOTS) }
+// The slot of a page.
+#[inline(always)]
+fn slot_of(ram_pages: u32, page: u32) -> usize
+    requires { IsPage ram_pages page }
+    ensures slot { result ≡ slot_of ram_pages page }
+    ensures within { result < 128 }
 {
-    vec![in alloc; Decoded::nop(); SLOTS]
+    if page < ram_pages {
+        (page % RAM_SLOTS) as usize
+    } else {
+        (RAM_SLOTS + (page - ram_pages)) as usize
+    }
+}
+
+// Slots of whose words nothing is known.
+fn unknown(alloc: Global, stop: Insn) -> Result<Vec<Insn>, AllocError>
+    ensures { IfOk result (λ known. length known.items ≡ 131072) }
+{
+    vec![in alloc; stop; SLOTS * WORDS]
+}
+
+// Slots in which no page is open.
+fn closed(alloc: Global) -> Result<Vec<u32>, AllocError>
+    ensures long { IfOk result (λ opened. length opened.items ≡ 128) }
+    ensures none { IfOk result (λ opened. (slot : ℕ) → slot < 128 → slice_index opened.items slot ≡ 0) }
+{
+    vec![in alloc; 0; SLOTS]
+}
+
+// Nothing is known of the words of a slot any more.
+#[inline(never)]
+fn forget(known: &mut Vec<Insn>, slot: usize, stop: Insn)
+    requires room { length known.old.items ≡ 131072 }
+    requires slot { slot < 128 }
+    ensures room { length known.new.items ≡ 131072 }
+    ensures there { (index : ℕ) (d : Operation) → index < 1024 → slice_index_or known.new.items (slot * 1024 + index) d ≡ stop }
+    ensures others { (i : ℕ) (d : Operation) → ¬ (i / 1024 ≡ slot) → slice_index_or known.new.items i d ≡ slice_index_or known.old.items i d }
+{
+    for index in 0..WORDS {
+        known[slot * WORDS + index] = stop;
+    }
+}
+
+// Closes all pages.
+fn close_all(opened: &mut Vec<u32>)
+    ensures long { length opened.new.items ≡ length opened.old.items }
+    ensures none { (slot : ℕ) → slot < length opened.old.items → slice_index opened.new.items slot ≡ 0 }
+{
+    for slot in 0..opened.len() {
+        opened[slot] = 0;
+    }
 }
 
 impl<const PAGES: u32> FlatMemory<PAGES> {
@@ -41,13 +101,20 @@ impl<const PAGES: u32> FlatMemory<PAGES> {
         requires { PAGES ≤ MAX_RAM_PAGES }
         ensures { IfOk result (λ memory. memory.words.items ≡ reset_words PAGES image.now) }
     {
-        let decoded = slots(alloc)?;
+        let stop = stop();
+        let known = unknown(alloc, stop)?;
+        let opened = closed(alloc)?;
         let count = word_count(PAGES);
         let mut words = Vec::with_capacity(alloc, count)?;
         for place in 0..count {
             words.push(image.word(address_of(PAGES, place)).unwrap_or(0))?;
         }
-        Ok(FlatMemory { words, decoded })
+        Ok(FlatMemory {
+            words,
+            known,
+            opened,
+            stop,
+        })
     }
 
     /// All words.
@@ -69,7 +136,21 @@ impl<const PAGES: u32> FlatMemory<PAGES> {
         requires { SameOutside changed.now held.now self.old.words.items }
         ensures { self.new.words.items ≡ snapshot.now }
     {
+        close_all(&mut self.opened);
         snapshot.copy_to(&mut self.words, held, changed);
+    }
+
+    // Opens a page that is not open.
+    #[cold]
+    #[inline(never)]
+    fn take_slot(&mut self, slot: usize, page: u32)
+        requires page { IsPage PAGES page }
+        requires slot { slot ≡ slot_of PAGES page }
+        ensures opened { IsTrue (is_open PAGES self.new.opened.items page) }
+        ensures words { self.new.words.items ≡ self.old.words.items }
+    {
+        forget(&mut self.known, slot, self.stop);
+        self.opened[slot] = page + 1;
     }
 }
 
@@ -77,6 +158,8 @@ impl<const PAGES: u32> Mem for FlatMemory<PAGES> {
     ghost words = { λ memory. memory.words.items };
 
     ghost ram = { λ _. PAGES };
+
+    ghost is_open = { λ memory page. is_open PAGES memory.opened.items page };
 
     #[inline]
     fn ram_pages(&self) -> u32 {
@@ -88,21 +171,36 @@ impl<const PAGES: u32> Mem for FlatMemory<PAGES> {
         self.words[place]
     }
 
-    #[inline]
+    #[inline(always)]
     fn set_word(&mut self, place: usize, value: u32) {
+        let slot = slot_of(PAGES, (place / WORDS) as u32);
+        self.known[slot * WORDS + place % WORDS] = self.stop;
         self.words[place] = value;
     }
 
-    #[inline(always)]
-    fn insn(&self, place: usize) -> Option<&Insn> {
-        self.decoded[place % SLOTS].insn(self.words[place])
+    #[inline]
+    fn open_page(&mut self, page: u32) {
+        let slot = slot_of(PAGES, page);
+        if self.opened[slot] != page + 1 {
+            self.take_slot(slot, page);
+        }
     }
 
-    #[inline(never)]
-    fn learn(&mut self, place: usize) {
-        if let Some(decoded) = Decoded::new(self.words[place]) {
-            self.decoded[place % SLOTS] = decoded;
+    #[inline(always)]
+    fn insn(&self, page: u32, index: usize) -> &Insn {
+        &self.known[slot_of(PAGES, page) * WORDS + index]
+    }
+
+    fn learn(&mut self, page: u32, index: usize) -> bool {
+        let place = slot_of(PAGES, page) * WORDS + index;
+        if self.known[place].row() != self.stop.row() {
+            return false;
         }
+        let Some(insn) = decoded(self.words[page as usize * WORDS + index]) else {
+            return false;
+        };
+        self.known[place] = insn;
+        true
     }
 
     ghost whole = { λ memory. memory.whole };

@@ -57,16 +57,16 @@ pub fn counted(before: u64, steps: u32) -> u64
 // A stretch that made fewer steps, with the step after it, costs more than these steps one by one.
 const SHORT: u32 = 3;
 
-// After two such stretches in a row this many steps are made one by one.
-const ALONE: u32 = 127;
+// At most this many steps are made one by one before a stretch is tried again.
+const MOST_ALONE: u32 = 63;
 
 // When to try a stretch.
 #[derive(Clone, Copy)]
 struct Pace {
     // How many steps are still to be made one by one.
     alone: u32,
-    // Whether the last stretch was short.
-    short: bool,
+    // How many are made so after the next short stretch.
+    next: u32,
 }
 
 // No address of an instruction.
@@ -252,10 +252,7 @@ fn step_until<const PAGES: u32, const SPAN: u32>(
     ensures bound { unwrap_or result steps ≤ steps }
 {
     let mut made = 0;
-    let mut pace = Pace {
-        alone: 0,
-        short: false,
-    };
+    let mut pace = Pace { alone: 0, next: 0 };
     while made < steps {
         let time = from + made as u64;
         let more = advance(
@@ -278,24 +275,21 @@ fn step_until<const PAGES: u32, const SPAN: u32>(
 }
 
 impl Pace {
-    // After this many steps were made at once.
+    // After this many steps were made at once. Each short stretch in a row doubles the steps that are made one by one after it.
     #[inline(always)]
     fn after(self, made: u32) -> Pace {
         if self.alone > 0 {
             return Pace {
                 alone: self.alone - 1,
-                short: false,
+                next: self.next,
             };
         }
         if made >= SHORT {
-            return Pace {
-                alone: 0,
-                short: false,
-            };
+            return Pace { alone: 0, next: 0 };
         }
         Pace {
-            alone: if self.short { ALONE } else { 0 },
-            short: true,
+            alone: self.next,
+            next: (self.next.min(MOST_ALONE) * 2 + 1).min(MOST_ALONE),
         }
     }
 }

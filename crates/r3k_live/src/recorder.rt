@@ -1,11 +1,11 @@
 //! A record of what steps reported: bytes sent, words stored into, and pages touched.
 
-ghost use Rattle.std.specs.Prelude.{◌≡◌, ◌+◌, ◌-◌, ◌*◌, ◌/◌, ◌^◌, ◌<◌, ◌≤◌, [], ◌∷◌, ◌++◌, All, ◌||◌, IfOk, IfSome, List, length, map, nat_eq, slice_index, slice_set, vec_capacity, vec_len, ℕ};
+ghost use Rattle.std.specs.Prelude.{◌≡◌, ◌+◌, ◌-◌, ◌*◌, ◌/◌, ◌^◌, ◌<◌, ◌≤◌, [], ◌∷◌, ◌++◌, All, ◌||◌, IfOk, IfSome, IsTrue, List, length, map, nat_eq, slice_index, slice_set, vec_capacity, vec_len, ℕ};
 ghost use Rattle.std.specs.List.{IsDistinct};
 ghost use Rattle.r3k_word.specs.declared.layout.TheConstants.{MAX_RAM_PAGES, PAGE_WORDS};
 ghost use Rattle.r3k_pages.specs.Pages.{IsPageSet, holds, page_count_of};
 ghost use Rattle.r3k_machine.specs.declared.step.Done.{Done};
-ghost use Rattle.r3k_machine.specs.Locality.{is_page};
+ghost use Rattle.r3k_machine.specs.Locality.{fetched_page, is_page};
 ghost use Rattle.r3k_machine.specs.Run.{last_writer};
 ghost use Rattle.r3k_machine.specs.Told.{IsPage, IsRamWord};
 ghost use Rattle.r3k_live.specs.Record.{AreWriters, dirty_pages, sent_from, touched_pages, with_sent};
@@ -147,6 +147,32 @@ impl<const PAGES: u32, const SPAN: u32> Recorder<PAGES, SPAN> {
         ensures { result.now ≡ self.now.dirty }
     {
         &self.dirty
+    }
+
+    /// Whether a page was touched.
+    #[inline]
+    pub(crate) fn has_touched(&self, page: u32) -> bool
+        ensures { result ≡ holds self.now.touched page }
+    {
+        self.touched.holds(page)
+    }
+
+    // The same as `note` for a step that fetched from a page that was touched before.
+    #[inline(always)]
+    pub(crate) fn note_again(&mut self, done: Done)
+        requires room { self.old.steps < SPAN }
+        requires stored { IfSome done.stored (IsRamWord PAGES) }
+        requires touched { All (λ page. IfSome page (IsPage PAGES)) done.touched }
+        requires again { IfSome (fetched_page done) (λ page. IsTrue (holds self.old.touched page)) }
+        ensures steps { self.new.steps ≡ self.old.steps + 1 }
+        ensures records { (steps : List Done) → Records PAGES steps self.old → Records PAGES (steps ++ done ∷ []) self.new }
+        ensures touched { (page : ℕ) → IsTrue (holds self.old.touched page) → IsTrue (holds self.new.touched page) }
+    {
+        note_sent(&mut self.sent, done.sent, self.steps);
+        note_store(&mut self.last, &mut self.stored, done.stored, self.steps);
+        mark(&mut self.dirty, page_of_store(done.stored));
+        mark(&mut self.touched, done.touched[1]);
+        self.steps += 1;
     }
 
     // Records what one more step reported.

@@ -1,21 +1,23 @@
 //! Stretches of quick steps.
 
-ghost use Rattle.std.specs.Prelude.{◌≡◌, ◌+◌, ◌^◌, ◌<◌, ◌≤◌, ℕ, List};
+ghost use Rattle.std.specs.Prelude.{◌≡◌, ◌+◌, ◌^◌, ◌<◌, ◌≤◌, IsTrue, ℕ, List};
 ghost use Rattle.input_log.specs.Event.{LogEvent};
 ghost use Rattle.r3k_machine.specs.Quiet.{IsCodePage, IsQuietFor, state_elapsed};
 ghost use Rattle.r3k_machine.specs.Run.{arriving};
 ghost use Rattle.r3k_machine.specs.State.{State};
 ghost use Rattle.r3k_machine.specs.Told.{IsPage};
+ghost use Rattle.r3k_pages.specs.Pages.{holds};
 ghost use Rattle.r3k_live.specs.Going.{HasGone, IsFreeFor, PassesBy};
 ghost use Rattle.r3k_live.specs.Living.{state_of};
+ghost use Rattle.r3k_live.specs.Slots.{is_open};
 
 use crate::flat::FlatMemory;
 use crate::recorder::Recorder;
 use input_log::Cursor;
 use r3k_machine::step::step;
-use r3k_machine::{CodePage, Core, code_page, quick_step, quiet_laws};
+use r3k_machine::{CodePage, Core, Mem, code_page, learn, quick_step, quiet_laws};
 
-// Makes quick steps in a page, at most `most`, and ends after one that comes to an address. Their ticks and falls of Random are
+// Makes quick steps in an open page that was touched before, at most `most`, and ends after one that comes to an address. Their ticks and falls of Random are
 // still to come.
 #[inline(never)]
 fn quick_steps<const PAGES: u32, const SPAN: u32>(
@@ -29,7 +31,9 @@ fn quick_steps<const PAGES: u32, const SPAN: u32>(
     requires quiet { IsQuietFor most core.old }
     requires code { IsCodePage PAGES core.old page }
     requires page { IsPage PAGES page.page }
+    requires opened { IsTrue (is_open PAGES memory.old.opened.items page.page) }
     requires room { recorder.old.steps + most ≤ SPAN }
+    requires again { IsTrue (holds recorder.old.touched page.page) }
     ensures bound { result ≤ most }
     ensures steps { recorder.new.steps ≡ recorder.old.steps + result }
     ensures gone { (log : List LogEvent) (from : ℕ) (start : State) (made : ℕ) → IsFreeFor most log (from + made) →
@@ -43,9 +47,10 @@ fn quick_steps<const PAGES: u32, const SPAN: u32>(
     let mut made = 0;
     while made < most {
         let Some(done) = quick_step(core, memory, page) else {
+            learn(memory, page, core.pc());
             return made;
         };
-        recorder.note(done);
+        recorder.note_again(done);
         made += 1;
         if core.pc() as u64 == stop {
             return made;
@@ -55,7 +60,7 @@ fn quick_steps<const PAGES: u32, const SPAN: u32>(
 }
 
 // Makes quick steps as long as they stay in the page where they begin, at most `most`, and ends after one that comes to an address.
-// It makes none where none are wanted.
+// It makes none where none are wanted, and none in a page that was not touched yet.
 #[inline(always)]
 fn stretch<const PAGES: u32, const SPAN: u32>(
     core: &mut Core,
@@ -88,6 +93,10 @@ fn stretch<const PAGES: u32, const SPAN: u32>(
     let Some(page) = code_page(core, memory) else {
         return 0;
     };
+    if !recorder.has_touched(page.page) {
+        return 0;
+    }
+    memory.open_page(page.page);
     let free = u64::from(most.min(quiet)).min(events.free(time)) as u32;
     let made = quick_steps(core, memory, page, free, stop, recorder);
     core.elapse(made);

@@ -28,6 +28,8 @@ use Rattle.r3k_exec.specs.declared.access.LoadKind.{LoadKind}
 use Rattle.r3k_exec.specs.declared.access.StoreKind.{StoreKind}
 use Rattle.r3k_exec.specs.declared.operands.Effect.{Effect}
 use Rattle.r3k_exec.specs.declared.operands.Effect.TheVariants.{Write, WriteHi, WriteLo, WriteHiLo, Jump, JumpAndLink, Trap, Load, Store, MoveFromControl, MoveToControl, ReadEntry, WriteIndexedEntry, WriteRandomEntry, ProbeEntry, ReturnFromException}
+use Rattle.r3k_exec.specs.declared.operands.Operands.{Operands}
+use Rattle.r3k_exec.specs.declared.operands.Trap.TheVariants.{Breakpoint}
 use Rattle.r3k_machine.specs.declared.address.Physical.{Physical}
 use Rattle.r3k_machine.specs.declared.address.Segment.{Segment}
 use Rattle.r3k_machine.specs.declared.address.Segment.TheVariants.{Forbidden, Unmapped, Mapped}
@@ -45,7 +47,8 @@ use Rattle.r3k_machine.specs.Exceptions.{is_unusable}
 use Rattle.r3k_machine.specs.LoadStore.{after_load, after_store, loaded_at, meaning_of_fetch, meaning_of_load, meaning_of_store, ram_word, stored_at, word_at, word_of_place, word_read, words_after, words_with}
 use Rattle.r3k_machine.specs.Step.{Completion, Outcome, arrived, completion_of_effect, completion_of_load, completion_of_store, completion_of_word, operands_of, outcome_of_completion, outcome_of_fetch, outcome_of_instruction, outcome_of_interrupt_or_instruction, outcome_of_step, sampled, ticked, with_fall}
 use Rattle.r3k_machine.specs.declared.quick.CodePage.{CodePage}
-use Rattle.r3k_machine.specs.Quiet.{GoesOverBus, IsCodePage, IsFetchedFrom, IsPlain, IsQuick, IsQuickEffect, IsQuietFor, elapsed, outcome_elapsed, state_elapsed}
+use Rattle.r3k_machine.specs.Known.{IsDecoded, IsKnown, IsStop}
+use Rattle.r3k_machine.specs.Quiet.{GoesOverBus, IsCodePage, IsFetchedFrom, IsIndexIn, IsPlain, IsQuick, IsQuickEffect, IsQuietFor, elapsed, outcome_elapsed, state_elapsed}
 
 -- after ticks and falls of Random
 abbrev pub aged : (ticks falls : ℕ) → Core → Core
@@ -74,6 +77,7 @@ quiet_kept n old new keeps quiet = record {
 pub code_kept : (pages : ℕ) (page : CodePage) (old new : Core) → Keeps old new → IsCodePage pages old page → IsCodePage pages new page
 unfolding meaning
 code_kept pages page old new keeps code = record {
+  within = code.within;
   fetched = λ address here aligned. rw (keeps.entries, keeps.cop0) (code.fetched address here aligned);
   plain = λ on. record { kernel = rw keeps.cop0 (code.plain on).kernel; shared = rw keeps.cop0 (code.plain on).shared };
 }
@@ -383,21 +387,27 @@ fetched_from pages words page offset physical within stands =
 pub aligned_fetch : (core : Core) → core.pc % 4 ≡ 0 → meaning_of_fetch core ≡ meaning core Fetch true core.pc
 aligned_fetch core aligned = ap (λ (b : Bool). meaning core Fetch b core.pc) (eq-eqb (core.pc % 4) 0 aligned)
 
-abbrev pub quick_in_page : (pages : ℕ) (s : State) (page : CodePage) (word : ℕ) (operation : Operation) → IsCodePage pages s.core page
-    → s.core.pc / 4096 ≡ page.number → s.core.pc % 4 ≡ 0 → word ≡ slice_index s.words (page.page * 1024 + s.core.pc % 4096 / 4)
-    → is_unusable s.core word ≡ false → operation_of word ≡ Some operation
+-- what stands for a word that is not known
+pub stop_traps : (operation : Operation) (operands : Operands) → IsStop operation → effect_of operation operands ≡ Trap Breakpoint
+stop_traps operation operands is = subst (λ (o : Option Operation). IfSome o (λ operation. effect_of operation operands ≡ Trap Breakpoint)) is refl
+
+-- a known instruction of the page that is quick
+abbrev pub quick_known : (pages : ℕ) (s : State) (page : CodePage) (index : ℕ) (operation : Operation) → IsCodePage pages s.core page
+    → IsIndexIn page s.core.pc index → IsKnown (slice_index s.words (page.page * 1024 + index)) operation
     → IsQuickEffect pages s.core (effect_of operation (operands_of s.core operation)) → IsQuick pages s
-quick_in_page pages s page word operation code here aligned is usable decoded effect =
-    let found = code.fetched s.core.pc here aligned in record {
+quick_known pages s page index operation code at known effect =
+    let found = code.fetched s.core.pc at.here at.aligned in
+    let decoded : IsDecoded (slice_index s.words (page.page * 1024 + index)) operation =
+    known (λ stops. rw (stop_traps operation (operands_of s.core operation) stops) at effect) in record {
       physical = found.0;
-      fetched = record { word = word; page = page.page };
+      fetched = record { word = slice_index s.words (page.page * 1024 + index); page = page.page };
       operation = operation;
-      means = aligned_fetch s.core aligned ∙ found.1;
+      means = aligned_fetch s.core at.aligned ∙ found.1;
       stands =
           fetched_from pages s.words page.page (s.core.pc % 4096 / 4) found.0.address (omega arith) found.2
-          ∙ ap (λ (n : ℕ). Some (record { word = n; page = page.page })) (sym is);
-      usable = usable;
-      decoded = decoded;
+          ∙ ap (λ (n : ℕ). Some (record { word = slice_index s.words (page.page * 1024 + n); page = page.page })) (sym at.is);
+      usable = decoded.usable s.core;
+      decoded = decoded.decoded;
       effect = effect;
     }
 

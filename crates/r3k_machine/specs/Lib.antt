@@ -31,6 +31,7 @@ pub mod Reset
 pub mod Step
 pub mod Told
 pub mod Run
+pub mod Known
 pub mod Quiet
 pub mod Locality
 pub mod Same

@@ -10,6 +10,10 @@ abbrev pub is_page : ℕ → Option ℕ → Bool
 is_page page None = false
 is_page page (Some other) = nat_eq other page
 
+-- the page that a step fetched from, if it did
+abbrev pub fetched_page : Done → Option ℕ
+fetched_page done = slice_index_or done.touched 0 None
+
 -- whether a step touched a page: it fetched from it, or loaded from it or stored into it; and whether one of several steps did
 abbrev pub touches : ℕ → Done → Bool
 touches page done = is_page page (slice_index_or done.touched 0 None) || is_page page (slice_index_or done.touched 1 None)

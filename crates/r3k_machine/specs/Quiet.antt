@@ -1,6 +1,6 @@
 -- Quiet steps (own): nothing comes before the instruction but ticks that only count, and the instruction touches registers, PC and
 -- memory alone. So all ticks and falls of Random of many such steps may come after the last of them.
-use Rattle.std.specs.Prelude.{◌≡◌, ℕ, ◌+◌, ◌*◌, ◌/◌, ◌%◌, ◌≤◌, false, true, IsFalse, IsTrue, Some, Ok}
+use Rattle.std.specs.Prelude.{◌≡◌, ℕ, ◌+◌, ◌*◌, ◌/◌, ◌%◌, ◌^◌, ◌<◌, ◌≤◌, Bool, false, true, IsFalse, IsTrue, Some, Ok}
 use Rattle.r3k_word.specs.Layout.{place_of_word}
 use Rattle.r3k_word.specs.declared.layout.TheConstants.{PAGE_BYTES, PAGE_WORDS}
 use Rattle.cop0.specs.Changes as control
@@ -47,6 +47,11 @@ pub record IsPlain (core : Core) (m : Meaning) (physical : Physical) : Type 0 wh
   pub means : m ≡ record { several = false; answer = Ok physical }
   pub shared : IsFalse (is_isolated core physical)
 
+-- the physical address that an address reaches over the bus
+pub record IsReached (core : Core) (m : Meaning) (address : ℕ) : Type 0 where
+  pub cacheable : Bool
+  pub plain : IsPlain core m (record { address = address; cacheable = cacheable })
+
 -- an effect on registers, PC and memory alone: loads are of a word of RAM or ROM, and stores of one of RAM
 abbrev pub IsQuickEffect : ℕ → Core → Effect → Type 0
 IsQuickEffect pages core (Write number value) = Unit {0}
@@ -62,11 +67,6 @@ IsQuickEffect pages core (Store kind address value) =
     (physical : Physical) × (word : ℕ) × IsPlain core (meaning_of_store core kind address) physical
     × (ram_word pages physical.address ≡ Some word)
 IsQuickEffect pages core effect = ⊥
-
--- a word that is an instruction, and usable in any mode
-pub record IsDecoded (word : ℕ) (operation : Operation) : Type 0 where
-  pub decoded : operation_of word ≡ Some operation
-  pub usable : (core : Core) → IsFalse (is_unusable core word)
 
 -- the instruction at PC has such an effect
 pub record IsQuick (pages : ℕ) (s : State) : Type 0 where
@@ -92,5 +92,12 @@ pub record GoesOverBus (core : Core) : Type 0 where
 
 -- a page that is run in
 pub record IsCodePage (pages : ℕ) (core : Core) (page : CodePage) : Type 0 where
+  pub within : page.number < 2 ^ 20
   pub fetched : IsFetchedFrom pages core page.number page.page
   pub plain : IsTrue page.plain → GoesOverBus core
+
+-- the number in the page of the word at an aligned address
+pub record IsIndexIn (page : CodePage) (address index : ℕ) : Type 0 where
+  pub here : address / PAGE_BYTES ≡ page.number
+  pub aligned : address % 4 ≡ 0
+  pub is : index ≡ address % PAGE_BYTES / 4

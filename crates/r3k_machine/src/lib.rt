@@ -2,12 +2,12 @@
 #![tactic(auto)]
 
 mod address;
-mod decoded;
 mod devices;
 mod exception;
 mod execute;
 mod isolated;
 mod kept;
+mod known;
 mod laws;
 mod load_store;
 mod memory;
@@ -17,10 +17,10 @@ pub mod step;
 mod translation;
 
 pub use address::Where;
-pub use decoded::Decoded;
 pub use kept::KeptCore;
+pub use known::{decoded, stop};
 pub use laws::{locality, quiet_laws, run_laws};
 pub use memory::Mem;
-pub use quick::{CodePage, code_page, quick_step};
+pub use quick::{CodePage, code_page, learn, quick_step};
 pub use state::{Core, DelayedLoad};
 pub use step::Done;

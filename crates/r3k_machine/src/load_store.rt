@@ -1,6 +1,6 @@
 //! Fetching, loading and storing.
 
-ghost use Rattle.std.specs.Prelude.{◌≡◌, ◌*◌, ◌/◌, ◌%◌, IfOk, IfSome};
+ghost use Rattle.std.specs.Prelude.{◌≡◌, ◌*◌, ◌/◌, ◌%◌, ℕ, IfOk, IfSome};
 ghost use Rattle.r3k_exec.specs.Access.{stored};
 ghost use Rattle.r3k_machine.specs.Address.{met};
 ghost use Rattle.kn02_bus.specs.Region.{region_of};
@@ -83,6 +83,7 @@ pub(crate) fn put<M: Mem>(memory: &mut M, physical: u32, covered: Covered) -> Op
     ensures within { IfSome result (IsRamWord (M.ram memory.old)) }
     ensures differ { DifferAt result (M.words memory.old) (M.words memory.new) }
     ensures same { M.ram memory.new ≡ M.ram memory.old }
+    ensures opened { (page : ℕ) → M.is_open memory.new page ≡ M.is_open memory.old page }
 {
     if physical / PAGE_BYTES >= memory.ram_pages() {
         return None;

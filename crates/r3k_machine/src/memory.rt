@@ -1,9 +1,10 @@
 //! Memory as one list of words.
 
-ghost use Rattle.std.specs.Prelude.{◌≡◌, ℕ, ◌<◌, ◌≤◌, IfSome, List, length, slice_index, slice_set};
+ghost use Rattle.std.specs.Prelude.{◌≡◌, ℕ, ◌+◌, ◌*◌, ◌<◌, ◌≤◌, Bool, IsTrue, List, length, slice_index, slice_set};
 ghost use Rattle.r3k_word.specs.Layout.{word_count_of};
-ghost use Rattle.r3k_word.specs.declared.layout.TheConstants.{MAX_RAM_PAGES};
-ghost use Rattle.r3k_machine.specs.Quiet.{IsDecoded};
+ghost use Rattle.r3k_word.specs.declared.layout.TheConstants.{MAX_RAM_PAGES, PAGE_WORDS};
+ghost use Rattle.r3k_machine.specs.Known.{IsKnown};
+ghost use Rattle.r3k_machine.specs.Told.{IsPage};
 
 use r3k_decode::Insn;
 
@@ -29,18 +30,35 @@ pub trait Mem {
     fn set_word(&mut self, place: usize, value: u32)
         requires { place < length (words self.old) }
         ensures set { words self.new ≡ slice_set (words self.old) place value }
-        ensures same { ram self.new ≡ ram self.old };
+        ensures same { ram self.new ≡ ram self.old }
+        ensures opened { (page : ℕ) → is_open self.new page ≡ is_open self.old page };
 
-    /// The instruction that the word at a place is, where that is known.
-    fn insn(&self, place: usize) -> Option<&Insn>
-        requires { place < length (words self.now) }
-        ensures { IfSome result (λ insn. IsDecoded (slice_index (words self.now) place) insn.now) };
+    /// Whether a page is open: what is known of its words can be asked.
+    ghost is_open: { Self → ℕ → Bool };
 
-    /// Decodes the word at a place, so that its instruction is known until another one is decoded in its stead.
-    fn learn(&mut self, place: usize)
-        requires { place < length (words self.old) }
+    /// Opens a page. Another page may be closed, and what was known of its words is lost.
+    fn open_page(&mut self, page: u32)
+        requires { IsPage (ram self.old) page }
+        ensures opened { IsTrue (is_open self.new page) }
         ensures words { words self.new ≡ words self.old }
         ensures same { ram self.new ≡ ram self.old };
+
+    /// What is known of a word of an open page, by its number in the page: its instruction, or one that traps.
+    fn insn(&self, page: u32, index: usize) -> &Insn
+        requires page { IsPage (ram self.now) page }
+        requires opened { IsTrue (is_open self.now page) }
+        requires index { index < PAGE_WORDS }
+        ensures { IsKnown (slice_index (words self.now) (page * PAGE_WORDS + index)) result.now };
+
+    /// Decodes a word of an open page, so that its instruction is known until the word is stored into. Says whether it was not
+    /// known, and can be.
+    fn learn(&mut self, page: u32, index: usize) -> bool
+        requires page { IsPage (ram self.old) page }
+        requires opened { IsTrue (is_open self.old page) }
+        requires index { index < PAGE_WORDS }
+        ensures words { words self.new ≡ words self.old }
+        ensures same { ram self.new ≡ ram self.old }
+        ensures opened { (other : ℕ) → is_open self.new other ≡ is_open self.old other };
 
     /// There are as many words as the pages hold.
     ghost whole: { (memory : Self) → length (words memory) ≡ word_count_of (ram memory) };

@@ -1,18 +1,21 @@
 //! Quick steps: those before which nothing happens but counting, and whose instruction touches registers, PC and memory alone.
 
-ghost use Rattle.std.specs.Prelude.{◌≡◌, ◌<◌, IfSome, IsTrue, None, Ok, length};
+ghost use Rattle.std.specs.Prelude.{◌≡◌, ◌^◌, ◌<◌, ℕ, IfSome, IsTrue, None, Ok, Some};
 ghost use Rattle.r3k_exec.specs.Effects.{NamesRegisters};
-ghost use Rattle.r3k_machine.specs.Quiet.{GoesOverBus, IsCodePage, IsPlain, IsQuick, IsQuickEffect, IsQuietFor, elapsed};
+ghost use Rattle.r3k_word.specs.declared.layout.TheConstants.{PAGE_WORDS};
+ghost use Rattle.r3k_machine.specs.Quiet.{GoesOverBus, IsCodePage, IsIndexIn, IsQuick, IsQuickEffect, IsQuietFor, IsReached, elapsed};
 ghost use Rattle.r3k_machine.specs.Address.{meaning};
+ghost use Rattle.r3k_machine.specs.Locality.{fetched_page};
 ghost use Rattle.r3k_machine.specs.Step.{completion_of_effect, outcome_of_instruction};
 ghost use Rattle.r3k_machine.specs.Told.{IsPage, IsTold};
 
-use crate::address::{KSEG0, KSEG1, KSEG2, Physical, Use};
+use crate::address::{KSEG0, KSEG2, Use};
 use crate::load_store::{Stored, put};
 use crate::memory::Mem;
 use crate::state::Core;
 use crate::step::Done;
 use r3k_exec::{Effect, effect};
+use r3k_word::arithmetic::subtract;
 use r3k_word::layout::{PAGE_BYTES, PAGE_WORDS, page_of, place_of};
 
 /// A page that is run in: the number of the virtual page, the page of RAM or ROM that its words are fetched from, and whether loads
@@ -55,21 +58,36 @@ impl Core {
 
     // The physical address of a load or store that goes over the bus, where that takes no search and is no exception.
     #[inline(always)]
-    fn reached(&self, access: Use, aligned: bool, address: u32, plain: bool) -> Option<Physical>
+    fn reached(&self, access: Use, aligned: bool, address: u32, plain: bool) -> Option<u32>
         requires { IsTrue plain → GoesOverBus self.now }
-        ensures { IfSome result (λ physical. IsPlain self.now (meaning self.now access aligned address) physical) }
+        ensures { IfSome result (IsReached self.now (meaning self.now access aligned address)) }
     {
         if plain && aligned && address >= KSEG0 && address < KSEG2 {
-            return Some(Physical {
-                address: address & 0x1FFF_FFFF,
-                cacheable: address < KSEG1,
-            });
+            return Some(address & 0x1FFF_FFFF);
         }
         let physical = self.known(access, aligned, address)?;
         if self.is_isolated(physical) {
             return None;
         }
-        Some(physical)
+        Some(physical.address)
+    }
+}
+
+impl CodePage {
+    // The number in the page of the word at an address, if that is aligned and lies in the page.
+    #[inline(always)]
+    fn index(self, address: u32) -> Option<usize>
+        requires { self.number < 2 ^ 20 }
+        ensures index { IfSome result (IsIndexIn self address) }
+        ensures within { IfSome result (λ index. index < PAGE_WORDS) }
+    {
+        let offset = subtract(address, self.number * PAGE_BYTES);
+        // Rotated, so that one comparison finds what is not aligned and what is outside.
+        let index = offset / 4 + offset % 4 * 0x4000_0000;
+        if index >= PAGE_WORDS {
+            return None;
+        }
+        Some(index as usize)
     }
 }
 
@@ -106,9 +124,11 @@ fn perform_quick<M: Mem>(
         completion_of_effect (M.ram memory.old) (record { core = core.old; words = M.words memory.old }) page effect
         ≡ Ok (record { state = record { core = core.new; words = M.words memory.new }; done = done })) }
     ensures within { IfSome result (IsTold (M.ram memory.old) (M.words memory.old) (M.words memory.new)) }
+    ensures fetched { IfSome result (λ done. fetched_page done ≡ Some page) }
     ensures core { result ≡ None → core.new ≡ core.old }
     ensures words { result ≡ None → M.words memory.new ≡ M.words memory.old }
     ensures same { M.ram memory.new ≡ M.ram memory.old }
+    ensures opened { (other : ℕ) → M.is_open memory.new other ≡ M.is_open memory.old other }
 {
     match effect {
         Effect::Write { register, value } => {
@@ -147,7 +167,7 @@ fn perform_quick<M: Mem>(
             address,
         } => {
             let physical = core.reached(Use::Load, kind.is_aligned(address), address, plain)?;
-            let place = place_of(memory.ram_pages(), physical.address / 4 * 4)?;
+            let place = place_of(memory.ram_pages(), physical / 4 * 4)?;
             let word = memory.word(place);
             core.complete();
             let kept = core.registers()[register as usize];
@@ -160,7 +180,7 @@ fn perform_quick<M: Mem>(
             value,
         } => {
             let physical = core.reached(Use::Store, kind.is_aligned(address), address, plain)?;
-            let address = put(memory, physical.address, kind.stored(address, value))?;
+            let address = put(memory, physical, kind.stored(address, value))?;
             core.complete();
             let stored = Stored {
                 address: Some(address),
@@ -173,38 +193,49 @@ fn perform_quick<M: Mem>(
     Some(Done::fetching(Some(page)))
 }
 
-// Decodes the word at a place, unless its instruction is known.
-#[inline(always)]
-fn decode_at<M: Mem>(memory: &mut M, place: usize)
-    requires { place < length (M.words memory.old) }
-    ensures words { M.words memory.new ≡ M.words memory.old }
-    ensures same { M.ram memory.new ≡ M.ram memory.old }
-{
-    if memory.insn(place).is_none() {
-        memory.learn(place);
-    }
-}
-
-/// Runs the instruction at the PC if that lies in this page and the instruction is quick. Else it changes nothing.
+/// Runs the instruction at the PC if that lies in this page, which is open, and the instruction is known and quick. Else it changes
+/// nothing.
 #[inline(always)]
 pub fn quick_step<M: Mem>(core: &mut Core, memory: &mut M, page: CodePage) -> Option<Done>
     requires code { IsCodePage (M.ram memory.old) core.old page }
     requires page { IsPage (M.ram memory.old) page.page }
+    requires opened { IsTrue (M.is_open memory.old page.page) }
     ensures quick { IfSome result (λ done. IsQuick (M.ram memory.old) (record { core = core.old; words = M.words memory.old })) }
     ensures ran { IfSome result (λ done. outcome_of_instruction (M.ram memory.old) (record { core = core.old; words = M.words memory.old })
         ≡ record { state = record { core = core.new; words = M.words memory.new }; done = done }) }
     ensures within { IfSome result (IsTold (M.ram memory.old) (M.words memory.old) (M.words memory.new)) }
+    ensures fetched { IfSome result (λ done. fetched_page done ≡ Some page.page) }
     ensures core { result ≡ None → core.new ≡ core.old }
     ensures words { result ≡ None → M.words memory.new ≡ M.words memory.old }
     ensures same { M.ram memory.new ≡ M.ram memory.old }
+    ensures opened { (other : ℕ) → M.is_open memory.new other ≡ M.is_open memory.old other }
 {
-    let address = core.pc();
-    if address / PAGE_BYTES != page.number || address % 4 != 0 {
-        return None;
-    }
-    let place = page.page as usize * PAGE_WORDS as usize + (address % PAGE_BYTES / 4) as usize;
-    decode_at(memory, place);
-    let insn = memory.insn(place)?;
+    let index = page.index(core.pc())?;
+    let insn = memory.insn(page.page, index);
     let effect = effect(insn, core.operands(insn));
     perform_quick(core, memory, page.page, page.plain, effect)
+}
+
+// How many words are decoded at once.
+const AHEAD: usize = 16;
+
+/// Decodes the word at an address, if that lies in this page, which is open, and some words after it, up to one that is known.
+#[cold]
+#[inline(never)]
+pub fn learn<M: Mem>(memory: &mut M, page: CodePage, address: u32)
+    requires number { page.number < 2 ^ 20 }
+    requires page { IsPage (M.ram memory.old) page.page }
+    requires opened { IsTrue (M.is_open memory.old page.page) }
+    ensures words { M.words memory.new ≡ M.words memory.old }
+    ensures same { M.ram memory.new ≡ M.ram memory.old }
+    ensures opened { (other : ℕ) → M.is_open memory.new other ≡ M.is_open memory.old other }
+{
+    let Some(first) = page.index(address) else {
+        return;
+    };
+    for index in first..(first + AHEAD).min(PAGE_WORDS as usize) {
+        if !memory.learn(page.page, index) {
+            return;
+        }
+    }
 }

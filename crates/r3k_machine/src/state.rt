@@ -17,7 +17,7 @@ use tlb64::{Entry, Tlb};
 /// A load whose value has not landed yet: its register, 1 to 31, and the value.
 #[derive(Clone, Copy, Debug, PartialEq, Eq)]
 pub struct DelayedLoad {
-    register: u8,
+    register: u32,
     value: u32,
 }
 
@@ -42,7 +42,10 @@ impl DelayedLoad {
         requires within { register < 32 }
         ensures { result ≡ record { register = register; value = value } }
     {
-        DelayedLoad { register, value }
+        DelayedLoad {
+            register: u32::from(register),
+            value,
+        }
     }
 
     /// The register that the value is for, 1 to 31.
@@ -52,7 +55,7 @@ impl DelayedLoad {
         ensures above { 0 < result }
         ensures within { result < 32 }
     {
-        self.register
+        self.register as u8
     }
 
     /// The value.

@@ -1,4 +1,4 @@
-use Rattle.std.proofs.Common.{ℕ, ◌+◌, List, refl, sym, ap, subst, ◌∙◌, arith}
+use Rattle.std.proofs.Common.{◌≡◌, ℕ, ◌+◌, List, refl, sym, ap, subst, ◌∙◌, arith}
 use Rattle.input_log.specs.Event.{LogEvent}
 use Rattle.r3k_machine.specs.Core.{Core}
 use Rattle.r3k_machine.specs.State.{State}
@@ -18,13 +18,11 @@ loop-made-init g c =
       passed = λ log from start before free gone k after within there. omega (arith, after, within);
       quiet = c.requires.quiet;
       code = c.requires.code;
+      again = c.requires.again;
+      opened = c.requires.opened;
       steps = omega arith;
       bound = omega arith;
     }
-
-pub returns-in_default-clause-gone : goal.returns-in_default-clause-gone
-returns-in_default-clause-gone g c = λ log from start before free gone.
-    rw (c.in_default.ensures.core refl, c.in_default.ensures.words refl) (c.loop-made.invariant.gone log from start before free gone)
 
 pub returns-then-pc-stop-clause-gone : goal.returns-then-pc-stop-clause-gone
 returns-then-pc-stop-clause-gone g c = λ log from start before free gone.
@@ -35,9 +33,9 @@ returns-then-pc-stop-clause-gone g c = λ log from start before free gone.
       sampled = c.loop-made.invariant.quiet.sampled;
       unwanted = c.loop-made.invariant.quiet.unwanted;
     } in
-    quick_more g.row.PAGES log from start before made s (state_of c.quick_step.new.core c.quick_step.new.memory) c.in-Some.done c.loop-made.recorder c.note.new.self
+    quick_more g.row.PAGES log from start before made s (state_of c.quick_step.new.core c.quick_step.new.memory) c.in-Some.done c.loop-made.recorder c.note_again.new.self
     (free made c.loop-made-test.true) (c.loop-made.invariant.gone log from start before free gone)
-    (c.quiet_laws.ensures.at_once g.row.PAGES made s quiet c.in-Some.ensures.quick) c.in-Some.ensures.ran c.note.ensures.records c.in-Some.ensures.within.words
+    (c.quiet_laws.ensures.at_once g.row.PAGES made s quiet c.in-Some.ensures.quick) c.in-Some.ensures.ran c.note_again.ensures.records c.in-Some.ensures.within.words
 
 pub loop-made-preserved : goal.loop-made-preserved
 loop-made-preserved g c =
@@ -51,16 +49,29 @@ loop-made-preserved g c =
       unwanted = c.loop-made.invariant.quiet.unwanted;
     } in
     let goes = λ (log : List LogEvent) (from : ℕ) (start : State) (before : ℕ) (free : IsFreeFor c.args.most log (from + before)) (gone : HasGone g.row.PAGES log from start before (state_of c.args.core.now c.args.memory.now) c.args.recorder.now).
-    quick_more g.row.PAGES log from start before made s t c.in-Some.done c.loop-made.recorder c.note.new.self
+    quick_more g.row.PAGES log from start before made s t c.in-Some.done c.loop-made.recorder c.note_again.new.self
     (free made c.loop-made-test.true) (c.loop-made.invariant.gone log from start before free gone)
-    (c.quiet_laws.ensures.at_once g.row.PAGES made s quiet c.in-Some.ensures.quick) c.in-Some.ensures.ran c.note.ensures.records c.in-Some.ensures.within.words in record {
+    (c.quiet_laws.ensures.at_once g.row.PAGES made s quiet c.in-Some.ensures.quick) c.in-Some.ensures.ran c.note_again.ensures.records c.in-Some.ensures.within.words in record {
       gone = goes;
       passed = λ log from start before free gone.
           passes_more g.row.PAGES log from start c.args.stop before (before + (made + 1))
           (subst (λ (n : ℕ). PassesBy g.row.PAGES log from start c.args.stop before n) (omega arith) (c.loop-made.invariant.passed log from start before free gone))
-          (λ here. c.if-pc-stop.false (c.pc.ensures ∙ (ap (λ (u : State). u.core.pc) (goes log from start before free gone).state ∙ here)));
+          (λ here. c.if-pc-stop.false (c.pc-in-loop-made.ensures ∙ (ap (λ (u : State). u.core.pc) (goes log from start before free gone).state ∙ here)));
       quiet = subst (λ (core : Core). IsQuietFor c.args.most core) new (c.quiet_laws.ensures.stays_quiet g.row.PAGES c.args.most s c.in-Some.ensures.quick c.loop-made.invariant.quiet);
       code = subst (λ (core : Core). IsCodePage g.row.PAGES core c.args.page) new (c.quiet_laws.ensures.stays_code g.row.PAGES s c.args.page c.in-Some.ensures.quick c.loop-made.invariant.code);
-      steps = omega (arith, c.note.ensures.steps, c.loop-made.invariant.steps);
+      again = c.note_again.ensures.touched c.args.page.page c.loop-made.invariant.again;
+      opened = c.in-Some.ensures.opened c.args.page.page ∙ c.loop-made.invariant.opened;
+      steps = omega (arith, c.note_again.ensures.steps, c.loop-made.invariant.steps);
       bound = omega (arith, c.loop-made-test.true);
     }
+
+pub returns-then-pc-stop-clause-before : goal.returns-then-pc-stop-clause-before
+returns-then-pc-stop-clause-before g c = λ log from start before free gone.
+    subst (λ (n : ℕ). PassesBy g.row.PAGES log from start c.args.stop before n)
+    (let e : before + c.loop-made.made + 1 ≡ before + (c.loop-made.made + 1) = omega arith in e)
+    (c.loop-made.invariant.passed log from start before free gone)
+
+pub returns-in_default-clause-gone : goal.returns-in_default-clause-gone
+returns-in_default-clause-gone g c = λ log from start before free gone.
+    rw (c.quick_step.ensures.core c.in_default.is, c.learn.ensures.words, c.quick_step.ensures.words c.in_default.is)
+    (c.loop-made.invariant.gone log from start before free gone)

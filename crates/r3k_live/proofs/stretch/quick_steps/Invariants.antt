@@ -1,8 +1,10 @@
-use Rattle.std.proofs.Common.{◌≡◌, ℕ, ◌+◌, ◌-◌, ◌≤◌, List}
+use Rattle.std.proofs.Common.{◌≡◌, ℕ, ◌+◌, ◌-◌, ◌≤◌, IsTrue, List}
 use Rattle.input_log.specs.Event.{LogEvent}
 use Rattle.r3k_machine.specs.Quiet.{IsCodePage, IsQuietFor, state_elapsed}
 use Rattle.r3k_machine.specs.State.{State}
+use Rattle.r3k_pages.specs.Pages.{holds}
 use Rattle.r3k_live.specs.Going.{HasGone, IsFreeFor, PassesBy}
+use Rattle.r3k_live.specs.Slots.{is_open}
 use Rattle.r3k_live.specs.Living.{state_of}
 use Rattle.r3k_live.proofs.stretch.quick_steps.Given as goal
 
@@ -17,6 +19,8 @@ invariant-loop-made g l = record {
       PassesBy g.row.PAGES log from start l.stop before (before + l.made + 1);
   quiet : IsQuietFor l.most l.core;
   code : IsCodePage g.row.PAGES l.core l.page;
+  again : IsTrue (holds l.recorder.touched l.page.page);
+  opened : IsTrue (is_open g.row.PAGES l.memory.opened.items l.page.page);
   steps : l.recorder.steps ≡ l.fn.recorder.steps + l.made;
   bound : l.made ≤ l.most;
 }

@@ -1,5 +1,5 @@
-use Rattle.std.proofs.Common.{ℕ, ◌+◌, arith}
-use Rattle.r3k_live.specs.Going.{IsFreeFor}
+use Rattle.std.proofs.Common.{ℕ, ◌+◌, List, sym, subst, arith}
+use Rattle.r3k_live.specs.Going.{HasGone, IsFreeFor}
 use Rattle.r3k_live.proofs.Gone.{free_of}
 use Rattle.r3k_live.proofs.stretch.stretch.Goals as goal
 
@@ -7,9 +7,9 @@ pub returns-clause-gone : goal.returns-clause-gone
 returns-clause-gone g c = λ log from start made now same gone.
     rw c.elapse.ensures
     (c.quick_steps-made.ensures.gone log from start made
-    (free_of c.args.events.now log c.args.time (from + made) c.free.result c.min-free.result now (omega (arith, c.min-free.ensures)) same c.free.ensures) gone)
+    (free_of c.args.events.now log c.args.time (from + made) c.free.result c.min-free.result now (omega (arith, c.min-free.ensures)) same c.free.ensures) (subst (λ (words : List ℕ). HasGone g.row.PAGES log from start made (record { core = c.args.core.now; words = words }) c.args.recorder.now) (sym c.open_page.ensures.words) gone))
 
 pub returns-clause-before : goal.returns-clause-before
 returns-clause-before g c = λ log from start made now same gone.
     c.quick_steps-made.ensures.before log from start made
-    (free_of c.args.events.now log c.args.time (from + made) c.free.result c.min-free.result now (omega (arith, c.min-free.ensures)) same c.free.ensures) gone
+    (free_of c.args.events.now log c.args.time (from + made) c.free.result c.min-free.result now (omega (arith, c.min-free.ensures)) same c.free.ensures) (subst (λ (words : List ℕ). HasGone g.row.PAGES log from start made (record { core = c.args.core.now; words = words }) c.args.recorder.now) (sym c.open_page.ensures.words) gone)

@@ -1,10 +1,11 @@
-use Rattle.std.proofs.Common.{sym}
+use Rattle.std.proofs.Common.{sym, arith}
 use Rattle.r3k_machine.proofs.Quiet.{code_at}
 use Rattle.r3k_machine.proofs.quick.code_page.Goals as goal
 
 pub returns-clause-code : goal.returns-clause-code
 returns-clause-code g c =
     let stands = rw c.ram_pages.ensures at c.in_ok-place.ensures in record {
+      within = omega arith;
       fetched = rw c.page_of.ensures
           (code_at c.args.core.now (g.M.Mem.ram c.args.memory.now) c.pc-address.result c.in_ok-place.place c.in_ok-physical.physical c.in_ok-physical.ensures (sym stands));
       plain = c.goes_over_bus.ensures;

@@ -7,20 +7,21 @@ use Rattle.r3k_machine.proofs.quick.perform_quick.Goals as goal
 
 pub returns-in-Load-clause-quick : goal.returns-in-Load-clause-quick
 returns-in-Load-clause-quick g c =
-    let plain = rw c.is_aligned.ensures at c.in_ok-physical-in-Load.ensures in
+    let reached = rw c.is_aligned.ensures at c.in_ok-physical-in-Load.ensures in
     let stands = rw c.ram_pages.ensures at c.in_ok-place-in-Load.ensures in
     rw c.in-Load.is
-    (c.in_ok-physical-in-Load.physical, c.in_ok-place-in-Load.place, plain, sym stands)
+    (record { address = c.in_ok-physical-in-Load.physical; cacheable = reached.cacheable }, c.in_ok-place-in-Load.place, reached.plain, sym stands)
 
 pub returns-in-Load-clause-ran : goal.returns-in-Load-clause-ran
 returns-in-Load-clause-ran g c =
     let s : State = record { core = c.args.core.now; words = g.M.Mem.words c.args.memory.now } in
-    let plain = rw c.is_aligned.ensures at c.in_ok-physical-in-Load.ensures in
+    let reached = rw c.is_aligned.ensures at c.in_ok-physical-in-Load.ensures in
     let stands = rw c.ram_pages.ensures at c.in_ok-place-in-Load.ensures in
     rw c.in-Load.is
     (plain_load (g.M.Mem.ram c.args.memory.now) s c.args.page c.in-Load.kind c.in-Load.register c.in-Load.address
-    (meaning_of_load c.args.core.now c.in-Load.kind c.in-Load.address) c.in_ok-physical-in-Load.physical c.in_ok-place-in-Load.place
-    plain (sym stands)
+    (meaning_of_load c.args.core.now c.in-Load.kind c.in-Load.address)
+    (record { address = c.in_ok-physical-in-Load.physical; cacheable = reached.cacheable }) c.in_ok-place-in-Load.place
+    reached.plain (sym stands)
     ∙ rw (
       c.loading.ensures,
       c.page_of.ensures,
@@ -33,18 +34,19 @@ returns-in-Load-clause-ran g c =
 
 pub returns-in-Store-clause-quick : goal.returns-in-Store-clause-quick
 returns-in-Store-clause-quick g c =
-    let plain = rw c.is_aligned-in-Store.ensures at c.in_ok-physical-in-Store.ensures in
+    let reached = rw c.is_aligned-in-Store.ensures at c.in_ok-physical-in-Store.ensures in
     rw c.in-Store.is
-    (c.in_ok-physical-in-Store.physical, c.in_ok-address-in-Store.address, plain, sym c.in_ok-address-in-Store.ensures.address)
+    (record { address = c.in_ok-physical-in-Store.physical; cacheable = reached.cacheable }, c.in_ok-address-in-Store.address, reached.plain, sym c.in_ok-address-in-Store.ensures.address)
 
 pub returns-in-Store-clause-ran : goal.returns-in-Store-clause-ran
 returns-in-Store-clause-ran g c =
     let s : State = record { core = c.args.core.now; words = g.M.Mem.words c.args.memory.now } in
-    let plain = rw c.is_aligned-in-Store.ensures at c.in_ok-physical-in-Store.ensures in
+    let reached = rw c.is_aligned-in-Store.ensures at c.in_ok-physical-in-Store.ensures in
     rw c.in-Store.is
     (plain_store (g.M.Mem.ram c.args.memory.now) s c.args.page c.in-Store.kind c.in-Store.address c.in-Store.value
-    (meaning_of_store c.args.core.now c.in-Store.kind c.in-Store.address) c.in_ok-physical-in-Store.physical c.in_ok-address-in-Store.address
-    plain (sym c.in_ok-address-in-Store.ensures.address)
+    (meaning_of_store c.args.core.now c.in-Store.kind c.in-Store.address)
+    (record { address = c.in_ok-physical-in-Store.physical; cacheable = reached.cacheable }) c.in_ok-address-in-Store.address
+    reached.plain (sym c.in_ok-address-in-Store.ensures.address)
     ∙ rw (
       c.storing.ensures,
       c.complete-in-Store.ensures,

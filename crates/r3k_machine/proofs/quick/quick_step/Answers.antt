@@ -1,33 +1,28 @@
-use Rattle.std.proofs.Common.{refl}
-use Rattle.r3k_machine.specs.Quiet.{IsDecoded}
+use Rattle.std.proofs.Common.{◌≡◌, ◌*◌, ◌+◌, ◌/◌, ◌%◌, inl, inr, refl, slice_index}
+use Rattle.r3k_exec.specs.Effects.{effect_of}
+use Rattle.r3k_machine.specs.Known.{IsDecoded, IsKnown}
+use Rattle.r3k_machine.specs.Quiet.{IsIndexIn, IsQuick}
 use Rattle.r3k_machine.specs.State.{State}
-use Rattle.std.specs.Prelude.{◌+◌, ◌*◌, ◌/◌, ◌%◌, slice_index}
-use Rattle.r3k_machine.proofs.Quiet.{if_both, quick_in_page, quick_ran}
+use Rattle.r3k_machine.specs.Step.{operands_of}
+use Rattle.r3k_machine.proofs.Quiet.{if_both, quick_known, quick_ran}
 use Rattle.r3k_machine.proofs.quick.quick_step.Goals as goal
 
 pub returns-clause-quick : goal.returns-clause-quick
 returns-clause-quick g c =
     let s : State = record { core = c.args.core.now; words = g.M.Mem.words c.args.memory.now } in
-    let decoded : IsDecoded (slice_index s.words (c.args.page.page * 1024 + s.core.pc % 4096 / 4)) c.in_ok-insn.insn.now =
-    rw (c.decode_at.ensures.words, c.pc-address.ensures) at c.in_ok-insn.ensures in
+    let there : IsIndexIn c.args.page s.core.pc c.in_ok-index.index = rw c.pc.ensures at c.in_ok-index.ensures.index in
     if_both c.perform_quick.result c.perform_quick.ensures.quick c.perform_quick.ensures.ran
     (λ done effect ran.
-    quick_in_page (g.M.Mem.ram c.args.memory.now) s c.args.page _ c.in_ok-insn.insn.now c.requires.code
-    (rw c.pc-address.ensures at c.if-address-page.false) (rw c.pc-address.ensures at c.if-address-ne0.false)
-    refl (decoded.usable s.core) decoded.decoded
-    (rw (c.effect-effect.ensures.effect, c.operands.ensures, c.decode_at.ensures.same) at effect))
+    quick_known (g.M.Mem.ram c.args.memory.now) s c.args.page c.in_ok-index.index c.insn-insn.result.now c.requires.code there c.insn-insn.ensures
+    (rw (c.effect-effect.ensures.effect, c.operands.ensures) at effect))
 
 pub returns-clause-ran : goal.returns-clause-ran
 returns-clause-ran g c =
     let s : State = record { core = c.args.core.now; words = g.M.Mem.words c.args.memory.now } in
-    let decoded : IsDecoded (slice_index s.words (c.args.page.page * 1024 + s.core.pc % 4096 / 4)) c.in_ok-insn.insn.now =
-    rw (c.decode_at.ensures.words, c.pc-address.ensures) at c.in_ok-insn.ensures in
+    let there : IsIndexIn c.args.page s.core.pc c.in_ok-index.index = rw c.pc.ensures at c.in_ok-index.ensures.index in
     if_both c.perform_quick.result c.perform_quick.ensures.quick c.perform_quick.ensures.ran
     (λ done effect ran.
-    let quick =
-    quick_in_page (g.M.Mem.ram c.args.memory.now) s c.args.page _ c.in_ok-insn.insn.now c.requires.code
-    (rw c.pc-address.ensures at c.if-address-page.false) (rw c.pc-address.ensures at c.if-address-ne0.false)
-    refl (decoded.usable s.core) decoded.decoded
-    (rw (c.effect-effect.ensures.effect, c.operands.ensures, c.decode_at.ensures.same) at effect) in
+    let quick = quick_known (g.M.Mem.ram c.args.memory.now) s c.args.page c.in_ok-index.index c.insn-insn.result.now c.requires.code there c.insn-insn.ensures
+    (rw (c.effect-effect.ensures.effect, c.operands.ensures) at effect) in
     quick_ran (g.M.Mem.ram c.args.memory.now) s quick _
-    (rw (c.effect-effect.ensures.effect, c.operands.ensures, c.decode_at.ensures.same, c.decode_at.ensures.words) at ran))
+    (rw (c.effect-effect.ensures.effect, c.operands.ensures) at ran))

@@ -1,0 +1,50 @@
+use Rattle.std.proofs.Common.{◌≡◌, ℕ, ◌+◌, ◌++◌, ◌∷◌, [], Bool, None, ◌||◌, List, sym, ap, ◌∙◌, length, slice_index, slice_index_or, length-append, zero-add}
+use Rattle.std.proofs.Math.Path.{ap₂}
+use Rattle.r3k_pages.specs.Pages.{holds}
+use Rattle.r3k_machine.specs.Locality.{is_page, is_touched, touches}
+use Rattle.r3k_live.specs.Record.{stores_in, with_sent}
+use Rattle.r3k_live.specs.Recording.{Recording, with_writer}
+use Rattle.r3k_live.specs.declared.recorder.SentAt.{SentAt}
+use Rattle.r3k_live.proofs.Recorded.{any_more, last_more, marked_again, or-assoc, page_stored, ram_more, sent_more}
+use Rattle.r3k_live.proofs.recorder.Recorder.note_again.Goals as goal
+
+pub returns-clause-records : goal.returns-clause-records
+returns-clause-records g c =
+    λ steps so_far.
+    let done = c.args.done in
+    let first = slice_index_or done.touched 0 None in
+    let second = slice_index_or done.touched 1 None in
+    let inside = c.self.inside in
+    let steps_are : inside.steps ≡ length steps = ap (λ (r : Recording). r.steps) c.self.view_is ∙ so_far.count in
+    let last_is = ap (λ (r : Recording). r.last) c.self.view_is in
+    let dirty_is = ap (λ (r : Recording). r.dirty) c.self.view_is in
+    let touched_is = ap (λ (r : Recording). r.touched) c.self.view_is in record {
+      count = ap (λ (n : ℕ). n + 1) steps_are ∙ sym (length-append steps (done ∷ []));
+      last = λ place within.
+          ap (λ (xs : List ℕ). slice_index xs place) (c.note_store.ensures.last ∙ ap (λ (n : ℕ). with_writer inside.last.items n done.stored) steps_are)
+          ∙ last_more g.row.PAGES place inside.last.items steps done c.self.invariant.last within c.requires.stored
+          (ap (λ (xs : List ℕ). slice_index xs place) last_is ∙ so_far.last place within);
+      ram = λ address other. ram_more g.row.PAGES address steps done c.requires.stored other (so_far.ram address other);
+      dirty = λ page.
+          c.mark.ensures page
+          ∙ (ap₂ (λ (a b : Bool). a || b) (ap (λ (set : List ℕ). holds set page) dirty_is ∙ so_far.dirty page)
+          (ap (is_page page) c.page_of_store.ensures ∙ page_stored page done.stored)
+          ∙ sym (any_more (λ done. stores_in page done.stored) steps done));
+      touched = λ page.
+          c.mark-2.ensures page
+          ∙ (ap (λ (b : Bool). b || is_page page second)
+          (ap (λ (set : List ℕ). holds set page) touched_is
+          ∙ (marked_again page c.args.self.now.touched first c.requires.again ∙ ap (λ (b : Bool). b || is_page page first) (so_far.touched page)))
+          ∙ (sym (or-assoc (is_touched steps page) (is_page page first) (is_page page second))
+          ∙ sym (any_more (touches page) steps done)));
+      sent =
+          c.note_sent.ensures.items
+          ∙ (ap₂ (λ (xs : List SentAt) (n : ℕ). xs ++ with_sent n done.sent []) (ap (λ (r : Recording). r.sent) c.self.view_is ∙ so_far.sent)
+          (steps_are ∙ sym (zero-add (length steps)))
+          ∙ sym (sent_more 0 steps done));
+    }
+
+pub returns-clause-touched : goal.returns-clause-touched
+returns-clause-touched g c = λ page held.
+    let touched_is = ap (λ (r : Recording). r.touched) c.self.view_is in
+    c.mark-2.ensures page ∙ ap (λ (b : Bool). b || is_page page (slice_index_or c.args.done.touched 1 None)) (ap (λ (set : List ℕ). holds set page) touched_is ∙ held)

@@ -1,0 +1,31 @@
+//! Words that are decoded before they are run.
+
+ghost use Rattle.std.specs.Prelude.{IfSome};
+ghost use Rattle.r3k_machine.specs.Known.{IsDecoded, IsStop};
+
+use r3k_decode::{Insn, decode};
+use r3k_word::field::field;
+
+// The word of `break`.
+const BREAK: u32 = 0xD;
+
+/// The instruction that a word is, unless it is none or one of coprocessor 0.
+pub fn decoded(word: u32) -> Option<Insn>
+    ensures { IfSome result (λ insn. IsDecoded word insn) }
+{
+    if field::<31, 26>(word) == 16 {
+        return None;
+    }
+    let insn = decode(word)?;
+    Some(insn)
+}
+
+/// The instruction that stands for a word that is not decoded: it traps.
+pub fn stop() -> Insn
+    ensures { IsStop result }
+{
+    match decode(BREAK) {
+        Some(insn) => insn,
+        None => unreachable!(),
+    }
+}
