@@ -8,3 +8,5 @@ pub mod Seeking
 pub mod Reuse
 pub mod Ends
 pub mod Runs
+pub mod Landed
+pub mod Shown
