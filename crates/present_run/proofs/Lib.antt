@@ -1,13 +1,18 @@
 mod Again
+mod Agreeing
 mod Carry
 mod Consoles
+mod Counting
 pub mod Counts
 mod Differ
 mod Edited
+mod Entries
+mod Held
+mod Indexed
 mod Joined
 mod Lacking
-mod Landings
 pub mod Near
+mod Nearest
 mod Next
 mod Patches
 mod Seeks
@@ -16,4 +21,7 @@ pub mod Spans
 mod Stays
 mod Steps
 mod Told
+mod Totals
+mod Touched
 mod Visits
+mod Written

@@ -9,7 +9,7 @@ use Rattle.r3k_machine.specs.Run.{state_at}
 use Rattle.r3k_pages.specs.Pages.{SameOutside}
 use Rattle.span_fact.specs.Span.{Span, end_of}
 use Rattle.checkpoints.specs.Kept.{Follows}
-use Rattle.span_index.specs.Index.{Index, IsSettled}
+use Rattle.present_run.specs.Index.{Index, IsSettled}
 use Rattle.present_run.specs.Reuse.{span_of}
 use Rattle.present_run.specs.Ends.{AreEnds}
 use Rattle.present_run.proofs.Differ.{same_all}

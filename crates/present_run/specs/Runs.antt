@@ -13,7 +13,7 @@ use Rattle.r3k_machine.specs.State.{State}
 use Rattle.span_fact.specs.Span.{Span}
 use Rattle.checkpoints.specs.Kept.{IsNear, span_at}
 use Rattle.r3k_live.specs.Recording.{Records}
-use Rattle.span_index.specs.Index.{Agrees, IsSettled}
+use Rattle.present_run.specs.Index.{Agrees, IsSettled}
 use Rattle.present_run.specs.Ends.{AreEnds, GoesOn, IsJoined}
 use Rattle.present_run.specs.History.{History, event_code}
 use Rattle.present_run.specs.Reuse.{IsServed, span_of}

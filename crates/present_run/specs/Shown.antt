@@ -1,6 +1,6 @@
 -- What the present run of a history shows (own).
 use Rattle.std.specs.Prelude.{◌≡◌, ℕ}
-use Rattle.landings.specs.Landings.{positions_of}
+use Rattle.present_run.specs.Landings.{positions_of}
 use Rattle.present_run.specs.Reuse.{Holding}
 use Rattle.present_run.specs.Landed.{Landed, holding}
 use Rattle.present_run.specs.declared.present.Present.{Present}

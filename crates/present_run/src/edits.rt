@@ -12,10 +12,10 @@ ghost use Rattle.refusal.specs.Given.{Changes, ChangesOrLacks};
 ghost use Rattle.present_run.specs.Landed.{with_image, with_log};
 ghost use Rattle.present_run.specs.Shown.{landed_of};
 
+use crate::landings::Landings;
 use crate::present::Present;
 use crate::runs::Runs;
 use input_log::{Log, log_laws};
-use landings::Landings;
 use r3k_word::layout::{page_of, place_of};
 use refusal::Fault;
 

@@ -3,7 +3,7 @@
 ghost use Rattle.std.specs.Prelude.{◌≡◌, ◌⊎◌, ◌∷◌, ◌/◌, ◌%◌, ◌<◌, ◌≤◌, ℕ, Contains, IfOk, Some, slice_index, take};
 ghost use Rattle.r3k_word.specs.Layout.{word_count_of};
 ghost use Rattle.r3k_machine.specs.Run.{state_at};
-ghost use Rattle.landings.specs.Landings.{positions_of};
+ghost use Rattle.present_run.specs.Landings.{positions_of};
 ghost use Rattle.input_log.specs.Limits.{max_position};
 ghost use Rattle.present_run.specs.Reuse.{Reaches, Serves, Spends};
 ghost use Rattle.present_run.specs.Landed.{Lands};

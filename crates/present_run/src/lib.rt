@@ -4,15 +4,16 @@
 
 mod edits;
 mod going;
+mod index;
 mod inputs;
 mod joining;
 mod landed;
+mod landings;
 mod laws;
 mod present;
 mod reaching;
 mod runs;
 mod sent;
-
 mod telling;
 
 pub use laws::lacking_laws;

@@ -24,9 +24,9 @@ ghost use Rattle.present_run.specs.Runs.{AreLandings, AreLandings-prop, AreOf, A
 ghost use Rattle.present_run.specs.Sizes.{AreSizes};
 
 use crate::inputs::Inputs;
+use crate::landings::Landings;
 use crate::runs::Runs;
 use input_log::Log;
-use landings::Landings;
 use r3k_image::Image;
 use std::alloc::{AllocError, Global};
 

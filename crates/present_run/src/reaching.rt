@@ -5,7 +5,7 @@ ghost use Rattle.r3k_machine.specs.Run.{state_at};
 ghost use Rattle.r3k_pages.specs.Pages.{SameOutside};
 ghost use Rattle.r3k_live.specs.Living.{counted};
 ghost use Rattle.checkpoints.specs.Kept.{Follows, span_at};
-ghost use Rattle.span_index.specs.Index.{max_spans};
+ghost use Rattle.present_run.specs.Index.{max_spans};
 ghost use Rattle.present_run.specs.Reuse.{Applies, Reaches, Serves, Spends, span_of};
 ghost use Rattle.present_run.specs.Ends.{GoesOn, IsJoined};
 ghost use Rattle.present_run.specs.Shown.{Stays, holding_of};

@@ -7,16 +7,16 @@ ghost use Rattle.r3k_word.specs.Layout.{word_count_of};
 ghost use Rattle.r3k_machine.specs.Reset.{reset};
 ghost use Rattle.r3k_pages.specs.Pages.{SameOutside, page_count_of};
 ghost use Rattle.checkpoints.specs.Kept.{span_at};
-ghost use Rattle.span_index.specs.Index.{Agrees};
+ghost use Rattle.present_run.specs.Index.{Agrees};
 ghost use Rattle.present_run.specs.Runs.{AreOf, AreSameOutside};
 ghost use Rattle.present_run.specs.Sizes.{AreSizes};
 
+use crate::index::SpanIndex;
 use crate::inputs::Inputs;
 use crate::joining::{compare, share, start_in};
 use checkpoints::Kept;
 use r3k_live::{Boundary, Live, Recorder};
 use r3k_pages::PageMarks;
-use span_index::SpanIndex;
 use std::alloc::{AllocError, Global};
 use std::rc::Rc;
 

@@ -4,7 +4,7 @@ use Rattle.r3k_live.specs.declared.recorder.SentAt.{SentAt}
 use Rattle.r3k_machine.specs.Run.{console_of, trace_at}
 use Rattle.present_run.specs.Console.{Shows}
 use Rattle.present_run.specs.Runs.{steps_between}
-use Rattle.span_index.specs.Sent.{bytes_on}
+use Rattle.present_run.specs.Sent.{bytes_on}
 use Rattle.present_run.proofs.Told.{console_front}
 use Rattle.present_run.proofs.present.Present.console.Goals as goal
 

@@ -1,11 +1,11 @@
 use Rattle.std.proofs.Common.{arith, refl, sym, ◌/◌, ◌%◌, ◌∷◌, inl, inr, take, Contains, ap, ◌∙◌, subst, List, ℕ}
-use Rattle.landings.specs.Landings.{positions_of}
+use Rattle.present_run.specs.Landings.{positions_of}
 use Rattle.r3k_machine.specs.Run.{state_at}
 use Rattle.r3k_machine.specs.State.{State}
 use Rattle.present_run.specs.History.{History}
 use Rattle.present_run.specs.Reuse.{Holding, Reaches, Spends}
 use Rattle.present_run.specs.Shown.{holding_of}
-use Rattle.present_run.proofs.Landings.{kept_here, landing_here, lands_new, lands_not, lands_there, none_here, there_are}
+use Rattle.present_run.proofs.Held.{kept_here, landing_here, lands_new, lands_not, lands_there, none_here, there_are}
 use Rattle.present_run.proofs.Spans.{if_some}
 use Rattle.present_run.proofs.present.Present.core_at.Goals as goal
 

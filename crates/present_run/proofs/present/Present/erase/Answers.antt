@@ -1,10 +1,10 @@
 use Rattle.std.proofs.Common.{ap, inl, inr, arith}
 use Rattle.input_log.specs.Edits.{erasing}
 use Rattle.present_run.specs.Runs.{AreSameOutside}
-use Rattle.landings.specs.Landings.{positions_of}
+use Rattle.present_run.specs.Landings.{positions_of}
 use Rattle.present_run.proofs.Edited.{log_edited}
 use Rattle.present_run.specs.Shown.{landed_of}
-use Rattle.present_run.proofs.Landings.{none}
+use Rattle.present_run.proofs.Held.{none}
 use Rattle.present_run.proofs.present.Present.erase.Goals as goal
 
 pub invariant_of-self-2 : goal.invariant_of-self-2

@@ -6,7 +6,7 @@ use Rattle.r3k_machine.specs.Run.{state_at}
 use Rattle.r3k_pages.specs.Pages.{SameOutside}
 use Rattle.span_fact.specs.Span.{Span}
 use Rattle.checkpoints.specs.Kept.{Kept, span_at}
-use Rattle.span_index.specs.Index.{Agrees}
+use Rattle.present_run.specs.Index.{Agrees}
 use Rattle.present_run.specs.Runs.{AreLandings}
 use Rattle.present_run.specs.Ends.{AreEnds, IsJoined}
 use Rattle.present_run.specs.Reuse.{span_of}

@@ -5,12 +5,12 @@ use Rattle.r3k_machine.specs.Reset.{reset}
 use Rattle.r3k_pages.specs.Pages.{SameOutside}
 use Rattle.span_fact.specs.Span.{Span, end_of}
 use Rattle.checkpoints.specs.Kept.{span_at}
-use Rattle.span_index.specs.Index.{Index}
-use Rattle.span_index.proofs.Joined.{agrees_same}
+use Rattle.present_run.specs.Index.{Index}
+use Rattle.present_run.proofs.Indexed.{agrees_same}
 use Rattle.present_run.specs.Reuse.{span_of}
 use Rattle.present_run.specs.Ends.{AreEnds, IsJoined}
 use Rattle.present_run.proofs.Again.{goes_on_kept}
-use Rattle.present_run.proofs.Landings.{landed_over}
+use Rattle.present_run.proofs.Held.{landed_over}
 use Rattle.present_run.proofs.Next.{as_kept, behind_run, first_put, into_some, map_some, settled_at, settled_none}
 use Rattle.present_run.proofs.present.Present.keep.Goals as goal
 

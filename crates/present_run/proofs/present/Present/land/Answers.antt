@@ -2,7 +2,7 @@ use Rattle.std.proofs.Common.{inl, inr, ap, subst, ◌∙◌, Contains}
 use Rattle.r3k_live.specs.Living.{Living}
 use Rattle.r3k_machine.specs.State.{State}
 use Rattle.present_run.specs.Shown.{holding_of}
-use Rattle.present_run.proofs.Landings.{new_landing, on}
+use Rattle.present_run.proofs.Held.{new_landing, on}
 use Rattle.present_run.proofs.Spans.{if_some}
 use Rattle.present_run.proofs.present.Present.land.Goals as goal
 

@@ -1,4 +1,4 @@
-use Rattle.present_run.proofs.Landings.{held_by}
+use Rattle.present_run.proofs.Held.{held_by}
 use Rattle.present_run.proofs.present.Present.landings.Goals as goal
 
 pub returns-clause-inside : goal.returns-clause-inside

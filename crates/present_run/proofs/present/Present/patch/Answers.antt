@@ -3,11 +3,11 @@ use Rattle.r3k_image.specs.Boot.{Boot}
 use Rattle.r3k_machine.specs.Reset.{reset, reset_words}
 use Rattle.r3k_machine.specs.State.{State}
 use Rattle.r3k_pages.specs.Pages.{SameOutside}
-use Rattle.landings.specs.Landings.{positions_of}
+use Rattle.present_run.specs.Landings.{positions_of}
 use Rattle.r3k_image.specs.Patch.{patching}
 use Rattle.present_run.proofs.Edited.{image_edited}
 use Rattle.present_run.specs.Shown.{landed_of}
-use Rattle.present_run.proofs.Landings.{none}
+use Rattle.present_run.proofs.Held.{none}
 use Rattle.present_run.proofs.Patches.{fits_after, its_address, patching_there, reset_patched, set_outside, taken_by_most}
 use Rattle.present_run.proofs.present.Present.patch.Goals as goal
 

@@ -1,10 +1,10 @@
 use Rattle.std.proofs.Common.{ap, arith}
 use Rattle.input_log.specs.Edits.{setting}
 use Rattle.present_run.specs.Runs.{AreSameOutside}
-use Rattle.landings.specs.Landings.{positions_of}
+use Rattle.present_run.specs.Landings.{positions_of}
 use Rattle.present_run.proofs.Edited.{reset, log_edited, outside}
 use Rattle.present_run.specs.Shown.{landed_of}
-use Rattle.present_run.proofs.Landings.{none}
+use Rattle.present_run.proofs.Held.{none}
 use Rattle.present_run.proofs.present.Present.set.Goals as goal
 
 pub invariant_of-self-2 : goal.invariant_of-self-2

@@ -2,7 +2,7 @@ use Rattle.std.proofs.Common.{◌≡◌, ℕ, ◌+◌, ◌*◌, ◌≤◌, ◌++
 use Rattle.std.proofs.Math.Nat.{mul-le-mul_right}
 use Rattle.r3k_live.specs.declared.recorder.SentAt.{SentAt}
 use Rattle.r3k_machine.specs.Run.{console_of, trace_at}
-use Rattle.span_index.specs.Sent.{bytes_on}
+use Rattle.present_run.specs.Sent.{bytes_on}
 use Rattle.present_run.specs.Console.{Shows, part_of}
 use Rattle.present_run.specs.Runs.{steps_between}
 use Rattle.present_run.proofs.Consoles.{part_short}

@@ -4,7 +4,7 @@ use Rattle.r3k_live.specs.Record.{sent_from}
 use Rattle.r3k_live.specs.declared.recorder.SentAt.{SentAt}
 use Rattle.r3k_machine.specs.Run.{senders_of, trace_at}
 use Rattle.r3k_machine.proofs.Splits.{senders_count}
-use Rattle.span_index.specs.Sent.{steps_on}
+use Rattle.present_run.specs.Sent.{steps_on}
 use Rattle.present_run.specs.Runs.{steps_between}
 use Rattle.present_run.proofs.Joined.{length_at, not_behind}
 use Rattle.present_run.proofs.Seeks.{found_behind, found_front}

@@ -3,10 +3,10 @@ use Rattle.input_log.specs.declared.event.Kind.TheVariants.{Wire}
 use Rattle.input_log.specs.Edits.{adding}
 use Rattle.input_log.specs.Log.{AreInOrder}
 use Rattle.present_run.specs.Runs.{AreSameOutside}
-use Rattle.landings.specs.Landings.{positions_of}
+use Rattle.present_run.specs.Landings.{positions_of}
 use Rattle.present_run.proofs.Edited.{log_edited, outside}
 use Rattle.present_run.specs.Shown.{landed_of}
-use Rattle.present_run.proofs.Landings.{none}
+use Rattle.present_run.proofs.Held.{none}
 use Rattle.present_run.proofs.present.Present.wire.Goals as goal
 
 pub invariant_of-self-2 : goal.invariant_of-self-2

@@ -4,7 +4,7 @@ use Rattle.r3k_machine.specs.Run.{state_at}
 use Rattle.r3k_pages.specs.Pages.{SameOutside}
 use Rattle.r3k_live.specs.Living.{Living}
 use Rattle.checkpoints.specs.Kept.{Kept, span_at}
-use Rattle.span_index.specs.Index.{Agrees, Index}
+use Rattle.present_run.specs.Index.{Agrees, Index}
 use Rattle.present_run.proofs.Again.{no_some}
 use Rattle.present_run.proofs.Next.{no_ends, settled_none}
 use Rattle.present_run.proofs.Spans.{at_reset}

@@ -5,7 +5,7 @@ use Rattle.r3k_machine.specs.Reset.{reset}
 use Rattle.r3k_machine.specs.Run.{state_at}
 use Rattle.r3k_pages.specs.Pages.{SameOutside, holds}
 use Rattle.checkpoints.specs.Kept.{Kept, span_at}
-use Rattle.span_index.specs.Index.{Agrees, IsSettled}
+use Rattle.present_run.specs.Index.{Agrees, IsSettled}
 use Rattle.present_run.proofs.Again.{no_some}
 use Rattle.present_run.proofs.Differ.{wider_added}
 use Rattle.present_run.proofs.Next.{map_some, no_ends, settled_first}
