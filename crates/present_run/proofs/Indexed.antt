@@ -7,7 +7,7 @@ use Rattle.present_run.specs.Index.{Agrees, Has, Index, IsLastWriter, bytes_at, 
 -- an index agrees with records that are the same one by one
 pub agrees_same : (pages span : ℕ) (index : Index) (old new : List (Option Span)) → ((i : ℕ) → slice_index_or new i None ≡ slice_index_or old i None)
     → Agrees pages span index old → Agrees pages span index new
-agrees_same pages span index old new same agrees = λ i other. subst (λ (o : Option Span). Has pages span index i o) (sym (same i)) (agrees i other)
+agrees_same pages span index old new same agrees = λ i. subst (λ (o : Option Span). Has pages span index i o) (sym (same i)) (agrees i)
 
 -- the last writer below each record
 abbrev pub Goes : (pages span : ℕ) → List (Option Span) → (address count : ℕ) → (ℕ → Option ℕ) → Type 0

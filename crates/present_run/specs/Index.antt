@@ -1,6 +1,6 @@
 -- An index of the records that are kept of spans (own): which pages each of them stored into, and how many bytes of each line it
 -- sent.
-use Rattle.std.specs.Prelude.{◌≡◌, ℕ, zero, suc, ◌+◌, ◌<◌, ◌≤◌, List, [], length, Option, Some, None, IfSome, slice_index_or}
+use Rattle.std.specs.Prelude.{◌≡◌, ℕ, zero, suc, ◌+◌, ◌<◌, ◌≤◌, List, [], length, Option, Some, None, slice_index_or}
 use Rattle.r3k_machine.specs.declared.step.Done.{Done}
 use Rattle.r3k_machine.specs.Run.{last_writer}
 use Rattle.r3k_live.specs.Record.{dirty_pages, sent_from}
@@ -14,11 +14,10 @@ use Rattle.present_run.specs.Sent.{bytes_on}
 abbrev pub max_spans : ℕ
 max_spans = MAX_SPANS
 
--- the pages and the counts by span, and the number of the record that may have changed since they were put
+-- the pages and the counts by span
 pub record Index : Type 0 where
   pub writes : List (List ℕ)
   pub consoles : List (List ℕ)
-  pub stale : Option ℕ
 
 -- what the steps of a record reported; where none is kept there are no steps
 abbrev pub steps_in : (pages span : ℕ) → Option Span → List Done
@@ -37,13 +36,9 @@ pub record Has (pages span : ℕ) (index : Index) (i : ℕ) (s : Option Span) : 
   pub stored : pages_at index.writes i ≡ dirty_pages pages (steps_in pages span s)
   pub sent : (line : ℕ) → line ≤ 3 → count_at index.consoles line i ≡ length (bytes_on line (sent_from 0 (steps_in pages span s)))
 
--- an index agrees with records: it has what each of them reports, except for the one that may have changed
+-- an index agrees with records: it has what each of them reports
 abbrev pub Agrees : (pages span : ℕ) → Index → List (Option Span) → Type 0
-Agrees pages span index spans = (i : ℕ) → ¬ (index.stale ≡ Some i) → Has pages span index i (slice_index_or spans i None)
-
--- none of the first `count` records may have changed
-abbrev pub IsSettled : Index → ℕ → Type 0
-IsSettled index count = IfSome index.stale (λ i. count ≤ i)
+Agrees pages span index spans = (i : ℕ) → Has pages span index i (slice_index_or spans i None)
 
 -- the last of the first `count` records that stored into the word at an address, with its last step that did, or none
 abbrev pub IsLastWriter : (pages span : ℕ) → List (Option Span) → (count address : ℕ) → Option (ℕ × ℕ) → Type 0

@@ -13,7 +13,7 @@ use Rattle.r3k_machine.specs.State.{State}
 use Rattle.span_fact.specs.Span.{Span}
 use Rattle.checkpoints.specs.Kept.{IsNear, span_at}
 use Rattle.r3k_live.specs.Recording.{Records}
-use Rattle.present_run.specs.Index.{Agrees, IsSettled}
+use Rattle.present_run.specs.Index.{Agrees}
 use Rattle.present_run.specs.Ends.{AreEnds, GoesOn, IsJoined}
 use Rattle.present_run.specs.History.{History, event_code}
 use Rattle.present_run.specs.Reuse.{IsServed, span_of}
@@ -29,8 +29,7 @@ abbrev pub AreSameOutside : (from last : ℕ) → (a b : List LogEvent) → Type
 AreSameOutside from last a b = (start end : ℕ) → (end ≤ from) ⊎ (last < start) → window_of start end b ≡ window_of start end a
 
 -- What is kept is of the run from reset: the start, where the machine stands, what the recorder holds, the joined records, and the
--- ends of their spans. `exact` may say that the last joined record is that of the run. The index has what the records report, and
--- of the joined ones all. After these ends come those of an earlier run: from `again` on, each span goes on from where the one
+-- ends of their spans. `exact` may say that the last joined record is that of the run. The index has what the records report. After these ends come those of an earlier run: from `again` on, each span goes on from where the one
 -- before it ended. The record of the next span starts with the same words as that span outside the differing pages. The first
 -- record does so with reset, outside the patched pages.
 pub record AreOf {pages span : ℕ} (image : Boot) (log : List LogEvent) (runs : Runs pages span) : Type 0 where
@@ -46,7 +45,6 @@ pub record AreOf {pages span : ℕ} (image : Boot) (log : List LogEvent) (runs :
   pub differ : IfSome (span_at runs.kept runs.kept.valid) (λ s. SameOutside runs.differing s.start.words (state_at pages image log (runs.kept.valid * span)).words)
   pub patches : IfSome (span_at runs.kept 0) (λ s. SameOutside runs.patched s.start.words (reset pages image).words)
   pub agrees : Agrees pages span runs.told runs.kept.spans
-  pub settled : IsSettled runs.told runs.kept.valid
 
 -- A state that is kept is that of the run at its position, and each span before that one has a record that serves.
 pub record IsLanding (pages span : ℕ) (h : History) (spans : List (Option Span)) (position : ℕ) (state : State) : Type 0 where

@@ -68,9 +68,7 @@ impl<const PAGES: u32, const SPAN: u32> Present<PAGES, SPAN> {
 
     /// The boot image as it now stands.
     pub fn image(&self) -> &Image
-        ensures image { result.now ≡ (landed_of self.now).history.image }
-        ensures fits { FitsRam PAGES result.now }
-        ensures sizes { AreSizes PAGES SPAN }
+        ensures { result.now ≡ (landed_of self.now).history.image }
     {
         &self.inputs.image
     }

@@ -1,6 +1,6 @@
 //! The spans of the present run are joined, one after the other. A span for which no record serves is run.
 
-ghost use Rattle.std.specs.Prelude.{◌≡◌, ◌↔◌, ◌⊎◌, ℕ, ◌+◌, ◌*◌, ◌^◌, ◌<◌, ◌≤◌, IfOk, IfSome, IsTrue, None, OnErr, Some, map, slice_get};
+ghost use Rattle.std.specs.Prelude.{◌≡◌, ◌↔◌, ◌⊎◌, ℕ, ◌+◌, ◌*◌, ◌^◌, ◌<◌, ◌≤◌, IfOk, IfSome, IsTrue, OnErr, Some, map, slice_get};
 ghost use Rattle.r3k_machine.specs.Run.{state_at};
 ghost use Rattle.r3k_pages.specs.Pages.{SameOutside};
 ghost use Rattle.r3k_live.specs.Living.{counted};
@@ -115,7 +115,7 @@ impl<const PAGES: u32, const SPAN: u32> Present<PAGES, SPAN> {
         self.join(end, true, follows)
     }
 
-    // Keeps the record of the next span, which was run, in place of the old one.
+    // Keeps the record of the next span, which was run, in place of the old one. Room for it is reserved before anything changes.
     fn keep(&mut self, fact: Fact<PAGES, SPAN>) -> Result<(), AllocError>
         requires few { self.old.runs.kept.valid < max_spans }
         requires fact { fact ≡ span_of PAGES SPAN self.old.inputs.image self.old.inputs.log self.old.runs.kept.valid }
@@ -130,10 +130,10 @@ impl<const PAGES: u32, const SPAN: u32> Present<PAGES, SPAN> {
         ensures steps { self.new.runs.live.steps ≡ self.old.runs.live.steps }
     {
         let index = fact.index();
-        self.runs.told.settle(&self.runs.kept)?;
+        self.runs.kept.reserve(index)?;
+        self.runs.told.take_in(&fact)?;
         pass(&mut self.runs.differing, self.runs.kept.fact(index), &fact);
         self.runs.kept.put(fact)?;
-        self.runs.told.note(index);
         Ok(())
     }
 
@@ -189,12 +189,10 @@ impl<const PAGES: u32, const SPAN: u32> Present<PAGES, SPAN> {
         ensures joined { IfOk result (λ _. self.new.runs.kept.valid ≡ self.old.runs.kept.valid + 1) }
         ensures spans { self.new.runs.kept.spans ≡ self.old.runs.kept.spans }
         ensures steps { self.new.runs.live.steps ≡ self.old.runs.live.steps }
-        ensures settled { IfOk result (λ _. self.new.runs.told.stale ≡ None) }
         ensures met { slice_get (map (λ end. end.value) self.old.runs.ends.items) self.old.runs.kept.valid ≡ Some end.entry.value → IfOk result (λ _.
             map (λ end. end.value) self.new.runs.ends.items ≡ map (λ end. end.value) self.old.runs.ends.items) }
     {
         let index = self.runs.kept.valid();
-        self.runs.told.settle(&self.runs.kept)?;
         put_end(&mut self.runs.ends, index, end.clone()?)?;
         begin(
             &mut self.runs.kept,
@@ -217,7 +215,6 @@ impl<const PAGES: u32, const SPAN: u32> Present<PAGES, SPAN> {
 
     // Joins all later spans of which it is known where they end, as each goes on from the one before it.
     fn join_again(&mut self)
-        requires settled { self.old.runs.told.stale ≡ None }
         requires some { 0 < self.old.runs.kept.valid }
         requires again { (index : ℕ) → self.old.runs.kept.valid ≤ index + 1 →
             GoesOn PAGES SPAN self.old.inputs.log self.old.runs.kept.spans (map (λ end. end.value) self.old.runs.ends.items) index }

@@ -18,7 +18,7 @@ returns-in-Some-writer_in g c =
       omega (arith, last.0, c.loop-index.invariant.bound),
       here,
       λ i behind within.
-          none_from g.row.PAGES g.row.SPAN index spans c.args.count c.args.address c.loop-index.before (at + 1) c.requires.agrees c.requires.settled
+          none_from g.row.PAGES g.row.SPAN index spans c.args.count c.args.address c.loop-index.before (at + 1) c.requires
           (λ k low below. last.2 k (omega (arith, low)) below) c.loop-index.invariant.none i (omega (arith, behind)) within,
     )
 
@@ -32,7 +32,7 @@ loop-index-preserved g c =
       none = λ i low within.
           elim (cases_lt at i) [
             | inl behind ↦
-                none_from g.row.PAGES g.row.SPAN index spans c.args.count c.args.address c.loop-index.before (at + 1) c.requires.agrees c.requires.settled
+                none_from g.row.PAGES g.row.SPAN index spans c.args.count c.args.address c.loop-index.before (at + 1) c.requires
                 (λ k low below. last.2 k (omega (arith, low)) below) c.loop-index.invariant.none i (omega (arith, behind)) within
             | inr not ↦
                 let same : at ≡ i = omega (arith, low, not) in
@@ -45,5 +45,5 @@ pub returns : goal.returns
 returns g c = λ i within.
     let index : Index = c.args.self.now in
     let last = subst (λ (x : Index). IsLast x.writes (c.args.address / PAGE_BYTES) c.loop-index.before None) c.self.view_is (c.in_default.ensures {u = tt}).last in
-    none_from g.row.PAGES g.row.SPAN index c.args.kept.now.spans c.args.count c.args.address c.loop-index.before 0 c.requires.agrees c.requires.settled
+    none_from g.row.PAGES g.row.SPAN index c.args.kept.now.spans c.args.count c.args.address c.loop-index.before 0 c.requires
     (λ k _ below. last k below) c.loop-index.invariant.none i (omega arith) within

@@ -32,7 +32,6 @@ invariant_of-self g c =
         differ = c.args.self.now.of.differ;
         patches = c.args.self.now.of.patches;
         agrees = c.args.self.now.of.agrees;
-        settled = c.args.self.now.of.settled;
       };
       landed = c.args.self.now.landed;
     }

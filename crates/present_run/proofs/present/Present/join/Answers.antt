@@ -21,16 +21,13 @@ join_again-requires g c =
     (ap (slice_get (map (λ end. end.value) c.deref.result.now)) (sym c.valid.ensures) ∙ met.2)) in (
       omega arith,
       (
-        joined.settled,
-        (
-          omega (arith, joined.joined),
-          λ index after.
-              subst (λ (h : History). GoesOn pages span h.log c.join_one.new.self.runs.kept.spans (map (λ end. end.value) c.join_one.new.self.runs.ends.items) index) (sym c.join_one.ensures.stays.history)
-              (subst (λ (all : List State). GoesOn pages span log c.join_one.new.self.runs.kept.spans all index) (sym same)
-              (goes_on_kept pages span log kept.spans c.join_one.new.self.runs.kept.spans all index
-              (ap (λ (spans : List (Option Span)). slice_index_or spans (index + 1) None) c.join_one.ensures.spans)
-              (c.args.self.now.of.again index (omega (arith, met.0, c.valid.ensures, joined.joined, after)) (omega (arith, joined.joined, after))))),
-        ),
+        omega (arith, joined.joined),
+        λ index after.
+            subst (λ (h : History). GoesOn pages span h.log c.join_one.new.self.runs.kept.spans (map (λ end. end.value) c.join_one.new.self.runs.ends.items) index) (sym c.join_one.ensures.stays.history)
+            (subst (λ (all : List State). GoesOn pages span log c.join_one.new.self.runs.kept.spans all index) (sym same)
+            (goes_on_kept pages span log kept.spans c.join_one.new.self.runs.kept.spans all index
+            (ap (λ (spans : List (Option Span)). slice_index_or spans (index + 1) None) c.join_one.ensures.spans)
+            (c.args.self.now.of.again index (omega (arith, met.0, c.valid.ensures, joined.joined, after)) (omega (arith, joined.joined, after))))),
       ),
     )
 

@@ -11,7 +11,7 @@ use Rattle.present_run.specs.Runs.{AreLandings}
 use Rattle.present_run.specs.Ends.{AreEnds, IsJoined}
 use Rattle.present_run.specs.Reuse.{span_of}
 use Rattle.present_run.proofs.Again.{all_ends, all_joined, there_is, within}
-use Rattle.present_run.proofs.Next.{settled_none, value_count}
+use Rattle.present_run.proofs.Next.{value_count}
 use Rattle.present_run.proofs.present.Present.join_again.Goals as goal
 
 pub join_up_to-requires : goal.join_up_to-requires
@@ -68,7 +68,6 @@ invariant_of-self g c =
             c.compare.ensures);
         patches = subst (λ (o : Option Span). IfSome o (λ s. SameOutside c.args.self.now.runs.patched s.start.words (reset pages image).words)) (sym (at 0)) of.patches;
         agrees = subst (λ (s : List (Option Span)). Agrees pages span c.args.self.now.runs.told s) (sym spans) of.agrees;
-        settled = settled_none c.args.self.now.runs.told _ c.requires.settled;
       };
       landed = subst (λ (s : List (Option Span)). AreLandings pages span (record { image = image; log = log }) s c.args.self.now.landings) (sym spans) c.args.self.now.landed;
     }

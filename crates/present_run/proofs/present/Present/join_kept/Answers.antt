@@ -34,7 +34,6 @@ invariant_of-self-2 g c =
         differ = into_some _ (span_at kept valid) r is (subst (λ (start : State). SameOutside new r.start.words start.words) c.requires.start c.carry.ensures.start);
         patches = of.patches;
         agrees = of.agrees;
-        settled = of.settled;
       };
       landed = c.args.self.now.landed;
     }

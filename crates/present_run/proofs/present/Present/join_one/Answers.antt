@@ -10,7 +10,7 @@ use Rattle.present_run.specs.Reuse.{span_of}
 use Rattle.present_run.specs.Runs.{AreLandings}
 use Rattle.present_run.specs.Ends.{AreEnds, GoesOn, IsJoined, IsPut}
 use Rattle.present_run.proofs.Again.{goes_on_put, more_ends}
-use Rattle.present_run.proofs.Next.{and_last, first_joined, settled_none}
+use Rattle.present_run.proofs.Next.{and_last, first_joined}
 use Rattle.present_run.proofs.Spans.{follow}
 use Rattle.present_run.proofs.present.Present.join_one.Goals as goal
 
@@ -97,14 +97,13 @@ invariant_of-self-2 g c =
             (first_joined pages span image log valid c.args.exact c.args.self.now.runs.patched c.begin.new.patched (span_at kept 0)
             (λ first exact. subst (λ (n : ℕ). span_at kept n ≡ Some (span_of pages span image log n)) first (c.requires.exact exact))
             (λ later. c.begin.ensures.patched (λ exact. omega (arith, later exact, c.valid-index.ensures))) c.args.self.now.of.patches);
-        agrees = subst (λ (s : List (Option Span)). Agrees pages span c.settle.new.self s) (sym spans) c.settle.ensures.agrees;
-        settled = settled_none c.settle.new.self _ (c.in_ok-settle.ensures {u = tt}).settled;
+        agrees = subst (λ (s : List (Option Span)). Agrees pages span c.args.self.now.runs.told s) (sym spans) c.args.self.now.of.agrees;
       };
       landed = subst (λ (s : List (Option Span)). AreLandings pages span (record { image = image; log = log }) s c.args.self.now.landings) (sym spans) c.args.self.now.landed;
     }
 
-pub invariant_of-self-in-Break-branch-3 : goal.invariant_of-self-in-Break-branch-3
-invariant_of-self-in-Break-branch-3 g c =
+pub invariant_of-self-in-Break-branch-2 : goal.invariant_of-self-in-Break-branch-2
+invariant_of-self-in-Break-branch-2 g c =
     let pages = g.row.PAGES in
     let span = g.row.SPAN in
     let image = c.args.self.now.inputs.image in
@@ -124,8 +123,7 @@ invariant_of-self-in-Break-branch-3 g c =
         exact = of.exact;
         differ = of.differ;
         patches = of.patches;
-        agrees = c.settle.ensures.agrees;
-        settled = settled_none c.settle.new.self _ (c.in_ok-settle.ensures {u = tt}).settled;
+        agrees = of.agrees;
       };
       landed = c.args.self.now.landed;
     }

@@ -47,7 +47,6 @@ invariant_of-self-2 g c =
         differ = of.differ;
         patches = of.patches;
         agrees = of.agrees;
-        settled = of.settled;
       };
       landed = c.stand_at_start.new.self.landed;
     }

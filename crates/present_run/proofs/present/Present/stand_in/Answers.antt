@@ -24,7 +24,6 @@ invariant_of-self-2 g c =
         differ = of.differ;
         patches = of.patches;
         agrees = of.agrees;
-        settled = of.settled;
       };
       landed = c.args.self.now.landed;
     }

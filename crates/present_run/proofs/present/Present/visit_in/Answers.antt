@@ -45,7 +45,6 @@ invariant_of-self g c =
         differ = c.args.self.now.of.differ;
         patches = c.args.self.now.of.patches;
         agrees = c.args.self.now.of.agrees;
-        settled = c.args.self.now.of.settled;
       };
       landed = c.args.self.now.landed;
     }
@@ -93,7 +92,6 @@ invariant_of-self-in-None g c =
         differ = c.args.self.now.of.differ;
         patches = c.args.self.now.of.patches;
         agrees = c.args.self.now.of.agrees;
-        settled = c.args.self.now.of.settled;
       };
       landed = c.args.self.now.landed;
     }

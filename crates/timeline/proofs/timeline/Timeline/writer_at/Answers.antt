@@ -24,4 +24,4 @@ returns-clause-writer g c =
     ((c.in_ok-step.ensures {u = tt}).writer
     ∙ ap (λ (h : History). last_writer address (trace_at pages h.image h.log position)) (c.last_writer.ensures.spends.history ∙ ap (λ (h : Landed). h.history) c.self.view_is))
     (c.word-set.ensures
-    ∙ ap (λ (b : Boot). map.get b.words address) (c.image.ensures.image ∙ ap (λ (h : Landed). h.history.image) c.self.view_is))))
+    ∙ ap (λ (b : Boot). map.get b.words address) (c.image.ensures ∙ ap (λ (h : Landed). h.history.image) c.self.view_is))))
