@@ -1,6 +1,6 @@
 //! The records that are kept: one for each span at most.
 
-ghost use Rattle.std.specs.Prelude.{◌≡◌, ◌+◌, ◌-◌, ◌^◌, ◌<◌, ◌≤◌, ◌↔◌, ℕ, [], All, IfOk, IfSome, IsSome, IsTrue, MatchOption, None, OnErr, Option, Some, length, min, slice_index_or, false};
+ghost use Rattle.std.specs.Prelude.{◌≡◌, ◌+◌, ◌-◌, ◌^◌, ◌<◌, ◌≤◌, ◌↔◌, ℕ, [], All, IfOk, IfSome, IsOk, IsSome, IsTrue, MatchOption, None, OnErr, Option, Some, length, min, slice_index_or, false};
 ghost use Rattle.r3k_machine.specs.State.{State};
 ghost use Rattle.r3k_pages.specs.Layout.{word_count_of};
 ghost use Rattle.r3k_pages.specs.Pages.{SameOutside, SamePage, page_count_of};
@@ -137,6 +137,15 @@ impl<const PAGES: u32, const SPAN: u32> Kept<PAGES, SPAN> {
         mark(&mut self.continues, index as usize);
     }
 
+    /// Makes room for the record of a number, so that it can be put without memory. All records stay.
+    pub fn reserve(&mut self, index: u64) -> Result<(), AllocError>
+        ensures room { IfOk result (λ _. index < length self.new.spans) }
+        ensures spans { (i : ℕ) → span_at self.new i ≡ span_at self.old i }
+        ensures valid { self.new.valid ≡ self.old.valid }
+    {
+        make_room(&mut self.facts, &mut self.continues, index as usize)
+    }
+
     /// Keeps a record in place of the one of its number. Where memory is refused the record is dropped, and all is as it was.
     pub fn put(&mut self, fact: Fact<PAGES, SPAN>) -> Result<(), AllocError>
         ensures there { IfOk result (λ _. span_at self.new fact.entry.index ≡ Some fact.entry) }
@@ -147,6 +156,7 @@ impl<const PAGES: u32, const SPAN: u32> Kept<PAGES, SPAN> {
         ensures ties { IfOk result (λ _. (i : ℕ) → ¬ (i ≡ fact.entry.index) → ¬ (i + 1 ≡ fact.entry.index) → continues_at self.new i ≡ continues_at self.old i) }
         ensures same_ties { OnErr result ((i : ℕ) → continues_at self.new i ≡ continues_at self.old i) }
         ensures valid { self.new.valid ≡ self.old.valid }
+        ensures free { fact.entry.index < length self.old.spans → IsOk result }
     {
         let index = fact.index() as usize;
         make_room(&mut self.facts, &mut self.continues, index)?;
@@ -323,6 +333,7 @@ fn make_room<const PAGES: u32, const SPAN: u32>(
     ensures continues { (i : ℕ) → slice_index_or continues.new.items i false ≡ slice_index_or continues.old.items i false }
     ensures room { IfOk result (λ _. index < length facts.new.items) }
     ensures long { length facts.new.items ≤ length continues.new.items }
+    ensures free { index < length facts.old.items → IsOk result }
 {
     while facts.len() <= index {
         continues.push(false)?;

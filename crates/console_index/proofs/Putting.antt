@@ -261,3 +261,8 @@ others_put held index i line counts old new put other =
                 omega (arith, now, here)
           ]
     ]
+
+-- a tree has room for its spans
+pub tree_room : (levels : List (List (List ℕ))) (count : ℕ) → IsTree count levels → HasRoom count levels
+tree_room [] count tree = tree
+tree_room (level ∷ above) count tree = (tree.0.whole, tree_room above (count / 2) tree.1)

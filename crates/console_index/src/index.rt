@@ -1,6 +1,6 @@
 //! The index: what each line sent in each span.
 
-ghost use Rattle.std.specs.Prelude.{◌≡◌, ◌≢◌, ◌+◌, ◌^◌, ◌<◌, ◌≤◌, ℕ, All, IfOk, MatchOption, OnErr, [], length, max, slice_index_or};
+ghost use Rattle.std.specs.Prelude.{◌≡◌, ◌≢◌, ◌+◌, ◌^◌, ◌<◌, ◌≤◌, ℕ, All, IfOk, IsOk, MatchOption, OnErr, [], length, max, slice_index_or};
 ghost use Rattle.console_index.specs.Counts.{IsPlace, count_at, total};
 ghost use Rattle.console_index.specs.declared.tree.TheConstants.{MAX_SPANS};
 
@@ -48,6 +48,7 @@ impl ConsoleIndex {
         ensures others { IfOk result (λ _. (i : ℕ) → i ≢ index → (line : ℕ) → count_at self.new line i ≡ count_at self.old line i) }
         ensures held { IfOk result (λ _. length self.new ≡ max (length self.old) (index + 1)) }
         ensures same { OnErr result (self.new ≡ self.old) }
+        ensures free { index < length self.old → IsOk result }
     {
         let index = index as usize;
         let count = self.count.max(index + 1);
@@ -55,6 +56,18 @@ impl ConsoleIndex {
         update(&mut self.levels, self.count, index, wide(counts))?;
         self.count = count;
         Ok(())
+    }
+
+    /// Makes room for the counts of a span, so that they can be put without memory. All spans keep their counts.
+    pub fn reserve(&mut self, index: u64) -> Result<(), AllocError>
+        requires { index < MAX_SPANS }
+        ensures room { IfOk result (λ _. index < length self.new) }
+        ensures counts { (i line : ℕ) → count_at self.new line i ≡ count_at self.old line i }
+    {
+        if index < self.count as u64 {
+            return Ok(());
+        }
+        self.replace(index, [0; 4])
     }
 
     /// How many bytes of a line the spans below one have together.

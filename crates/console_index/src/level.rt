@@ -1,6 +1,6 @@
 //! A level of the tree: its nodes from the first span on.
 
-ghost use Rattle.std.specs.Prelude.{◌≡◌, ◌+◌, ◌<◌, ◌≤◌, ◌^◌, ℕ, IfOk, [], length, slice_index, slice_index_or, slice_set};
+ghost use Rattle.std.specs.Prelude.{◌≡◌, ◌+◌, ◌<◌, ◌≤◌, ◌^◌, ℕ, IfOk, IsOk, [], length, slice_index, slice_index_or, slice_set};
 ghost use Rattle.console_index.specs.Counts.{count_at};
 
 use std::alloc::{AllocError, Global};
@@ -52,6 +52,7 @@ impl Level {
         ensures kept { (m : ℕ) → m < length self.old → slice_index_or self.new m [] ≡ slice_index_or self.old m [] }
         ensures long { length self.old ≤ length self.new }
         ensures room { IfOk result (λ _. count ≤ length self.new) }
+        ensures free { count ≤ length self.old → IsOk result }
     {
         while self.nodes.len() < count {
             self.nodes.push([0; 4])?;

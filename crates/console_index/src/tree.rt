@@ -1,6 +1,6 @@
 //! The tree by its levels, the lowest first.
 
-ghost use Rattle.std.specs.Prelude.{◌≡◌, ◌+◌, ◌/◌, ◌^◌, ◌<◌, ◌≤◌, ℕ, [], IfOk, OnErr, length, max, slice_index, slice_index_or, slice_set};
+ghost use Rattle.std.specs.Prelude.{◌≡◌, ◌+◌, ◌/◌, ◌^◌, ◌<◌, ◌≤◌, ℕ, [], IfOk, IsOk, OnErr, length, max, slice_index, slice_index_or, slice_set};
 ghost use Rattle.console_index.specs.Counts.{count_at, total};
 ghost use Rattle.console_index.specs.declared.tree.TheConstants.{LEVELS, MAX_SPANS};
 ghost use Rattle.console_index.specs.Tree.{Grown, HasRoom, IsPut, IsTree, IsTreeBut, Same, bottom, most};
@@ -70,6 +70,7 @@ pub(crate) fn deepen(alloc: Global, levels: &mut Vec<Level>) -> Result<(), Alloc
     ensures few { length levels.new.items ≤ LEVELS }
     ensures all { IfOk result (λ _. length levels.new.items ≡ LEVELS) }
     ensures same { length levels.old.items ≡ LEVELS → levels.new.items ≡ levels.old.items }
+    ensures free { length levels.old.items ≡ LEVELS → IsOk result }
 {
     while levels.len() < LEVELS {
         levels.push(Level::new(alloc))?;
@@ -82,6 +83,7 @@ pub(crate) fn grow(levels: &mut [Level], count: usize) -> Result<(), AllocError>
     requires { count < 2 ^ length levels.old }
     ensures grown { Grown levels.old levels.new }
     ensures room { IfOk result (λ _. HasRoom count levels.new) }
+    ensures free { HasRoom count levels.old → IsOk result }
 {
     match levels.split_first_mut() {
         None => Ok(()),
@@ -143,6 +145,7 @@ pub(crate) fn update(
     ensures tree { IfOk result (λ _. IsTree (max held (index + 1)) levels.new) }
     ensures bottom { IfOk result (λ _. IsPut held index counts (bottom levels.old) (bottom levels.new)) }
     ensures same { OnErr result (IsTree held levels.new × Same held (bottom levels.old) (bottom levels.new)) }
+    ensures free { index < held → IsOk result }
 {
     let count = held.max(index + 1);
     grow(levels, count)?;

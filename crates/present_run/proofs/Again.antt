@@ -1,5 +1,5 @@
 -- Spans that go on from where one of them ends, and logs that are the same outside some times.
-use Rattle.std.proofs.Common.{◌≡◌, ℕ, zero, suc, ◌+◌, ◌-◌, ◌*◌, ◌/◌, ◌<◌, ◌≤◌, ◌⊎◌, IsSome, List, [], ◌∷◌, ◌++◌, inl, inr, length, map, Option, Some, None, slice_get, slice_index_or, slice_set, refl, sym, ap, subst, ◌∙◌, arith}
+use Rattle.std.proofs.Common.{◌≡◌, ℕ, zero, suc, ◌+◌, ◌-◌, ◌*◌, ◌/◌, ◌<◌, ◌≤◌, ◌⊎◌, IfSome, IsSome, List, [], ◌∷◌, ◌++◌, inl, inr, length, map, Option, Some, None, slice_get, slice_index_or, slice_set, refl, sym, ap, subst, ◌∙◌, arith}
 use Rattle.std.proofs.Math.Nat.{div-mul-le_self, lt-div-mul-add, mul-le-mul_right}
 use Rattle.std.proofs.Math.Path.{ap₂}
 use Rattle.std.specs.Option.{is_some}
@@ -13,7 +13,11 @@ use Rattle.r3k_machine.proofs.Splits.{run_own}
 use Rattle.span_fact.specs.Span.{Span, end_of}
 use Rattle.present_run.specs.Ends.{AreEnds, GoesOn, IsJoined, IsJoinedFrom, IsPut}
 use Rattle.present_run.specs.Reuse.{span_from, span_of}
-use Rattle.present_run.specs.Runs.{AreSameOutside}
+use Rattle.r3k_pages.specs.Pages.{SameOutside}
+use Rattle.checkpoints.specs.Kept.{Kept, span_at}
+use Rattle.present_run.specs.Index.{Agrees, Index}
+use Rattle.present_run.specs.declared.runs.Runs.{Runs}
+use Rattle.present_run.specs.Runs.{AreOf, AreSameOutside}
 use Rattle.present_run.proofs.Spans.{ends, next_start, some_is}
 
 -- ---- a list of ends
@@ -276,3 +280,25 @@ goes_on_over pages span image log changed spans all from to valid again now inde
 pub there_is : (pages span index : ℕ) (o : Option Span) (s : Span) → IsJoined pages span index o s → IsSome o
 there_is pages span index None s joined = absurd joined.near
 there_is pages span index (Some r) s joined = refl
+
+-- the same where room was reserved, and the index agrees with the records
+pub over_kept : {pages span : ℕ} (image : Boot) (log : List LogEvent) (runs : Runs pages span) (kept : Kept) (told : Index)
+    → ((i : ℕ) → span_at kept i ≡ span_at runs.kept i) → kept.valid ≡ runs.kept.valid → Agrees pages span told kept.spans
+    → AreOf image log runs → AreOf image log (record runs { kept = kept; told = told })
+over_kept {pages} {span} image log runs kept told same valid_is agrees of = record {
+  sizes = of.sizes;
+  start = of.start;
+  stands = of.stands;
+  recorded = of.recorded;
+  joined = λ i within.
+      subst (λ (o : Option Span). IsJoined pages span i o (span_of pages span image log i)) (sym (same i)) (of.joined i (subst (λ (n : ℕ). i < n) valid_is within));
+  ends = subst (λ (n : ℕ). AreEnds pages span image log n (map (λ end. end.value) runs.ends.items)) (sym valid_is) of.ends;
+  again = λ index first past.
+      goes_on_kept pages span log runs.kept.spans kept.spans (map (λ end. end.value) runs.ends.items) index (same (index + 1)) (of.again index first (omega (arith, valid_is, past)));
+  exact = λ last is yes. same last ∙ of.exact last (is ∙ valid_is) yes;
+  differ =
+      subst (λ (n : ℕ). IfSome (span_at kept n) (λ s. SameOutside runs.differing s.start.words (state_at pages image log (n * span)).words)) (sym valid_is)
+      (subst (λ (o : Option Span). IfSome o (λ s. SameOutside runs.differing s.start.words (state_at pages image log (runs.kept.valid * span)).words)) (sym (same runs.kept.valid)) of.differ);
+  patches = subst (λ (o : Option Span). IfSome o (λ s. SameOutside runs.patched s.start.words (reset pages image).words)) (sym (same 0)) of.patches;
+  agrees = agrees;
+}

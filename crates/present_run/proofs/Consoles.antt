@@ -6,7 +6,7 @@ use Rattle.std.proofs.lemmas.List.{append-nil}
 use Rattle.std.proofs.lemmas.List.Elements.{filter_map-append}
 use Rattle.r3k_live.specs.declared.recorder.SentAt.{SentAt}
 use Rattle.present_run.specs.Console.{part_of, with_byte}
-use Rattle.span_index.specs.Sent.{bytes_on, on_line}
+use Rattle.present_run.specs.Sent.{bytes_on, on_line}
 
 -- nothing is shown of a console without bytes
 pub part_nil : (from count : ℕ) → part_of {A = ℕ} from count [] ≡ []

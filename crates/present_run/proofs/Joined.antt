@@ -11,9 +11,9 @@ use Rattle.r3k_machine.specs.Run.{byte_on, console_of, last_writer, later, sende
 use Rattle.r3k_machine.proofs.Splits.{senders_count}
 use Rattle.r3k_live.specs.Record.{sent_from}
 use Rattle.span_fact.specs.Span.{Span}
-use Rattle.span_index.specs.Index.{IsLastWriter, IsSender, bytes_at, sent_below, steps_in}
-use Rattle.span_index.specs.Sent.{bytes_on, steps_on}
-use Rattle.span_index.proofs.Joined.{sent_joined, step_of, writer_joined}
+use Rattle.present_run.specs.Index.{IsLastWriter, IsSender, bytes_at, sent_below, steps_in}
+use Rattle.present_run.specs.Sent.{bytes_on, steps_on}
+use Rattle.present_run.proofs.Indexed.{sent_joined, step_of, writer_joined}
 use Rattle.present_run.specs.Console.{Shows, part_of}
 use Rattle.present_run.specs.Reuse.{span_of}
 use Rattle.present_run.specs.Ends.{IsJoined}

@@ -9,7 +9,7 @@ use Rattle.r3k_machine.specs.Run.{state_at}
 use Rattle.r3k_pages.specs.Pages.{SameOutside}
 use Rattle.span_fact.specs.Span.{Span, end_of}
 use Rattle.checkpoints.specs.Kept.{Follows}
-use Rattle.span_index.specs.Index.{Index, IsSettled}
+use Rattle.present_run.specs.Index.{Index}
 use Rattle.present_run.specs.Reuse.{span_of}
 use Rattle.present_run.specs.Ends.{AreEnds}
 use Rattle.present_run.proofs.Differ.{same_all}
@@ -106,17 +106,3 @@ end_at value (first ∷ rest) (suc index) end state within is got = end_at value
 pub value_count : {A : Type 0} (value : A → State) (ends : List A) → length (map value ends) ≡ length ends
 value_count value [] = refl
 value_count value (first ∷ rest) = ap (λ (n : ℕ). suc n) (value_count value rest)
-
--- trivially, none of the first 0 records has changed
-not_before : (stale : Option ℕ) → IfSome stale (λ i. 0 ≤ i)
-not_before None = tt
-not_before (Some i) = omega arith
-
-pub settled_first : (index : Index) → IsSettled index 0
-settled_first index = not_before index.stale
-
-pub settled_none : (index : Index) (count : ℕ) → index.stale ≡ None → IsSettled index count
-settled_none index count none = subst (λ (o : Option ℕ). IfSome o (λ i. count ≤ i)) (sym none) tt
-
-pub settled_at : (index : Index) (i count : ℕ) → index.stale ≡ Some i → count ≤ i → IsSettled index count
-settled_at index i count is behind = subst (λ (o : Option ℕ). IfSome o (λ i. count ≤ i)) (sym is) behind

@@ -9,7 +9,7 @@ use Rattle.r3k_machine.specs.declared.step.Done.{Done}
 use Rattle.r3k_machine.specs.Run.{byte_on, console_of, senders_of, with_sender}
 use Rattle.r3k_live.specs.Record.{sent_from, with_sent}
 use Rattle.r3k_live.specs.declared.recorder.SentAt.{SentAt}
-use Rattle.span_index.specs.Sent.{bytes_on, on_line, steps_on}
+use Rattle.present_run.specs.Sent.{bytes_on, on_line, steps_on}
 
 -- the bytes of a line, with one more in front
 byte_first : (line step : ℕ) (sent : Option Sent) (later : List SentAt) → bytes_on line (with_sent step sent later) ≡ cons_option (byte_on line sent) (bytes_on line later)

@@ -14,7 +14,7 @@ use Rattle.r3k_live.specs.Record.{sent_from}
 use Rattle.span_fact.specs.Span.{steps_of}
 use Rattle.present_run.specs.Reuse.{span_of}
 use Rattle.present_run.specs.Runs.{steps_between}
-use Rattle.span_index.specs.Sent.{bytes_on, steps_on}
+use Rattle.present_run.specs.Sent.{bytes_on, steps_on}
 use Rattle.present_run.proofs.Sending.{console_sent, senders_sent}
 use Rattle.present_run.proofs.Spans.{next_start, some_is}
 use Rattle.present_run.proofs.Steps.{trace_front, trace_long}

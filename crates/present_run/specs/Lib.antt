@@ -7,4 +7,9 @@ pub mod Console
 pub mod Seeking
 pub mod Reuse
 pub mod Ends
+pub mod Sent
+pub mod Index
+pub mod Landings
 pub mod Runs
+pub mod Landed
+pub mod Shown

@@ -31,12 +31,15 @@ kept_at h index = slice_index_or h.spans index None
 abbrev pub Applies : (pages span : ℕ) → Holding → ℕ → Type 0
 Applies pages span h index = kept_at h index ≡ Some (span_of pages span h.history.image h.history.log index)
 
--- a record is kept of a span that applies or nearly applies: its events are those of the log, and its start differs from the state
--- of the run from reset only in words of pages that it does not touch
+-- a record of this number serves for a history: it applies or nearly applies, so its events are those of the log, and its start
+-- differs from the state of the run from reset only in words of pages that it does not touch
+abbrev pub IsServed : (pages span : ℕ) → History → List (Option Span) → ℕ → Type 0
+IsServed pages span h spans index =
+    let s : Span = span_of pages span h.image h.log index in
+    IsNear pages span (slice_index_or spans index None) s.start s.events
+
 abbrev pub Serves : (pages span : ℕ) → Holding → ℕ → Type 0
-Serves pages span h index =
-    let s : Span = span_of pages span h.history.image h.history.log index in
-    IsNear pages span (kept_at h index) s.start s.events
+Serves pages span h index = IsServed pages span h.history h.spans index
 
 -- of the first `count` spans, `lacking` have no record that serves
 unfoldable pub Lacks : (pages span : ℕ) → Holding → (count lacking : ℕ) → Type 0

@@ -1,5 +1,7 @@
 -- The present run of a history, as it is kept (own).
-use Rattle.std.specs.Prelude.{◌≡◌, ℕ, ◌+◌, ◌-◌, ◌*◌, ◌/◌, ◌<◌, ◌≤◌, ◌⊎◌, IfSome, IsTrue, List, Some, map}
+use Rattle.std.specs.Prelude.{◌≡◌, ℕ, ◌+◌, ◌-◌, ◌*◌, ◌/◌, ◌%◌, ◌<◌, ◌≤◌, ◌⊎◌, IfSome, IsTrue, List, Contains, Option, Some, None, map}
+use Rattle.std.specs.Coded.{Coded-set, codes}
+use Rattle.std.proofs.Props.{props}
 use Rattle.input_log.specs.Event.{LogEvent}
 use Rattle.input_log.specs.Log.{window_of}
 use Rattle.r3k_image.specs.Boot.{Boot}
@@ -8,11 +10,13 @@ use Rattle.r3k_machine.specs.declared.step.Done.{Done}
 use Rattle.r3k_machine.specs.Run.{state_at, trace}
 use Rattle.r3k_pages.specs.Pages.{SameOutside}
 use Rattle.r3k_machine.specs.State.{State}
-use Rattle.checkpoints.specs.Kept.{span_at}
+use Rattle.span_fact.specs.Span.{Span}
+use Rattle.checkpoints.specs.Kept.{IsNear, span_at}
 use Rattle.r3k_live.specs.Recording.{Records}
-use Rattle.span_index.specs.Index.{Agrees, IsSettled}
+use Rattle.present_run.specs.Index.{Agrees}
 use Rattle.present_run.specs.Ends.{AreEnds, GoesOn, IsJoined}
-use Rattle.present_run.specs.Reuse.{Holding, span_of}
+use Rattle.present_run.specs.History.{History, event_code}
+use Rattle.present_run.specs.Reuse.{IsServed, span_of}
 use Rattle.present_run.specs.Sizes.{AreSizes}
 use Rattle.present_run.specs.declared.runs.Runs.{Runs}
 
@@ -24,19 +28,8 @@ steps_between pages image log from to = trace pages log from (state_at pages ima
 abbrev pub AreSameOutside : (from last : ℕ) → (a b : List LogEvent) → Type 0
 AreSameOutside from last a b = (start end : ℕ) → (end ≤ from) ⊎ (last < start) → window_of start end b ≡ window_of start end a
 
--- what is held with the run of a history
-abbrev pub holding_of : {pages span : ℕ} → Boot → List LogEvent → Runs pages span → Holding
-holding_of image log runs = record { history = record { image = image; log = log }; spans = runs.kept.spans; steps = runs.live.steps }
-
--- a state of the run between two positions
-pub record IsOnTheWay (pages : ℕ) (image : Boot) (log : List LogEvent) (from to position : ℕ) (state : State) : Type 0 where
-  pub is : state ≡ state_at pages image log position
-  pub least : from ≤ position
-  pub most : position ≤ to
-
 -- What is kept is of the run from reset: the start, where the machine stands, what the recorder holds, the joined records, and the
--- ends of their spans. `exact` may say that the last joined record is that of the run. The index has what the records report, and
--- of the joined ones all. After these ends come those of an earlier run: from `again` on, each span goes on from where the one
+-- ends of their spans. `exact` may say that the last joined record is that of the run. The index has what the records report. After these ends come those of an earlier run: from `again` on, each span goes on from where the one
 -- before it ended. The record of the next span starts with the same words as that span outside the differing pages. The first
 -- record does so with reset, outside the patched pages.
 pub record AreOf {pages span : ℕ} (image : Boot) (log : List LogEvent) (runs : Runs pages span) : Type 0 where
@@ -52,4 +45,30 @@ pub record AreOf {pages span : ℕ} (image : Boot) (log : List LogEvent) (runs :
   pub differ : IfSome (span_at runs.kept runs.kept.valid) (λ s. SameOutside runs.differing s.start.words (state_at pages image log (runs.kept.valid * span)).words)
   pub patches : IfSome (span_at runs.kept 0) (λ s. SameOutside runs.patched s.start.words (reset pages image).words)
   pub agrees : Agrees pages span runs.told runs.kept.spans
-  pub settled : IsSettled runs.told runs.kept.valid
+
+-- A state that is kept is that of the run at its position, and each span before that one has a record that serves.
+pub record IsLanding (pages span : ℕ) (h : History) (spans : List (Option Span)) (position : ℕ) (state : State) : Type 0 where
+  pub is : state ≡ state_at pages h.image h.log position
+  pub inside : ¬ (position % span ≡ 0)
+  pub served : (index : ℕ) → index < position / span → IsServed pages span h spans index
+
+-- each of these states is kept at its position
+abbrev pub AreLandings : (pages span : ℕ) → History → List (Option Span) → List (ℕ × State) → Type 0
+AreLandings pages span h spans states = (e : ℕ × State) → Contains states e → IsLanding pages span h spans e.0 e.1
+
+-- each of these facts has one proof at most
+state_set : IsSet State
+state_set = Coded-set (hlevel codes)
+
+span_set : IsSet Span
+span_set = Coded-set (hlevel (event_code, codes))
+
+near_prop : (pages span : ℕ) (o : Option Span) (start : State) (events : List LogEvent) → IsProp (IsNear pages span o start events)
+near_prop pages span None start events = hlevel props
+near_prop pages span (Some s) start events = hlevel (state_set, event_code, codes, props)
+
+pub AreOf-prop : {pages span : ℕ} (image : Boot) (log : List LogEvent) (runs : Runs pages span) → IsProp (AreOf image log runs)
+AreOf-prop {pages} {span} image log runs = hlevel (near_prop, state_set, span_set, props)
+
+pub AreLandings-prop : (pages span : ℕ) (h : History) (spans : List (Option Span)) (states : List (ℕ × State)) → IsProp (AreLandings pages span h spans states)
+AreLandings-prop pages span h spans states = hlevel (near_prop, state_set, props)

@@ -5,7 +5,7 @@ use r3k_image::Image;
 
 /// A boot image and a log.
 #[derive(Drop)]
-pub struct Inputs {
+pub(crate) struct Inputs {
     pub image: Image,
     pub log: Log,
 }

@@ -2,15 +2,20 @@
 //! position.
 #![tactic(auto)]
 
+mod edits;
 mod going;
+mod index;
 mod inputs;
 mod joining;
+mod landed;
+mod landings;
 mod laws;
+mod present;
+mod reaching;
 mod runs;
 mod sent;
 mod telling;
 
-pub use inputs::Inputs;
 pub use laws::lacking_laws;
-pub use runs::Runs;
+pub use present::Present;
 pub use sent::Shown;

@@ -2,7 +2,7 @@
 
 ghost use Rattle.std.specs.Prelude.{◌≡◌, ℕ, ◌+◌, ◌-◌, ◌^◌, ◌<◌, ◌≤◌, ◌++◌, List, Some, length, slice_get};
 ghost use Rattle.present_run.specs.Console.{Shows, with_byte};
-ghost use Rattle.span_index.specs.Sent.{bytes_on, on_line, steps_on};
+ghost use Rattle.present_run.specs.Sent.{bytes_on, on_line, steps_on};
 ghost use Rattle.present_run.specs.Seeking.{IsNear, Seeks};
 
 use arrayvec::ArrayVec;

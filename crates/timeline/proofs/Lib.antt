@@ -1,4 +1,1 @@
-mod Edited
-mod Landings
-mod Patches
 pub mod Plain

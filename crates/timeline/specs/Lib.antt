@@ -8,5 +8,5 @@ pub use Rattle.present_run.specs.Sizes
 pub use Rattle.present_run.specs.Console
 pub use Rattle.present_run.specs.History
 pub use Rattle.present_run.specs.Reuse
+pub use Rattle.present_run.specs.Landed
 pub mod Query
-pub mod Landed

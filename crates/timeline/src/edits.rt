@@ -1,21 +1,14 @@
 //! Edits of the history. Records of spans outlive them, though they may no longer be those of the run.
 
-ghost use Rattle.std.specs.Prelude.{◌≡◌, ◌<◌, [], IfOk, List, Some, length, slice_get};
+ghost use Rattle.std.specs.Prelude.{◌≡◌, IfOk, length};
 ghost use Rattle.input_log.specs.declared.event.Kind.TheVariants.{Byte, Framing, Wire};
-ghost use Rattle.input_log.specs.Event.{LogEvent};
-ghost use Rattle.input_log.specs.Log.{IsLog};
 ghost use Rattle.input_log.specs.Edits.{adding, deleting, erasing, moving, setting, up_to, without};
-ghost use Rattle.r3k_image.specs.Boot.{Boot, FitsRam};
-ghost use Rattle.present_run.specs.Runs.{AreOf, AreSameOutside};
+ghost use Rattle.r3k_image.specs.Boot.{FitsRam};
 ghost use Rattle.r3k_image.specs.Patch.{patching};
 ghost use Rattle.refusal.specs.Given.{Changes, ChangesOrLacks};
-ghost use Rattle.timeline.specs.Landed.{with_image, with_log};
+ghost use Rattle.present_run.specs.Landed.{with_image, with_log};
 
 use crate::timeline::Timeline;
-use input_log::{Log, log_laws};
-use landings::Landings;
-use present_run::Runs;
-use r3k_word::layout::{page_of, place_of};
 use refusal::Fault;
 
 impl<const PAGES: u32, const SPAN: u32> Timeline<PAGES, SPAN> {
@@ -25,11 +18,7 @@ impl<const PAGES: u32, const SPAN: u32> Timeline<PAGES, SPAN> {
         ensures log { ChangesOrLacks (with_log self.old (adding (record { time = time; kind = Byte; line = line; byte = byte }) self.old.history.log)) self.old self.new result }
         ensures place { IfOk result (λ place. place ≡ length (up_to time self.old.history.log)) }
     {
-        log_laws();
-        let _in_order = self.inputs.log.events();
-        let place = self.inputs.log.add(time, line, byte)?;
-        edited(&mut self.runs, &mut self.landings, time, time);
-        Ok(place)
+        self.present.add(time, line, byte)
     }
 
     /// Adds the arrival of a byte with a framing error, as `add` does that of a byte.
@@ -37,11 +26,7 @@ impl<const PAGES: u32, const SPAN: u32> Timeline<PAGES, SPAN> {
         ensures log { ChangesOrLacks (with_log self.old (adding (record { time = time; kind = Framing; line = line; byte = byte }) self.old.history.log)) self.old self.new result }
         ensures place { IfOk result (λ place. place ≡ length (up_to time self.old.history.log)) }
     {
-        log_laws();
-        let _in_order = self.inputs.log.events();
-        let place = self.inputs.log.ferr(time, line, byte)?;
-        edited(&mut self.runs, &mut self.landings, time, time);
-        Ok(place)
+        self.present.ferr(time, line, byte)
     }
 
     /// Adds a level, 0 or 1, of an external line, 0 to 2, as `add` does a byte. Another line or level is `Range` too.
@@ -49,22 +34,14 @@ impl<const PAGES: u32, const SPAN: u32> Timeline<PAGES, SPAN> {
         ensures log { ChangesOrLacks (with_log self.old (adding (record { time = time; kind = Wire; line = line; byte = level }) self.old.history.log)) self.old self.new result }
         ensures place { IfOk result (λ place. place ≡ length (up_to time self.old.history.log)) }
     {
-        log_laws();
-        let _in_order = self.inputs.log.events();
-        let place = self.inputs.log.wire(time, line, level)?;
-        edited(&mut self.runs, &mut self.landings, time, time);
-        Ok(place)
+        self.present.wire(time, line, level)
     }
 
     /// Deletes an event by its place in the log. `NoEvent` if there is none.
     pub fn del(&mut self, place: u64) -> Result<(), Fault>
         ensures { Changes (with_log self.old (deleting place self.old.history.log)) self.old self.new result }
     {
-        log_laws();
-        let at = time_of(&self.inputs.log, place);
-        self.inputs.log.del(place)?;
-        edited(&mut self.runs, &mut self.landings, at, at);
-        Ok(())
+        self.present.del(place)
     }
 
     /// Gives an event another byte. `NoEvent` if there is none, `Range` if it is the level of an external line and the byte is
@@ -72,11 +49,7 @@ impl<const PAGES: u32, const SPAN: u32> Timeline<PAGES, SPAN> {
     pub fn set(&mut self, place: u64, byte: u8) -> Result<(), Fault>
         ensures { Changes (with_log self.old (setting place byte self.old.history.log)) self.old self.new result }
     {
-        log_laws();
-        let at = time_of(&self.inputs.log, place);
-        self.inputs.log.set(place, byte)?;
-        edited(&mut self.runs, &mut self.landings, at, at);
-        Ok(())
+        self.present.set(place, byte)
     }
 
     /// Moves an event to another time, as if it was deleted and added again, and gives its new place in the log. `Range` for a time
@@ -85,16 +58,7 @@ impl<const PAGES: u32, const SPAN: u32> Timeline<PAGES, SPAN> {
         ensures log { Changes (with_log self.old (moving place time self.old.history.log)) self.old self.new result }
         ensures place { IfOk result (λ now. now ≡ length (up_to time (without place self.old.history.log))) }
     {
-        log_laws();
-        let at = time_of(&self.inputs.log, place);
-        let place = self.inputs.log.move_to(place, time)?;
-        edited(
-            &mut self.runs,
-            &mut self.landings,
-            at.min(time),
-            at.max(time),
-        );
-        Ok(place)
+        self.present.move_to(place, time)
     }
 
     /// Takes out all events of the times from one position up to another, which is left out, in one edit. `Range` for a position
@@ -102,10 +66,7 @@ impl<const PAGES: u32, const SPAN: u32> Timeline<PAGES, SPAN> {
     pub fn erase(&mut self, from: u64, to: u64) -> Result<(), Fault>
         ensures { Changes (with_log self.old (erasing from to self.old.history.log)) self.old self.new result }
     {
-        log_laws();
-        self.inputs.log.erase(from, to)?;
-        edited(&mut self.runs, &mut self.landings, from, to);
-        Ok(())
+        self.present.erase(from, to)
     }
 
     /// Sets a word of the image, by its physical address, also where its value stays the same. `Unaligned` if the address is not
@@ -114,49 +75,6 @@ impl<const PAGES: u32, const SPAN: u32> Timeline<PAGES, SPAN> {
         ensures image { ChangesOrLacks (with_image self.old (patching PAGES address word self.old.history.image)) self.old self.new result }
         ensures fits { FitsRam PAGES self.new.history.image }
     {
-        // A field is read, so that the sizes are known here.
-        let alloc = self.alloc;
-        if address % 4 != 0 {
-            return Err(Fault::Unaligned);
-        }
-        let Some(place) = place_of(PAGES, address) else {
-            return Err(Fault::NotMemory);
-        };
-        let reset = self.runs.reset_with(alloc, place, word)?;
-        let Ok(()) = self.inputs.image.patch(address, word) else {
-            return Err(Fault::Memory);
-        };
-        self.runs.restart(reset, page_of(place) as u32);
-        self.landings.clear();
-        Ok(())
-    }
-}
-
-// The events of the times from one to another have changed in the log.
-fn edited<const PAGES: u32, const SPAN: u32>(
-    runs: &mut Runs<PAGES, SPAN>,
-    landings: &mut Landings<PAGES>,
-    from: u64,
-    last: u64,
-)
-    requires { 0 < SPAN }
-    ensures of { (image : Boot) (log changed : List LogEvent) → AreOf {pages = PAGES} {span = SPAN} image log runs.old →
-        AreSameOutside from last log changed → AreOf {pages = PAGES} {span = SPAN} image changed runs.new }
-    ensures spans { runs.new.kept.spans ≡ runs.old.kept.spans }
-    ensures steps { runs.new.live.steps ≡ runs.old.live.steps }
-    ensures landings { landings.new ≡ [] }
-{
-    runs.forget(from, last);
-    landings.clear();
-}
-
-// The time of the event of a number, or 0 where there is none.
-fn time_of(log: &Log, place: u64) -> u64
-    ensures time { (event : LogEvent) → slice_get log.now place ≡ Some event → result ≡ event.time }
-    ensures log { IsLog log.now }
-{
-    match log.events().get(place as usize) {
-        Some(event) => event.time,
-        None => 0,
+        self.present.patch(address, word)
     }
 }

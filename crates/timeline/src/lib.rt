@@ -2,7 +2,6 @@
 #![tactic(auto)]
 
 mod edits;
-mod landed;
 mod queries;
 mod timeline;
 mod writer;

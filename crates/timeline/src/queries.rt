@@ -11,9 +11,8 @@ ghost use Rattle.std.specs.Prelude.{◌≡◌, ◌≤◌, IfOk, MatchResult, Ok}
 ghost use Rattle.refusal.specs.Given.{Gives, GivesFault};
 ghost use Rattle.input_log.specs.Limits.{max_position};
 ghost use Rattle.timeline.specs.Query.{console_at, core_at, next_pc, sent_at, word_at, writer_at, writer_of};
-ghost use Rattle.timeline.specs.Landed.{Asks, Lands};
+ghost use Rattle.present_run.specs.Landed.{Asks, Lands};
 
-use crate::landed::nearest_in_span;
 use crate::timeline::Timeline;
 use crate::writer::Writer;
 use arrayvec::ArrayVec;
@@ -37,7 +36,7 @@ impl<const PAGES: u32, const SPAN: u32> Timeline<PAGES, SPAN> {
         if position > MAX_POSITION {
             return Err(Fault::TooFar);
         }
-        Ok(self.core_of(position)?)
+        Ok(self.present.core_at(position)?)
     }
 
     /// The word of RAM or ROM at a physical address, at a position.
@@ -56,7 +55,7 @@ impl<const PAGES: u32, const SPAN: u32> Timeline<PAGES, SPAN> {
         if position > MAX_POSITION {
             return Err(Fault::TooFar);
         }
-        Ok(self.word_of(position, place)?)
+        Ok(self.present.word_at(position, place)?)
     }
 
     /// How many bytes were sent on a line before a position, and those from a place on, at most `count`. `Range` for a line above 3
@@ -81,9 +80,7 @@ impl<const PAGES: u32, const SPAN: u32> Timeline<PAGES, SPAN> {
         if position > MAX_POSITION {
             return Err(Fault::TooFar);
         }
-        let shown = self
-            .runs
-            .console(self.alloc, &self.inputs, position, line, from, count)?;
+        let shown = self.present.console(position, line, from, count)?;
         Ok((shown.total, shown.bytes))
     }
 
@@ -103,10 +100,8 @@ impl<const PAGES: u32, const SPAN: u32> Timeline<PAGES, SPAN> {
         if position > MAX_POSITION {
             return Err(Fault::TooFar);
         }
-        let set = self.inputs.image.word(address);
-        let step = self
-            .runs
-            .last_writer(self.alloc, &self.inputs, position, address)?;
+        let set = self.present.image().word(address);
+        let step = self.present.last_writer(position, address)?;
         Ok(writer_of(step, set))
     }
 
@@ -124,9 +119,7 @@ impl<const PAGES: u32, const SPAN: u32> Timeline<PAGES, SPAN> {
         if position > MAX_POSITION {
             return Err(Fault::TooFar);
         }
-        let sender = self
-            .runs
-            .sender(self.alloc, &self.inputs, position, line, place)?;
+        let sender = self.present.sender(position, line, place)?;
         sender.ok_or(Fault::NotFound)
     }
 
@@ -149,10 +142,7 @@ impl<const PAGES: u32, const SPAN: u32> Timeline<PAGES, SPAN> {
         if last > MAX_POSITION {
             return Err(Fault::TooFar);
         }
-        let near = nearest_in_span::<PAGES, SPAN>(&self.landings, position);
-        let found = self
-            .runs
-            .next_visit(self.alloc, &self.inputs, position, address, last, near)?;
+        let found = self.present.next_visit(position, address, last)?;
         found.ok_or(Fault::NotFound)
     }
 }

@@ -7,11 +7,10 @@ ghost use Rattle.r3k_image.specs.declared.fault.ImageFault.TheVariants.{Bad, Mem
 ghost use Rattle.r3k_image.specs.declared.fault.ImageKind.TheVariants.{Pages};
 ghost use Rattle.present_run.specs.Reuse.{Serves};
 ghost use Rattle.present_run.specs.Sizes.{AreSizes};
-ghost use Rattle.timeline.specs.Landed.{holding};
+ghost use Rattle.present_run.specs.Landed.{holding};
 
 use input_log::Log;
-use landings::Landings;
-use present_run::{Inputs, Runs};
+use present_run::Present;
 use r3k_image::{Image, ImageFault, ImageKind};
 use std::alloc::Global;
 use std::marker::Model;
@@ -21,36 +20,20 @@ use std::marker::Model;
 /// last 8 states inside spans that were asked for are kept too, up to the next edit.
 #[derive(Drop)]
 pub struct Timeline<const PAGES: u32, const SPAN: u32> {
-    pub(crate) alloc: Global,
-    pub(crate) inputs: Inputs,
-    pub(crate) runs: Runs<PAGES, SPAN>,
-    // States of the present run inside spans.
-    pub(crate) landings: Landings<PAGES>,
+    pub(crate) present: Present<PAGES, SPAN>,
 }
 
 impl<const PAGES: u32, const SPAN: u32> Model for Timeline<PAGES, SPAN> {
     ghost use Rattle.std.specs.Coded.{codes};
-    ghost use Rattle.present_run.specs.History.{IsHistory, history_code};
-    ghost use Rattle.std.specs.Prelude.{ℕ, Contains};
-    ghost use Rattle.r3k_machine.specs.State.{State};
-    ghost use Rattle.landings.specs.Landings.{positions_of};
-    ghost use Rattle.timeline.specs.Landed.{IsLanding, Landed};
-    ghost use Rattle.present_run.specs.Runs.{AreOf, holding_of};
+    ghost use Rattle.present_run.specs.History.{history_code};
+    ghost use Rattle.present_run.specs.Landed.{Landed};
+    ghost use Rattle.present_run.specs.Shown.{landed_of};
 
     ghost Value = { Landed };
 
     ghost coded = { Prim.hlevel (history_code, codes) };
 
-    ghost view = { λ t. record {
-      history = record { image = t.inputs.image; log = t.inputs.log };
-      spans = t.runs.kept.spans;
-      steps = t.runs.live.steps;
-      landings = positions_of t.landings;
-    } };
-
-    ghost invariant = { λ t. IsHistory PAGES SPAN (record { image = t.inputs.image; log = t.inputs.log })
-        × AreOf {pages = PAGES} {span = SPAN} t.inputs.image t.inputs.log t.runs
-        × ((e : ℕ × State) → Contains t.landings e → IsLanding PAGES SPAN (holding_of t.inputs.image t.inputs.log t.runs) e.0 e.1) };
+    ghost view = { λ t. landed_of t.present };
 }
 
 impl<const PAGES: u32, const SPAN: u32> Timeline<PAGES, SPAN> {
@@ -65,31 +48,22 @@ impl<const PAGES: u32, const SPAN: u32> Timeline<PAGES, SPAN> {
         if !image.fits(PAGES) {
             return Err(ImageFault::Bad(ImageKind::Pages));
         }
-        let inputs = Inputs { image, log };
-        let runs = Runs::boot(alloc, &inputs)?;
-        let Ok(landings) = Landings::new(alloc) else {
-            return Err(ImageFault::Memory);
-        };
-        Ok(Timeline {
-            alloc,
-            inputs,
-            runs,
-            landings,
-        })
+        let present = Present::boot(alloc, image, log)?;
+        Ok(Timeline { present })
     }
 
     /// The boot image as it now stands.
     pub fn image(&self) -> &Image
         ensures { result.now ≡ self.now.history.image }
     {
-        &self.inputs.image
+        self.present.image()
     }
 
     /// The log as it now stands.
     pub fn log(&self) -> &Log
         ensures { result.now ≡ self.now.history.log }
     {
-        &self.inputs.log
+        self.present.log()
     }
 
     /// How many states inside spans are kept: at most 8, each of another position. No span starts at one, and each span before one
@@ -103,13 +77,13 @@ impl<const PAGES: u32, const SPAN: u32> Timeline<PAGES, SPAN> {
         ensures served { (position : ℕ) → Contains self.now.landings position →
             (index : ℕ) → index < position / SPAN → Serves PAGES SPAN (holding self.now) index }
     {
-        self.landings.len()
+        self.present.landings()
     }
 
     /// How many steps were run so far, for all queries together, up to the greatest number.
     pub fn steps_run(&self) -> u64
         ensures { result ≡ self.now.steps }
     {
-        self.runs.live.steps()
+        self.present.steps_run()
     }
 }

@@ -1,8 +1,9 @@
-use Rattle.std.proofs.Common.{◌≡◌, ◌+◌, ◌<◌, List, ℕ, [], length, max, slice_index_or, ap, ◌∙◌, arith}
+use Rattle.std.proofs.Common.{◌≡◌, ◌+◌, ◌<◌, List, ℕ, [], length, max, slice_index_or, is_ok, sym, ap, ◌∙◌, arith}
+use Rattle.std.proofs.lemmas.Bool.{false≢true}
 use Rattle.std.proofs.lemmas.List.{get_or-set_other, get_or-set_same}
 use Rattle.console_index.specs.Counts.{count_at}
 use Rattle.console_index.specs.Tree.{bottom}
-use Rattle.console_index.proofs.Putting.{but_room, less_room, most_of_all, on_err, put_other, same_grown, tree_but, tree_grown}
+use Rattle.console_index.proofs.Putting.{but_room, less_room, most_of_all, on_err, put_other, same_grown, tree_but, tree_grown, tree_room}
 use Rattle.console_index.proofs.tree.update.Goals as goal
 
 pub returns-in_err-grow-clause-same : goal.returns-in_err-grow-clause-same
@@ -49,3 +50,9 @@ returns-clause-bottom c =
           ap (λ (spans : List (List ℕ)). count_at spans line m) c.put.ensures.bottom
           ∙ (put_other before c.args.counts line index m (λ e. absurd (omega (arith, e, below))) ∙ c.fill.ensures.zero m line behind below);
     }
+
+pub returns-in_err-grow-clause-free : goal.returns-in_err-grow-clause-free
+returns-in_err-grow-clause-free c = λ below.
+    let count : c.max-count.result ≡ max c.args.held (c.args.index + 1) = grind arith in
+    let room = less_room c.args.levels.now c.args.held c.max-count.result (omega (arith, count, below)) (tree_room c.args.levels.now c.args.held c.requires.tree) in
+    absurd (false≢true (sym (ap is_ok (c.in_err-grow.was {u = tt})) ∙ c.grow.ensures.free room))

@@ -1,7 +1,7 @@
 use Rattle.std.proofs.Common.{◌≡◌, ℕ, ◌+◌, ◌++◌, ◌∷◌, [], List, length, length-append, take, drop, slice_get, slice_index_or, sym, ap, ◌∙◌, arith}
 use Rattle.std.proofs.lemmas.List.{take_more, take-append-drop}
 use Rattle.r3k_live.specs.declared.recorder.SentAt.{SentAt}
-use Rattle.span_index.specs.Sent.{steps_on}
+use Rattle.present_run.specs.Sent.{steps_on}
 use Rattle.present_run.proofs.Seeks.{at_seam}
 use Rattle.present_run.proofs.Sending.{steps_more, steps_none, steps_split}
 use Rattle.present_run.proofs.sent.seek.Goals as goal

@@ -1,5 +1,5 @@
 use Rattle.std.proofs.Common.{◌≡◌, ◌+◌, length, take}
-use Rattle.span_index.specs.Sent.{steps_on}
+use Rattle.present_run.specs.Sent.{steps_on}
 use Rattle.present_run.proofs.sent.seek.Given as goal
 
 -- how many places are left after those that were searched

@@ -4,9 +4,9 @@ use Rattle.r3k_machine.specs.Run.{state_at}
 use Rattle.r3k_pages.specs.Pages.{SameOutside}
 use Rattle.r3k_live.specs.Living.{Living}
 use Rattle.checkpoints.specs.Kept.{Kept, span_at}
-use Rattle.span_index.specs.Index.{Agrees, Index}
+use Rattle.present_run.specs.Index.{Agrees}
 use Rattle.present_run.proofs.Again.{no_some}
-use Rattle.present_run.proofs.Next.{no_ends, settled_none}
+use Rattle.present_run.proofs.Next.{no_ends}
 use Rattle.present_run.proofs.Spans.{at_reset}
 use Rattle.present_run.proofs.runs.Runs.boot.Goals as goal
 
@@ -23,5 +23,4 @@ returns-clause-of g c = record {
   differ = subst (λ (k : Kept). IfSome (span_at k k.valid) (λ s. SameOutside c.in_ok-new-2.field-0 s.start.words (state_at g.row.PAGES c.args.inputs.now.image c.args.inputs.now.log (k.valid * g.row.SPAN)).words)) (sym c.new-3.ensures) tt;
   patches = subst (λ (k : Kept). IfSome (span_at k 0) (λ s. SameOutside c.in_ok-new-3.field-0 s.start.words (reset g.row.PAGES c.args.inputs.now.image).words)) (sym c.new-3.ensures) tt;
   agrees = subst (λ (k : Kept). Agrees g.row.PAGES g.row.SPAN c.new-4.result k.spans) (sym c.new-3.ensures) (c.new-4.ensures.agrees g.row.PAGES g.row.SPAN);
-  settled = settled_none c.new-4.result _ (ap (λ (i : Index). i.stale) c.new-4.ensures.empty);
 }

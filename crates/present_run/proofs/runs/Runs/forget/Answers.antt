@@ -6,7 +6,7 @@ use Rattle.r3k_machine.specs.Run.{state_at}
 use Rattle.r3k_pages.specs.Pages.{SameOutside}
 use Rattle.span_fact.specs.Span.{Span}
 use Rattle.checkpoints.specs.Kept.{Kept, span_at}
-use Rattle.span_index.specs.Index.{Agrees, IsSettled}
+use Rattle.present_run.specs.Index.{Agrees}
 use Rattle.present_run.specs.Ends.{AreEnds, GoesOn, IsJoined}
 use Rattle.present_run.specs.Reuse.{span_of}
 use Rattle.present_run.proofs.Again.{ends_before, goes_on_over, joined_before, same_before, span_before, starts_before}
@@ -48,7 +48,6 @@ returns-then-joined-index-clause-of g c =
           (sym (same_before pages image log changed from to (valid * span) same (starts_before from span valid few))) of.differ;
       patches = of.patches;
       agrees = of.agrees;
-      settled = of.settled;
     }
 
 -- or fewer
@@ -103,5 +102,4 @@ returns-clause-of g c =
           (subst (λ (s : State). IfSome (span_at now index) (λ r. SameOutside c.compare.new.differing r.start.words s.words)) (c.deref-2.ensures ∙ start) c.compare.ensures);
       patches = subst (λ (o : Option Span). IfSome o (λ s. SameOutside c.args.self.now.patched s.start.words (reset pages image).words)) (sym (at 0)) of.patches;
       agrees = subst (λ (s : List (Option Span)). Agrees pages span c.args.self.now.told s) (sym spans) of.agrees;
-      settled = subst (λ (n : ℕ). IsSettled c.args.self.now.told n) (sym is) (map_some (λ i. valid ≤ i) (λ i. index ≤ i) c.args.self.now.told.stale (λ i past. omega (arith, past, less)) of.settled);
     }

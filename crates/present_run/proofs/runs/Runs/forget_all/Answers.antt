@@ -5,10 +5,10 @@ use Rattle.r3k_machine.specs.Reset.{reset}
 use Rattle.r3k_machine.specs.Run.{state_at}
 use Rattle.r3k_pages.specs.Pages.{SameOutside, holds}
 use Rattle.checkpoints.specs.Kept.{Kept, span_at}
-use Rattle.span_index.specs.Index.{Agrees, IsSettled}
+use Rattle.present_run.specs.Index.{Agrees}
 use Rattle.present_run.proofs.Again.{no_some}
 use Rattle.present_run.proofs.Differ.{wider_added}
-use Rattle.present_run.proofs.Next.{map_some, no_ends, settled_first}
+use Rattle.present_run.proofs.Next.{map_some, no_ends}
 use Rattle.present_run.proofs.Spans.{at_reset}
 use Rattle.present_run.proofs.runs.Runs.forget_all.Goals as goal
 
@@ -43,5 +43,4 @@ returns-clause-of g c =
           patches));
       patches = subst (λ (k : Kept). IfSome (span_at k 0) (λ s. SameOutside patched s.start.words (reset pages image).words)) (sym c.truncate_valid.ensures) patches;
       agrees = subst (λ (k : Kept). Agrees pages span c.args.self.now.told k.spans) (sym c.truncate_valid.ensures) agrees;
-      settled = subst (λ (n : ℕ). IsSettled c.args.self.now.told n) (sym none) (settled_first c.args.self.now.told);
     }

@@ -2,7 +2,7 @@ use Rattle.std.proofs.Common.{ℕ, ◌++◌, List, take, slice_index_or, sym, ap
 use Rattle.std.proofs.lemmas.List.{take_more}
 use Rattle.r3k_live.specs.declared.recorder.SentAt.{SentAt}
 use Rattle.present_run.specs.Console.{Shows, with_byte}
-use Rattle.span_index.specs.Sent.{bytes_on}
+use Rattle.present_run.specs.Sent.{bytes_on}
 use Rattle.present_run.proofs.Consoles.{bytes_more, take_past}
 use Rattle.present_run.proofs.sent.Shown.take_of.Goals as goal
 

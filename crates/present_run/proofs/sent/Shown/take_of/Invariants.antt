@@ -1,6 +1,6 @@
 use Rattle.std.proofs.Common.{ℕ, ◌+◌, ◌≤◌, ◌++◌, List, take}
 use Rattle.present_run.specs.Console.{Shows}
-use Rattle.span_index.specs.Sent.{bytes_on}
+use Rattle.present_run.specs.Sent.{bytes_on}
 use Rattle.present_run.proofs.sent.Shown.take_of.Given as goal
 
 -- those so far are taken

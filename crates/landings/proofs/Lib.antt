@@ -1,3 +1,0 @@
-mod Nearest
-mod Shown
-mod Touched

@@ -1,0 +1,151 @@
+-- States of the run that are kept.
+use Rattle.std.proofs.Common.{◌≡◌, ◌⊎◌, inl, inr, ℕ, zero, suc, ◌∷◌, length, get_or, ◌+◌, ◌*◌, ◌/◌, ◌%◌, ◌<◌, ◌≤◌, List, [], Contains, Option, Some, None, IfSome, MatchOption, nat_eq, slice_index_or, take, Result, Ok, Err, OnOk, OnErr, refl, sym, ap, ◌∙◌, subst, arith}
+use Rattle.std.specs.Set.{remove_key}
+use Rattle.r3k_machine.specs.Run.{state_at}
+use Rattle.r3k_machine.specs.State.{State}
+use Rattle.span_fact.specs.Span.{Span}
+use Rattle.present_run.specs.Landings.{HasNone, IsNearest, positions_of}
+use Rattle.present_run.specs.History.{History}
+use Rattle.present_run.specs.Reuse.{Applies, Holding, Reaches, Serves, Spends, kept_at, span_of}
+use Rattle.present_run.specs.Landed.{Landed, Lands}
+use Rattle.present_run.specs.Runs.{AreLandings, IsLanding}
+use Rattle.present_run.proofs.Counts.{lacks_none, serves_same}
+use Rattle.present_run.proofs.Near.{is_joined}
+use Rattle.present_run.proofs.Spans.{ok_all}
+
+-- nothing is kept
+pub none : {A : Type 0} (states : List A) (e : A) → states ≡ [] → ¬ Contains states e
+none states e is there = let within = (subst (λ l. Contains l e) is there).1 in omega (arith, within)
+
+-- a state that is kept is kept at its position
+held_at : (f : ℕ × State) (states : List (ℕ × State)) (e : ℕ × State) (k : ℕ) → k < length (f ∷ states) → get_or (f ∷ states) k e ≡ e → Contains (positions_of (f ∷ states)) e.0
+held_at f states e zero within at = (0, omega arith, ap (λ (p : ℕ × State). p.0) at)
+held_at f [] e (suc k) within at = absurd (let e : ⊥ = omega (arith, within) in e)
+held_at f (g ∷ states) e (suc k) within at =
+    let rest = held_at g states e k (omega (arith, within)) at in
+    let less = rest.1 in
+    (suc rest.0, omega (arith, less), rest.2)
+
+pub held : (states : List (ℕ × State)) (e : ℕ × State) → Contains states e → Contains (positions_of states) e.0
+held [] e there = absurd (none [] e refl there)
+held (f ∷ states) e there = held_at f states e there.0 there.1 there.2
+
+-- and at its position a state is
+held_by_at : (f : ℕ × State) (states : List (ℕ × State)) (position k : ℕ) → k < length (positions_of (f ∷ states)) → get_or (positions_of (f ∷ states)) k position ≡ position
+    → (state : State) × Contains (f ∷ states) (position, state)
+held_by_at f states position zero within at = (f.1, (0, omega arith, ap (λ (n : ℕ). let e : ℕ × State = (n, f.1) in e) at))
+held_by_at f [] position (suc k) within at = absurd (let e : ⊥ = omega (arith, within) in e)
+held_by_at f (g ∷ states) position (suc k) within at =
+    let rest = held_by_at g states position k (omega (arith, within)) at in
+    let less = rest.1.1 in
+    (rest.0, (suc rest.1.0, omega (arith, less), rest.1.2))
+
+pub held_by : (states : List (ℕ × State)) (position : ℕ) → Contains (positions_of states) position → (state : State) × Contains states (position, state)
+held_by [] position there = absurd (none [] position refl there)
+held_by (f ∷ states) position there = held_by_at f states position there.0 there.1 there.2
+
+-- a record that serves stays, or is replaced by one that applies
+serves_on : (pages span : ℕ) (old new : Holding) (index : ℕ) → new.history ≡ old.history → (kept_at new index ≡ kept_at old index) ⊎ Applies pages span new index
+    → Serves pages span old index → Serves pages span new index
+serves_on pages span old new index history (inl same) serves = serves_same pages span old new index history same serves
+serves_on pages span old new index history (inr applies) serves =
+    (is_joined pages span new.history.image new.history.log index (kept_at new index) applies).near
+
+-- a query that runs nothing, as each span has a record that serves
+pub stays : (pages span count more : ℕ) (h : Holding) → Spends pages span count more h h
+stays pages span count more h = record {
+  history = refl;
+  grows = omega arith;
+  most = λ lacking _. let e : h.steps ≤ h.steps + (lacking * span + more) = omega arith in e;
+  kept = λ _. inl refl;
+}
+
+pub there_are : (pages span count : ℕ) (h : Holding) → ((index : ℕ) → index < count → Serves pages span h index) → Reaches pages span count h h
+there_are pages span count h served = record {
+  least = λ lacking lacks.
+      let none : lacking * span ≡ 0 = ap (λ (n : ℕ). n * span) (lacks_none pages span h count lacking served lacks) ∙ (let e : 0 * span ≡ 0 = omega arith in e) in
+      omega (arith, none);
+  there = served;
+}
+
+-- what is found, or else what a call leaves
+pub found : {A : Type 0} (N : Type 0) (P Q : A → Type 0) (o : Option A) → MatchOption o N P → ((x : A) → P x → Q x) → IfSome o Q
+found N P Q None none f = tt
+found N P Q (Some x) there f = f x there
+
+pub on : {A E P : Type 0} (X Y : Type 0) (r : Result A E) → OnOk r X → OnErr r Y → (X → P) → (Y → P) → P
+on X Y (Ok x) ok err f g = f ok
+on X Y (Err e) ok err f g = g err
+
+-- a state that is found at the position itself
+here : (position n : ℕ) (states : List (ℕ × State)) (state : State) → IsNearest position position states n state → n ≡ position
+here position n states state near = let least = near.least in let most = near.most in omega (arith, least, most)
+
+pub kept_here : (position n : ℕ) (states : List (ℕ × State)) (state : State) → IsNearest position position states n state → Contains (positions_of states) position
+kept_here position n states state near = subst (λ n. Contains (positions_of states) n) (here position n states state near) (held states (n, state) near.there)
+
+pub landing_here : (pages span : ℕ) (h : Holding) (position n : ℕ) (states : List (ℕ × State)) (state : State)
+    → ((e : ℕ × State) → Contains states e → IsLanding pages span h.history h.spans e.0 e.1) → IsNearest position position states n state → IsLanding pages span h.history h.spans position state
+landing_here pages span h position n states state each near =
+    subst (λ n. IsLanding pages span h.history h.spans n state) (here position n states state near) (each (n, state) near.there)
+
+pub none_here : (position : ℕ) (states : List (ℕ × State)) → HasNone position position states → ¬ Contains (positions_of states) position
+none_here position states absent there = absent position there (omega arith) (omega arith)
+
+-- a state that comes to be kept
+pub new_landing : (pages span : ℕ) (h : Holding) (position : ℕ) (e : ℕ × State) → ((index : ℕ) → index < position / span → Serves pages span h index)
+    → ¬ (position % span ≡ 0) → e ≡ (position, state_at pages h.history.image h.history.log position) → IsLanding pages span h.history h.spans e.0 e.1
+new_landing pages span h position e served inside is =
+    subst (λ (e : ℕ × State). IsLanding pages span h.history h.spans e.0 e.1) (sym is) (record { is = refl; inside = inside; served = served })
+
+-- what a query of the state at a position does with those that are kept
+pub lands_there : {A E : Type 0} {old new : Landed} (span position : ℕ) (states : List ℕ) (steps : ℕ) (x : A) → old.landings ≡ states → old.steps ≡ steps
+    → Contains states position → ¬ (position % span ≡ 0) → new.steps ≡ steps → new.landings ≡ position ∷ remove_key (nat_eq position) states
+    → Lands {A = A} {E = E} span position old new (Ok x)
+lands_there span position states steps x landings_is steps_is there inside same order = record {
+  free = λ _. same ∙ sym steps_is;
+  again = λ _. order ∙ ap (λ l. position ∷ remove_key (nat_eq position) l) (sym landings_is);
+  first = λ absent. absurd (absent (subst (λ l. Contains l position) (sym landings_is) there));
+  start = λ start. absurd (inside start);
+  refused = tt;
+}
+
+pub lands_new : {A E : Type 0} {old new : Landed} (span position : ℕ) (states : List ℕ) (x : A) → old.landings ≡ states → ¬ Contains states position
+    → (position % span ≡ 0 → new.landings ≡ states) → (new.landings ≡ take 8 (position ∷ states)) ⊎ (new.landings ≡ states)
+    → Lands {A = A} {E = E} span position old new (Ok x)
+lands_new span position states x is absent start order = record {
+  free = λ there. absurd (absent (subst (λ l. Contains l position) is there));
+  again = λ there. absurd (absent (subst (λ l. Contains l position) is there));
+  first = λ _. elim order [
+    | inl added ↦ inl (added ∙ ap (λ l. take 8 (position ∷ l)) (sym is))
+    | inr same ↦ inr (same ∙ sym is)
+  ];
+  start = λ at. start at ∙ sym is;
+  refused = tt;
+}
+
+pub lands_not : {A E : Type 0} {old new : Landed} (span position : ℕ) (states : List ℕ) (result : Result A E) → old.landings ≡ states → ¬ Contains states position
+    → new.landings ≡ states → Lands span position old new result
+lands_not span position states result is absent same = record {
+  free = λ there. absurd (absent (subst (λ l. Contains l position) is there));
+  again = λ there. absurd (absent (subst (λ l. Contains l position) is there));
+  first = λ _. ok_all result _ (inr (same ∙ sym is));
+  start = λ _. same ∙ sym is;
+  refused = err_all result (same ∙ sym is);
+}
+  where
+    err_all : {A E P : Type 0} (r : Result A E) → P → OnErr r P
+    err_all (Ok x) p = tt
+    err_all (Err e) p = p
+
+-- each of these states is still one of the run where records stay or are replaced by ones that apply
+pub landed_over : (pages span : ℕ) (h : History) (old new : List (Option Span)) (states : List (ℕ × State))
+    → ((i : ℕ) → (slice_index_or new i None ≡ slice_index_or old i None) ⊎ (slice_index_or new i None ≡ Some (span_of pages span h.image h.log i)))
+    → AreLandings pages span h old states → AreLandings pages span h new states
+landed_over pages span h old new states each all e there =
+    let landing = all e there in record {
+      is = landing.is;
+      inside = landing.inside;
+      served = λ index below.
+          serves_on pages span (record { history = h; spans = old; steps = 0 }) (record { history = h; spans = new; steps = 0 }) index refl (each index) (landing.served index below);
+    }

@@ -1,0 +1,19 @@
+use Rattle.std.proofs.Common.{inl, inr, ap, subst, ◌∙◌, Contains}
+use Rattle.r3k_live.specs.Living.{Living}
+use Rattle.r3k_machine.specs.State.{State}
+use Rattle.present_run.specs.Shown.{holding_of}
+use Rattle.present_run.proofs.Held.{new_landing, on}
+use Rattle.present_run.proofs.Spans.{if_some}
+use Rattle.present_run.proofs.present.Present.land.Goals as goal
+
+pub invariant_of-self-clause-landed : goal.invariant_of-self-clause-landed
+invariant_of-self-clause-landed g c = λ e there.
+    let now = c.args.self.now in
+    let position = c.args.position in
+    let is = (c.in-Ok.ensures {u = tt}).kept ∙ if_some _ now.runs.at position c.requires.stands now.of.stands in
+    on _ _ c.add-refused.result c.add-refused.ensures.among c.add-refused.ensures.same
+    (λ among. elim (among e there) [
+      | inl new ↦ new_landing g.row.PAGES g.row.SPAN (holding_of now) position e c.requires.served c.if-position-eq0.false (new ∙ ap (λ (s : State). (position, s)) is)
+      | inr old ↦ now.landed e old
+    ])
+    (λ same. now.landed e (subst (λ l. Contains l e) same there))

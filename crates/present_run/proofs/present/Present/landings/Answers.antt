@@ -1,0 +1,12 @@
+use Rattle.present_run.proofs.Held.{held_by}
+use Rattle.present_run.proofs.present.Present.landings.Goals as goal
+
+pub returns-clause-inside : goal.returns-clause-inside
+returns-clause-inside g c = λ position there.
+    let state = held_by c.args.self.now.landings position there in
+    (c.args.self.now.landed (position, state.0) state.1).inside
+
+pub returns-clause-served : goal.returns-clause-served
+returns-clause-served g c = λ position there index below.
+    let state = held_by c.args.self.now.landings position there in
+    (c.args.self.now.landed (position, state.0) state.1).served index below

@@ -1,0 +1,29 @@
+use Rattle.std.proofs.Common.{◌-◌, ◌/◌, ◌%◌, ap, ◌∙◌}
+use Rattle.r3k_machine.specs.Run.{next_visit}
+use Rattle.present_run.specs.History.{History}
+use Rattle.present_run.specs.Shown.{holding_of}
+use Rattle.present_run.proofs.Counts.{reaches_more, spends_more}
+use Rattle.present_run.proofs.Stays.{stays_on}
+use Rattle.present_run.proofs.present.Present.next_visit.Goals as goal
+
+pub returns-clause-spends : goal.returns-clause-spends
+returns-clause-spends g c =
+    let position = c.args.position in
+    spends_more g.row.PAGES g.row.SPAN (position / g.row.SPAN) (position % g.row.SPAN) (c.args.last - position) (holding_of c.args.self.now) (holding_of c.stand.new.self)
+    (holding_of c.visit.new.self) c.stand.ensures.spends c.visit.ensures.stays.history c.visit.ensures.spans c.visit.ensures.least c.visit.ensures.count
+
+pub returns-clause-reaches : goal.returns-clause-reaches
+returns-clause-reaches g c =
+    reaches_more g.row.PAGES g.row.SPAN (c.args.position / g.row.SPAN) (holding_of c.args.self.now) (holding_of c.stand.new.self)
+    (holding_of c.visit.new.self) (c.in_ok-stand.ensures {u = tt}).reaches c.visit.ensures.stays.history c.visit.ensures.spans c.visit.ensures.least
+
+pub returns-clause-found : goal.returns-clause-found
+returns-clause-found g c =
+    c.visit.ensures.found
+    ∙ ap (λ (h : History). next_visit g.row.PAGES h.image h.log c.args.address c.args.position (c.args.last - c.args.position)) c.stand.ensures.stays.history
+
+pub returns-clause-bound : goal.returns-clause-bound
+returns-clause-bound g c = c.visit.ensures.bound
+
+pub returns-clause-stays : goal.returns-clause-stays
+returns-clause-stays g c = let stays = stays_on c.stand.ensures.stays c.visit.ensures.stays in record { history = stays.history; landings = stays.landings }

@@ -1,0 +1,50 @@
+use Rattle.std.proofs.Common.{ℕ, ◌∷◌, [], List, slice_set, sym, ap, subst, ◌∙◌, arith}
+use Rattle.r3k_image.specs.Boot.{Boot}
+use Rattle.r3k_machine.specs.Reset.{reset, reset_words}
+use Rattle.r3k_machine.specs.State.{State}
+use Rattle.r3k_pages.specs.Pages.{SameOutside}
+use Rattle.present_run.specs.Landings.{positions_of}
+use Rattle.r3k_image.specs.Patch.{patching}
+use Rattle.present_run.proofs.Edited.{image_edited}
+use Rattle.present_run.specs.Shown.{landed_of}
+use Rattle.present_run.proofs.Held.{none}
+use Rattle.present_run.proofs.Patches.{fits_after, its_address, patching_there, reset_patched, set_outside, taken_by_most}
+use Rattle.present_run.proofs.present.Present.patch.Goals as goal
+
+pub invariant_of-self-2 : goal.invariant_of-self-2
+invariant_of-self-2 g c =
+    let pages = g.row.PAGES in
+    let runs = c.args.self.now.of in
+    let address = c.args.address in
+    let word = c.args.word in
+    let image = c.args.self.now.inputs.image in
+    let place = c.in-Some.place in
+    let is = sym c.place_of.ensures ∙ c.in-Some.is in
+    let same = taken_by_most pages address word place image c.patch.new.self c.args.self.now.of.sizes.most_pages is (c.in-Ok.ensures {u = tt}) in
+    let anew = sym (reset_patched pages address word place image c.args.self.now.of.sizes.most_pages is) ∙ ap (λ (b : Boot). reset pages b) same in record {
+      fits = fits_after pages address word place image c.patch.new.self is same c.args.self.now.fits;
+      of = c.restart.ensures.of image c.patch.new.self c.args.self.now.inputs.log runs
+          (c.in_ok-reset.ensures {u = tt} ∙ (ap (λ (s : State). let r : State = record { core = s.core; words = slice_set s.words place word } in r) runs.start ∙ anew))
+          (subst (λ (words : List ℕ). SameOutside (c.page_of.result ∷ []) (reset_words pages image) words) (ap (λ (s : State). s.words) anew)
+          (subst (λ (page : ℕ). SameOutside (page ∷ []) (reset_words pages image) (slice_set (reset_words pages image) place word)) (sym c.page_of.ensures)
+          (set_outside (reset_words pages image) place word)));
+      landed = λ e there. absurd (none _ e c.clear.ensures there);
+    }
+
+pub returns-clause-fits : goal.returns-clause-fits
+returns-clause-fits g c =
+    let pages = g.row.PAGES in
+    let is = sym c.place_of.ensures ∙ c.in-Some.is in
+    fits_after pages c.args.address c.args.word c.in-Some.place c.args.self.now.inputs.image c.patch.new.self is
+    (taken_by_most pages c.args.address c.args.word c.in-Some.place c.args.self.now.inputs.image c.patch.new.self c.args.self.now.of.sizes.most_pages is (c.in-Ok.ensures {u = tt})) c.args.self.now.fits
+
+pub reset_with-requires : goal.reset_with-requires
+reset_with-requires g c = (omega arith, (omega arith, (its_address g.row.PAGES c.args.address c.in-Some.place (sym c.place_of.ensures ∙ c.in-Some.is)).0))
+
+pub returns-clause-image : goal.returns-clause-image
+returns-clause-image g c =
+    let pages = g.row.PAGES in
+    let is = sym c.place_of.ensures ∙ c.in-Some.is in
+    let same = taken_by_most pages c.args.address c.args.word c.in-Some.place c.args.self.now.inputs.image c.patch.new.self c.args.self.now.of.sizes.most_pages is (c.in-Ok.ensures {u = tt}) in
+    image_edited (patching pages c.args.address c.args.word) (landed_of c.args.self.now) c.patch.new.self _ _ _ (patching_there pages c.args.address c.args.word c.in-Some.place c.args.self.now.inputs.image c.patch.new.self c.if-address-ne0.false is same)
+    c.restart.ensures.spans c.restart.ensures.steps (ap positions_of c.clear.ensures)

@@ -1,4 +1,0 @@
-use Rattle.present_run.proofs.runs.Runs.extend.Goals as goal
-
-pub returns-then-serves-clause-free : goal.returns-then-serves-clause-free
-returns-then-serves-clause-free g c = λ _. c.join_kept.ensures.steps

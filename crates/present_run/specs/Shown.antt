@@ -1,0 +1,22 @@
+-- What the present run of a history shows (own).
+use Rattle.std.specs.Prelude.{◌≡◌, ℕ}
+use Rattle.present_run.specs.Landings.{positions_of}
+use Rattle.present_run.specs.Reuse.{Holding}
+use Rattle.present_run.specs.Landed.{Landed, holding}
+use Rattle.present_run.specs.declared.present.Present.{Present}
+
+abbrev pub landed_of : {pages span : ℕ} → Present pages span → Landed
+landed_of p = record {
+  history = record { image = p.inputs.image; log = p.inputs.log };
+  spans = p.runs.kept.spans;
+  steps = p.runs.live.steps;
+  landings = positions_of p.landings;
+}
+
+abbrev pub holding_of : {pages span : ℕ} → Present pages span → Holding
+holding_of p = holding (landed_of p)
+
+-- the history and the kept states are as they were
+pub record Stays {pages span : ℕ} (old new : Present pages span) : Type 0 where
+  pub history : (holding_of new).history ≡ (holding_of old).history
+  pub landings : new.landings ≡ old.landings

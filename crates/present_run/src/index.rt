@@ -1,0 +1,153 @@
+//! The index of the records that are kept.
+
+ghost use Rattle.std.specs.Prelude.{◌≡◌, ◌≢◌, ◌^◌, ◌<◌, ◌≤◌, ℕ, All, IfOk, List, None, OnErr, Option, Some, [], length, slice_index, slice_index_or};
+ghost use Rattle.std.specs.List.Sorted.{IsStrictlyIncreasing};
+ghost use Rattle.r3k_machine.specs.Run.{last_writer};
+ghost use Rattle.span_fact.specs.Span.{Span};
+ghost use Rattle.write_index.specs.Pages.{pages_at};
+ghost use Rattle.console_index.specs.Counts.{count_at};
+ghost use Rattle.present_run.specs.Sent.{bytes_on};
+ghost use Rattle.present_run.specs.Index.{Agrees, Has, IsLastWriter, IsSender, max_spans, sent_below, steps_at};
+
+use checkpoints::Kept;
+use console_index::ConsoleIndex;
+use r3k_live::SentAt;
+use r3k_word::layout::PAGE_BYTES;
+use span_fact::Fact;
+use std::alloc::{AllocError, Global};
+use std::marker::Model;
+use write_index::{Asked, WriteIndex};
+
+/// Which pages each kept record of a span stored into, and how many bytes of each line it sent.
+#[derive(Drop)]
+pub(crate) struct SpanIndex {
+    writes: WriteIndex,
+    consoles: ConsoleIndex,
+}
+
+impl Model for SpanIndex {
+    ghost use Rattle.present_run.specs.Index.{Index};
+
+    ghost Value = { Index };
+
+    ghost view = { λ index. record { writes = index.writes; consoles = index.consoles } };
+}
+
+impl SpanIndex {
+    /// The index of no records. It takes no memory.
+    pub(crate) fn new(alloc: Global) -> SpanIndex
+        ensures empty { result ≡ record { writes = []; consoles = [] } }
+        ensures agrees { (pages span : ℕ) → Agrees pages span result [] }
+    {
+        SpanIndex {
+            writes: WriteIndex::new(alloc),
+            consoles: ConsoleIndex::new(alloc),
+        }
+    }
+
+    /// Takes in the record of a span, in place of the one of its number. Where memory is refused, nothing changes.
+    pub(crate) fn take_in<const PAGES: u32, const SPAN: u32>(
+        &mut self,
+        fact: &Fact<PAGES, SPAN>,
+    ) -> Result<(), AllocError>
+        requires number { fact.now.index < max_spans }
+        requires span { SPAN ≤ 1048576 }
+        ensures there { IfOk result (λ _. Has PAGES SPAN self.new fact.now.index (Some fact.now)) }
+        ensures others { IfOk result (λ _. (i : ℕ) (s : Option Span) → i ≢ fact.now.index → Has PAGES SPAN self.old i s → Has PAGES SPAN self.new i s) }
+        ensures same { OnErr result ((i : ℕ) (s : Option Span) → Has PAGES SPAN self.old i s → Has PAGES SPAN self.new i s) }
+    {
+        self.replace(fact.index(), fact.dirty(), counts_of(fact.sent()))
+    }
+
+    // Puts the pages and the counts of a number into both trees. Room is reserved first, so where memory is refused, both have what
+    // they had.
+    fn replace(&mut self, index: u64, pages: &[u32], counts: [u32; 4]) -> Result<(), AllocError>
+        requires index { index < max_spans }
+        requires pages { IsStrictlyIncreasing pages.now }
+        requires counts { All (λ count. count ≤ 1048576) counts }
+        ensures pages { IfOk result (λ _. pages_at self.new.writes index ≡ pages.now) }
+        ensures counts { IfOk result (λ _. slice_index_or self.new.consoles index [] ≡ counts) }
+        ensures other_pages { (i : ℕ) → i ≢ index → pages_at self.new.writes i ≡ pages_at self.old.writes i }
+        ensures other_counts { (i : ℕ) → i ≢ index → (line : ℕ) → count_at self.new.consoles line i ≡ count_at self.old.consoles line i }
+        ensures same_pages { OnErr result (self.new.writes ≡ self.old.writes) }
+        ensures same_counts { OnErr result ((i line : ℕ) → count_at self.new.consoles line i ≡ count_at self.old.consoles line i) }
+    {
+        self.consoles.reserve(index)?;
+        self.writes.replace(index, pages)?;
+        self.consoles.replace(index, counts)?;
+        Ok(())
+    }
+
+    /// The last of the first `count` records of which a step stored into the word at a physical address, and its last step that
+    /// did, counted from its start.
+    pub(crate) fn last_writer<const PAGES: u32, const SPAN: u32>(
+        &self,
+        kept: &Kept<PAGES, SPAN>,
+        count: u64,
+        address: u32,
+    ) -> Option<(u64, u32)>
+        requires { Agrees PAGES SPAN self.now kept.now.spans }
+        ensures { IsLastWriter PAGES SPAN kept.now.spans count address result }
+    {
+        let page = address / PAGE_BYTES;
+        let mut asked = Asked { nodes: 0 };
+        let mut before = count;
+        while let Some(index) = self.writes.last_span(page, before, &mut asked) {
+            if let Some(step) = writer_in(kept, index, address) {
+                return Some((index, step));
+            }
+            before = index;
+        }
+        None
+    }
+
+    /// How many bytes of a line the first `count` records sent.
+    pub(crate) fn count(&self, line: u8, count: u64) -> u64
+        requires line { line ≤ 3 }
+        ensures { (pages span : ℕ) (spans : List (Option Span)) → Agrees pages span self.now spans →
+            result ≡ sent_below pages span spans line count }
+    {
+        self.consoles.count(line, count)
+    }
+
+    /// Which of the first `count` records sent the byte at a place of a line's console, and its place among the bytes that this
+    /// record sent on the line.
+    pub(crate) fn find(&self, line: u8, place: u64, count: u64) -> Option<(u64, u64)>
+        requires line { line ≤ 3 }
+        ensures { (pages span : ℕ) (spans : List (Option Span)) → Agrees pages span self.now spans →
+            IsSender pages span spans line place count result }
+    {
+        let (index, rest) = self.consoles.find(line, place)?;
+        if index < count {
+            return Some((index, rest));
+        }
+        None
+    }
+}
+
+// The last step of a record that stored into the word at an address, counted from its start.
+fn writer_in<const PAGES: u32, const SPAN: u32>(
+    kept: &Kept<PAGES, SPAN>,
+    index: u64,
+    address: u32,
+) -> Option<u32>
+    ensures { result ≡ last_writer address (steps_at PAGES SPAN kept.now.spans index) }
+{
+    kept.fact(index)?.writer(address)
+}
+
+// How many of the bytes that were sent are those of each line.
+fn counts_of(sent: &[SentAt]) -> [u32; 4]
+    requires { length sent.now < 2 ^ 32 }
+    ensures each { (line : ℕ) → line ≤ 3 → slice_index result line ≡ length (bytes_on line sent.now) }
+    ensures few { All (λ count. count ≤ length sent.now) result }
+{
+    let mut counts = [0; 4];
+    for one in sent {
+        if one.line > 3 {
+            continue;
+        }
+        counts[one.line as usize] += 1;
+    }
+    counts
+}

@@ -1,0 +1,102 @@
+//! The present run of a history: the image and the log that determine it, and all that is kept of it and of earlier runs.
+//!
+//! A run is cut into spans of `SPAN` steps. Of each span that was run a record is kept: where it starts and ends, and what its
+//! steps reported. A query joins the spans before its position, one after the other. A record is joined as it is if it serves: its
+//! events are those of the log, and its start is where the run stands, except for pages that it does not touch. These pages are
+//! carried over to its end. Else the span is run, and its record takes the place of the old one. For the rest of the way the
+//! machine goes on: from the last end, from where it stands, or from a state that is kept inside the span.
+//!
+//! So for the next span it must be known in which pages its start may differ from that of its record (`differing`). After a span
+//! that was run, pages that either run stored into are added. After one that was joined, pages that it touches are removed.
+//!
+//! An edit of the log forgets the spans from its time on, and their ends stay. Once a span ends where it ended before, all that go
+//! on from there are joined again at once. `again` is the first end from which that is known, as each edit breaks the chain at its
+//! own times. A patch changes the start of the run, so no span stays joined. `patched` has the pages in which the first record may
+//! differ from it.
+//!
+//! The last 8 states inside spans that were asked for are kept too (`landings`), up to the next edit.
+
+ghost use Rattle.std.specs.Prelude.{◌≡◌, ◌/◌, ◌%◌, ◌<◌, ◌≤◌, ℕ, [], Contains, IfOk, length, nat_eq};
+ghost use Rattle.std.specs.List.{IsDistinct};
+ghost use Rattle.r3k_image.specs.Boot.{FitsRam};
+ghost use Rattle.present_run.specs.Reuse.{Serves};
+ghost use Rattle.present_run.specs.Runs.{AreLandings, AreLandings-prop, AreOf, AreOf-prop};
+ghost use Rattle.present_run.specs.Sizes.{AreSizes};
+
+use crate::inputs::Inputs;
+use crate::landings::Landings;
+use crate::runs::Runs;
+use input_log::Log;
+use r3k_image::Image;
+use std::alloc::{AllocError, Global};
+
+/// The run from reset that an image and a log determine. All that is kept of runs is kept for this one: each query answers of it, and
+/// each edit of the image or of the log makes it another one.
+#[derive(Drop)]
+pub struct Present<const PAGES: u32, const SPAN: u32> {
+    pub(crate) alloc: Global,
+    pub(crate) inputs: Inputs,
+    pub(crate) runs: Runs<PAGES, SPAN>,
+    // States of the run inside spans.
+    pub(crate) landings: Landings<PAGES>,
+    ghost fits: { FitsRam PAGES inputs.image },
+    ghost of: { AreOf {pages = PAGES} {span = SPAN} inputs.image inputs.log runs } by { AreOf-prop inputs.image inputs.log runs },
+    ghost landed: { AreLandings PAGES SPAN (record { image = inputs.image; log = inputs.log }) runs.kept.spans landings } by { AreLandings-prop PAGES SPAN (record { image = inputs.image; log = inputs.log }) runs.kept.spans landings },
+}
+
+impl<const PAGES: u32, const SPAN: u32> Present<PAGES, SPAN> {
+    ghost use Rattle.present_run.specs.Landed.{Landed};
+    ghost use Rattle.present_run.specs.Shown.{holding_of, landed_of};
+
+    /// The run at reset, of an image that fits.
+    pub fn boot(alloc: Global, image: Image, log: Log) -> Result<Present<PAGES, SPAN>, AllocError>
+        requires sizes { AreSizes PAGES SPAN }
+        requires fits { FitsRam PAGES image }
+        ensures { IfOk result (λ present. landed_of present ≡
+            record { history = record { image = image; log = log }; spans = []; steps = 0; landings = [] }) }
+    {
+        let inputs = Inputs { image, log };
+        let runs = Runs::boot(alloc, &inputs)?;
+        let landings = Landings::new(alloc)?;
+        Ok(Present {
+            alloc,
+            inputs,
+            runs,
+            landings,
+        })
+    }
+
+    /// The boot image as it now stands.
+    pub fn image(&self) -> &Image
+        ensures { result.now ≡ (landed_of self.now).history.image }
+    {
+        &self.inputs.image
+    }
+
+    /// The log as it now stands.
+    pub fn log(&self) -> &Log
+        ensures { result.now ≡ (landed_of self.now).history.log }
+    {
+        &self.inputs.log
+    }
+
+    /// How many states inside spans are kept: at most 8, each of another position. No span starts at one, and each span before one
+    /// has a record that serves.
+    pub fn landings(&self) -> usize
+        ensures len { result ≡ length (landed_of self.now).landings }
+        ensures few { length (landed_of self.now).landings ≤ 8 }
+        ensures distinct { IsDistinct nat_eq (landed_of self.now).landings }
+        ensures inside { (position : ℕ) → Contains (landed_of self.now).landings position → ¬ (position % SPAN ≡ 0) }
+        ensures served { (position : ℕ) → Contains (landed_of self.now).landings position →
+            (index : ℕ) → index < position / SPAN → Serves PAGES SPAN (holding_of self.now) index }
+    {
+        self.landings.len()
+    }
+
+    /// How many steps were run so far, for all queries together, up to the greatest number.
+    pub fn steps_run(&self) -> u64
+        ensures { result ≡ (landed_of self.now).steps }
+    {
+        self.runs.live.steps()
+    }
+}

@@ -1,6 +1,0 @@
-use Rattle.std.proofs.Common.{refl}
-use Rattle.span_index.proofs.Agreeing.{has_none, has_still}
-use Rattle.span_index.proofs.index.SpanIndex.new.Goals as goal
-
-pub returns-clause-agrees : goal.returns-clause-agrees
-returns-clause-agrees c = λ pages span i _. has_still pages span _ _ i _ _ c.new.ensures c.new-2.ensures refl (has_none pages span i)

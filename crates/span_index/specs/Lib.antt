@@ -1,3 +1,0 @@
-pub use Rattle.checkpoints.specs.Kept
-pub mod Sent
-pub mod Index
