@@ -1,5 +1,8 @@
-//! Images and a program that several tests use.
+//! Images, a program, and the reading of texts that several tests use.
 #![tactic(auto)]
+
+use std::alloc::{AllocError, Global};
+use std::num::ParseIntError;
 
 /// No segments; byte time 16, unit 1, and the clock of a raw ROM.
 pub const EMPTY_IMAGE: [u8; 32] = *b"R3KIMG1\n\x10\0\0\0\x01\0\0\0\
@@ -40,3 +43,32 @@ sll r0, r0, 0
 j 0x1fc01000
 sll r0, r0, 0
 ";
+
+/// What stands for `none` among numbers.
+pub const NONE: u64 = u64::MAX;
+
+/// A number: decimal, hexadecimal after `0x`, or `none`.
+pub fn number(word: &str) -> Result<u64, ParseIntError> {
+    if word == "none" {
+        return Ok(NONE);
+    }
+    match word.strip_prefix("0x") {
+        Some(digits) => u64::from_str_radix(digits, 16),
+        None => u64::from_str_radix(word, 10),
+    }
+}
+
+/// A source in which instructions stand with `; ` between, and `N*` before one that stands there N times, line by line.
+pub fn program(alloc: Global, source: &str) -> Result<String, AllocError> {
+    let mut program = String::new(alloc);
+    for line in source.lines().filter(|line| !line.starts_with("#")) {
+        for part in line.split("; ") {
+            let (count, part) = part.split_once('*').unwrap_or(("1", part));
+            for _ in 0..number(count).unwrap_or(0) {
+                program.push_str(part)?;
+                program.push_str("\n")?;
+            }
+        }
+    }
+    Ok(program)
+}
