@@ -2,6 +2,7 @@
 #![tactic(auto)]
 
 use std::alloc::{AllocError, Global};
+use std::fmt::Debug;
 use std::num::ParseIntError;
 
 /// No segments; byte time 16, unit 1, and the clock of a raw ROM.
@@ -71,4 +72,31 @@ pub fn program(alloc: Global, source: &str) -> Result<String, AllocError> {
         }
     }
     Ok(program)
+}
+
+// Words of a value's text that say nothing more.
+const SKIPPED: [&str; 5] = ["Bounded", "Err", "Event", "Ok", "Some"];
+
+/// The numbers of a text, in decimal, and its words with a capital letter in front.
+pub fn plain(alloc: Global, text: &str) -> Result<String, AllocError> {
+    let mut words = String::new(alloc);
+    for letter in text.chars() {
+        let in_word = letter.is_ascii_alphanumeric();
+        words.push(if in_word { letter } else { ' ' })?;
+    }
+    let mut plain = String::new(alloc);
+    for word in words.as_str().split_whitespace() {
+        if let Ok(number) = number(word) {
+            plain.push_str(format!(in alloc; "{number} ")?.as_str())?;
+        } else if word < "a" && !SKIPPED.contains(&word) {
+            plain.push_str(word)?;
+            plain.push_str(" ")?;
+        }
+    }
+    Ok(plain)
+}
+
+/// What of a value's text is so: its variants and its numbers.
+pub fn shown<T: Debug>(alloc: Global, value: &T) -> Result<String, AllocError> {
+    plain(alloc, format!(in alloc; "{value:?}")?.as_str())
 }
