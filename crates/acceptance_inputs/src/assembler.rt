@@ -1,12 +1,13 @@
 //! The assembler on its own: words of source, every fault alone and before those that come after it, numbers and targets at
 //! their bounds, places, lines and their ends.
+use crate::image_patches::writes;
 use crate::same::{same, same_at};
 use asm_line::kind::AsmKind;
 use r3k_asm::{AsmFault, assemble};
 use r3k_disasm::text;
-use r3k_image::{Image, write_image};
+use r3k_image::Image;
 use r3k_table::rows::table;
-use samples::LOAD_SLOT;
+use samples::{LOAD_SLOT, plain, shown};
 use std::alloc::{AllocError, Global};
 use std::process::Abort;
 use std::test::Fail;
@@ -37,323 +38,165 @@ fn load_slot(rt: HostRuntime) -> Result<(), Fail> {
         ".org 0x100\n.word 5\n.org 0x1fc00000\nlui r1, 0xa000\nlw r2, 256(r1)\naddu r3, r2, r0\n\
 addu r4, r2, r0\n";
     let image = image(&rt, rt.alloc(), source);
-    same(
-        &rt,
-        &write_image(rt.alloc(), &image)?.as_slice(),
-        &LOAD_SLOT.as_slice(),
-    );
+    writes(&rt, &image, &LOAD_SLOT)?;
     Ok(())
 }
 
-// Lines that set a word, and the word.
-static WORDS: [(&str, u32); 74] = [
-    // a branch counts from its delay slot, over 2^32 too; both ends of its reach
-    ("beq r0, r0, 0x1fc20000", 0x1000_7FFF),
-    ("beq r0, r0, 0x1fbe0004", 0x1000_8000),
-    ("beq r0, r0, 0x1fc00004", 0x1000_0000),
-    ("bgez r7, 532676632", 0x04E1_0005),
-    // a jump keeps the low 28 bits of its target
-    ("j 0x1fc00000", 0x0BF0_0000),
-    ("j 0x1ffffffc", 0x0BFF_FFFF),
-    ("j 0xfffffffc", 0x0BFF_FFFF),
-    ("j 0x10000000", 0x0800_0000),
-    ("jal 0", 0x0C00_0000),
-    // words, in each form of a number
-    (".word 0", 0),
-    (".word 4294967295", 0xFFFF_FFFF),
-    (".word 0xffffffff", 0xFFFF_FFFF),
-    (".word 0xDEADbeef", 0xDEAD_BEEF),
-    (".word 00000000000000000000000000012", 12),
-    (".word 0x000000000000000000000000c", 12),
-    // signed numbers
-    ("addiu r31, r0, -32768", 0x241F_8000),
-    ("addiu r31, r0, -0x8000", 0x241F_8000),
-    ("addiu r31, r0, 32767", 0x241F_7FFF),
-    ("addiu r31, r0, 0x7fff", 0x241F_7FFF),
-    ("addiu r31, r0, -1", 0x241F_FFFF),
-    ("addiu r31, r0, -0x1", 0x241F_FFFF),
-    ("addiu r31, r0, -0", 0x241F_0000),
-    ("addiu r31, r0, -0x0", 0x241F_0000),
-    ("addiu r31, r0, 00000000000000000000005", 0x241F_0005),
-    ("lw r2, -32768(r1)", 0x8C22_8000),
-    ("lw r2, 32767(r1)", 0x8C22_7FFF),
-    ("lw r2, -0x8000(r1)", 0x8C22_8000),
-    ("lw r2, 0x7fff(r1)", 0x8C22_7FFF),
-    // unsigned numbers
-    ("ori r1, r2, 65535", 0x3441_FFFF),
-    ("ori r1, r2, 0xFfFf", 0x3441_FFFF),
-    ("ori r1, r2, 0", 0x3441_0000),
-    ("lui r1, 0xffff", 0x3C01_FFFF),
-    ("lui r1, 0", 0x3C01_0000),
-    ("sll r0, r0, 0", 0),
-    ("sll r1, r2, 31", 0x0002_0FC0),
-    ("sll r1, r2, 0x1f", 0x0002_0FC0),
-    ("syscall 0", 0x0000_000C),
-    ("break 1048575", 0x03FF_FFCD),
-    ("break 0xfffff", 0x03FF_FFCD),
-    // each shape's operands in their fields
-    ("sra r1, r2, 3", 0x0002_08C3),
-    ("srav r1, r2, r3", 0x0062_0807),
-    ("jr r31", 0x03E0_0008),
-    ("jalr r31, r2", 0x0040_F809),
-    ("mfhi r7", 0x0000_3810),
-    ("mult r1, r2", 0x0022_0018),
-    ("nor r10, r20, r30", 0x029E_5027),
-    ("bgezal r1, 0x1fc00008", 0x0431_0001),
-    ("bne r1, r2, 0x1fc00000", 0x1422_FFFF),
-    ("addiu r3, r9, 7", 0x2523_0007),
-    ("andi r3, r9, 7", 0x3123_0007),
-    ("sw r2, 4(r29)", 0xAFA2_0004),
-    ("mtc0 r1, c12", 0x4081_6000),
-    ("mfc0 r31, c0", 0x401F_0000),
-    ("tlbwr", 0x4200_0006),
-    ("rfe", 0x4200_0010),
-    // registers at their bounds
-    ("addu r0, r9, r10", 0x012A_0021),
-    ("addu r31, r29, r30", 0x03BE_F821),
-    // blanks, comments, ends of lines
-    ("\tlw\tr2\t,\t-4\t(\tr29\t)\t", 0x8FA2_FFFC),
-    ("  lw   r2 , -4 ( r29 )  ", 0x8FA2_FFFC),
-    ("lw r2,-4(r29)", 0x8FA2_FFFC),
-    ("lw r2,-4(r29)#", 0x8FA2_FFFC),
-    ("rfe# returns", 0x4200_0010),
-    ("rfe # returns\r", 0x4200_0010),
-    ("rfe # a # b", 0x4200_0010),
-    ("rfe\n", 0x4200_0010),
-    ("rfe\r\n", 0x4200_0010),
-    ("rfe \t\r\n", 0x4200_0010),
-    ("\n\r\n \t\r\n# j nowhere\r\nrfe\n\n", 0x4200_0010),
-    // labels: a register's or an instruction's name, one of 1 byte, one of 32
-    ("j _\n_:", 0x0BF0_0001),
-    ("j r1\nr1:", 0x0BF0_0001),
-    ("j lui\n lui: # here", 0x0BF0_0001),
-    (
-        "j Abcdefghijklmnopqrstuvwxyz_01234\nAbcdefghijklmnopqrstuvwxyz_01234:\n",
-        0x0BF0_0001,
-    ),
-    ("here:\nj here", 0x0BF0_0000),
-    ("j a\nA:\n.org 0x40\na:", 0x0800_0010),
-];
-
-fn word_lines() -> &'static [(&'static str, u32)] {
-    &WORDS
+// The sources of a table, each with what is wanted of it.
+fn sources(alloc: Global, table: &str) -> Result<Vec<(String, String)>, Fail> {
+    let mut sources = Vec::new(alloc);
+    for row in table
+        .split('\n')
+        .filter(|row| !row.is_empty() && !row.starts_with("// "))
+    {
+        let (texts, wanted) = row.rsplit_once(" = ").ok_or("nothing is wanted")?;
+        for text in texts.split("; ") {
+            sources.push((text.replace(alloc, "|", "\n")?, plain(alloc, wanted)?))?;
+        }
+    }
+    Ok(sources)
 }
+
+// Sources, with `; ` between and `|` for the end of a line, and the word that each of them sets at the start of ROM.
+const WORDS: &str = "
+// a branch counts from its delay slot, over 2^32 too; both ends of its reach
+beq r0, r0, 0x1fc20000 = 0x10007fff
+beq r0, r0, 0x1fbe0004 = 0x10008000
+beq r0, r0, 0x1fc00004 = 0x10000000
+bgez r7, 532676632 = 0x04e10005
+// a jump keeps the low 28 bits of its target
+j 0x1fc00000 = 0x0bf00000
+j 0x1ffffffc; j 0xfffffffc = 0x0bffffff
+j 0x10000000 = 0x08000000
+jal 0 = 0x0c000000
+// words, in each form of a number
+.word 0 = 0
+.word 4294967295; .word 0xffffffff = 0xffffffff
+.word 0xDEADbeef = 0xdeadbeef
+.word 00000000000000000000000000012; .word 0x000000000000000000000000c = 12
+// signed numbers
+addiu r31, r0, -32768; addiu r31, r0, -0x8000 = 0x241f8000
+addiu r31, r0, 32767; addiu r31, r0, 0x7fff = 0x241f7fff
+addiu r31, r0, -1; addiu r31, r0, -0x1 = 0x241fffff
+addiu r31, r0, -0; addiu r31, r0, -0x0 = 0x241f0000
+addiu r31, r0, 00000000000000000000005 = 0x241f0005
+lw r2, -32768(r1) = 0x8c228000
+lw r2, 32767(r1) = 0x8c227fff
+lw r2, -0x8000(r1) = 0x8c228000
+lw r2, 0x7fff(r1) = 0x8c227fff
+// unsigned numbers
+ori r1, r2, 65535; ori r1, r2, 0xFfFf = 0x3441ffff
+ori r1, r2, 0 = 0x34410000
+lui r1, 0xffff = 0x3c01ffff
+lui r1, 0 = 0x3c010000
+sll r0, r0, 0 = 0
+sll r1, r2, 31; sll r1, r2, 0x1f = 0x00020fc0
+syscall 0 = 0x0000000c
+break 1048575; break 0xfffff = 0x03ffffcd
+// each shape's operands in their fields
+sra r1, r2, 3 = 0x000208c3
+srav r1, r2, r3 = 0x00620807
+jr r31 = 0x03e00008
+jalr r31, r2 = 0x0040f809
+mfhi r7 = 0x00003810
+mult r1, r2 = 0x00220018
+nor r10, r20, r30 = 0x029e5027
+bgezal r1, 0x1fc00008 = 0x04310001
+bne r1, r2, 0x1fc00000 = 0x1422ffff
+addiu r3, r9, 7 = 0x25230007
+andi r3, r9, 7 = 0x31230007
+sw r2, 4(r29) = 0xafa20004
+mtc0 r1, c12 = 0x40816000
+mfc0 r31, c0 = 0x401f0000
+tlbwr = 0x42000006
+rfe = 0x42000010
+// registers at their bounds
+addu r0, r9, r10 = 0x012a0021
+addu r31, r29, r30 = 0x03bef821
+// blanks, comments, ends of lines
+\tlw\tr2\t,\t-4\t(\tr29\t)\t;   lw   r2 , -4 ( r29 )  ; lw r2,-4(r29); lw r2,-4(r29)# = 0x8fa2fffc
+rfe# returns; rfe # returns\r; rfe # a # b; rfe|; rfe\r|; rfe \t\r|; |\r| \t\r|# j nowhere\r|rfe|| = 0x42000010
+// labels: a register's or an instruction's name, one of 1 byte, one of 32
+j _|_:; j r1|r1:; j lui| lui: # here; j Abcdefghijklmnopqrstuvwxyz_01234|Abcdefghijklmnopqrstuvwxyz_01234:| = 0x0bf00001
+here:|j here = 0x0bf00000
+j a|A:|.org 0x40|a: = 0x08000010
+";
 
 #[test]
-fn words(rt: HostRuntime) {
-    for (source, word) in word_lines() {
-        let found = first_word(&rt, rt.alloc(), source);
-        same_at(&rt, &source, &found, &Some(*word));
+fn words(rt: HostRuntime) -> Result<(), Fail> {
+    for (source, wanted) in &sources(rt.alloc(), WORDS)? {
+        let found = shown(rt.alloc(), &first_word(&rt, rt.alloc(), source.as_str()))?;
+        same_at(&rt, &source, &found, wanted);
     }
+    Ok(())
 }
 
-// A source with one fault, the line of the fault, and its kind.
-static FAULTS: [(&str, u64, AsmKind); 169] = [
-    // an unknown mnemonic or directive, whatever follows
-    ("foo", 1, AsmKind::Name),
-    ("foo%", 1, AsmKind::Name),
-    ("foo r1, 4294967296", 1, AsmKind::Name),
-    ("x :", 1, AsmKind::Name),
-    ("ADDU r1, r2, r3", 1, AsmKind::Name),
-    ("addx r1, r2, r3", 1, AsmKind::Name),
-    ("ad r1, r2, r3", 1, AsmKind::Name),
-    ("r1", 1, AsmKind::Name),
-    ("break_ 1", 1, AsmKind::Name),
-    ("nop", 1, AsmKind::Name),
-    (".foo", 1, AsmKind::Name),
-    (".foo 1 2 3", 1, AsmKind::Name),
-    (".foo 4294967296", 1, AsmKind::Name),
-    (".foo:", 1, AsmKind::Name),
-    (".", 1, AsmKind::Name),
-    (". org 1", 1, AsmKind::Name),
-    (".Org 1", 1, AsmKind::Name),
-    (".words 1", 1, AsmKind::Name),
-    ("Abcdefghijklmnopqrstuvwxyz_012345", 1, AsmKind::Name),
-    // another form: at the begin of a line
-    ("123", 1, AsmKind::Syntax),
-    ("1x:", 1, AsmKind::Syntax),
-    (", r1", 1, AsmKind::Syntax),
-    (": tlbr", 1, AsmKind::Syntax),
-    ("%", 1, AsmKind::Syntax),
-    ("- tlbr", 1, AsmKind::Syntax),
-    ("\x0btlbr", 1, AsmKind::Syntax),
-    ("\rtlbr", 1, AsmKind::Syntax),
-    ("\0", 1, AsmKind::Syntax),
-    // after the name
-    ("addu,r1", 1, AsmKind::Syntax),
-    ("addu", 1, AsmKind::Syntax),
-    ("addu%", 1, AsmKind::Syntax),
-    ("add :", 1, AsmKind::Syntax),
-    ("x: nor r1, r2, r3", 1, AsmKind::Syntax),
-    ("x: y:", 1, AsmKind::Syntax),
-    ("x::", 1, AsmKind::Syntax),
-    ("addu: r1, r2, r3", 1, AsmKind::Syntax),
-    ("Abcdefghijklmnopqrstuvwxyz_012345:", 1, AsmKind::Syntax),
-    (".org", 1, AsmKind::Syntax),
-    (".org:", 1, AsmKind::Syntax),
-    (".org,1", 1, AsmKind::Syntax),
-    // between the parts
-    ("addiu r2 r2, 5", 1, AsmKind::Syntax),
-    ("addiu r2,, r2, 5", 1, AsmKind::Syntax),
-    ("addiu , r2, r2, 5", 1, AsmKind::Syntax),
-    ("addiu r2, r2, - 5", 1, AsmKind::Syntax),
-    ("addiu r2, r2, --5", 1, AsmKind::Syntax),
-    ("addiu r2, r2, +5", 1, AsmKind::Syntax),
-    ("addiu r2, r2, r3", 1, AsmKind::Syntax),
-    ("addiu r2, 5, r2", 1, AsmKind::Syntax),
-    ("addu r1, r2, 3", 1, AsmKind::Syntax),
-    ("addu r32, r0, r0", 1, AsmKind::Syntax),
-    ("addu r01, r0, r0", 1, AsmKind::Syntax),
-    ("addu r, r0, r0", 1, AsmKind::Syntax),
-    ("addu R9, r0, r0", 1, AsmKind::Syntax),
-    ("addu c1, r0, r0", 1, AsmKind::Syntax),
-    ("addu $1, r0, r0", 1, AsmKind::Syntax),
-    ("mfc0 r1, c32", 1, AsmKind::Syntax),
-    ("mfc0 r1, r12", 1, AsmKind::Syntax),
-    ("lw r1, 4(r2", 1, AsmKind::Syntax),
-    ("lw r1, 4 r2)", 1, AsmKind::Syntax),
-    ("lw r1, (r2)", 1, AsmKind::Syntax),
-    ("lw r1, 4", 1, AsmKind::Syntax),
-    ("lw r1, 4(5)", 1, AsmKind::Syntax),
-    ("lw r1, x(r2)", 1, AsmKind::Syntax),
-    ("j a-b", 1, AsmKind::Syntax),
-    ("j -4", 1, AsmKind::Syntax),
-    ("j", 1, AsmKind::Syntax),
-    ("j 1x", 1, AsmKind::Syntax),
-    ("j Abcdefghijklmnopqrstuvwxyz_012345", 1, AsmKind::Syntax),
-    // words that are no numbers, and signs where none may stand
-    (".word 0x", 1, AsmKind::Syntax),
-    (".word 0X10", 1, AsmKind::Syntax),
-    (".word 0x1g", 1, AsmKind::Syntax),
-    (".word 12a", 1, AsmKind::Syntax),
-    (".word 1_0", 1, AsmKind::Syntax),
-    (".word +1", 1, AsmKind::Syntax),
-    (".word -1", 1, AsmKind::Syntax),
-    (".word -0", 1, AsmKind::Syntax),
-    (".word x", 1, AsmKind::Syntax),
-    (".org -0", 1, AsmKind::Syntax),
-    (".bytetime -1", 1, AsmKind::Syntax),
-    ("ori r2, r2, -0", 1, AsmKind::Syntax),
-    ("sll r2, r2, -1", 1, AsmKind::Syntax),
-    ("break -1", 1, AsmKind::Syntax),
-    // at the end of a line
-    ("tlbr r1", 1, AsmKind::Syntax),
-    ("tlbr,", 1, AsmKind::Syntax),
-    ("tlbr\r", 1, AsmKind::Syntax),
-    ("tlbr\r\r\n", 1, AsmKind::Syntax),
-    ("tlbr \r \n", 1, AsmKind::Syntax),
-    ("addu r1, r2, r3,", 1, AsmKind::Syntax),
-    ("addu r1, r2, r3, r4", 1, AsmKind::Syntax),
-    ("addu r1, r2, r3 %", 1, AsmKind::Syntax),
-    ("addiu r2, r2", 1, AsmKind::Syntax),
-    ("addiu r2, r2,", 1, AsmKind::Syntax),
-    ("lw r1, 4(r2) 5", 1, AsmKind::Syntax),
-    ("j 4 4", 1, AsmKind::Syntax),
-    (".word 1 2", 1, AsmKind::Syntax),
-    (".word 1,", 1, AsmKind::Syntax),
-    (".clock 0 0 0 0 0 0 1 1 1 0 0x20", 1, AsmKind::Syntax),
-    (".clock 0 0 0 0 0 0 1 1 1 0 0x20 6 0", 1, AsmKind::Syntax),
-    (".clock 0, 0 0 0 0 0 1 1 1 0 0x20 6", 1, AsmKind::Syntax),
-    (".clock 0 0 0 0 0 0 1 1 1 0 0x20 -6", 1, AsmKind::Syntax),
-    // the form of a whole line comes before its numbers
-    ("addiu r2, r2, 40000, 5", 1, AsmKind::Syntax),
-    ("sll r2, r2, 32 5", 1, AsmKind::Syntax),
-    (".word 4294967296 1", 1, AsmKind::Syntax),
-    (".clock 256 0 0 0 0 0 1 1 1 0 0x20", 1, AsmKind::Syntax),
-    // numbers one past their bounds, in each form
-    ("addiu r2, r2, 40000", 1, AsmKind::Number),
-    ("addiu r1, r1, 32768", 1, AsmKind::Number),
-    ("addiu r1, r1, 0x8000", 1, AsmKind::Number),
-    ("addiu r1, r1, -32769", 1, AsmKind::Number),
-    ("addiu r1, r1, -0x8001", 1, AsmKind::Number),
-    ("addiu r1, r1, 4294967296", 1, AsmKind::Number),
-    ("addiu r1, r1, -4294967296", 1, AsmKind::Number),
-    ("addiu r1, r1, 18446744073709551616", 1, AsmKind::Number),
-    ("lw r1, 32768(r2)", 1, AsmKind::Number),
-    ("lw r1, 0x8000(r2)", 1, AsmKind::Number),
-    ("lw r1, -32769(r2)", 1, AsmKind::Number),
-    ("ori r1, r1, 65536", 1, AsmKind::Number),
-    ("ori r1, r1, 0x10000", 1, AsmKind::Number),
-    ("lui r1, 0x10000", 1, AsmKind::Number),
-    ("sll r1, r1, 32", 1, AsmKind::Number),
-    ("sll r1, r1, 0x20", 1, AsmKind::Number),
-    ("break 1048576", 1, AsmKind::Number),
-    ("syscall 0x100000", 1, AsmKind::Number),
-    ("j 4294967296", 1, AsmKind::Number),
-    ("beq r0, r0, 0x100000000", 1, AsmKind::Number),
-    (".word 4294967296", 1, AsmKind::Number),
-    (".word 0x100000000", 1, AsmKind::Number),
-    (".word 99999999999999999999999999999999", 1, AsmKind::Number),
-    (
-        ".word 0xffffffffffffffffffffffffffffffff",
-        1,
-        AsmKind::Number,
-    ),
-    (".org 4294967296", 1, AsmKind::Number),
-    (".org 0x100000000", 1, AsmKind::Number),
-    (".bytetime 0", 1, AsmKind::Number),
-    (".bytetime 65536", 1, AsmKind::Number),
-    (".unit 0", 1, AsmKind::Number),
-    (".unit 0x10000", 1, AsmKind::Number),
-    (".clock 256 0 0 0 0 0 1 1 1 0 0x20 6", 1, AsmKind::Number),
-    (".clock 0 0 0 0 0 0 1 1 1 0x100 0x20 6", 1, AsmKind::Number),
-    (".clock 0 0 0 0 0 0 1 1 1 0 0x80 6", 1, AsmKind::Number),
-    (".clock 0 0 0 0 0 0 1 1 1 0 0x20 7", 1, AsmKind::Number),
-    (".clock 0 0 0 0 0 0 1 1 1 0 0x20 256", 1, AsmKind::Number),
-    // again: a label, and each directive that may stand once
-    ("x:\nx:", 2, AsmKind::Twice),
-    ("x:\n.org 0\ny:\n x: # here", 4, AsmKind::Twice),
-    (".bytetime 1\n.bytetime 1", 2, AsmKind::Twice),
-    (".unit 1\ntlbr\n.unit 2", 3, AsmKind::Twice),
-    (
-        ".clock 0 0 0 0 0 0 1 1 1 0 0x20 6\n.clock 0 0 0 0 0 0 1 1 1 0 0x20 6",
-        2,
-        AsmKind::Twice,
-    ),
-    (".unit 1\n.unit 1 1", 2, AsmKind::Syntax),
-    (".unit 1\n.unit 65536\n.unit 1", 2, AsmKind::Number),
-    // places: no multiple of 4; out of RAM, before ROM, out of ROM, and the last address
-    (".org 1\ntlbr", 2, AsmKind::Place),
-    (".org 0x1fc00002\n.word 1", 2, AsmKind::Place),
-    (".org 0x2000000\ntlbr", 2, AsmKind::Place),
-    (".org 0x1fffffc\ntlbr\ntlbr", 3, AsmKind::Place),
-    (".org 0x1fbffffc\ntlbr", 2, AsmKind::Place),
-    (".org 0x1fc3fffc\ntlbr\ntlbr", 3, AsmKind::Place),
-    (".org 0x1fc40000\n.word 1", 2, AsmKind::Place),
-    (".org 0xffffffff\n.word 1", 2, AsmKind::Place),
-    (".org 0xfffffffc\n.word 1", 2, AsmKind::Place),
-    // words that are set already
-    (".word 1\n.org 0x1fc00000\n.word 1", 3, AsmKind::Overlap),
-    (
-        ".org 8\ntlbr\n.org 0\ntlbr\ntlbr\ntlbr\ntlbr",
-        6,
-        AsmKind::Overlap,
-    ),
-    // targets: a label that is not there, one that is no word, and branches one word past both ends
-    ("j nowhere", 1, AsmKind::Label),
-    ("X:\nj x", 2, AsmKind::Label),
-    ("j tlbr\ntlbr", 1, AsmKind::Label),
-    ("j 1", 1, AsmKind::Reach),
-    ("jal 2", 1, AsmKind::Reach),
-    ("j 0xffffffff", 1, AsmKind::Reach),
-    ("beq r0, r0, 0x1fc00003", 1, AsmKind::Reach),
-    ("beq r0, r0, 0x1fc20004", 1, AsmKind::Reach),
-    ("beq r0, r0, 0x1fbe0000", 1, AsmKind::Reach),
-    ("beq r0, r0, 0", 1, AsmKind::Reach),
-    ("j x\n.org 2\nx:", 1, AsmKind::Reach),
-    ("tlbr\nblez r1, x\n.org 0x1fc20008\nx:", 2, AsmKind::Reach),
-];
-
-fn fault_sources() -> &'static [(&'static str, u64, AsmKind)] {
-    &FAULTS
-}
+// Sources with one fault, the line of the fault, and its kind.
+const FAULTS: &str = "
+// an unknown mnemonic or directive, whatever follows
+foo; foo%; foo r1, 4294967296; x :; ADDU r1, r2, r3; addx r1, r2, r3; ad r1, r2, r3; r1; break_ 1; nop; .foo = 1 Name
+.foo 1 2 3; .foo 4294967296; .foo:; .; . org 1; .Org 1; .words 1; Abcdefghijklmnopqrstuvwxyz_012345 = 1 Name
+// another form: at the begin of a line
+123; 1x:; , r1; : tlbr; %; - tlbr; \x0btlbr; \rtlbr; \0 = 1 Syntax
+// after the name
+addu,r1; addu; addu%; add :; x: nor r1, r2, r3; x: y:; x::; addu: r1, r2, r3; Abcdefghijklmnopqrstuvwxyz_012345: = 1 Syntax
+.org; .org:; .org,1 = 1 Syntax
+// between the parts
+addiu r2 r2, 5; addiu r2,, r2, 5; addiu , r2, r2, 5; addiu r2, r2, - 5; addiu r2, r2, --5; addiu r2, r2, +5 = 1 Syntax
+addiu r2, r2, r3; addiu r2, 5, r2; addu r1, r2, 3; addu r32, r0, r0; addu r01, r0, r0; addu r, r0, r0 = 1 Syntax
+addu R9, r0, r0; addu c1, r0, r0; addu $1, r0, r0; mfc0 r1, c32; mfc0 r1, r12; lw r1, 4(r2; lw r1, 4 r2) = 1 Syntax
+lw r1, (r2); lw r1, 4; lw r1, 4(5); lw r1, x(r2); j a-b; j -4; j; j 1x; j Abcdefghijklmnopqrstuvwxyz_012345 = 1 Syntax
+// words that are no numbers, and signs where none may stand
+.word 0x; .word 0X10; .word 0x1g; .word 12a; .word 1_0; .word +1; .word -1; .word -0; .word x; .org -0 = 1 Syntax
+.bytetime -1; ori r2, r2, -0; sll r2, r2, -1; break -1 = 1 Syntax
+// at the end of a line
+tlbr r1; tlbr,; tlbr\r; tlbr\r\r|; tlbr \r |; addu r1, r2, r3,; addu r1, r2, r3, r4; addu r1, r2, r3 % = 1 Syntax
+addiu r2, r2; addiu r2, r2,; lw r1, 4(r2) 5; j 4 4; .word 1 2; .word 1,; .clock 0 0 0 0 0 0 1 1 1 0 0x20 = 1 Syntax
+.clock 0 0 0 0 0 0 1 1 1 0 0x20 6 0; .clock 0, 0 0 0 0 0 1 1 1 0 0x20 6; .clock 0 0 0 0 0 0 1 1 1 0 0x20 -6 = 1 Syntax
+// the form of a whole line comes before its numbers
+addiu r2, r2, 40000, 5; sll r2, r2, 32 5; .word 4294967296 1; .clock 256 0 0 0 0 0 1 1 1 0 0x20 = 1 Syntax
+// numbers one past their bounds, in each form
+addiu r2, r2, 40000; addiu r1, r1, 32768; addiu r1, r1, 0x8000; addiu r1, r1, -32769; addiu r1, r1, -0x8001 = 1 Number
+addiu r1, r1, 4294967296; addiu r1, r1, -4294967296; addiu r1, r1, 18446744073709551616; lw r1, 32768(r2) = 1 Number
+lw r1, 0x8000(r2); lw r1, -32769(r2); ori r1, r1, 65536; ori r1, r1, 0x10000; lui r1, 0x10000; sll r1, r1, 32 = 1 Number
+sll r1, r1, 0x20; break 1048576; syscall 0x100000; j 4294967296; beq r0, r0, 0x100000000; .word 4294967296 = 1 Number
+.word 0x100000000; .word 99999999999999999999999999999999; .word 0xffffffffffffffffffffffffffffffff = 1 Number
+.org 4294967296; .org 0x100000000; .bytetime 0; .bytetime 65536; .unit 0; .unit 0x10000 = 1 Number
+.clock 256 0 0 0 0 0 1 1 1 0 0x20 6; .clock 0 0 0 0 0 0 1 1 1 0x100 0x20 6; .clock 0 0 0 0 0 0 1 1 1 0 0x80 6 = 1 Number
+.clock 0 0 0 0 0 0 1 1 1 0 0x20 7; .clock 0 0 0 0 0 0 1 1 1 0 0x20 256 = 1 Number
+// again: a label, and each directive that may stand once
+x:|x: = 2 Twice
+x:|.org 0|y:| x: # here = 4 Twice
+.bytetime 1|.bytetime 1 = 2 Twice
+.unit 1|tlbr|.unit 2 = 3 Twice
+.clock 0 0 0 0 0 0 1 1 1 0 0x20 6|.clock 0 0 0 0 0 0 1 1 1 0 0x20 6 = 2 Twice
+.unit 1|.unit 1 1 = 2 Syntax
+.unit 1|.unit 65536|.unit 1 = 2 Number
+// places: no multiple of 4; out of RAM, before ROM, out of ROM, and the last address
+.org 1|tlbr; .org 0x1fc00002|.word 1; .org 0x2000000|tlbr = 2 Place
+.org 0x1fffffc|tlbr|tlbr = 3 Place
+.org 0x1fbffffc|tlbr = 2 Place
+.org 0x1fc3fffc|tlbr|tlbr = 3 Place
+.org 0x1fc40000|.word 1; .org 0xffffffff|.word 1; .org 0xfffffffc|.word 1 = 2 Place
+// words that are set already
+.word 1|.org 0x1fc00000|.word 1 = 3 Overlap
+.org 8|tlbr|.org 0|tlbr|tlbr|tlbr|tlbr = 6 Overlap
+// targets: a label that is not there, one that is no word, and branches one word past both ends
+j nowhere = 1 Label
+X:|j x = 2 Label
+j tlbr|tlbr = 1 Label
+j 1; jal 2; j 0xffffffff; beq r0, r0, 0x1fc00003; beq r0, r0, 0x1fc20004; beq r0, r0, 0x1fbe0000; beq r0, r0, 0 = 1 Reach
+j x|.org 2|x: = 1 Reach
+tlbr|blez r1, x|.org 0x1fc20008|x: = 2 Reach
+";
 
 #[test]
-fn faults(rt: HostRuntime) {
-    for (source, line, kind) in fault_sources() {
-        let found = fault(rt.alloc(), source);
-        same_at(&rt, &source, &found, &Some((*line, *kind)));
+fn faults(rt: HostRuntime) -> Result<(), Fail> {
+    for (source, wanted) in &sources(rt.alloc(), FAULTS)? {
+        let found = shown(rt.alloc(), &fault(rt.alloc(), source.as_str()))?;
+        same_at(&rt, &source, &found, wanted);
     }
+    Ok(())
 }
 
 // Lines with a fault, after `.org 0`, `.word 1`, `x:` and `.org 8`: how many there are, of which the last has it; its kind;

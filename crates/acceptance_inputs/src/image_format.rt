@@ -1,8 +1,8 @@
 //! The image format, raw ROMs, and images made word by word.
+use crate::image_patches::writes;
 use crate::same::{same, same_at};
 use r3k_image::{
     ClockStart, Constant, ImageFault, ImageKind, WordAddress, WordMap, raw_rom, read_image,
-    write_image,
 };
 use samples::{EMPTY_IMAGE, LOAD_SLOT};
 use std::test::Fail;
@@ -153,7 +153,7 @@ fn longest_raw_rom(rt: HostRuntime) -> Result<(), Fail> {
 fn written_again(rt: HostRuntime) -> Result<(), Fail> {
     for bytes in [EMPTY_IMAGE.as_slice(), LOAD_SLOT.as_slice()] {
         let image = read_image(rt.alloc(), bytes)?;
-        same(&rt, &write_image(rt.alloc(), &image)?.as_slice(), &bytes);
+        writes(&rt, &image, bytes)?;
     }
     Ok(())
 }
@@ -175,11 +175,7 @@ fn touching_segments_are_joined(rt: HostRuntime) -> Result<(), Fail> {
 \x10\x01\0\0\x01\0\0\0\x08\0\0\0\
 \xfc\xff\xff\x01\x01\0\0\0\x09\0\0\0";
     let image = read_image(rt.alloc(), &apart)?;
-    same(
-        &rt,
-        &write_image(rt.alloc(), &image)?.as_slice(),
-        &joined.as_slice(),
-    );
+    writes(&rt, &image, &joined)?;
     Ok(())
 }
 
@@ -205,11 +201,7 @@ fn image_of_words(rt: HostRuntime) -> Result<(), Fail> {
         Constant::plain_unit(),
         ClockStart::plain(),
     )?;
-    same(
-        &rt,
-        &write_image(rt.alloc(), &image)?.as_slice(),
-        &LOAD_SLOT.as_slice(),
-    );
+    writes(&rt, &image, &LOAD_SLOT)?;
     same(&rt, &Constant::new(0), &None);
     same(&rt, &Constant::new(65536), &None);
     let start = ClockStart::new(&CLOCK).ok_or("no start")?;

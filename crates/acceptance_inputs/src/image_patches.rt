@@ -1,8 +1,9 @@
 //! Patches of an image.
 use crate::same::{same, same_at};
-use r3k_image::{read_image, write_image};
+use r3k_image::{Image, read_image, write_image};
 use refusal::Fault;
 use samples::{EMPTY_IMAGE, LOAD_SLOT};
+use std::process::Abort;
 use std::test::Fail;
 
 // The image of `LOAD_SLOT` after patches of 0xfc, 0x104, 0x200 and 0x1fc00010: words 0xfc, 0x100 and 0x104 are one run.
@@ -13,26 +14,24 @@ const PATCHED: [u8; 92] = *b"R3KIMG1\n\x10\0\0\0\x01\0\0\0\
 \0\x02\0\0\x01\0\0\0\xff\xff\xff\xff\
 \0\0\xc0\x1f\x05\0\0\0\0\xa0\x01\x3c\0\x01\x22\x8c\x21\x18\x40\0\x21\x20\x40\0\x11\0\x05\x24";
 
+/// Compares the bytes that an image is written as.
+pub fn writes(rt: &(impl Abort + AllocGlobal), image: &Image, bytes: &[u8]) -> Result<(), Fail> {
+    same(rt, &write_image(rt.alloc(), image)?.as_slice(), &bytes);
+    Ok(())
+}
+
 #[test]
 fn patches(rt: HostRuntime) -> Result<(), Fail> {
     let mut image = read_image(rt.alloc(), &LOAD_SLOT)?;
     // The value that the word has.
     image.patch(0x100, 5)?;
-    same(
-        &rt,
-        &write_image(rt.alloc(), &image)?.as_slice(),
-        &LOAD_SLOT.as_slice(),
-    );
+    writes(&rt, &image, &LOAD_SLOT)?;
     // Words of their own, one of them just before a segment, and words after a segment, one of them with the value 0.
     image.patch(0x200, 0xFFFF_FFFF)?;
     image.patch(0xFC, 7)?;
     image.patch(0x104, 0)?;
     image.patch(0x1FC0_0010, 0x2405_0011)?;
-    same(
-        &rt,
-        &write_image(rt.alloc(), &image)?.as_slice(),
-        &PATCHED.as_slice(),
-    );
+    writes(&rt, &image, &PATCHED)?;
     // Set words have another value, and no other word is touched.
     image.patch(0x1FC0_0004, 1)?;
     image.patch(0xFC, 0)?;
@@ -92,11 +91,7 @@ fn refused_patches(rt: HostRuntime) -> Result<(), Fail> {
             &Some(Fault::NotMemory),
         );
     }
-    same(
-        &rt,
-        &write_image(rt.alloc(), &image)?.as_slice(),
-        &LOAD_SLOT.as_slice(),
-    );
+    writes(&rt, &image, &LOAD_SLOT)?;
     Ok(())
 }
 

@@ -1,284 +1,152 @@
 //! Edits of a log.
-use crate::log_format::{FIRST, MIXED, MIXED_EVENTS, SECOND, THIRD, THREE};
+use crate::log_format::{MIXED, THREE};
 use crate::same::{same, same_at};
-use input_log::{Kind, Log, MAX_POSITION, MAX_TIME, read_log};
+use input_log::{Log, LogFault, read_log};
 use refusal::Fault;
+use samples::{number, plain, shown};
+use std::alloc::Global;
 use std::test::Fail;
 
-// Whether a log has just these bytes: of each its time, its line and itself.
-fn has(log: &Log, events: &[(u64, u8, u8)]) -> bool {
-    let same = log.events().iter().zip(events).all(|(a, b)| {
-        a.kind == Kind::Byte && a.time == b.0 && a.line == b.1 && a.byte == b.2
-    });
-    same && log.events().len() == events.len()
-}
-
-// Whether a log has just these events: of each its time, its kind, its line and its byte.
-fn holds(log: &Log, events: &[(u64, Kind, u8, u8)]) -> bool {
-    let same = log.events().iter().zip(events).all(|(a, b)| a.time == b.0
-        && a.kind == b.1
-        && a.line == b.2
-        && a.byte == b.3);
-    same && log.events().len() == events.len()
-}
-
 #[test]
-fn adds_behind_its_time(rt: HostRuntime) -> Result<(), Fail> {
-    let mut log = Log::new(rt.alloc());
-    same(&rt, &log.add(5, 0, 1)?, &0);
-    same(&rt, &log.add(5, 3, 2)?, &1);
-    same(&rt, &log.add(4, 0, 3)?, &0);
-    same(&rt, &log.add(4_294_967_294, 0, 255)?, &3);
-    same(&rt, &log.add(0, 1, 0)?, &0);
-    same(&rt, &log.add(5, 0, 4)?, &4);
-    assert!(rt;
-        has(
-            &log,
-            &[
-                (0, 1, 0),
-                (4, 0, 3),
-                (5, 0, 1),
-                (5, 3, 2),
-                (5, 0, 4),
-                (4_294_967_294, 0, 255),
-            ]
-        )
-    );
-    Ok(())
-}
-
-#[test]
-fn adds_each_kind(rt: HostRuntime) -> Result<(), Fail> {
-    let mut log = Log::new(rt.alloc());
-    same(&rt, &log.add(5, 0, 0xff)?, &0);
-    same(&rt, &log.ferr(5, 3, 0xff)?, &1);
-    same(&rt, &log.wire(5, 2, 1)?, &2);
-    same(&rt, &log.wire(4, 0, 0)?, &0);
-    same(&rt, &log.ferr(MAX_TIME, 0, 0)?, &4);
-    same(&rt, &log.wire(MAX_TIME, 1, 0)?, &5);
-    same(&rt, &log.ferr(0, 1, 2)?, &0);
-    assert!(rt;
-        holds(
-            &log,
-            &[
-                (0, Kind::Framing, 1, 2),
-                (4, Kind::Wire, 0, 0),
-                (5, Kind::Byte, 0, 0xff),
-                (5, Kind::Framing, 3, 0xff),
-                (5, Kind::Wire, 2, 1),
-                (MAX_TIME, Kind::Framing, 0, 0),
-                (MAX_TIME, Kind::Wire, 1, 0),
-            ]
-        )
-    );
-    Ok(())
-}
-
-// An event is set, moved and deleted as a byte is, and keeps its kind.
-#[test]
-fn edits_of_each_kind(rt: HostRuntime) -> Result<(), Fail> {
-    let mut log = Log::new(rt.alloc());
-    log.add(4, 3, 1)?;
-    log.ferr(5, 3, 2)?;
-    log.wire(6, 2, 1)?;
-    log.set(0, 255)?;
-    log.set(1, 255)?;
-    log.set(2, 0)?;
-    assert!(rt;
-        holds(
-            &log,
-            &[
-                (4, Kind::Byte, 3, 255),
-                (5, Kind::Framing, 3, 255),
-                (6, Kind::Wire, 2, 0),
-            ]
-        )
-    );
-    log.set(2, 1)?;
-    same(&rt, &log.move_to(2, 4)?, &1);
-    same(&rt, &log.move_to(2, 3)?, &0);
-    same(&rt, &log.move_to(1, 9)?, &2);
-    assert!(rt;
-        holds(
-            &log,
-            &[
-                (3, Kind::Framing, 3, 255),
-                (4, Kind::Wire, 2, 1),
-                (9, Kind::Byte, 3, 255),
-            ]
-        )
-    );
-    log.del(1)?;
-    log.del(0)?;
-    assert!(rt; has(&log, &[(9, 3, 255)]));
-    Ok(())
-}
-
-#[test]
-fn refused_edits_of_each_kind(rt: HostRuntime) -> Result<(), Fail> {
-    let mut log = read_log(rt.alloc(), &MIXED)?;
-    for (time, line, byte) in [
-        (0, 3, 0),
-        (0, 0, 2),
-        (0, 255, 255),
-        (MAX_TIME + 1, 0, 0),
-        (u64::MAX, 2, 1),
-    ] {
-        let fault = log.wire(time, line, byte).err();
-        same_at(&rt, &(time, line, byte), &fault, &Some(Fault::Range));
-    }
-    for (time, line) in [(0, 4), (MAX_TIME + 1, 0), (u64::MAX, 255)] {
-        let fault = log.ferr(time, line, 0).err();
-        same_at(&rt, &(time, line), &fault, &Some(Fault::Range));
-    }
-    // Events 1 and 3 are levels.
-    for (place, byte, fault) in [
-        (1, 2, Fault::Range),
-        (3, 255, Fault::Range),
-        (4, 0, Fault::NoEvent),
-        (4, 2, Fault::NoEvent),
-        (u64::MAX, 255, Fault::NoEvent),
-    ] {
-        let found = log.set(place, byte).err();
-        same_at(&rt, &(place, byte), &found, &Some(fault));
-    }
-    same(&rt, &log.events(), &MIXED_EVENTS.as_slice());
-    Ok(())
-}
-
-// The events are of the times 4, 5, 5 and 4,294,967,294.
-#[test]
-fn erases(rt: HostRuntime) -> Result<(), Fail> {
-    let [first, second, third, last] = MIXED_EVENTS;
-    for (from, to, left) in [
-        (0, 0, MIXED_EVENTS.as_slice()),
-        (5, 5, &MIXED_EVENTS),
-        (MAX_POSITION, MAX_POSITION, &MIXED_EVENTS),
-        (0, 4, &MIXED_EVENTS),
-        (6, 4_294_967_294, &MIXED_EVENTS),
-        (4, 5, &[second, third, last]),
-        (5, 6, &[first, last]),
-        (0, 6, &[last]),
-        (4, 4_294_967_294, &[last]),
-        (5, 4_294_967_294, &[first, last]),
-        (5, MAX_POSITION, &[first]),
-        (4_294_967_294, MAX_POSITION, &[first, second, third]),
-    ] {
-        let mut log = read_log(rt.alloc(), &MIXED)?;
-        log.erase(from, to)?;
-        same_at(&rt, &(from, to), &log.events(), &left);
+fn edits(rt: HostRuntime) -> Result<(), Fail> {
+    for list in LISTS.split("\n$ ").skip(1) {
+        let (head, rows) = list.split_once('\n').ok_or("nothing is done")?;
+        let mut log = log_of(rt.alloc(), head)?;
+        for row in rows.lines().filter(|row| !row.starts_with("#")) {
+            for edit in row.split("; ").filter(|edit| !edit.is_empty()) {
+                let (edit, wanted) = edit.split_once(" = ").ok_or("nothing is wanted")?;
+                if edit == "again" {
+                    log = log_of(rt.alloc(), head)?;
+                } else {
+                    let found = edited(rt.alloc(), &mut log, edit)?;
+                    same_at(&rt, &(head, edit), &found, &plain(rt.alloc(), wanted)?);
+                }
+            }
+        }
     }
     Ok(())
 }
 
-#[test]
-fn erases_all(rt: HostRuntime) -> Result<(), Fail> {
-    for (from, to) in [(0, MAX_POSITION), (4, MAX_POSITION), (0, 4_294_967_295)] {
-        let mut log = read_log(rt.alloc(), &MIXED)?;
-        log.erase(from, to)?;
-        same_at(&rt, &(from, to), &log.events().len(), &0);
+// The log in which a list begins.
+fn log_of(alloc: Global, head: &str) -> Result<Log, LogFault> {
+    if head.ends_with("mixed") {
+        read_log(alloc, &MIXED)
+    } else if head.ends_with("three") {
+        read_log(alloc, &THREE)
+    } else {
+        Ok(Log::new(alloc))
     }
-    Ok(())
 }
 
-#[test]
-fn refused_erasing(rt: HostRuntime) -> Result<(), Fail> {
-    let mut log = read_log(rt.alloc(), &MIXED)?;
-    for (from, to) in [
-        (1, 0),
-        (6, 5),
-        (MAX_POSITION, 0),
-        (0, MAX_POSITION + 1),
-        (MAX_POSITION + 1, MAX_POSITION + 1),
-        (0, u64::MAX),
-        (u64::MAX, u64::MAX),
-        (u64::MAX, 0),
-    ] {
-        let fault = log.erase(from, to).err();
-        same_at(&rt, &(from, to), &fault, &Some(Fault::Range));
+// The answer to an edit, or the log's events.
+fn edited(alloc: Global, log: &mut Log, edit: &str) -> Result<String, Fail> {
+    let (name, words) = edit.split_once(' ').unwrap_or((edit, ""));
+    let mut numbers = Vec::new(alloc);
+    for word in words.split_whitespace() {
+        numbers.push(number(word)?)?;
     }
-    same(&rt, &log.events(), &MIXED_EVENTS.as_slice());
-    let mut empty = Log::new(rt.alloc());
-    empty.erase(0, MAX_POSITION)?;
-    same(&rt, &empty.events().len(), &0);
-    Ok(())
+    Ok(match (name, numbers.as_slice()) {
+        ("add", [time, line, byte]) => {
+            let (line, byte) = (u8::try_from(*line)?, u8::try_from(*byte)?);
+            shown(alloc, &log.add(*time, line, byte))?
+        }
+        ("ferr", [time, line, byte]) => {
+            let (line, byte) = (u8::try_from(*line)?, u8::try_from(*byte)?);
+            shown(alloc, &log.ferr(*time, line, byte))?
+        }
+        ("wire", [time, line, level]) => {
+            let (line, level) = (u8::try_from(*line)?, u8::try_from(*level)?);
+            shown(alloc, &log.wire(*time, line, level))?
+        }
+        ("del", [place]) => shown(alloc, &log.del(*place))?,
+        ("set", [place, byte]) => shown(alloc, &log.set(*place, u8::try_from(*byte)?))?,
+        ("move", [place, time]) => shown(alloc, &log.move_to(*place, *time))?,
+        ("erase", [from, to]) => shown(alloc, &log.erase(*from, *to))?,
+        ("log", []) => shown(alloc, &log.events())?,
+        _ => return Err("no edit".into()),
+    })
 }
 
-#[test]
-fn takes_out_and_changes(rt: HostRuntime) -> Result<(), Fail> {
-    let mut log = read_log(rt.alloc(), &THREE)?;
-    log.set(1, 255)?;
-    assert!(rt; has(&log, &[(4, 3, 255), (5, 0, 255), (5, 1, 2)]));
-    log.del(2)?;
-    assert!(rt; has(&log, &[(4, 3, 255), (5, 0, 255)]));
-    log.del(0)?;
-    assert!(rt; has(&log, &[(5, 0, 255)]));
-    log.del(0)?;
-    assert!(rt; has(&log, &[]));
-    Ok(())
-}
+// Edits, with `; ` between, each with its answer, and `log` with the events. A list begins with its name and with its log: an empty one,
+// that of `THREE`, or that of `MIXED`, which `again` brings back.
+const LISTS: &str = "
+$ adds after the events of its time: empty
+add 5 0 1 = 0; add 5 3 2 = 1; add 4 0 3 = 0; add 4294967294 0 255 = 3; add 0 1 0 = 0; add 5 0 4 = 4
+log = 0 Byte 1 0, 4 Byte 0 3, 5 Byte 0 1, 5 Byte 3 2, 5 Byte 0 4, 4294967294 Byte 0 255
 
-// The events of the times 1, 2, 2, 3 are moved, one at a time, each from where the move before left them.
-#[test]
-fn moves(rt: HostRuntime) -> Result<(), Fail> {
-    let mut log = Log::new(rt.alloc());
-    for (time, byte) in [(1, 10), (2, 20), (2, 21), (3, 30)] {
-        log.add(time, 0, byte)?;
-    }
-    // The last of its time stays.
-    same(&rt, &log.move_to(2, 2)?, &2);
-    assert!(rt; has(&log, &[(1, 0, 10), (2, 0, 20), (2, 0, 21), (3, 0, 30)]));
-    // The first of its time comes after the other.
-    same(&rt, &log.move_to(1, 2)?, &2);
-    assert!(rt; has(&log, &[(1, 0, 10), (2, 0, 21), (2, 0, 20), (3, 0, 30)]));
-    // Forward to the end.
-    same(&rt, &log.move_to(0, 4_294_967_294)?, &3);
-    assert!(rt;
-        has(
-            &log,
-            &[(2, 0, 21), (2, 0, 20), (3, 0, 30), (4_294_967_294, 0, 10)]
-        )
-    );
-    // Backward, after the events of the new time.
-    same(&rt, &log.move_to(3, 2)?, &2);
-    assert!(rt; has(&log, &[(2, 0, 21), (2, 0, 20), (2, 0, 10), (3, 0, 30)]));
-    // To another time between the same neighbours.
-    same(&rt, &log.move_to(3, 7)?, &3);
-    // To the front.
-    same(&rt, &log.move_to(3, 0)?, &0);
-    assert!(rt; has(&log, &[(0, 0, 30), (2, 0, 21), (2, 0, 20), (2, 0, 10)]));
-    Ok(())
-}
+$ adds each kind: empty
+add 5 0 0xff = 0; ferr 5 3 0xff = 1; wire 5 2 1 = 2; wire 4 0 0 = 0; ferr 1099511627774 0 0 = 4; wire 1099511627774 1 0 = 5
+ferr 0 1 2 = 0
+log = 0 Framing 1 2, 4 Wire 0 0, 5 Byte 0 255, 5 Framing 3 255, 5 Wire 2 1, 1099511627774 Framing 0 0, 1099511627774 Wire 1 0
 
-#[test]
-fn refused_edits(rt: HostRuntime) -> Result<(), Fail> {
-    let mut log = read_log(rt.alloc(), &THREE)?;
-    same(&rt, &log.add(0, 4, 0).err(), &Some(Fault::Range));
-    same(&rt, &log.add(MAX_TIME + 1, 0, 0).err(), &Some(Fault::Range));
-    same(&rt, &log.add(u64::MAX, 255, 0).err(), &Some(Fault::Range));
-    for place in [3, 4_294_967_296, u64::MAX] {
-        same(&rt, &log.del(place).err(), &Some(Fault::NoEvent));
-        same(&rt, &log.set(place, 0).err(), &Some(Fault::NoEvent));
-        same(
-            &rt,
-            &log.move_to(place, MAX_TIME).err(),
-            &Some(Fault::NoEvent),
-        );
-        // The range comes first.
-        same(
-            &rt,
-            &log.move_to(place, MAX_TIME + 1).err(),
-            &Some(Fault::Range),
-        );
-    }
-    same(
-        &rt,
-        &log.move_to(0, MAX_TIME + 1).err(),
-        &Some(Fault::Range),
-    );
-    same(&rt, &log.events(), &[FIRST, SECOND, THIRD].as_slice());
-    Ok(())
-}
+$ edits of each kind: empty
+# An event is set, moved and deleted as a byte is, and keeps its kind.
+add 4 3 1 = 0; ferr 5 3 2 = 1; wire 6 2 1 = 2; set 0 255 = Ok; set 1 255 = Ok; set 2 0 = Ok
+log = 4 Byte 3 255, 5 Framing 3 255, 6 Wire 2 0
+set 2 1 = Ok; move 2 4 = 1; move 2 3 = 0; move 1 9 = 2
+log = 3 Framing 3 255, 4 Wire 2 1, 9 Byte 3 255
+del 1 = Ok; del 0 = Ok; log = 9 Byte 3 255
+
+$ refused edits of each kind: mixed
+# Events 1 and 3 are levels.
+wire 0 3 0 = Range; wire 0 0 2 = Range; wire 0 255 255 = Range; wire 1099511627775 0 0 = Range
+wire 18446744073709551615 2 1 = Range; ferr 0 4 0 = Range; ferr 1099511627775 0 0 = Range; ferr 18446744073709551615 255 0 = Range
+set 1 2 = Range; set 3 255 = Range; set 4 0 = NoEvent; set 4 2 = NoEvent; set 18446744073709551615 255 = NoEvent
+log = 4 Framing 3 255, 5 Wire 2 1, 5 Byte 3 2, 4294967294 Wire 0 0
+
+$ erases: mixed
+again = Ok; erase 0 0 = Ok; log = 4 Framing 3 255, 5 Wire 2 1, 5 Byte 3 2, 4294967294 Wire 0 0
+again = Ok; erase 5 5 = Ok; log = 4 Framing 3 255, 5 Wire 2 1, 5 Byte 3 2, 4294967294 Wire 0 0
+again = Ok; erase 1099511627775 1099511627775 = Ok; log = 4 Framing 3 255, 5 Wire 2 1, 5 Byte 3 2, 4294967294 Wire 0 0
+again = Ok; erase 0 4 = Ok; log = 4 Framing 3 255, 5 Wire 2 1, 5 Byte 3 2, 4294967294 Wire 0 0
+again = Ok; erase 6 4294967294 = Ok; log = 4 Framing 3 255, 5 Wire 2 1, 5 Byte 3 2, 4294967294 Wire 0 0
+again = Ok; erase 4 5 = Ok; log = 5 Wire 2 1, 5 Byte 3 2, 4294967294 Wire 0 0
+again = Ok; erase 5 6 = Ok; log = 4 Framing 3 255, 4294967294 Wire 0 0
+again = Ok; erase 0 6 = Ok; log = 4294967294 Wire 0 0
+again = Ok; erase 4 4294967294 = Ok; log = 4294967294 Wire 0 0
+again = Ok; erase 5 4294967294 = Ok; log = 4 Framing 3 255, 4294967294 Wire 0 0
+again = Ok; erase 5 1099511627775 = Ok; log = 4 Framing 3 255
+again = Ok; erase 4294967294 1099511627775 = Ok; log = 4 Framing 3 255, 5 Wire 2 1, 5 Byte 3 2
+again = Ok; erase 0 1099511627775 = Ok; log = Ok
+again = Ok; erase 4 1099511627775 = Ok; log = Ok
+again = Ok; erase 0 4294967295 = Ok; log = Ok
+erase 0 1099511627775 = Ok; log = Ok
+
+$ refused erasing: mixed
+erase 1 0 = Range; erase 6 5 = Range; erase 1099511627775 0 = Range; erase 0 1099511627776 = Range
+erase 1099511627776 1099511627776 = Range; erase 0 18446744073709551615 = Range
+erase 18446744073709551615 18446744073709551615 = Range; erase 18446744073709551615 0 = Range
+log = 4 Framing 3 255, 5 Wire 2 1, 5 Byte 3 2, 4294967294 Wire 0 0
+
+$ takes out and changes: three
+set 1 255 = Ok; log = 4 Byte 3 255, 5 Byte 0 255, 5 Byte 1 2
+del 2 = Ok; log = 4 Byte 3 255, 5 Byte 0 255
+del 0 = Ok; log = 5 Byte 0 255
+del 0 = Ok; log = Ok
+
+$ moves: empty
+# The events of the times 1, 2, 2, 3 are moved, one at a time, each from where the move before left them.
+add 1 0 10 = 0; add 2 0 20 = 1; add 2 0 21 = 2; add 3 0 30 = 3
+# The last of its time stays.
+move 2 2 = 2; log = 1 Byte 0 10, 2 Byte 0 20, 2 Byte 0 21, 3 Byte 0 30
+# The first of its time comes after the other.
+move 1 2 = 2; log = 1 Byte 0 10, 2 Byte 0 21, 2 Byte 0 20, 3 Byte 0 30
+# Forward to the end.
+move 0 4294967294 = 3; log = 2 Byte 0 21, 2 Byte 0 20, 3 Byte 0 30, 4294967294 Byte 0 10
+# Backward, after the events of the new time.
+move 3 2 = 2; log = 2 Byte 0 21, 2 Byte 0 20, 2 Byte 0 10, 3 Byte 0 30
+# To another time between the same neighbours, and to the front.
+move 3 7 = 3; move 3 0 = 0; log = 0 Byte 0 30, 2 Byte 0 21, 2 Byte 0 20, 2 Byte 0 10
+
+$ refused edits: three
+# The range comes first.
+add 0 4 0 = Range; add 1099511627775 0 0 = Range; add 18446744073709551615 255 0 = Range; move 0 1099511627775 = Range
+del 3 = NoEvent; set 3 0 = NoEvent; move 3 1099511627774 = NoEvent; move 3 1099511627775 = Range
+del 4294967296 = NoEvent; set 4294967296 0 = NoEvent; move 4294967296 1099511627774 = NoEvent; move 4294967296 1099511627775 = Range
+del 18446744073709551615 = NoEvent; set 18446744073709551615 0 = NoEvent; move 18446744073709551615 1099511627774 = NoEvent
+move 18446744073709551615 1099511627775 = Range
+log = 4 Byte 3 255, 5 Byte 0 1, 5 Byte 1 2
+";
 
 // A log of 1,048,576 events, all of step 0, line 0 and byte 0.
 #[test]

@@ -1,6 +1,8 @@
 //! The versions of the log format, and windows of a log.
 use crate::same::{same, same_at};
 use input_log::{Cursor, Event, Kind, Log, LogFault, LogKind, MAX_TIME, read_log, write_log};
+use samples::{number, plain, shown};
+use std::process::Abort;
 use std::test::Fail;
 
 // One event: in step 70 line 0 gets 0x41.
@@ -74,6 +76,12 @@ pub const THIRD: Event = Event {
     byte: 2,
 };
 
+// Compares the bytes that a log is written as.
+fn writes(rt: &(impl Abort + AllocGlobal), log: &Log, bytes: &[u8]) -> Result<(), Fail> {
+    same(rt, &write_log(rt.alloc(), log)?.as_slice(), &bytes);
+    Ok(())
+}
+
 #[test]
 fn one_event(rt: HostRuntime) -> Result<(), Fail> {
     let log = read_log(rt.alloc(), &ONE)?;
@@ -84,11 +92,7 @@ fn one_event(rt: HostRuntime) -> Result<(), Fail> {
         byte: 0x41,
     };
     same(&rt, &log.events(), &[event].as_slice());
-    same(
-        &rt,
-        &write_log(rt.alloc(), &log)?.as_slice(),
-        &ONE.as_slice(),
-    );
+    writes(&rt, &log, &ONE)?;
     Ok(())
 }
 
@@ -96,25 +100,13 @@ fn one_event(rt: HostRuntime) -> Result<(), Fail> {
 fn written_again(rt: HostRuntime) -> Result<(), Fail> {
     let log = read_log(rt.alloc(), &THREE)?;
     same(&rt, &log.events(), &[FIRST, SECOND, THIRD].as_slice());
-    same(
-        &rt,
-        &write_log(rt.alloc(), &log)?.as_slice(),
-        &THREE.as_slice(),
-    );
+    writes(&rt, &log, &THREE)?;
     let none = *b"R3KLOG1\n\0\0\0\0";
     let log = read_log(rt.alloc(), &none)?;
     same(&rt, &log.events().len(), &0);
-    same(
-        &rt,
-        &write_log(rt.alloc(), &log)?.as_slice(),
-        &none.as_slice(),
-    );
+    writes(&rt, &log, &none)?;
     let empty = Log::new(rt.alloc());
-    same(
-        &rt,
-        &write_log(rt.alloc(), &empty)?.as_slice(),
-        &none.as_slice(),
-    );
+    writes(&rt, &empty, &none)?;
     Ok(())
 }
 
@@ -123,11 +115,7 @@ fn written_again(rt: HostRuntime) -> Result<(), Fail> {
 fn each_kind(rt: HostRuntime) -> Result<(), Fail> {
     let log = read_log(rt.alloc(), &MIXED)?;
     same(&rt, &log.events(), &MIXED_EVENTS.as_slice());
-    same(
-        &rt,
-        &write_log(rt.alloc(), &log)?.as_slice(),
-        &MIXED.as_slice(),
-    );
+    writes(&rt, &log, &MIXED)?;
     let log = read_log(rt.alloc(), &FRAMING)?;
     let event = Event {
         time: 70,
@@ -136,11 +124,7 @@ fn each_kind(rt: HostRuntime) -> Result<(), Fail> {
         byte: 0x41,
     };
     same(&rt, &log.events(), &[event].as_slice());
-    same(
-        &rt,
-        &write_log(rt.alloc(), &log)?.as_slice(),
-        &FRAMING.as_slice(),
-    );
+    writes(&rt, &log, &FRAMING)?;
     Ok(())
 }
 
@@ -158,7 +142,7 @@ fn written_in_version_one(rt: HostRuntime) -> Result<(), Fail> {
         ),
     ] {
         let log = read_log(rt.alloc(), bytes)?;
-        same(&rt, &write_log(rt.alloc(), &log)?.as_slice(), &written);
+        writes(&rt, &log, written)?;
     }
     Ok(())
 }
@@ -169,11 +153,7 @@ fn late_byte(rt: HostRuntime) -> Result<(), Fail> {
     let mut log = Log::new(rt.alloc());
     log.add(4_294_967_295, 0, 1)?;
     let late = *b"R3KLOG2\n\x01\0\0\0\xff\xff\xff\xff\0\0\0\0\0\0\x01";
-    same(
-        &rt,
-        &write_log(rt.alloc(), &log)?.as_slice(),
-        &late.as_slice(),
-    );
+    writes(&rt, &log, &late)?;
     same(&rt, &read_log(rt.alloc(), &late)?.events(), &log.events());
     Ok(())
 }
@@ -183,26 +163,14 @@ fn late_byte(rt: HostRuntime) -> Result<(), Fail> {
 fn version_of_an_edited_log(rt: HostRuntime) -> Result<(), Fail> {
     let mut log = Log::new(rt.alloc());
     log.ferr(70, 0, 0x41)?;
-    same(
-        &rt,
-        &write_log(rt.alloc(), &log)?.as_slice(),
-        &FRAMING.as_slice(),
-    );
+    writes(&rt, &log, &FRAMING)?;
     log.add(70, 0, 0x41)?;
     log.del(0)?;
-    same(
-        &rt,
-        &write_log(rt.alloc(), &log)?.as_slice(),
-        &ONE.as_slice(),
-    );
+    writes(&rt, &log, &ONE)?;
     log.wire(71, 1, 1)?;
     let both = *b"R3KLOG2\n\x02\0\0\0\x46\0\0\0\0\0\0\0\0\0\x41\
 \x47\0\0\0\0\0\0\0\x02\x01\x01";
-    same(
-        &rt,
-        &write_log(rt.alloc(), &log)?.as_slice(),
-        &both.as_slice(),
-    );
+    writes(&rt, &log, &both)?;
     Ok(())
 }
 
@@ -226,93 +194,49 @@ fn too_few_bytes_and_too_many(rt: HostRuntime) -> Result<(), Fail> {
     Ok(())
 }
 
-// Three events with one byte replaced, and cut short.
+// Logs with the byte at a place replaced, and cut short: the place, the byte, the length, and the fault.
 #[test]
 fn first_fault(rt: HostRuntime) -> Result<(), Fail> {
-    for (place, byte, end, kind) in [
-        (0, b'R', 30, None),
-        (7, b'\r', 30, Some(LogKind::Magic)),
-        (7, b'\r', 8, Some(LogKind::Magic)),
-        (7, b'\r', 7, Some(LogKind::Short)),
-        (10, 0x10, 30, Some(LogKind::Count)),
-        (10, 0x10, 12, Some(LogKind::Count)),
-        (10, 0x10, 11, Some(LogKind::Short)),
-        (8, 0, 30, Some(LogKind::Extra)),
-        (8, 2, 30, Some(LogKind::Extra)),
-        (8, 4, 30, Some(LogKind::Short)),
-        (15, 0xff, 30, Some(LogKind::Time)),
-        (16, 4, 30, Some(LogKind::Line)),
-        (16, 4, 17, Some(LogKind::Line)),
-        (16, 4, 16, Some(LogKind::Short)),
-        (12, 5, 30, None),
-        (12, 6, 30, Some(LogKind::Time)),
-        (18, 4, 30, None),
-        (18, 3, 30, Some(LogKind::Time)),
-        (18, 3, 22, Some(LogKind::Time)),
-        (18, 3, 21, Some(LogKind::Short)),
-        (22, 4, 30, Some(LogKind::Line)),
-        (22, 4, 23, Some(LogKind::Line)),
-        (24, 4, 30, Some(LogKind::Time)),
-        (28, 4, 29, Some(LogKind::Line)),
-    ] {
-        let mut bytes = THREE;
-        *bytes.get_mut(place).ok_or("no byte there")? = byte;
-        let fault = read_log(rt.alloc(), &bytes[..end.min(bytes.len())]).err();
-        same_at(&rt, &(byte, place, end), &fault, &kind.map(LogFault::Bad));
+    faults(&rt, &THREE, OF_THREE)?;
+    faults(&rt, &MIXED, OF_MIXED)
+}
+
+fn faults(rt: &(impl Abort + AllocGlobal), log: &[u8], rows: &str) -> Result<(), Fail> {
+    for row in rows.lines().filter(|row| !row.starts_with("#")) {
+        for row in row.split("; ") {
+            let (numbers, wanted) = row.split_once(" = ").ok_or("nothing is wanted")?;
+            let (place, rest) = numbers.split_once(' ').ok_or("no byte")?;
+            let (byte, end) = rest.split_once(' ').ok_or("no length")?;
+            let mut bytes = log.to_vec(rt.alloc())?;
+            let place = number(place)? as usize;
+            *bytes.get_mut(place).ok_or("no byte there")? = u8::try_from(number(byte)?)?;
+            bytes.truncate(number(end)? as usize);
+            let fault = read_log(rt.alloc(), &bytes).err();
+            let found = shown(rt.alloc(), &fault)?;
+            let wanted = plain(rt.alloc(), wanted)?;
+            same_at(rt, &row, &found, &wanted);
+        }
     }
     Ok(())
 }
 
-// The same in version two: four events with one byte replaced, and cut short.
-#[test]
-fn first_fault_in_version_two(rt: HostRuntime) -> Result<(), Fail> {
-    for (place, byte, end, kind) in [
-        (6, b'3', 56, Some(LogKind::Magic)),
-        (6, b'3', 8, Some(LogKind::Magic)),
-        (6, b'3', 7, Some(LogKind::Short)),
-        // In version one byte 22 is the line of the second event.
-        (6, b'1', 56, Some(LogKind::Line)),
-        (10, 0x10, 56, Some(LogKind::Count)),
-        (10, 0x10, 12, Some(LogKind::Count)),
-        (10, 0x10, 11, Some(LogKind::Short)),
-        (8, 3, 56, Some(LogKind::Extra)),
-        (8, 5, 56, Some(LogKind::Short)),
-        (12, 5, 56, None),
-        (12, 6, 56, Some(LogKind::Time)),
-        (12, 6, 31, Some(LogKind::Time)),
-        (12, 6, 30, Some(LogKind::Short)),
-        (17, 1, 56, Some(LogKind::Time)),
-        (19, 1, 20, Some(LogKind::Time)),
-        (19, 1, 19, Some(LogKind::Short)),
-        (20, 3, 56, Some(LogKind::Kind)),
-        (20, 0xff, 56, Some(LogKind::Kind)),
-        (20, 3, 21, Some(LogKind::Kind)),
-        (20, 3, 20, Some(LogKind::Short)),
-        (20, 0, 56, None),
-        // An external line 3.
-        (20, 2, 56, Some(LogKind::Line)),
-        (20, 2, 22, Some(LogKind::Line)),
-        (20, 2, 21, Some(LogKind::Short)),
-        (21, 4, 56, Some(LogKind::Line)),
-        (32, 3, 56, Some(LogKind::Line)),
-        (32, 3, 33, Some(LogKind::Line)),
-        (32, 3, 32, Some(LogKind::Short)),
-        (32, 1, 56, None),
-        (33, 0, 56, None),
-        (33, 2, 56, Some(LogKind::Value)),
-        (33, 2, 34, Some(LogKind::Value)),
-        (33, 2, 33, Some(LogKind::Short)),
-        (31, 1, 56, None),
-        (43, 4, 56, Some(LogKind::Line)),
-        (55, 0xff, 56, Some(LogKind::Value)),
-    ] {
-        let mut bytes = MIXED;
-        *bytes.get_mut(place).ok_or("no byte there")? = byte;
-        let fault = read_log(rt.alloc(), &bytes[..end.min(bytes.len())]).err();
-        same_at(&rt, &(byte, place, end), &fault, &kind.map(LogFault::Bad));
-    }
-    Ok(())
-}
+const OF_THREE: &str =
+    "0 0x52 30 = None; 7 0xd 30 = Bad Magic; 7 0xd 8 = Bad Magic; 7 0xd 7 = Bad Short; 10 0x10 30 = Bad Count; 10 0x10 12 = Bad Count
+10 0x10 11 = Bad Short; 8 0 30 = Bad Extra; 8 2 30 = Bad Extra; 8 4 30 = Bad Short; 15 0xff 30 = Bad Time; 16 4 30 = Bad Line; 16 4 17 = Bad Line
+16 4 16 = Bad Short; 12 5 30 = None; 12 6 30 = Bad Time; 18 4 30 = None; 18 3 30 = Bad Time; 18 3 22 = Bad Time; 18 3 21 = Bad Short
+22 4 30 = Bad Line; 22 4 23 = Bad Line; 24 4 30 = Bad Time; 28 4 29 = Bad Line
+";
+
+const OF_MIXED: &str = "6 0x33 56 = Bad Magic; 6 0x33 8 = Bad Magic; 6 0x33 7 = Bad Short
+# In version one byte 22 is the line of the second event.
+6 0x31 56 = Bad Line; 10 0x10 56 = Bad Count; 10 0x10 12 = Bad Count; 10 0x10 11 = Bad Short; 8 3 56 = Bad Extra; 8 5 56 = Bad Short
+12 5 56 = None; 12 6 56 = Bad Time; 12 6 31 = Bad Time; 12 6 30 = Bad Short; 17 1 56 = Bad Time; 19 1 20 = Bad Time; 19 1 19 = Bad Short
+20 3 56 = Bad Kind; 20 0xff 56 = Bad Kind; 20 3 21 = Bad Kind; 20 3 20 = Bad Short; 20 0 56 = None
+# An external line 3.
+20 2 56 = Bad Line; 20 2 22 = Bad Line; 20 2 21 = Bad Short; 21 4 56 = Bad Line; 32 3 56 = Bad Line; 32 3 33 = Bad Line; 32 3 32 = Bad Short
+32 1 56 = None; 33 0 56 = None; 33 2 56 = Bad Value; 33 2 34 = Bad Value; 33 2 33 = Bad Short; 31 1 56 = None; 43 4 56 = Bad Line
+55 0xff 56 = Bad Value
+";
 
 // Of one event with several faults the time is judged first, then the kind, the line and the value.
 #[test]

@@ -1,465 +1,113 @@
 //! Lines of a script, by example.
-use crate::same::{same, same_at};
-use refusal::Fault;
-use std::process::Abort;
+use crate::same::same_at;
+use samples::{plain, shown};
 use std::test::Fail;
-use wb_text::{
-    Address, ByteCount, ByteValue, Command, EventCount, EventTime, Level, LineNumber,
-    RegisterNumber, StepCount, WireNumber, WordCount, WordValue, parse_line,
-};
-
-fn says(rt: &impl Abort, line: &[u8], wanted: Result<Option<Command>, Fault>) {
-    same_at(rt, &line, &parse_line(line), &wanted);
-}
+use wb_text::{RegisterNumber, parse_line};
 
 #[test]
-fn commands(rt: HostRuntime) {
-    says(&rt, b"pos", Ok(Some(Command::Pos)));
-    says(&rt, b"regs\r", Ok(Some(Command::Regs)));
-    says(&rt, b" quit\t", Ok(Some(Command::Quit)));
-    says(&rt, b"\tgoto \t 0x1F", Ok(Some(Command::Goto(31))));
-    says(&rt, b"goto 0007", Ok(Some(Command::Goto(7))));
-    says(
-        &rt,
-        b"goto 18446744073709551615",
-        Ok(Some(Command::Goto(u64::MAX))),
-    );
-    says(
-        &rt,
-        b"goto 0xffffffffffffffff",
-        Ok(Some(Command::Goto(u64::MAX))),
-    );
-}
-
-#[test]
-fn moves(rt: HostRuntime) {
-    says(&rt, b"step 1", Ok(Some(Command::Step(1))));
-    says(&rt, b"back 0x20\r", Ok(Some(Command::Back(32))));
-    says(
-        &rt,
-        b"step 18446744073709551615",
-        Ok(Some(Command::Step(u64::MAX))),
-    );
-    says(&rt, b"step", Err(Fault::Syntax));
-    says(&rt, b"step -1", Err(Fault::Syntax));
-    says(&rt, b"back 1 2", Err(Fault::Syntax));
-    says(&rt, b"back 18446744073709551616", Err(Fault::Range));
-}
-
-#[test]
-fn visits(rt: HostRuntime) -> Result<(), Fail> {
-    let address = Address::new(0xbfc0_1000).ok_or("address")?;
-    let limit = StepCount::new(10).ok_or("10")?;
-    says(
-        &rt,
-        b"visit 0xbfc01000 10",
-        Ok(Some(Command::Visit { address, limit })),
-    );
-    let address = Address::new(0xffff_ffff).ok_or("last")?;
-    let limit = StepCount::new(1_048_576).ok_or("limit")?;
-    says(
-        &rt,
-        b"visit 4294967295 0x100000\r",
-        Ok(Some(Command::Visit { address, limit })),
-    );
-    for (line, fault) in [
-        (b"visit 0 0".as_slice(), Fault::Range),
-        (b"visit 0 1048577", Fault::Range),
-        (b"visit 0x100000000 1", Fault::Range),
-        (b"visit 0x100000000 x", Fault::Syntax),
-        (b"visit 0x100000000", Fault::Syntax),
-        (b"visit x 0", Fault::Syntax),
-        (b"visit", Fault::Syntax),
-        (b"visit 0 0 0", Fault::Syntax),
-    ] {
-        says(&rt, line, Err(fault));
+fn lines(rt: HostRuntime) -> Result<(), Fail> {
+    for row in LINES.split('\n').skip(1) {
+        let (lines, wanted) = row.split_once(" = ").ok_or("nothing is wanted")?;
+        let wanted = plain(rt.alloc(), wanted)?;
+        for line in lines.split("; ") {
+            let found = shown(rt.alloc(), &parse_line(line.as_bytes()))?;
+            same_at(&rt, &line, &found, &wanted);
+        }
     }
     Ok(())
 }
 
-#[test]
-fn queries_of_the_processor(rt: HostRuntime) -> Result<(), Fail> {
-    let second = RegisterNumber::new(2).ok_or("2")?;
-    let last = RegisterNumber::new(31).ok_or("31")?;
-    says(&rt, b"reg 2", Ok(Some(Command::Reg(second))));
-    says(&rt, b"reg 0x1f", Ok(Some(Command::Reg(last))));
-    says(&rt, b"cp0", Ok(Some(Command::Cp0)));
-    says(&rt, b"reg 32", Err(Fault::Range));
-    says(&rt, b"reg 18446744073709551616", Err(Fault::Range));
-    says(&rt, b"reg 32 1", Err(Fault::Syntax));
-    says(&rt, b"reg r2", Err(Fault::Syntax));
-    says(&rt, b"cp0 1", Err(Fault::Syntax));
-    same(&rt, &RegisterNumber::new(32), &None);
-    same(&rt, &last.get(), &31);
-    Ok(())
-}
+// Lines, with `; ` between, and the command that each of them says, or its refusal. Which bounds of `erase` are positions is judged
+// later.
+const LINES: &str = "
+pos = Pos
+regs\r = Regs
+ quit\t = Quit
+\tgoto \t 0x1F = Goto 31
+goto 0007 = Goto 7
+goto 18446744073709551615 = Goto 18446744073709551615
+goto 0xffffffffffffffff = Goto 18446744073709551615
+step 1 = Step 1
+back 0x20\r = Back 32
+step 18446744073709551615 = Step 18446744073709551615
+back 18446744073709551616 = Range
+step; step -1; back 1 2 = Syntax
+visit 0xbfc01000 10 = Visit 0xbfc01000 10
+visit 4294967295 0x100000\r = Visit 0xffffffff 1048576
+visit 0 0; visit 0 1048577; visit 0x100000000 1 = Range
+visit 0x100000000 x; visit 0x100000000; visit x 0; visit; visit 0 0 0 = Syntax
+reg 2 = Reg 2
+reg 0x1f = Reg 31
+cp0 = Cp0
+reg 32; reg 18446744073709551616 = Range
+reg 32 1; reg r2; cp0 1 = Syntax
+mem 0xfffffffc 32 = Mem 0xfffffffc 32
+dis 4294967292 0x20 = Dis 0xfffffffc 32
+where 0xfffffffc = Where 0xfffffffc
+tlb 64; where 0x100000000; mem 0x100000000 1; mem 0 0; dis 0 33 = Range
+where; mem 0x100000000 x; mem 0x100000000; dis 0; dis x 33; dis 0 1 1 = Syntax
+console 3 18446744073709551615 256 = Console 3 18446744073709551615 256
+console 0 0x10 1 = Console 0 16 1
+log 7 32 = Log 7 32
+log 18446744073709551615 1 = Log 18446744073709551615 1
+console 4 0 8; console 0 0 0; console 0 0 257; console 0 18446744073709551616 8; log 0 0; log 0 33 = Range
+log 18446744073709551616 1 = Range
+console 4 0 x; console 4 x 8; console x 0 257; console 4 0; console 4 0 8 0; log x 33; log 18446744073709551616 x = Syntax
+log 18446744073709551616; log 0 33 1 = Syntax
+find 0 1 = Find 0 1
+find 3 18446744073709551615 = Find 3 18446744073709551615
+writer 0x1fc00000 = Writer 0x1fc00000
+\twriter 4294967295  = Writer 0xffffffff
+find 4 0; find 0 18446744073709551616; writer 0x100000000 = Range
+find 4 x; find 4; find x 18446744073709551616; find 4 0 8; writer 0x100000000 1; writer; writer r2 = Syntax
+add 70 0 0x41 = Add 70 0 0x41
+add 0xfffffffffe 3 255 = Add 1099511627774 3 255
+del 1 = Del 1
+del 18446744073709551615 = Del 18446744073709551615
+set 2 0x41 = Set 2 0x41
+set 18446744073709551615 0xff = Set 18446744073709551615 255
+move 1 70 = Move 1 70
+move 0xffffffffffffffff 1099511627774 = Move 18446744073709551615 1099511627774
+ferr 70 3 255 = Ferr 70 3 255
+\tferr 0xfffffffffe  3 0xff  = Ferr 1099511627774 3 255
+wire 70 2 1 = Wire 70 2 1
+wire 1099511627774 0x0 0 = Wire 1099511627774 0 0
+ferr 1099511627775 0 1; ferr 18446744073709551616 0 1; ferr 0 4 1; ferr 0 0 256; wire 1099511627775 0 1; wire 0 3 1 = Range
+wire 0 0 2; wire 0 18446744073709551616 0 = Range
+ferr 0 4 x; ferr 0 4; ferr 0 0 1 1; ferr; wire 0 3 x; wire 0 3; wire 0 0 -1; wire 0 0 1 1; wires 0 0 1 = Syntax
+erase 70 131 = Erase 70 131
+erase 131 0x46 = Erase 131 70
+erase 0 18446744073709551615\r = Erase 0 18446744073709551615
+erase 18446744073709551616 0; erase 0 18446744073709551616 = Range
+erase 18446744073709551616 x; erase 18446744073709551616; erase 0 1 2; erase -1 0; erase = Syntax
+add 1099511627775 0 1; add 0 4 1; add 0 0 256; del 18446744073709551616; set 0 256; set 18446744073709551616 0 = Range
+move 0 1099511627775; move 18446744073709551616 0 = Range
+add 1099511627775 4; add 1099511627775 x 1; add 0 4 x; add x 0 256; add 0 0 1 1; del 18446744073709551616 1; del; del -1 = Syntax
+delete 1; set 0 256 0; set 18446744073709551616 x; set x 256; set 0; move 1; move x 1099511627775 = Syntax
+move 18446744073709551616 x; move 0 0 0 = Syntax
+patch 0x1fc00010 0x24050011 = Patch 0x1fc00010 0x24050011
+patch 4294967295 4294967295 = Patch 0xffffffff 0xffffffff
+patch 0x100000000 0; patch 0x102 0x100000000 = Range
+patch 0x100000000; patch 0x100000000 x; patch x 0x100000000; patch 0 0 0; patch 0 -1 = Syntax
+ = None
+ \t\r = None
+ #goto = None
+pos\r\r = Syntax
+goto 18446744073709551616; goto 0x10000000000000000 = Range
+reg; POS; pos 1; pos #; goto; goto 0X10; goto +1; goto -1; goto 1_0; goto 0x; goto 18446744073709551616 x = Syntax";
 
 #[test]
-fn queries_of_memory(rt: HostRuntime) -> Result<(), Fail> {
-    let last = Address::new(0xffff_fffc).ok_or("last")?;
-    let count = WordCount::new(32).ok_or("32")?;
-    says(
+fn long_lines(rt: HostRuntime) -> Result<(), Fail> {
+    for (line, wanted) in [([b' '; 256].as_slice(), "None"), (&[b' '; 257], "Syntax")] {
+        let found = shown(rt.alloc(), &parse_line(line))?;
+        same_at(&rt, &line.len(), &found, &plain(rt.alloc(), wanted)?);
+    }
+    let numbers = [RegisterNumber::new(31), RegisterNumber::new(32)];
+    same_at(
         &rt,
-        b"mem 0xfffffffc 32",
-        Ok(Some(Command::Mem {
-            address: last,
-            count,
-        })),
-    );
-    says(
-        &rt,
-        b"dis 4294967292 0x20",
-        Ok(Some(Command::Dis {
-            address: last,
-            count,
-        })),
-    );
-    says(&rt, b"tlb 64", Err(Fault::Range));
-    says(&rt, b"where 0x100000000", Err(Fault::Range));
-    says(&rt, b"where", Err(Fault::Syntax));
-    says(&rt, b"where 0xfffffffc", Ok(Some(Command::Where(last))));
-    says(&rt, b"mem 0x100000000 1", Err(Fault::Range));
-    says(&rt, b"mem 0 0", Err(Fault::Range));
-    says(&rt, b"dis 0 33", Err(Fault::Range));
-    says(&rt, b"mem 0x100000000 x", Err(Fault::Syntax));
-    says(&rt, b"mem 0x100000000", Err(Fault::Syntax));
-    says(&rt, b"dis 0", Err(Fault::Syntax));
-    says(&rt, b"dis x 33", Err(Fault::Syntax));
-    says(&rt, b"dis 0 1 1", Err(Fault::Syntax));
-    Ok(())
-}
-
-#[test]
-fn queries_of_lines_and_log(rt: HostRuntime) -> Result<(), Fail> {
-    let line = LineNumber::new(3).ok_or("3")?;
-    let count = ByteCount::new(256).ok_or("256")?;
-    says(
-        &rt,
-        b"console 3 18446744073709551615 256",
-        Ok(Some(Command::Console {
-            line,
-            from: u64::MAX,
-            count,
-        })),
-    );
-    let line = LineNumber::new(0).ok_or("0")?;
-    let count = ByteCount::new(1).ok_or("1")?;
-    says(
-        &rt,
-        b"console 0 0x10 1",
-        Ok(Some(Command::Console {
-            line,
-            from: 16,
-            count,
-        })),
-    );
-    let count = EventCount::new(32).ok_or("32")?;
-    says(&rt, b"log 7 32", Ok(Some(Command::Log { from: 7, count })));
-    let count = EventCount::new(1).ok_or("1")?;
-    says(
-        &rt,
-        b"log 18446744073709551615 1",
-        Ok(Some(Command::Log {
-            from: u64::MAX,
-            count,
-        })),
+        &31,
+        &shown(rt.alloc(), &numbers)?.as_str(),
+        &"31 None ",
     );
     Ok(())
-}
-
-#[test]
-fn refusals_of_lines_and_log(rt: HostRuntime) {
-    for (line, fault) in [
-        (b"console 4 0 8".as_slice(), Fault::Range),
-        (b"console 0 0 0", Fault::Range),
-        (b"console 0 0 257", Fault::Range),
-        (b"console 0 18446744073709551616 8", Fault::Range),
-        (b"console 4 0 x", Fault::Syntax),
-        (b"console 4 x 8", Fault::Syntax),
-        (b"console x 0 257", Fault::Syntax),
-        (b"console 4 0", Fault::Syntax),
-        (b"console 4 0 8 0", Fault::Syntax),
-        (b"log 0 0", Fault::Range),
-        (b"log 0 33", Fault::Range),
-        (b"log 18446744073709551616 1", Fault::Range),
-        (b"log x 33", Fault::Syntax),
-        (b"log 18446744073709551616 x", Fault::Syntax),
-        (b"log 18446744073709551616", Fault::Syntax),
-        (b"log 0 33 1", Fault::Syntax),
-    ] {
-        says(&rt, line, Err(fault));
-    }
-}
-
-#[test]
-fn queries_of_the_past(rt: HostRuntime) -> Result<(), Fail> {
-    let first = LineNumber::new(0).ok_or("0")?;
-    let last = LineNumber::new(3).ok_or("3")?;
-    let aligned = Address::new(0x1fc0_0000).ok_or("rom")?;
-    let highest = Address::new(0xffff_ffff).ok_or("highest")?;
-    for (line, command) in [
-        (
-            b"find 0 1".as_slice(),
-            Command::Find {
-                line: first,
-                place: 1,
-            },
-        ),
-        (
-            b"find 3 18446744073709551615",
-            Command::Find {
-                line: last,
-                place: u64::MAX,
-            },
-        ),
-        (b"writer 0x1fc00000", Command::Writer(aligned)),
-        (b"\twriter 4294967295 ", Command::Writer(highest)),
-    ] {
-        says(&rt, line, Ok(Some(command)));
-    }
-    Ok(())
-}
-
-#[test]
-fn refusals_of_the_past(rt: HostRuntime) {
-    for (line, fault) in [
-        (b"find 4 0".as_slice(), Fault::Range),
-        (b"find 0 18446744073709551616", Fault::Range),
-        (b"find 4 x", Fault::Syntax),
-        (b"find 4", Fault::Syntax),
-        (b"find x 18446744073709551616", Fault::Syntax),
-        (b"find 4 0 8", Fault::Syntax),
-        (b"writer 0x100000000", Fault::Range),
-        (b"writer 0x100000000 1", Fault::Syntax),
-        (b"writer", Fault::Syntax),
-        (b"writer r2", Fault::Syntax),
-    ] {
-        says(&rt, line, Err(fault));
-    }
-}
-
-#[test]
-fn edits_of_the_log(rt: HostRuntime) -> Result<(), Fail> {
-    let time = EventTime::new(70).ok_or("70")?;
-    let last_time = EventTime::new(1_099_511_627_774).ok_or("last time")?;
-    let line = LineNumber::new(0).ok_or("0")?;
-    let last_line = LineNumber::new(3).ok_or("3")?;
-    let byte = ByteValue::new(0x41).ok_or("0x41")?;
-    let last_byte = ByteValue::new(255).ok_or("255")?;
-    let most = u64::MAX;
-    for (said, command) in [
-        (
-            b"add 70 0 0x41".as_slice(),
-            Command::Add { time, line, byte },
-        ),
-        (
-            b"add 0xfffffffffe 3 255",
-            Command::Add {
-                time: last_time,
-                line: last_line,
-                byte: last_byte,
-            },
-        ),
-        (b"del 1", Command::Del(1)),
-        (b"del 18446744073709551615", Command::Del(most)),
-        (b"set 2 0x41", Command::Set { event: 2, byte }),
-        (
-            b"set 18446744073709551615 0xff",
-            Command::Set {
-                event: most,
-                byte: last_byte,
-            },
-        ),
-        (b"move 1 70", Command::Move { event: 1, time }),
-        (
-            b"move 0xffffffffffffffff 1099511627774",
-            Command::Move {
-                event: most,
-                time: last_time,
-            },
-        ),
-    ] {
-        says(&rt, said, Ok(Some(command)));
-    }
-    Ok(())
-}
-
-#[test]
-fn events_of_other_kinds(rt: HostRuntime) -> Result<(), Fail> {
-    let time = EventTime::new(70).ok_or("70")?;
-    let last_time = EventTime::new(1_099_511_627_774).ok_or("last time")?;
-    let line = LineNumber::new(3).ok_or("3")?;
-    let byte = ByteValue::new(255).ok_or("255")?;
-    let wire = WireNumber::new(2).ok_or("2")?;
-    let first_wire = WireNumber::new(0).ok_or("0")?;
-    let up = Level::new(1).ok_or("1")?;
-    let down = Level::new(0).ok_or("0")?;
-    for (said, command) in [
-        (
-            b"ferr 70 3 255".as_slice(),
-            Command::Ferr { time, line, byte },
-        ),
-        (
-            b"\tferr 0xfffffffffe  3 0xff ",
-            Command::Ferr {
-                time: last_time,
-                line,
-                byte,
-            },
-        ),
-        (
-            b"wire 70 2 1",
-            Command::Wire {
-                time,
-                line: wire,
-                level: up,
-            },
-        ),
-        (
-            b"wire 1099511627774 0x0 0",
-            Command::Wire {
-                time: last_time,
-                line: first_wire,
-                level: down,
-            },
-        ),
-    ] {
-        says(&rt, said, Ok(Some(command)));
-    }
-    Ok(())
-}
-
-#[test]
-fn refusals_of_other_kinds(rt: HostRuntime) {
-    for (line, fault) in [
-        (b"ferr 1099511627775 0 1".as_slice(), Fault::Range),
-        (b"ferr 18446744073709551616 0 1", Fault::Range),
-        (b"ferr 0 4 1", Fault::Range),
-        (b"ferr 0 0 256", Fault::Range),
-        (b"ferr 0 4 x", Fault::Syntax),
-        (b"ferr 0 4", Fault::Syntax),
-        (b"ferr 0 0 1 1", Fault::Syntax),
-        (b"ferr", Fault::Syntax),
-        (b"wire 1099511627775 0 1", Fault::Range),
-        (b"wire 0 3 1", Fault::Range),
-        (b"wire 0 0 2", Fault::Range),
-        (b"wire 0 18446744073709551616 0", Fault::Range),
-        (b"wire 0 3 x", Fault::Syntax),
-        (b"wire 0 3", Fault::Syntax),
-        (b"wire 0 0 -1", Fault::Syntax),
-        (b"wire 0 0 1 1", Fault::Syntax),
-        (b"wires 0 0 1", Fault::Syntax),
-    ] {
-        says(&rt, line, Err(fault));
-    }
-}
-
-// Which bounds are positions is judged later.
-#[test]
-fn erasing(rt: HostRuntime) {
-    for (line, said) in [
-        (b"erase 70 131".as_slice(), Ok(Some((70, 131)))),
-        (b"erase 131 0x46", Ok(Some((131, 70)))),
-        (b"erase 0 18446744073709551615\r", Ok(Some((0, u64::MAX)))),
-        (b"erase 18446744073709551616 0", Err(Fault::Range)),
-        (b"erase 0 18446744073709551616", Err(Fault::Range)),
-        (b"erase 18446744073709551616 x", Err(Fault::Syntax)),
-        (b"erase 18446744073709551616", Err(Fault::Syntax)),
-        (b"erase 0 1 2", Err(Fault::Syntax)),
-        (b"erase -1 0", Err(Fault::Syntax)),
-        (b"erase", Err(Fault::Syntax)),
-    ] {
-        let wanted = said.map(|bounds| bounds.map(|(from, to)| Command::Erase { from, to }));
-        says(&rt, line, wanted);
-    }
-}
-
-#[test]
-fn refusals_of_edits_of_the_log(rt: HostRuntime) {
-    for (line, fault) in [
-        (b"add 1099511627775 0 1".as_slice(), Fault::Range),
-        (b"add 0 4 1", Fault::Range),
-        (b"add 0 0 256", Fault::Range),
-        (b"add 1099511627775 4", Fault::Syntax),
-        (b"add 1099511627775 x 1", Fault::Syntax),
-        (b"add 0 4 x", Fault::Syntax),
-        (b"add x 0 256", Fault::Syntax),
-        (b"add 0 0 1 1", Fault::Syntax),
-        (b"del 18446744073709551616", Fault::Range),
-        (b"del 18446744073709551616 1", Fault::Syntax),
-        (b"del", Fault::Syntax),
-        (b"del -1", Fault::Syntax),
-        (b"delete 1", Fault::Syntax),
-        (b"set 0 256", Fault::Range),
-        (b"set 18446744073709551616 0", Fault::Range),
-        (b"set 0 256 0", Fault::Syntax),
-        (b"set 18446744073709551616 x", Fault::Syntax),
-        (b"set x 256", Fault::Syntax),
-        (b"set 0", Fault::Syntax),
-        (b"move 0 1099511627775", Fault::Range),
-        (b"move 18446744073709551616 0", Fault::Range),
-        (b"move 1", Fault::Syntax),
-        (b"move x 1099511627775", Fault::Syntax),
-        (b"move 18446744073709551616 x", Fault::Syntax),
-        (b"move 0 0 0", Fault::Syntax),
-    ] {
-        says(&rt, line, Err(fault));
-    }
-}
-
-#[test]
-fn patches(rt: HostRuntime) -> Result<(), Fail> {
-    let address = Address::new(0x1fc0_0010).ok_or("address")?;
-    let word = WordValue::new(0x2405_0011).ok_or("word")?;
-    says(
-        &rt,
-        b"patch 0x1fc00010 0x24050011",
-        Ok(Some(Command::Patch { address, word })),
-    );
-    let address = Address::new(0xffff_ffff).ok_or("last address")?;
-    let word = WordValue::new(0xffff_ffff).ok_or("last word")?;
-    says(
-        &rt,
-        b"patch 4294967295 4294967295",
-        Ok(Some(Command::Patch { address, word })),
-    );
-    for (line, fault) in [
-        (b"patch 0x100000000 0".as_slice(), Fault::Range),
-        (b"patch 0x102 0x100000000", Fault::Range),
-        (b"patch 0x100000000", Fault::Syntax),
-        (b"patch 0x100000000 x", Fault::Syntax),
-        (b"patch x 0x100000000", Fault::Syntax),
-        (b"patch 0 0 0", Fault::Syntax),
-        (b"patch 0 -1", Fault::Syntax),
-    ] {
-        says(&rt, line, Err(fault));
-    }
-    Ok(())
-}
-
-#[test]
-fn no_command(rt: HostRuntime) {
-    says(&rt, b"", Ok(None));
-    says(&rt, b" \t\r", Ok(None));
-    says(&rt, b" #goto", Ok(None));
-    says(&rt, &[b' '; 256], Ok(None));
-    says(&rt, &[b' '; 257], Err(Fault::Syntax));
-}
-
-#[test]
-fn refusals_of_a_line(rt: HostRuntime) {
-    says(&rt, b"reg", Err(Fault::Syntax));
-    says(&rt, b"POS", Err(Fault::Syntax));
-    says(&rt, b"pos 1", Err(Fault::Syntax));
-    says(&rt, b"pos #", Err(Fault::Syntax));
-    says(&rt, b"pos\r\r", Err(Fault::Syntax));
-    says(&rt, b"goto", Err(Fault::Syntax));
-    says(&rt, b"goto 0X10", Err(Fault::Syntax));
-    says(&rt, b"goto +1", Err(Fault::Syntax));
-    says(&rt, b"goto -1", Err(Fault::Syntax));
-    says(&rt, b"goto 1_0", Err(Fault::Syntax));
-    says(&rt, b"goto 0x", Err(Fault::Syntax));
-    says(&rt, b"goto 18446744073709551616", Err(Fault::Range));
-    says(&rt, b"goto 0x10000000000000000", Err(Fault::Range));
-    says(&rt, b"goto 18446744073709551616 x", Err(Fault::Syntax));
 }

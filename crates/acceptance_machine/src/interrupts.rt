@@ -5,38 +5,31 @@ use std::test::Fail;
 
 // In eleven steps: line 7 of the board enabled, the receiver of line 0 on, RIE and MSE, and in Status the masks of both lines
 // and IEc.
-const LISTENS: &str = "lui r1, 0xbfe0
-lui r2, 0xbff0
-lui r3, 128
-sw r3, 0(r2)
-addiu r4, r0, 4096
-sw r4, 8(r1)
-addiu r5, r0, 96
-sw r5, 0(r1)
-lui r6, 64
-ori r6, r6, 0x0c01
-mtc0 r6, c12
+const LISTENS: &str =
+    "lui r1, 0xbfe0; lui r2, 0xbff0; lui r3, 128; sw r3, 0(r2); addiu r4, r0, 4096; sw r4, 8(r1)
+addiu r5, r0, 96; sw r5, 0(r1); lui r6, 64; ori r6, r6, 0x0c01; mtc0 r6, c12
+";
+
+// The handler notes what C gives from 0x100 on.
+const HANDLER: &str =
+    "lui r1, 0xbfe8; lui r2, 0xa000; lui r6, 64; ori r6, r6, 0x0801; mtc0 r6, c12; j 0x1fc00014
+sll r0, r0, 0
+.org 0x1fc00180; lw r8, 48(r1); addiu r2, r2, 4; sw r8, 252(r2); mfc0 r27, c14; sll r0, r0, 0; jr r27; rfe
 ";
 
 #[test]
 fn interrupts(rt: HostRuntime) -> Result<(), Fail> {
-    plays(&rt, LISTENS, LISTS)
+    plays(&rt, LISTENS, LISTS)?;
+    plays(&rt, "", HELD_BACK)?;
+    plays(&rt, HANDLER, HANDLED)
 }
 
 const LISTS: &str = "
 $ both lines
 # The clock's period ends with tick 32, in step 31, in which a byte arrives too; the loop is in its delay slot, as in each odd
 # step. Behind the load of C the clock's line is down, and behind that of RBUF the board's.
-.clock 0 0 0 0 0 0 1 1 1 0 0x21 0x42
-lui r7, 0xbfe8
-j 0x1fc00030
-sll r0, r0, 0
-.org 0x1fc00180
-mfc0 r8, c13
-lw r9, 48(r7)
-mfc0 r10, c13
-lw r11, 8(r1)
-mfc0 r12, c13
+.clock 0 0 0 0 0 0 1 1 1 0 0x21 0x42; lui r7, 0xbfe8; j 0x1fc00030; sll r0, r0, 0
+.org 0x1fc00180; mfc0 r8, c13; lw r9, 48(r7); mfc0 r10, c13; lw r11, 8(r1); mfc0 r12, c13
 --
 run 31, cause 0
 receive 0:0x41, pc 0xbfc00180, epc 0xbfc00030
@@ -45,133 +38,70 @@ run 5, landed 8 0x80000c00 0xc0 0x80000400 0x8041 0x80000000
 $ interrupt in place of a store
 # An interrupt in place of a store to TDR, in step 13: nothing is sent. The handler takes the byte and returns, and the store
 # is run in step 19; r4 ends in 0x00.
-addiu r5, r0, 1
-sw r5, 16(r1)
-sw r4, 24(r1)
-.org 0x1fc00180
-lw r7, 8(r1)
-mfc0 r27, c14
-sll r0, r0, 0
-jr r27
-rfe
+addiu r5, r0, 1; sw r5, 16(r1); sw r4, 24(r1)
+.org 0x1fc00180; lw r7, 8(r1); mfc0 r27, c14; sll r0, r0, 0; jr r27; rfe
 --
 run 13, receive 0:0x41, sent none, epc 0xbfc00034
 sends 5*none, landed 7 0x8041
 sends 0:0
 
-$ a fetch that would be misaligned
-# A fetch that itself would fail, in step 15, behind jr and its delay slot, in the step in which a byte arrives and in one without.
-lui r8, 0xbfe0
-ori r8, r8, 2
-jr r8
-sll r0, r0, 0
+$ a fetch that would be misaligned or where no memory would be
+# In step 15, behind jr and its delay slot, in the step in which a byte arrives and in one without.
+| 2 | 0xbfe00002 | 0x10
+| 0 | 0xbfe00000 | 0x18
+/ run 15, receive 0:0x41, taken 0xbfc00180 $2 0x400, badvaddr 0
+/ run 16, taken 0xbfc00180 $2 $3
+lui r8, 0xbfe0; ori r8, r8, $1; jr r8; sll r0, r0, 0
 --
-run 15, receive 0:0x41, taken 0xbfc00180 0xbfe00002 0x400, badvaddr 0
+%1
 
-$ a misaligned fetch
-lui r8, 0xbfe0
-ori r8, r8, 2
-jr r8
-sll r0, r0, 0
+$ interrupt and exception: $1
+# An instruction that would be an exception, in the step in which a byte arrives: the interrupt is taken in its place, with its address,
+# and nothing of the exception is seen. In a step without a byte the exception has its own Cause.
+| syscall 0 | 0x20
+| break 0 | 0x24
+| .word 0xffffffff | 0x28
+| .word 0x44000000 | 0x1000002c
+| lw r7, 10(r1) | 0x10
+| sw r4, 25(r1) | 0x14
+| lw r7, 4096(r0) | 0x08
+| sw r4, 4096(r0) | 0x0c
+| lw r7, 32(r1) | 0x1c
+| add r7, r8, r8 | 0x30
+/ run 12, receive 0:0x41, touched none none, taken 0xbfc00180 0xbfc00030 0x400, badvaddr 0
+/ run 13, cause $2
+lui r8, 0x4000
+<source>
+$1
 --
-run 16, taken 0xbfc00180 0xbfe00002 0x10
-
-$ a fetch where no memory would be
-lui r8, 0xbfe0
-ori r8, r8, 0
-jr r8
-sll r0, r0, 0
---
-run 15, receive 0:0x41, taken 0xbfc00180 0xbfe00000 0x400, badvaddr 0
-
-$ a fetch where no memory is
-lui r8, 0xbfe0
-ori r8, r8, 0
-jr r8
-sll r0, r0, 0
---
-run 16, taken 0xbfc00180 0xbfe00000 0x18
+%1
 ";
 
-// The clock's line alone at position 32, with these B and Status: Cause, PC and then what C gives, to a load in the next step.
-#[test]
-fn clock_held_back(rt: HostRuntime) -> Result<(), Fail> {
-    for (b, mask, cause, pc, flags) in [
-        ("0x42", "0x0801", "0x800", "0xbfc00180", "0xc0"),
-        ("0x42", "0x0401", "0x800", "0xbfc00080", "0xc0"),
-        ("0x42", "0x0800", "0x800", "0xbfc00080", "0xc0"),
-        ("0x02", "0x0801", "0", "0xbfc00080", "0x40"),
-    ] {
-        let list = format!(in rt.alloc();
-            "\n$ {b} {mask}\n.clock 0 0 0 0 0 0 1 1 1 0 0x21 {b}\nlui r1, 0xbfe8\nlui r6, 64\nori r6, r6, {mask}\nmtc0 r6, c12\n\
-            .org 0x1fc00080\nlw r5, 48(r1)\n.org 0x1fc00180\nlw r5, 48(r1)\n--\n\
-            run 32, cause {cause}, pc {pc}, run 1, landed 5 {flags}\n"
-        )?;
-        plays(&rt, "", list.as_str())?;
-    }
-    Ok(())
-}
-
-// The handler notes what C gives from 0x100 on. The period is 4096 ticks, an update comes each 8192, and the alarm is for
-// second 1 of any minute and hour. With PIE the handler runs four times: PF; PF, AF and UF; PF; PF and UF. With AIE alone it
-// runs once, and with UIE alone twice; what is not enabled is up all the same.
-const HANDLER: &str = "lui r1, 0xbfe8
-lui r2, 0xa000
-lui r6, 64
-ori r6, r6, 0x0801
-mtc0 r6, c12
-j 0x1fc00014
-sll r0, r0, 0
-.org 0x1fc00180
-lw r8, 48(r1)
-addiu r2, r2, 4
-sw r8, 252(r2)
-mfc0 r27, c14
-sll r0, r0, 0
-jr r27
-rfe
+const HELD_BACK: &str = "
+$ clock held back
+# The clock's line alone at position 32, with these B and Status: Cause, PC and then what C gives, to a load in the next step.
+| 0x42 | 0x0801 | 0x800 | 0xbfc00180 | 0xc0
+| 0x42 | 0x0401 | 0x800 | 0xbfc00080 | 0xc0
+| 0x42 | 0x0800 | 0x800 | 0xbfc00080 | 0xc0
+| 0x02 | 0x0801 | 0 | 0xbfc00080 | 0x40
+.clock 0 0 0 0 0 0 1 1 1 0 0x21 $1; lui r1, 0xbfe8; lui r6, 64; ori r6, r6, $2; mtc0 r6, c12
+.org 0x1fc00080; lw r5, 48(r1)
+.org 0x1fc00180; lw r5, 48(r1)
+--
+run 32, cause $3, pc $4, run 1, landed 5 $5
 ";
 
-#[test]
-fn clock_handler(rt: HostRuntime) -> Result<(), Fail> {
-    for (b, wants) in [
-        ("0x72", "0xc0 0xf0 0xc0 0xd0 0"),
-        ("0x42", "0xc0 0xf0 0xc0 0xd0 0"),
-        ("0x22", "0xf0 0 0 0 0"),
-        ("0x12", "0xf0 0xd0 0 0 0"),
-        ("0x02", "0 0 0 0 0"),
-    ] {
-        let list = format!(in rt.alloc();
-            "\n$ {b}\n.clock 0 1 0 0xff 0 0xc0 1 1 1 0 0x2f {b}\n--\nrun 16400, ram 0x100 {wants}\n"
-        )?;
-        plays(&rt, HANDLER, list.as_str())?;
-    }
-    Ok(())
-}
-
-// An instruction that would be an exception, in the step in which a byte arrives: the interrupt is taken in its place, with
-// its address, and nothing of the exception is seen. In a step without a byte the exception has its own Cause.
-#[test]
-fn interrupt_and_exception(rt: HostRuntime) -> Result<(), Fail> {
-    for (instruction, cause) in [
-        ("syscall 0", "0x20"),
-        ("break 0", "0x24"),
-        (".word 0xffffffff", "0x28"),
-        (".word 0x44000000", "0x1000002c"),
-        ("lw r7, 10(r1)", "0x10"),
-        ("sw r4, 25(r1)", "0x14"),
-        ("lw r7, 4096(r0)", "0x08"),
-        ("sw r4, 4096(r0)", "0x0c"),
-        ("lw r7, 32(r1)", "0x1c"),
-        ("add r7, r8, r8", "0x30"),
-    ] {
-        let list = format!(in rt.alloc();
-            "\n$ {instruction} and a byte\n{instruction}\n--\n\
-            run 12, receive 0:0x41, touched none none, taken 0xbfc00180 0xbfc00030 0x400, badvaddr 0\n\
-            \n$ {instruction}\n{instruction}\n--\nrun 13, cause {cause}\n"
-        )?;
-        let source = ["lui r8, 0x4000\n", LISTENS].concat(rt.alloc())?;
-        plays(&rt, source.as_str(), list.as_str())?;
-    }
-    Ok(())
-}
+const HANDLED: &str = "
+$ clock handler with B $1
+# The period is 4096 ticks, an update comes each 8192, and the alarm is for second 1 of any minute and hour. With PIE the handler runs
+# four times: PF; PF, AF and UF; PF; PF and UF. With AIE alone it runs once, and with UIE alone twice; what is not enabled is up all the
+# same.
+| 0x72 | 0xc0 0xf0 0xc0 0xd0 0
+| 0x42 | 0xc0 0xf0 0xc0 0xd0 0
+| 0x22 | 0xf0 0 0 0 0
+| 0x12 | 0xf0 0xd0 0 0 0
+| 0x02 | 0 0 0 0 0
+.clock 0 1 0 0xff 0 0xc0 1 1 1 0 0x2f $1
+--
+run 16400, ram 0x100 $2
+";

@@ -7,28 +7,16 @@ use std::test::Fail;
 const FIRST: &str = "
 $ isolated caches
 # The store stays in its slot, and the load, with the next tag, misses and has its word.
-lui r1, 0x8000
-lui r2, 0x41
-addiu r3, r0, 7
-mtc0 r2, c12
-sw r3, 64(r1)
-lui r4, 0x8001
-lw r5, 64(r4)
+lui r1, 0x8000; lui r2, 0x41; addiu r3, r0, 7; mtc0 r2, c12; sw r3, 64(r1); lui r4, 0x8001; lw r5, 64(r4)
 --
 run 5, stored none, touched 16 none
 run 2, touched 16 none, load 5 7, status 0x00490000, ram 0x40 0
 ";
 
 // Slot 16 holds 0x44332211 of address 0x40, and r5 is 0xAABBCCDD. r4 has the next tag.
-const ISOLATED: &str = "lui r1, 0x8000
-lui r3, 0x4433
-ori r3, r3, 0x2211
-lui r5, 0xaabb
-ori r5, r5, 0xccdd
-lui r2, 0x41
-mtc0 r2, c12
-sw r3, 64(r1)
-lui r4, 0x8001
+const ISOLATED: &str =
+    "lui r1, 0x8000; lui r3, 0x4433; ori r3, r3, 0x2211; lui r5, 0xaabb; ori r5, r5, 0xccdd; lui r2, 0x41
+mtc0 r2, c12; sw r3, 64(r1); lui r4, 0x8001
 ";
 
 #[test]
@@ -40,18 +28,14 @@ fn isolated_caches(rt: HostRuntime) -> Result<(), Fail> {
 const LISTS: &str = "
 $ loads into r0
 # They set and clear CM too.
-lw r0, 64(r4)
-lw r0, 64(r1)
+lw r0, 64(r4); lw r0, 64(r1)
 --
 run 10, status 0x00490000
 run 1, status 0x00410000
 
 $ slot of two tags
 # The store takes the slot over: the next load by the first tag misses, and has the word. A misaligned load is AdEL.
-sw r5, 64(r4)
-lw r6, 64(r1)
-lw r6, 64(r4)
-lw r6, 65(r1)
+sw r5, 64(r4); lw r6, 64(r1); lw r6, 64(r4); lw r6, 65(r1)
 --
 run 11, load 6 0xaabbccdd, status 0x00490000
 run 1, status 0x00410000
@@ -59,11 +43,7 @@ run 1, pc 0xbfc00180
 
 $ swapped arrays
 # With SwC too the second array is empty. Without IsC it is memory; the write mask leaves CM.
-lui r2, 0x43
-mtc0 r2, c12
-lw r6, 64(r1)
-mtc0 r0, c12
-sw r5, 64(r1)
+lui r2, 0x43; mtc0 r2, c12; lw r6, 64(r1); mtc0 r0, c12; sw r5, 64(r1)
 --
 run 12, load 6 0, status 0x004b0000
 run 1, status 0x00080000
@@ -71,56 +51,39 @@ run 1, stored 0x40, ram 0x40 0xaabbccdd
 
 $ uncached accesses and fetches
 # Uncached it is memory, and CM stays; and so is the fetch with IsC.
-lui r6, 0xa000
-lw r7, 64(r6)
-lui r8, 0x9fc0
-jr r8
-sll r0, r0, 0
+lui r6, 0xa000; lw r7, 64(r6); lui r8, 0x9fc0; jr r8; sll r0, r0, 0
 --
 run 11, touched 16 0, load 7 0, status 0x00410000, where 0x80000040 cached:0x40
 run 3, pc 0x9fc00000
 run 1, touched 16 none, pc 0x9fc00004
+
+$ loads of a slot: $1
+# After a miss by the next tag, and by a hit.
+| lb r5, 65 | 0x22
+| lbu r5, 65 | 0x22
+| lh r5, 66 | 0x4433
+| lhu r5, 66 | 0x4433
+| lw r5, 64 | 0x44332211
+| lwl r5, 65 | 0x2211ccdd
+| lwr r5, 65 | 0xaa443322
+| lb r5, 67 | 0x44
+/ r4 | 0x00490000
+/ r1 | 0x00410000
+$1(%1); sll r0, r0, 0; $1(r1)
+--
+run 10, load 5 $2, status %2
+
+$ stores of a part: $1
+# The slot's word stays and is no longer valid, also where all four bytes are stored. CM is not theirs to set.
+| sb r5, 65(r1)
+| sh r5, 66(r1)
+| swl r5, 67(r1)
+| swr r5, 64(r1)
+$1; lw r6, 64(r1)
+--
+run 10, stored none, status 0x00410000
+run 1, load 6 0x44332211, status 0x00490000, ram 0x40 0
 ";
-
-// Loads of r5 from the slot, by their names and bytes, and what they give: after a miss by the next tag, and by a hit.
-#[test]
-fn isolated_loads(rt: HostRuntime) -> Result<(), Fail> {
-    for (load, byte, value) in [
-        ("lb", 65, "0x22"),
-        ("lbu", 65, "0x22"),
-        ("lh", 66, "0x4433"),
-        ("lhu", 66, "0x4433"),
-        ("lw", 64, "0x44332211"),
-        ("lwl", 65, "0x2211ccdd"),
-        ("lwr", 65, "0xaa443322"),
-        ("lb", 67, "0x44"),
-    ] {
-        let list = format!(in rt.alloc();
-            "\n$ a miss of {load}\n{load} r5, {byte}(r4)\nsll r0, r0, 0\n{load} r5, {byte}(r1)\n--\nrun 10, load 5 {value}, status 0x00490000\n\
-            \n$ a hit of {load}\n{load} r5, {byte}(r1)\n--\nrun 10, load 5 {value}, status 0x00410000\n"
-        )?;
-        plays(&rt, ISOLATED, list.as_str())?;
-    }
-    Ok(())
-}
-
-// The slot's word stays and is no longer valid, also where all four bytes are stored. CM is not theirs to set.
-#[test]
-fn isolated_stores_of_a_part(rt: HostRuntime) -> Result<(), Fail> {
-    for store in [
-        "sb r5, 65(r1)",
-        "sh r5, 66(r1)",
-        "swl r5, 67(r1)",
-        "swr r5, 64(r1)",
-    ] {
-        let list = format!(in rt.alloc();
-            "\n$ {store}\n{store}\nlw r6, 64(r1)\n--\nrun 10, stored none, status 0x00410000\n\
-            run 1, load 6 0x44332211, status 0x00490000, ram 0x40 0\n"
-        )?;
-        plays(&rt, ISOLATED, list.as_str())?;
-    }
-    Ok(())
-}
 
 // A copy is equal until one of the two makes a step, and assigned it is equal again: also its slots and its load slot. Of the
 // three steps the first is the store into a slot, and the last the load.

@@ -8,12 +8,14 @@ use r3k_live::FlatMemory;
 use r3k_machine::step::step;
 use r3k_machine::{Core, Done, Mem, Where};
 use r3k_word::layout::word_count;
-use std::alloc::Global;
+use samples::program;
+use std::alloc::{AllocError, Global};
 use std::process::Abort;
 use std::test::Fail;
 
-/// Plays lists, each on a machine of its own. A list begins with a line of `$` and its name. The lines up to `--` are its program,
-/// after those of a source. Then comes what is done and asked, with commas between:
+/// Plays lists, each on a machine of its own. A list begins with a line of `$` and its name. The lines up to `--` are its program, in which
+/// `; ` may stand between instructions. A source stands before them, or in place of a line `<source>`, and `entry I | H | L | H | L` is a translation entry by Index and the halves
+/// of EntryHi and EntryLo. Then comes what is done and asked, with commas or line feeds between:
 ///
 ///     run N                       runs N steps
 ///     receive E ..                runs a step with these events: L:B is a byte B on line L, fL:B one with a framing error, and wL:V a
@@ -32,17 +34,85 @@ use std::test::Fail;
 ///                                 the page
 ///     ram A W ..                  the words of RAM from an address on
 ///
-/// N*X stands for N times X, and numbers are as in a source.
+/// N*X stands for N times X, also in a program, N+M for a sum, and numbers are as in a source. A list with rows `| X | Y` is played for each row with X in place
+/// of $1, Y in place of $2 and so on. With rows `/ X | Y` too it is played for each of them too, with X in place of %1.
 pub fn plays(rt: &(impl Abort + AllocGlobal), source: &str, lists: &str) -> Result<(), Fail> {
-    for list in lists.split("\n$ ").skip(1) {
-        let (front, asked) = list.split_once("\n--\n").ok_or("nothing is done")?;
-        let (_, own) = front.split_once('\n').unwrap_or((front, ""));
-        let program = [source, own].concat(rt.alloc())?;
-        let mut machine = Machine::boot(rt.alloc(), program.as_str())?;
-        machine.play(rt, rt.alloc(), list, asked)?;
+    for rows in lists.split("\n$ ").skip(1) {
+        for rows in &each_row(rt.alloc(), rows, "| ", &DOLLARS)? {
+            for list in &each_row(rt.alloc(), rows.as_str(), "/ ", &PERCENTS)? {
+                plays_one(rt, rt.alloc(), source, list.as_str())?;
+            }
+        }
     }
     Ok(())
 }
+
+// What stands for the cells of a row.
+const DOLLARS: [&str; 9] = ["$1", "$2", "$3", "$4", "$5", "$6", "$7", "$8", "$9"];
+
+const PERCENTS: [&str; 9] = ["%1", "%2", "%3", "%4", "%5", "%6", "%7", "%8", "%9"];
+
+// A list for each of its rows with a mark, or itself.
+fn each_row(alloc: Global, list: &str, mark: &str, places: &[&str]) -> Result<Vec<String>, Fail> {
+    let mut text = String::new(alloc);
+    let mut rows = Vec::new(alloc);
+    for line in list.lines() {
+        if let Some(row) = line.strip_prefix(mark) {
+            rows.push(row)?;
+        } else {
+            text.push_str(line)?;
+            text.push_str("\n")?;
+        }
+    }
+    let mut lists = Vec::new(alloc);
+    for row in &rows {
+        lists.push(filled(alloc, text.as_str(), *row, places)?)?;
+    }
+    if rows.is_empty() {
+        lists.push(text)?;
+    }
+    Ok(lists)
+}
+
+// A text with the cells of a row at their places.
+fn filled(alloc: Global, text: &str, row: &str, places: &[&str]) -> Result<String, AllocError> {
+    let mut text = text.to_string(alloc)?;
+    for (place, cell) in places.iter().zip(row.split(" | ")) {
+        text = text.replace(alloc, *place, cell.trim())?;
+    }
+    Ok(text)
+}
+
+// Plays a list without rows.
+fn plays_one(rt: &impl Abort, alloc: Global, source: &str, list: &str) -> Result<(), Fail> {
+    let (front, asked) = list.split_once("\n--\n").ok_or("nothing is done")?;
+    let (_, own) = front.split_once('\n').unwrap_or((front, ""));
+    let program = program_of(alloc, source, own)?;
+    Machine::boot(alloc, program.as_str())?.play(rt, alloc, list, asked)
+}
+
+// The program of a source and a list's own lines.
+fn program_of(alloc: Global, source: &str, own: &str) -> Result<String, Fail> {
+    let text = match own.split_once("<source>") {
+        Some((before, after)) => [before, source, after].concat(alloc)?,
+        None => [source, own].concat(alloc)?,
+    };
+    let mut lines = String::new(alloc);
+    for line in text.as_str().lines() {
+        if let Some(entry) = line.strip_prefix("entry ") {
+            lines.push_str(filled(alloc, ENTRY, entry, &DOLLARS)?.as_str())?;
+        } else {
+            lines.push_str(line)?;
+            lines.push_str("\n")?;
+        }
+    }
+    Ok(lines)
+}
+
+// What puts a translation entry into its place, in 9 steps.
+const ENTRY: &str =
+    "lui r1, $2; ori r1, r1, $3; mtc0 r1, c10; lui r2, $4; ori r2, r2, $5; mtc0 r2, c2; ori r3, r0, $1; mtc0 r3, c0; tlbwi
+";
 
 /// The processor and its memory.
 #[derive(Drop)]
@@ -56,7 +126,7 @@ pub struct Machine {
 impl Machine {
     /// The machine at reset, with the words of a source.
     pub fn boot(alloc: Global, source: &str) -> Result<Machine, Fail> {
-        let image = assemble(alloc, source.as_bytes())?;
+        let image = assemble(alloc, program(alloc, source)?.as_str().as_bytes())?;
         Ok(Machine {
             core: Core::reset(alloc, &image)?,
             memory: FlatMemory::boot(alloc, &image)?,
@@ -237,20 +307,18 @@ impl Machine {
     }
 }
 
-// A number as in a source.
+// A number as in a source, or a sum.
 fn number(word: &str) -> Result<u32, Fail> {
-    Ok(match word.strip_prefix("0x") {
-        Some(digits) => u32::from_str_radix(digits, 16)?,
-        None => u32::from_str_radix(word, 10)?,
-    })
+    let mut sum = 0u32;
+    for part in word.split('+') {
+        sum = sum.wrapping_add(u32::try_from(samples::number(part)?)?);
+    }
+    Ok(sum)
 }
 
 // A byte, written so.
 fn byte(word: &str) -> Result<u8, Fail> {
-    Ok(match word.strip_prefix("0x") {
-        Some(digits) => u8::from_str_radix(digits, 16)?,
-        None => u8::from_str_radix(word, 10)?,
-    })
+    Ok(u8::try_from(samples::number(word)?)?)
 }
 
 // How many times a word stands there.

@@ -1,270 +1,116 @@
 //! The registers of the serial part, of the board and of the clock, written by stores of each width at each byte: values by
 //! hand from the specifications of the parts.
 use crate::machine::plays;
-use std::process::Abort;
 use std::test::Fail;
 
-// Plays a store between a set-up and loads.
-fn stores(
-    rt: &(impl Abort + AllocGlobal),
-    before: &str,
-    store: &str,
-    loads: &str,
-    asked: &str,
-) -> Result<(), Fail> {
-    let list = format!(in rt.alloc(); "\n$ {store}\n{store}\n{loads}\n--\n{asked}\n")?;
-    plays(rt, before, list.as_str())
-}
-
-// Before each store CSR has MSE alone. r3 is 0x28604068: its bytes have, from the lowest, RIE, MSE and MAINT; RIE, or TIE in
-// byte 1; RIE and MSE, or TIE in byte 1; MSE and MAINT.
-const MSE: &str = "lui r1, 0xbfe0
-lui r3, 0x2860
-ori r3, r3, 0x4068
-addiu r2, r0, 0x20
-sw r2, 0(r1)
-";
-
 #[test]
-fn stores_of_the_serial_control(rt: HostRuntime) -> Result<(), Fail> {
-    for (store, want) in [
-        ("sw r3, 0(r1)", 0x4068),
-        ("sh r3, 0(r1)", 0x4068),
-        ("sh r3, 2(r1)", 0x0020),
-        ("sb r3, 0(r1)", 0x0068),
-        ("sb r3, 1(r1)", 0x4020),
-        ("sb r3, 2(r1)", 0x0020),
-        ("sb r3, 3(r1)", 0x0020),
-        ("swl r3, 0(r1)", 0x0028),
-        ("swl r3, 1(r1)", 0x0060),
-        ("swl r3, 2(r1)", 0x4040),
-        ("swl r3, 3(r1)", 0x4068),
-        ("swr r3, 0(r1)", 0x4068),
-        ("swr r3, 1(r1)", 0x4020),
-        ("swr r3, 2(r1)", 0x0020),
-        ("swr r3, 3(r1)", 0x0020),
-    ] {
-        let asked = format!(in rt.alloc(); "run 7, landed 5 {want}")?;
-        stores(&rt, MSE, store, "lw r5, 0(r1)", asked.as_str())?;
-    }
-    Ok(())
+fn register_stores(rt: HostRuntime) -> Result<(), Fail> {
+    plays(&rt, "", STORES)
 }
 
-// Line 0 may send, and CSR has TIE, RIE, MSE and MAINT, so that it reads 0xc068 with TRDY. CLR in byte 0 returns all to reset,
-// whatever else is written; 0x10 in another byte is no CLR, and in byte 1 clears TIE. All bits but CLR leave what is read
-// only.
-const ALL_BITS: &str = "lui r1, 0xbfe0
-addiu r2, r0, 1
-sw r2, 16(r1)
-addiu r2, r0, 0x4068
-sw r2, 0(r1)
-lui r3, 0x1000
-ori r4, r0, 0xfff8
-addiu r5, r0, 0x10
-addiu r6, r0, -17
-";
+const STORES: &str = "
+$ stores of the serial control: $1
+# Before each store CSR has MSE alone. r3 is 0x28604068: its bytes have, from the lowest, RIE, MSE and MAINT; RIE, or TIE in
+# byte 1; RIE and MSE, or TIE in byte 1; MSE and MAINT.
+| sw r3, 0(r1) | 0x4068
+| sh r3, 0(r1) | 0x4068
+| sh r3, 2(r1) | 0x0020
+| sb r3, 0(r1) | 0x0068
+| sb r3, 1(r1) | 0x4020
+| sb r3, 2(r1) | 0x0020
+| sb r3, 3(r1) | 0x0020
+| swl r3, 0(r1) | 0x0028
+| swl r3, 1(r1) | 0x0060
+| swl r3, 2(r1) | 0x4040
+| swl r3, 3(r1) | 0x4068
+| swr r3, 0(r1) | 0x4068
+| swr r3, 1(r1) | 0x4020
+| swr r3, 2(r1) | 0x0020
+| swr r3, 3(r1) | 0x0020
+lui r1, 0xbfe0; lui r3, 0x2860; ori r3, r3, 0x4068; addiu r2, r0, 0x20; sw r2, 0(r1); $1; lw r5, 0(r1)
+--
+run 7, landed 5 $2
 
-#[test]
-fn stores_that_clear(rt: HostRuntime) -> Result<(), Fail> {
-    for (store, control, lines) in [
-        ("sll r0, r0, 0", 0xC068, 1),
-        ("sb r5, 0(r1)", 0, 0),
-        ("sh r4, 0(r1)", 0, 0),
-        ("sw r4, 0(r1)", 0, 0),
-        ("swl r3, 0(r1)", 0, 0),
-        ("sb r5, 1(r1)", 0x8068, 1),
-        ("swr r5, 1(r1)", 0x8068, 1),
-        ("sb r5, 2(r1)", 0xC068, 1),
-        ("sb r5, 3(r1)", 0xC068, 1),
-        ("sw r6, 0(r1)", 0xC068, 1),
-    ] {
-        let asked = format!(in rt.alloc(); "run 12, landed 8 {control} {lines}")?;
-        stores(
-            &rt,
-            ALL_BITS,
-            store,
-            "lw r8, 0(r1)\nlw r9, 16(r1)",
-            asked.as_str(),
-        )?;
-    }
-    Ok(())
-}
+$ stores that clear: $1
+# Line 0 may send, and CSR has TIE, RIE, MSE and MAINT, so that it reads 0xc068 with TRDY. CLR in byte 0 returns all to reset,
+# whatever else is written; 0x10 in another byte is no CLR, and in byte 1 clears TIE. All bits but CLR leave what is read
+# only.
+| sll r0, r0, 0 | 0xc068 | 1
+| sb r5, 0(r1) | 0 | 0
+| sh r4, 0(r1) | 0 | 0
+| sw r4, 0(r1) | 0 | 0
+| swl r3, 0(r1) | 0 | 0
+| sb r5, 1(r1) | 0x8068 | 1
+| swr r5, 1(r1) | 0x8068 | 1
+| sb r5, 2(r1) | 0xc068 | 1
+| sb r5, 3(r1) | 0xc068 | 1
+| sw r6, 0(r1) | 0xc068 | 1
+lui r1, 0xbfe0; addiu r2, r0, 1; sw r2, 16(r1); addiu r2, r0, 0x4068; sw r2, 0(r1); lui r3, 0x1000; ori r4, r0, 0xfff8
+addiu r5, r0, 0x10; addiu r6, r0, -17; $1; lw r8, 0(r1); lw r9, 16(r1)
+--
+run 12, landed 8 $2 $3
 
-// The receivers of lines 0 and 1 are on. LPR needs byte 0: its low two bits are the line, and the receiver is bit 4 of byte 1,
-// which counts as 0 where it is not covered. r3 is 0x01041002: line 2 on as a whole, and by swl line 1 off, line 0 off (bit 2
-// of 0x04 is no part of the line) and line 0 off. Then a byte of each line arrives.
-const RECEIVERS: &str = "lui r1, 0xbfe0
-addiu r2, r0, 0x20
-sw r2, 0(r1)
-addiu r2, r0, 0x1000
-sw r2, 8(r1)
-addiu r2, r0, 0x1001
-sw r2, 8(r1)
-lui r3, 0x0104
-ori r3, r3, 0x1002
-addiu r4, r0, 0x10
-addiu r1, r1, 8
-";
+$ stores of line parameters: $1
+# The receivers of lines 0 and 1 are on. LPR needs byte 0: its low two bits are the line, and the receiver is bit 4 of byte 1,
+# which counts as 0 where it is not covered. r3 is 0x01041002: line 2 on as a whole, and by swl line 1 off, line 0 off (bit 2
+# of 0x04 is no part of the line) and line 0 off. Then a byte of each line arrives.
+| sw r3, 0(r1) | 0x8041 0x8142 0x8243
+| sh r3, 0(r1) | 0x8041 0x8142 0x8243
+| sh r3, 2(r1) | 0x8041 0x8142 0
+| sb r2, 0(r1) | 0x8041 0 0
+| sb r0, 0(r1) | 0x8142 0 0
+| sb r3, 0(r1) | 0x8041 0x8142 0
+| sb r0, 1(r1) | 0x8041 0x8142 0
+| sb r4, 2(r1) | 0x8041 0x8142 0
+| sb r4, 3(r1) | 0x8041 0x8142 0
+| swl r3, 0(r1) | 0x8041 0 0
+| swl r3, 1(r1) | 0x8142 0 0
+| swl r3, 2(r1) | 0x8142 0 0
+| swl r3, 3(r1) | 0x8041 0x8142 0x8243
+| swr r3, 0(r1) | 0x8041 0x8142 0x8243
+| swr r3, 1(r1) | 0x8041 0x8142 0
+| swr r3, 2(r1) | 0x8041 0x8142 0
+| swr r3, 3(r1) | 0x8041 0x8142 0
+lui r1, 0xbfe0; addiu r2, r0, 0x20; sw r2, 0(r1); addiu r2, r0, 0x1000; sw r2, 8(r1); addiu r2, r0, 0x1001; sw r2, 8(r1)
+lui r3, 0x0104; ori r3, r3, 0x1002; addiu r4, r0, 0x10; addiu r1, r1, 8; $1; lw r8, 0(r1); lw r9, 0(r1); lw r10, 0(r1)
+--
+run 12, receive 0:0x41 1:0x42 2:0x43 3:0x44, run 2, landed 8 $2
 
-#[test]
-fn stores_of_line_parameters(rt: HostRuntime) -> Result<(), Fail> {
-    let both = "0x8041 0x8142 0";
-    for (store, wants) in [
-        ("sw r3, 0(r1)", "0x8041 0x8142 0x8243"),
-        ("sh r3, 0(r1)", "0x8041 0x8142 0x8243"),
-        ("sh r3, 2(r1)", both),
-        ("sb r2, 0(r1)", "0x8041 0 0"),
-        ("sb r0, 0(r1)", "0x8142 0 0"),
-        ("sb r3, 0(r1)", both),
-        ("sb r0, 1(r1)", both),
-        ("sb r4, 2(r1)", both),
-        ("sb r4, 3(r1)", both),
-        ("swl r3, 0(r1)", "0x8041 0 0"),
-        ("swl r3, 1(r1)", "0x8142 0 0"),
-        ("swl r3, 2(r1)", "0x8142 0 0"),
-        ("swl r3, 3(r1)", "0x8041 0x8142 0x8243"),
-        ("swr r3, 0(r1)", "0x8041 0x8142 0x8243"),
-        ("swr r3, 1(r1)", both),
-        ("swr r3, 2(r1)", both),
-        ("swr r3, 3(r1)", both),
-    ] {
-        let asked = format!(in rt.alloc();
-            "run 12, receive 0:0x41 1:0x42 2:0x43 3:0x44, run 2, landed 8 {wants}"
-        )?;
-        stores(
-            &rt,
-            RECEIVERS,
-            store,
-            "lw r8, 0(r1)\nlw r9, 0(r1)\nlw r10, 0(r1)",
-            asked.as_str(),
-        )?;
-    }
-    Ok(())
-}
+$ stores of r3: $1
+# What each store of r3, 0x41424344, brings to byte 0 and to byte 2 of the word at r1. swl brings the top bytes of r3 to byte 0 and on, up
+# to the byte that it names; swr brings the low bytes to that byte and on. First to TDR: line 3 may send and has TRDY, 0x8320. A store
+# that covers byte 0 sends it and takes TRDY for 16 ticks, another does nothing. Then to TCR, which has line 3 before, and afterwards the
+# low four bits of what came to byte 0. Then to a register of the clock's RAM, which is 0x11 before, and afterwards what came to byte 0.
+# Then to the board's enables, which are 0x11 before, and afterwards what came to byte 2. Its other bytes stay 0.
+| sw r3, 0(r1) | 3:0x44 | 0x0320 | 4 | 0x44 | 0x00420000
+| sh r3, 0(r1) | 3:0x44 | 0x0320 | 4 | 0x44 | 0x00110000
+| sh r3, 2(r1) | none | 0x8320 | 8 | 0x11 | 0x00440000
+| sb r3, 0(r1) | 3:0x44 | 0x0320 | 4 | 0x44 | 0x00110000
+| sb r3, 1(r1) | none | 0x8320 | 8 | 0x11 | 0x00110000
+| sb r3, 2(r1) | none | 0x8320 | 8 | 0x11 | 0x00440000
+| sb r3, 3(r1) | none | 0x8320 | 8 | 0x11 | 0x00110000
+| swl r3, 0(r1) | 3:0x41 | 0x0320 | 1 | 0x41 | 0x00110000
+| swl r3, 1(r1) | 3:0x42 | 0x0320 | 2 | 0x42 | 0x00110000
+| swl r3, 2(r1) | 3:0x43 | 0x0320 | 3 | 0x43 | 0x00410000
+| swl r3, 3(r1) | 3:0x44 | 0x0320 | 4 | 0x44 | 0x00420000
+| swr r3, 0(r1) | 3:0x44 | 0x0320 | 4 | 0x44 | 0x00420000
+| swr r3, 1(r1) | none | 0x8320 | 8 | 0x11 | 0x00430000
+| swr r3, 2(r1) | none | 0x8320 | 8 | 0x11 | 0x00440000
+| swr r3, 3(r1) | none | 0x8320 | 8 | 0x11 | 0x00110000
+lui r4, 0xbfe0; addiu r2, r0, 8; sw r2, 16(r4); addiu r2, r0, 0x20; sw r2, 0(r4); lui r3, 0x4142; ori r3, r3, 0x4344
+addiu r1, r4, 24; $1; lw r5, 0(r4); addiu r1, r4, 16; $1; lw r6, 0(r1); lui r1, 0xbfe8; addiu r1, r1, 56; addiu r2, r0, 0x11
+sw r2, 0(r1); $1; lw r7, 0(r1); lui r1, 0xbff0; lui r2, 0x0011; sw r2, 0(r1); $1; lw r8, 0(r1)
+--
+run 9, sent $2, run 15, landed 5 $3 $4 $5 $6
 
-// What each store of r3, 0x41424344, brings to byte 0 and to byte 2 of the word at r1. swl brings the top bytes of r3 to byte
-// 0 and on, up to the byte that it names; swr brings the low bytes to that byte and on.
-const STORES: [(&str, Option<u8>, Option<u8>); 15] = [
-    ("sw r3, 0(r1)", Some(0x44), Some(0x42)),
-    ("sh r3, 0(r1)", Some(0x44), None),
-    ("sh r3, 2(r1)", None, Some(0x44)),
-    ("sb r3, 0(r1)", Some(0x44), None),
-    ("sb r3, 1(r1)", None, None),
-    ("sb r3, 2(r1)", None, Some(0x44)),
-    ("sb r3, 3(r1)", None, None),
-    ("swl r3, 0(r1)", Some(0x41), None),
-    ("swl r3, 1(r1)", Some(0x42), None),
-    ("swl r3, 2(r1)", Some(0x43), Some(0x41)),
-    ("swl r3, 3(r1)", Some(0x44), Some(0x42)),
-    ("swr r3, 0(r1)", Some(0x44), Some(0x42)),
-    ("swr r3, 1(r1)", None, Some(0x43)),
-    ("swr r3, 2(r1)", None, Some(0x44)),
-    ("swr r3, 3(r1)", None, None),
-];
-
-// TCR has line 3 before each store, and afterwards the low four bits of what came to byte 0.
-const LINE_3: &str = "lui r1, 0xbfe0
-addiu r1, r1, 16
-addiu r2, r0, 8
-sw r2, 0(r1)
-lui r3, 0x4142
-ori r3, r3, 0x4344
-";
-
-// A register of the clock's RAM is 0x11 before each store, and afterwards what came to byte 0.
-const CLOCK_RAM: &str = "lui r1, 0xbfe8
-addiu r1, r1, 56
-addiu r2, r0, 0x11
-sw r2, 0(r1)
-lui r3, 0x4142
-ori r3, r3, 0x4344
-";
-
-// The board's enables are 0x11 before each store, and afterwards what came to byte 2. Its other bytes stay 0.
-const ENABLES: &str = "lui r1, 0xbff0
-lui r2, 0x0011
-sw r2, 0(r1)
-lui r3, 0x4142
-ori r3, r3, 0x4344
-";
-
-// Line 3 may send and has TRDY: 0x8320. A store that covers byte 0 of TDR sends it and takes TRDY for 16 ticks, another does
-// nothing.
-const SENDS: &str = "lui r4, 0xbfe0
-addiu r2, r0, 8
-sw r2, 16(r4)
-addiu r2, r0, 0x20
-sw r2, 0(r4)
-lui r3, 0x4142
-ori r3, r3, 0x4344
-addiu r1, r4, 24
-";
-
-#[test]
-fn stores_of_r3(rt: HostRuntime) -> Result<(), Fail> {
-    let load = "lw r5, 0(r1)";
-    for (store, low, high) in STORES {
-        let want = low.map_or(8, |byte| byte % 16);
-        let asked = format!(in rt.alloc(); "run 8, landed 5 {want}")?;
-        stores(&rt, LINE_3, store, load, asked.as_str())?;
-        let want = low.unwrap_or(0x11);
-        let asked = format!(in rt.alloc(); "run 8, landed 5 {want}")?;
-        stores(&rt, CLOCK_RAM, store, load, asked.as_str())?;
-        let want = high.unwrap_or(0x11) as u32 * 0x1_0000;
-        let asked = format!(in rt.alloc(); "run 7, landed 5 {want}")?;
-        stores(&rt, ENABLES, store, load, asked.as_str())?;
-        let asked = match low {
-            Some(byte) => format!(in rt.alloc(); "run 9, sent 3:{byte}, run 1, landed 5 0x0320")?,
-            None => "run 9, sent none, run 1, landed 5 0x8320".to_string(rt.alloc())?,
-        };
-        stores(&rt, SENDS, store, "lw r5, 0(r4)", asked.as_str())?;
-    }
-    Ok(())
-}
-
-#[test]
-fn stores_of_each_clock_register(rt: HostRuntime) -> Result<(), Fail> {
-    plays(&rt, "", CLOCK)
-}
-
-const CLOCK: &str = "
 $ stores of each clock register
 # 0xff to every register of the clock up to the first byte of RAM. Time and alarms keep it; A has no UIP, with DV 7; B has no
 # DSE and, as SET goes up, no UIE, which a second store sets; C and D take nothing.
-lui r1, 0xbfe8
-addiu r2, r0, 0xff
-sb r2, 0(r1)
-sb r2, 4(r1)
-sb r2, 8(r1)
-sb r2, 12(r1)
-sb r2, 16(r1)
-sb r2, 20(r1)
-sb r2, 24(r1)
-sb r2, 28(r1)
-sb r2, 32(r1)
-sb r2, 36(r1)
-sb r2, 40(r1)
-sb r2, 44(r1)
-sb r2, 48(r1)
-sb r2, 52(r1)
-sb r2, 56(r1)
-lw r8, 0(r1)
-lw r9, 4(r1)
-lw r10, 8(r1)
-lw r11, 12(r1)
-lw r12, 16(r1)
-lw r13, 20(r1)
-lw r14, 24(r1)
-lw r15, 28(r1)
-lw r16, 32(r1)
-lw r17, 36(r1)
-lw r18, 40(r1)
-lw r19, 44(r1)
-lw r20, 48(r1)
-lw r21, 52(r1)
-lw r22, 56(r1)
-sb r2, 44(r1)
-lw r23, 44(r1)
+lui r1, 0xbfe8; addiu r2, r0, 0xff; sb r2, 0(r1); sb r2, 4(r1); sb r2, 8(r1); sb r2, 12(r1); sb r2, 16(r1); sb r2, 20(r1)
+sb r2, 24(r1); sb r2, 28(r1); sb r2, 32(r1); sb r2, 36(r1); sb r2, 40(r1); sb r2, 44(r1); sb r2, 48(r1); sb r2, 52(r1)
+sb r2, 56(r1); lw r8, 0(r1); lw r9, 4(r1); lw r10, 8(r1); lw r11, 12(r1); lw r12, 16(r1); lw r13, 20(r1); lw r14, 24(r1)
+lw r15, 28(r1); lw r16, 32(r1); lw r17, 36(r1); lw r18, 40(r1); lw r19, 44(r1); lw r20, 48(r1); lw r21, 52(r1); lw r22, 56(r1)
+sb r2, 44(r1); lw r23, 44(r1)
 --
 run 34, landed 8 10*0xff, landed 18 0x7f 0xee 0 0x80 0xff 0xfe
 ";

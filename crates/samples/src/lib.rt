@@ -1,5 +1,9 @@
-//! Images and a program that several tests use.
+//! Images, a program, and the reading of texts that several tests use.
 #![tactic(auto)]
+
+use std::alloc::{AllocError, Global};
+use std::fmt::Debug;
+use std::num::ParseIntError;
 
 /// No segments; byte time 16, unit 1, and the clock of a raw ROM.
 pub const EMPTY_IMAGE: [u8; 32] = *b"R3KIMG1\n\x10\0\0\0\x01\0\0\0\
@@ -40,3 +44,59 @@ sll r0, r0, 0
 j 0x1fc01000
 sll r0, r0, 0
 ";
+
+/// What stands for `none` among numbers.
+pub const NONE: u64 = u64::MAX;
+
+/// A number: decimal, hexadecimal after `0x`, or `none`.
+pub fn number(word: &str) -> Result<u64, ParseIntError> {
+    if word == "none" {
+        return Ok(NONE);
+    }
+    match word.strip_prefix("0x") {
+        Some(digits) => u64::from_str_radix(digits, 16),
+        None => u64::from_str_radix(word, 10),
+    }
+}
+
+/// A source in which instructions stand with `; ` between, and `N*` before one that stands there N times, line by line.
+pub fn program(alloc: Global, source: &str) -> Result<String, AllocError> {
+    let mut program = String::new(alloc);
+    for line in source.lines().filter(|line| !line.starts_with("#")) {
+        for part in line.split("; ") {
+            let (count, part) = part.split_once('*').unwrap_or(("1", part));
+            for _ in 0..number(count).unwrap_or(0) {
+                program.push_str(part)?;
+                program.push_str("\n")?;
+            }
+        }
+    }
+    Ok(program)
+}
+
+// Words of a value's text that say nothing more.
+const SKIPPED: [&str; 5] = ["Bounded", "Err", "Event", "Ok", "Some"];
+
+/// The numbers of a text, in decimal, and its words with a capital letter in front.
+pub fn plain(alloc: Global, text: &str) -> Result<String, AllocError> {
+    let mut words = String::new(alloc);
+    for letter in text.chars() {
+        let in_word = letter.is_ascii_alphanumeric();
+        words.push(if in_word { letter } else { ' ' })?;
+    }
+    let mut plain = String::new(alloc);
+    for word in words.as_str().split_whitespace() {
+        if let Ok(number) = number(word) {
+            plain.push_str(format!(in alloc; "{number} ")?.as_str())?;
+        } else if word < "a" && !SKIPPED.contains(&word) {
+            plain.push_str(word)?;
+            plain.push_str(" ")?;
+        }
+    }
+    Ok(plain)
+}
+
+/// What of a value's text is so: its variants and its numbers.
+pub fn shown<T: Debug>(alloc: Global, value: &T) -> Result<String, AllocError> {
+    plain(alloc, format!(in alloc; "{value:?}")?.as_str())
+}
