@@ -23,9 +23,10 @@ def refused_and_back(terminal: Terminal) -> None:
     terminal.until(b"password: ")
     terminal.type(b"wrong\r")
     terminal.until(b"Sorry, operator.")
-    for _ in range(40):
+    shown = b""
+    while b"back at step 0;" not in shown:
         terminal.type(BACK)
-    terminal.until(b"back at step 0")
+        shown = terminal.until(b"later is gone]")
 
 
 class Console(unittest.TestCase):
