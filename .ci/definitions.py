@@ -97,7 +97,8 @@ def source(group):
     found = named(group.told) or named(head)
     if re.search(r"\(own, after", head):
         return "own, after " + ", ".join(found)
-    is_own = not found or "(own" in group.told or re.search(r"\b(?:is|are) own\b", group.told) or "(own" in head and not named(group.told)
+    says_own = lambda text: re.search(r"\(own|\b(?:is|are) own\b", text)
+    is_own = not found or says_own(group.told) or says_own(head) and not named(group.told)
     return ", ".join(found + ["own"] * bool(is_own))
 
 
