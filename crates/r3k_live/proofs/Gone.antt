@@ -31,6 +31,13 @@ one_more pages log from start made s t done r later gone step records differ =
           (stayed so_far done start.words s.words t.words differ gone.stayed);
     }
 
+-- another recorder that holds the same steps
+pub recorded_too : (pages : ℕ) (log : List LogEvent) (from : ℕ) (start : State) (made : ℕ) (s : State) (r later : Recording)
+    → ((steps : List Done) → Records pages steps r → Records pages steps later) → HasGone pages log from start made s r
+    → HasGone pages log from start made s later
+recorded_too pages log from start made s r later records gone =
+    record { state = gone.state; recorded = records (trace pages log from start made) gone.recorded; stayed = gone.stayed }
+
 -- a quick one, whose ticks and fall of Random are still to come
 pub quick_more : (pages : ℕ) (log : List LogEvent) (from : ℕ) (start : State) (before made : ℕ) (s t : State) (done : Done) (r later : Recording)
     → arriving log (from + before + made) ≡ [] → HasGone pages log from start (before + made) (state_elapsed made s) r
@@ -63,3 +70,17 @@ pub free_of : (left log : List LogEvent) (time since free n : ℕ) → time ≡ 
     → ((k : ℕ) → k < free → arriving left (time + k) ≡ []) → IsFreeFor n log since
 free_of left log time since free n is within same none = λ k before.
     ap (λ (t : ℕ). arriving log (t + k)) (sym is) ∙ (sym (same (time + k) (omega arith)) ∙ none k (omega arith))
+
+-- none of some steps came to an address, and if there is one more, the last of them did not either
+pub passes_on : (pages : ℕ) (log : List LogEvent) (from : ℕ) (start : State) (address made quick more : ℕ)
+    → PassesBy pages log from start address made (made + quick) → more ≤ 1
+    → (0 < more → 0 < quick → ¬ ((run pages log from start (made + quick)).core.pc ≡ address))
+    → PassesBy pages log from start address made (made + (quick + more))
+passes_on pages log from start address made quick more passed bound here = λ k after within there.
+    elim (earlier_or k (made + quick) more (omega (arith, within)) bound) [
+      | inl earlier ↦ passed k after earlier there
+      | inr last ↦ here last.1 (omega (arith, last.0, after)) (ap (λ (n : ℕ). (run pages log from start n).core.pc) (sym last.0) ∙ there)
+    ]
+  where
+    earlier_or : (k below more : ℕ) → k < below + more → more ≤ 1 → (k < below) ⊎ ((k ≡ below) × (0 < more))
+    earlier_or k below more within bound = grind arith

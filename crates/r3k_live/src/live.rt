@@ -10,6 +10,7 @@ ghost use Rattle.r3k_machine.specs.Run.{run, trace};
 ghost use Rattle.r3k_live.specs.Living.{counted, state_of};
 ghost use Rattle.r3k_live.specs.Record.{dirty_pages};
 ghost use Rattle.r3k_live.specs.Recording.{Records};
+ghost use Rattle.r3k_live.specs.Standing.{HasStood};
 ghost use Rattle.r3k_live.specs.Visits.{first_visit};
 
 use crate::boundary::Boundary;
@@ -20,6 +21,7 @@ use input_log::{Cursor, Event};
 use r3k_image::Image;
 use r3k_machine::{Core, Mem};
 use r3k_pages::PageMarks;
+use r3k_word::layout::PAGE_BYTES;
 use std::alloc::{AllocError, Global};
 use std::marker::Model;
 use std::rc::Rc;
@@ -52,21 +54,6 @@ pub fn counted(before: u64, steps: u32) -> u64
     ensures { result ≡ counted before steps }
 {
     before.saturating_add(steps as u64)
-}
-
-// A stretch that made fewer steps, with the step after it, costs more than these steps one by one.
-const SHORT: u32 = 3;
-
-// At most this many steps are made one by one before a stretch is tried again.
-const MOST_ALONE: u32 = 63;
-
-// When to try a stretch.
-#[derive(Clone, Copy)]
-struct Pace {
-    // How many steps are still to be made one by one.
-    alone: u32,
-    // How many are made so after the next short stretch.
-    next: u32,
 }
 
 // No address of an instruction.
@@ -103,7 +90,8 @@ impl<const PAGES: u32> Live<PAGES> {
     }
 
     /// Runs `steps` steps, at most `SPAN`, from a time on, with the events of their times, and records what they report in a
-    /// recorder that is empty. It takes no memory.
+    /// recorder that is empty. It notes there in which virtual pages the PC stands, at the start and after each step. It takes no
+    /// memory.
     pub fn run<const SPAN: u32>(
         &mut self,
         from: u64,
@@ -120,6 +108,7 @@ impl<const PAGES: u32> Live<PAGES> {
         ensures least { self.old.steps ≤ self.new.steps }
         ensures recorded { Records PAGES (trace PAGES events.now from self.old.state steps) recorder.new }
         ensures dirty { SameOutside (dirty_pages PAGES (trace PAGES events.now from self.old.state steps)) self.old.state.words self.new.state.words }
+        ensures stood { HasStood PAGES events.now from self.old.state steps recorder.old.stood recorder.new.stood }
     {
         let _stopped = self.go_on(from, events, steps, NOWHERE, recorder);
     }
@@ -145,6 +134,7 @@ impl<const PAGES: u32> Live<PAGES> {
         ensures recorded { Records PAGES (trace PAGES events.now from self.old.state (unwrap_or result steps)) recorder.new }
         ensures dirty { SameOutside (dirty_pages PAGES (trace PAGES events.now from self.old.state (unwrap_or result steps)))
             self.old.state.words self.new.state.words }
+        ensures stood { HasStood PAGES events.now from self.old.state (unwrap_or result steps) recorder.old.stood recorder.new.stood }
     {
         self.go_on(from, events, steps, address as u64, recorder)
     }
@@ -171,6 +161,7 @@ impl<const PAGES: u32> Live<PAGES> {
         ensures recorded { Records PAGES (trace PAGES events.now from self.old.state (unwrap_or result steps)) recorder.new }
         ensures dirty { SameOutside (dirty_pages PAGES (trace PAGES events.now from self.old.state (unwrap_or result steps)))
             self.old.state.words self.new.state.words }
+        ensures stood { HasStood PAGES events.now from self.old.state (unwrap_or result steps) recorder.old.stood recorder.new.stood }
     {
         let stopped = step_until(
             &mut self.core,
@@ -250,46 +241,25 @@ fn step_until<const PAGES: u32, const SPAN: u32>(
     ensures dirty { SameOutside (dirty_pages PAGES (trace PAGES events.entry from (state_of core.old memory.old) (unwrap_or result steps)))
         memory.old.words.items memory.new.words.items }
     ensures bound { unwrap_or result steps ≤ steps }
+    ensures stood { HasStood PAGES events.entry from (state_of core.old memory.old) (unwrap_or result steps) recorder.old.stood recorder.new.stood }
 {
+    recorder.stand(core.pc() / PAGE_BYTES);
     let mut made = 0;
-    let mut pace = Pace { alone: 0, next: 0 };
     while made < steps {
         let time = from + made as u64;
         let more = advance(
             core,
             memory,
-            pace.alone == 0,
             time,
             &mut events,
             steps - made,
             stop,
             recorder,
         );
-        pace = pace.after(more);
         made += more;
         if core.pc() as u64 == stop {
             return Some(made);
         }
     }
     None
-}
-
-impl Pace {
-    // After this many steps were made at once. Each short stretch in a row doubles the steps that are made one by one after it.
-    #[inline(always)]
-    fn after(self, made: u32) -> Pace {
-        if self.alone > 0 {
-            return Pace {
-                alone: self.alone - 1,
-                next: self.next,
-            };
-        }
-        if made >= SHORT {
-            return Pace { alone: 0, next: 0 };
-        }
-        Pace {
-            alone: self.next,
-            next: (self.next.min(MOST_ALONE) * 2 + 1).min(MOST_ALONE),
-        }
-    }
 }

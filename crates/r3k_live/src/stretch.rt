@@ -1,7 +1,8 @@
 //! Stretches of quick steps.
 
-ghost use Rattle.std.specs.Prelude.{◌≡◌, ◌+◌, ◌^◌, ◌<◌, ◌≤◌, IsTrue, ℕ, List};
+ghost use Rattle.std.specs.Prelude.{◌≡◌, ◌+◌, ◌-◌, ◌*◌, ◌/◌, ◌^◌, ◌<◌, ◌≤◌, ◌↔◌, IsTrue, ℕ, [], List};
 ghost use Rattle.input_log.specs.Event.{LogEvent};
+ghost use Rattle.r3k_word.specs.declared.layout.TheConstants.{PAGE_BYTES};
 ghost use Rattle.r3k_machine.specs.Quiet.{IsCodePage, IsQuietFor, state_elapsed};
 ghost use Rattle.r3k_machine.specs.Run.{arriving};
 ghost use Rattle.r3k_machine.specs.State.{State};
@@ -10,17 +11,74 @@ ghost use Rattle.r3k_pages.specs.Pages.{holds};
 ghost use Rattle.r3k_live.specs.Going.{HasGone, IsFreeFor, PassesBy};
 ghost use Rattle.r3k_live.specs.Living.{state_of};
 ghost use Rattle.r3k_live.specs.Slots.{is_open};
+ghost use Rattle.r3k_live.specs.Standing.{BeginsIn, HasStood};
 
 use crate::flat::FlatMemory;
 use crate::recorder::Recorder;
 use input_log::Cursor;
 use r3k_machine::step::step;
-use r3k_machine::{CodePage, Core, Mem, code_page, learn, quick_step, quiet_laws};
+use r3k_machine::{CodePage, Core, Mem, code_page, learn, quick_step, quiet_laws, quiet_step};
+use r3k_word::layout::PAGE_BYTES;
 
-// Makes quick steps in an open page that was touched before, at most `most`, and ends after one that comes to an address. Their ticks and falls of Random are
-// still to come.
+// Whether the PC holds the address at which steps end, if they end at one.
+#[inline(always)]
+fn is_stop<const STOPS: bool>(pc: u32, stop: u64) -> bool
+    ensures { IsTrue result ↔ (IsTrue STOPS × (pc ≡ stop)) }
+{
+    STOPS && pc as u64 == stop
+}
+
+// Makes quick steps in an open page that was touched before, at most `most`. If it `STOPS`, it ends after one that comes to an address.
+// Their ticks and falls of Random are still to come.
 #[inline(never)]
-fn quick_steps<const PAGES: u32, const SPAN: u32>(
+fn quick_steps<const PAGES: u32, const SPAN: u32, const STOPS: bool>(
+    core: &mut Core,
+    memory: &mut FlatMemory<PAGES>,
+    page: CodePage,
+    most: u32,
+    stop: u64,
+    recorder: &mut Recorder<PAGES, SPAN>,
+) -> u32
+    requires quiet { IsQuietFor most core.old }
+    requires code { IsCodePage PAGES core.old page }
+    requires page { IsPage PAGES page.page }
+    requires opened { IsTrue (is_open PAGES memory.old.opened.items page.page) }
+    requires room { recorder.old.steps + most ≤ SPAN }
+    requires again { IsTrue (holds recorder.old.touched page.page) }
+    ensures bound { result ≤ most }
+    ensures steps { recorder.new.steps ≡ recorder.old.steps + result }
+    ensures gone { (log : List LogEvent) (from : ℕ) (start : State) (made : ℕ) → IsFreeFor most log (from + made) →
+        HasGone PAGES log from start made (state_of core.old memory.old) recorder.old →
+        HasGone PAGES log from start (made + result) (state_elapsed result (state_of core.new memory.new)) recorder.new }
+    ensures before { (log : List LogEvent) (from : ℕ) (start : State) (made : ℕ) → IsTrue STOPS → IsFreeFor most log (from + made) →
+        HasGone PAGES log from start made (state_of core.old memory.old) recorder.old →
+        PassesBy PAGES log from start stop made (made + result) }
+    ensures inside { (log : List LogEvent) (from : ℕ) (start : State) (made : ℕ) → IsFreeFor most log (from + made) →
+        HasGone PAGES log from start made (state_of core.old memory.old) recorder.old →
+        BeginsIn PAGES log from start page.number made (made + result) }
+    ensures stood { recorder.new.stood ≡ recorder.old.stood }
+    ensures quiet { IsQuietFor most core.new }
+    ensures code { IsCodePage PAGES core.new page }
+{
+    quiet_laws();
+    let mut made = 0;
+    while made < most {
+        let Some(done) = quick_step(core, memory, page) else {
+            learn(memory, page, core.pc());
+            return made;
+        };
+        recorder.note_again(done);
+        made += 1;
+        if is_stop::<STOPS>(core.pc(), stop) {
+            return made;
+        }
+    }
+    made
+}
+
+// The same, and it ends after one that comes to the address.
+#[inline(always)]
+fn quick_steps_to<const PAGES: u32, const SPAN: u32>(
     core: &mut Core,
     memory: &mut FlatMemory<PAGES>,
     page: CodePage,
@@ -42,30 +100,107 @@ fn quick_steps<const PAGES: u32, const SPAN: u32>(
     ensures before { (log : List LogEvent) (from : ℕ) (start : State) (made : ℕ) → IsFreeFor most log (from + made) →
         HasGone PAGES log from start made (state_of core.old memory.old) recorder.old →
         PassesBy PAGES log from start stop made (made + result) }
+    ensures inside { (log : List LogEvent) (from : ℕ) (start : State) (made : ℕ) → IsFreeFor most log (from + made) →
+        HasGone PAGES log from start made (state_of core.old memory.old) recorder.old →
+        BeginsIn PAGES log from start page.number made (made + result) }
+    ensures stood { recorder.new.stood ≡ recorder.old.stood }
+    ensures quiet { IsQuietFor most core.new }
+    ensures code { IsCodePage PAGES core.new page }
 {
-    quiet_laws();
-    let mut made = 0;
-    while made < most {
-        let Some(done) = quick_step(core, memory, page) else {
-            learn(memory, page, core.pc());
-            return made;
-        };
-        recorder.note_again(done);
-        made += 1;
-        if core.pc() as u64 == stop {
-            return made;
-        }
+    if stop / PAGE_BYTES as u64 == page.number as u64 {
+        return quick_steps::<PAGES, SPAN, true>(core, memory, page, most, stop, recorder);
     }
-    made
+    // No address of this page is the one to stop at.
+    quick_steps::<PAGES, SPAN, false>(core, memory, page, most, stop, recorder)
 }
 
-// Makes quick steps as long as they stay in the page where they begin, at most `most`, and ends after one that comes to an address.
-// It makes none where none are wanted, and none in a page that was not touched yet.
+// Whether one more step is wanted after some of at most `most` steps: there is room for it, and none of them came to the address where
+// steps end.
+#[inline(always)]
+fn goes_on(made: u32, most: u32, pc: u32, stop: u64) -> bool
+    ensures room { IsTrue result → made < most }
+    ensures past { IsTrue result → 0 < made → ¬ (pc ≡ stop) }
+{
+    made < most && (made == 0 || pc as u64 != stop)
+}
+
+// Makes the step of the instruction at the PC, if it is wanted and the PC is in the page. The step is quiet.
+#[inline(always)]
+fn quiet_on<const PAGES: u32, const SPAN: u32>(
+    core: &mut Core,
+    memory: &mut FlatMemory<PAGES>,
+    page: CodePage,
+    wanted: bool,
+    recorder: &mut Recorder<PAGES, SPAN>,
+) -> u32
+    requires quiet { IsTrue wanted → IsQuietFor 1 core.old }
+    requires code { IsCodePage PAGES core.old page }
+    requires page { IsPage PAGES page.page }
+    requires room { IsTrue wanted → recorder.old.steps < SPAN }
+    ensures bound { result ≤ 1 }
+    ensures wanted { 0 < result → IsTrue wanted }
+    ensures here { 0 < result → core.old.pc / PAGE_BYTES ≡ page.number }
+    ensures steps { recorder.new.steps ≡ recorder.old.steps + result }
+    ensures gone { (log : List LogEvent) (from : ℕ) (start : State) (made : ℕ) → (IsTrue wanted → arriving log (from + made) ≡ []) →
+        HasGone PAGES log from start made (state_of core.old memory.old) recorder.old →
+        HasGone PAGES log from start (made + result) (state_of core.new memory.new) recorder.new }
+    ensures stood { recorder.new.stood ≡ recorder.old.stood }
+{
+    if !wanted {
+        return 0;
+    }
+    let Some(done) = quiet_step(core, memory, page) else {
+        return 0;
+    };
+    recorder.note(done);
+    1
+}
+
+// Makes quick steps as long as they stay in an open page that was touched before, and then one more of that page, at most `most` in
+// all. It ends after one that comes to an address.
+#[inline(always)]
+fn run_in<const PAGES: u32, const SPAN: u32>(
+    core: &mut Core,
+    memory: &mut FlatMemory<PAGES>,
+    page: CodePage,
+    most: u32,
+    stop: u64,
+    recorder: &mut Recorder<PAGES, SPAN>,
+) -> u32
+    requires quiet { IsQuietFor most core.old }
+    requires code { IsCodePage PAGES core.old page }
+    requires page { IsPage PAGES page.page }
+    requires opened { IsTrue (is_open PAGES memory.old.opened.items page.page) }
+    requires room { recorder.old.steps + most ≤ SPAN }
+    requires again { IsTrue (holds recorder.old.touched page.page) }
+    ensures bound { result ≤ most }
+    ensures steps { recorder.new.steps ≡ recorder.old.steps + result }
+    ensures gone { (log : List LogEvent) (from : ℕ) (start : State) (made : ℕ) → IsFreeFor most log (from + made) →
+        HasGone PAGES log from start made (state_of core.old memory.old) recorder.old →
+        HasGone PAGES log from start (made + result) (state_of core.new memory.new) recorder.new }
+    ensures before { (log : List LogEvent) (from : ℕ) (start : State) (made : ℕ) → IsFreeFor most log (from + made) →
+        HasGone PAGES log from start made (state_of core.old memory.old) recorder.old →
+        PassesBy PAGES log from start stop made (made + result) }
+    ensures stood { (log : List LogEvent) (from : ℕ) (start : State) (made : ℕ) (before : List ℕ) → IsFreeFor most log (from + made) →
+        HasGone PAGES log from start made (state_of core.old memory.old) recorder.old →
+        HasStood PAGES log from start made before recorder.old.stood →
+        HasStood PAGES log from start (made + result) before recorder.new.stood }
+{
+    quiet_laws();
+    let made = quick_steps_to(core, memory, page, most, stop, recorder);
+    core.elapse(made);
+    let wanted = goes_on(made, most, core.pc(), stop);
+    let more = quiet_on(core, memory, page, wanted, recorder);
+    recorder.stand(core.pc() / PAGE_BYTES);
+    made + more
+}
+
+// The same from where the machine stands, in quiet times. It makes no step where the times are not quiet, or the page was not touched
+// yet.
 #[inline(always)]
 fn stretch<const PAGES: u32, const SPAN: u32>(
     core: &mut Core,
     memory: &mut FlatMemory<PAGES>,
-    wanted: bool,
     time: u64,
     events: &Cursor,
     most: u32,
@@ -83,13 +218,16 @@ fn stretch<const PAGES: u32, const SPAN: u32>(
         ((later : ℕ) → time ≤ later → arriving events.now later ≡ arriving log later) →
         HasGone PAGES log from start made (state_of core.old memory.old) recorder.old →
         PassesBy PAGES log from start stop made (made + result) }
+    ensures stood { (log : List LogEvent) (from : ℕ) (start : State) (made : ℕ) (before : List ℕ) → time ≡ from + made →
+        ((later : ℕ) → time ≤ later → arriving events.now later ≡ arriving log later) →
+        HasGone PAGES log from start made (state_of core.old memory.old) recorder.old →
+        HasStood PAGES log from start made before recorder.old.stood →
+        HasStood PAGES log from start (made + result) before recorder.new.stood }
 {
-    if !wanted {
-        return 0;
-    }
     let Some(quiet) = core.quiet() else {
         return 0;
     };
+    let free = u64::from(most.min(quiet)).min(events.free(time)) as u32;
     let Some(page) = code_page(core, memory) else {
         return 0;
     };
@@ -97,19 +235,14 @@ fn stretch<const PAGES: u32, const SPAN: u32>(
         return 0;
     }
     memory.open_page(page.page);
-    let free = u64::from(most.min(quiet)).min(events.free(time)) as u32;
-    let made = quick_steps(core, memory, page, free, stop, recorder);
-    core.elapse(made);
-    made
+    run_in(core, memory, page, free, stop, recorder)
 }
 
-/// Makes steps, at most `most`: quick ones, where these are wanted, and then one more, be it quick or not. It ends after a step that
-/// comes to an address.
+/// Makes steps, at least one and at most `most`: a stretch, or else one step. It ends after a step that comes to an address.
 #[inline(always)]
 pub(crate) fn advance<const PAGES: u32, const SPAN: u32>(
     core: &mut Core,
     memory: &mut FlatMemory<PAGES>,
-    wanted: bool,
     time: u64,
     events: &mut Cursor,
     most: u32,
@@ -129,13 +262,19 @@ pub(crate) fn advance<const PAGES: u32, const SPAN: u32>(
         ((later : ℕ) → time ≤ later → arriving events.old later ≡ arriving log later) →
         HasGone PAGES log from start made (state_of core.old memory.old) recorder.old →
         PassesBy PAGES log from start stop made (made + result) }
+    ensures stood { (log : List LogEvent) (from : ℕ) (start : State) (made : ℕ) (before : List ℕ) → time ≡ from + made →
+        ((later : ℕ) → time ≤ later → arriving events.old later ≡ arriving log later) →
+        HasGone PAGES log from start made (state_of core.old memory.old) recorder.old →
+        HasStood PAGES log from start made before recorder.old.stood →
+        HasStood PAGES log from start (made + result) before recorder.new.stood }
     ensures left { (later : ℕ) → time + result ≤ later → arriving events.new later ≡ arriving events.old later }
 {
-    let made = stretch(core, memory, wanted, time, events, most, stop, recorder);
-    if made == most || (made > 0 && core.pc() as u64 == stop) {
+    let made = stretch(core, memory, time, events, most, stop, recorder);
+    if made > 0 {
         return made;
     }
-    let done = step(core, memory, events.next(time + made as u64));
+    let done = step(core, memory, events.next(time));
     recorder.note(done);
-    made + 1
+    recorder.stand(core.pc() / PAGE_BYTES);
+    1
 }

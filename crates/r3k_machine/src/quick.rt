@@ -376,6 +376,7 @@ pub fn quiet_step<M: Mem>(core: &mut Core, memory: &mut M, page: CodePage) -> Op
     requires page { IsPage (M.ram memory.old) page.page }
     ensures ran { IfSome result (λ done. outcome_of_step (M.ram memory.old) [] (record { core = core.old; words = M.words memory.old })
         ≡ record { state = record { core = core.new; words = M.words memory.new }; done = done }) }
+    ensures here { IfSome result (λ done. core.old.pc / PAGE_BYTES ≡ page.number) }
     ensures within { IfSome result (IsTold (M.ram memory.old) (M.words memory.old) (M.words memory.new)) }
     ensures core { result ≡ None → core.new ≡ core.old }
     ensures words { result ≡ None → M.words memory.new ≡ M.words memory.old }

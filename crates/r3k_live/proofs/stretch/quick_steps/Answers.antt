@@ -1,12 +1,17 @@
-use Rattle.std.proofs.Common.{◌≡◌, ℕ, ◌+◌, List, refl, sym, ap, subst, ◌∙◌, arith}
+use Rattle.std.proofs.Common.{◌≡◌, ℕ, ◌+◌, ◌/◌, List, refl, rules, sym, ap, subst, ◌∙◌, arith}
+use Rattle.std.proofs.lemmas.Bool.{true≢false}
 use Rattle.input_log.specs.Event.{LogEvent}
 use Rattle.r3k_machine.specs.Core.{Core}
 use Rattle.r3k_machine.specs.State.{State}
 use Rattle.r3k_machine.specs.Step.{Outcome}
-use Rattle.r3k_machine.specs.Quiet.{IsQuietFor, IsCodePage}
+use Rattle.r3k_machine.specs.Quiet.{IsQuietFor, IsCodePage, state_elapsed}
 use Rattle.r3k_live.specs.Going.{HasGone, IsFreeFor, PassesBy}
 use Rattle.r3k_live.specs.Living.{state_of}
+use Rattle.r3k_live.specs.Recording.{Recording}
+use Rattle.r3k_live.specs.Standing.{BeginsIn}
+use Rattle.r3k_word.specs.declared.layout.TheConstants.{PAGE_BYTES}
 use Rattle.r3k_live.proofs.Gone.{passes_more, quick_more}
+use Rattle.r3k_live.proofs.Stood.{begins_more}
 use Rattle.r3k_live.proofs.stretch.quick_steps.Goals as goal
 
 pub loop-made-init : goal.loop-made-init
@@ -15,7 +20,9 @@ loop-made-init g c =
       gone = λ log from start before free gone.
           subst (λ (t : State). HasGone g.row.PAGES log from start (before + 0) t c.args.recorder.now) (sym (c.quiet_laws.ensures.none s))
           (subst (λ (n : ℕ). HasGone g.row.PAGES log from start n s c.args.recorder.now) (omega arith) gone);
-      passed = λ log from start before free gone k after within there. omega (arith, after, within);
+      passed = λ log from start before stops free gone k after within there. omega (arith, after, within);
+      begins = λ log from start before free gone k low high. absurd (let e : ⊥ = omega (arith, low, high) in e);
+      stood = search rules;
       quiet = c.requires.quiet;
       code = c.requires.code;
       again = c.requires.again;
@@ -24,8 +31,21 @@ loop-made-init g c =
       bound = omega arith;
     }
 
-pub returns-then-pc-stop-clause-gone : goal.returns-then-pc-stop-clause-gone
-returns-then-pc-stop-clause-gone g c = λ log from start before free gone.
+-- each step so far began in the page, and so did the one that was made now
+begins_too : (pages : ℕ) (log : List LogEvent) (from : ℕ) (start : State) (number before made : ℕ) (s : State) (r : Recording)
+    → HasGone pages log from start (before + made) (state_elapsed made s) r → BeginsIn pages log from start number before (before + made)
+    → s.core.pc / PAGE_BYTES ≡ number → BeginsIn pages log from start number before (before + (made + 1))
+begins_too pages log from start number before made s r gone begins here =
+    subst (λ (n : ℕ). BeginsIn pages log from start number before n) (let e : before + made + 1 ≡ before + (made + 1) = omega arith in e)
+    (begins_more pages log from start number before (before + made) begins (ap (λ (u : State). u.core.pc / PAGE_BYTES) (sym gone.state) ∙ here))
+
+pub returns-then-is_stop-clause-inside : goal.returns-then-is_stop-clause-inside
+returns-then-is_stop-clause-inside g c = λ log from start before free gone.
+    begins_too g.row.PAGES log from start c.args.page.number before c.loop-made.made (state_of c.loop-made.core c.loop-made.memory) c.loop-made.recorder
+    (c.loop-made.invariant.gone log from start before free gone) (c.loop-made.invariant.begins log from start before free gone) c.in-Some.ensures.here
+
+pub returns-then-is_stop-clause-gone : goal.returns-then-is_stop-clause-gone
+returns-then-is_stop-clause-gone g c = λ log from start before free gone.
     let made = c.loop-made.made in
     let s = state_of c.loop-made.core c.loop-made.memory in
     let quiet : IsQuietFor (made + 1) s.core = record {
@@ -53,10 +73,14 @@ loop-made-preserved g c =
     (free made c.loop-made-test.true) (c.loop-made.invariant.gone log from start before free gone)
     (c.quiet_laws.ensures.at_once g.row.PAGES made s quiet c.in-Some.ensures.quick) c.in-Some.ensures.ran c.note_again.ensures.records c.in-Some.ensures.within.words in record {
       gone = goes;
-      passed = λ log from start before free gone.
+      passed = λ log from start before stops free gone.
           passes_more g.row.PAGES log from start c.args.stop before (before + (made + 1))
-          (subst (λ (n : ℕ). PassesBy g.row.PAGES log from start c.args.stop before n) (omega arith) (c.loop-made.invariant.passed log from start before free gone))
-          (λ here. c.if-pc-stop.false (c.pc-in-loop-made.ensures ∙ (ap (λ (u : State). u.core.pc) (goes log from start before free gone).state ∙ here)));
+          (subst (λ (n : ℕ). PassesBy g.row.PAGES log from start c.args.stop before n) (omega arith) (c.loop-made.invariant.passed log from start before stops free gone))
+          (λ here. true≢false (sym (c.is_stop.ensures.1 (stops, c.pc-in-loop-made.ensures ∙ (ap (λ (u : State). u.core.pc) (goes log from start before free gone).state ∙ here))) ∙ c.if-is_stop.false));
+      begins = λ log from start before free gone.
+          begins_too g.row.PAGES log from start c.args.page.number before made s c.loop-made.recorder
+          (c.loop-made.invariant.gone log from start before free gone) (c.loop-made.invariant.begins log from start before free gone) c.in-Some.ensures.here;
+      stood = c.note_again.ensures.stood ∙ c.loop-made.invariant.stood;
       quiet = subst (λ (core : Core). IsQuietFor c.args.most core) new (c.quiet_laws.ensures.stays_quiet g.row.PAGES c.args.most s c.in-Some.ensures.quick c.loop-made.invariant.quiet);
       code = subst (λ (core : Core). IsCodePage g.row.PAGES core c.args.page) new (c.quiet_laws.ensures.stays_code g.row.PAGES s c.args.page c.in-Some.ensures.quick c.loop-made.invariant.code);
       again = c.note_again.ensures.touched c.args.page.page c.loop-made.invariant.again;
@@ -65,13 +89,25 @@ loop-made-preserved g c =
       bound = omega (arith, c.loop-made-test.true);
     }
 
-pub returns-then-pc-stop-clause-before : goal.returns-then-pc-stop-clause-before
-returns-then-pc-stop-clause-before g c = λ log from start before free gone.
+pub returns-then-is_stop-clause-before : goal.returns-then-is_stop-clause-before
+returns-then-is_stop-clause-before g c = λ log from start before stops free gone.
     subst (λ (n : ℕ). PassesBy g.row.PAGES log from start c.args.stop before n)
     (let e : before + c.loop-made.made + 1 ≡ before + (c.loop-made.made + 1) = omega arith in e)
-    (c.loop-made.invariant.passed log from start before free gone)
+    (c.loop-made.invariant.passed log from start before stops free gone)
 
 pub returns-in_default-clause-gone : goal.returns-in_default-clause-gone
 returns-in_default-clause-gone g c = λ log from start before free gone.
     rw (c.quick_step.ensures.core c.in_default.is, c.learn.ensures.words, c.quick_step.ensures.words c.in_default.is)
     (c.loop-made.invariant.gone log from start before free gone)
+
+pub returns-then-is_stop-clause-quiet : goal.returns-then-is_stop-clause-quiet
+returns-then-is_stop-clause-quiet g c =
+    let s = state_of c.loop-made.core c.loop-made.memory in
+    subst (λ (core : Core). IsQuietFor c.args.most core) (ap (λ (o : Outcome). o.state.core) c.in-Some.ensures.ran)
+    (c.quiet_laws.ensures.stays_quiet g.row.PAGES c.args.most s c.in-Some.ensures.quick c.loop-made.invariant.quiet)
+
+pub returns-then-is_stop-clause-code : goal.returns-then-is_stop-clause-code
+returns-then-is_stop-clause-code g c =
+    let s = state_of c.loop-made.core c.loop-made.memory in
+    subst (λ (core : Core). IsCodePage g.row.PAGES core c.args.page) (ap (λ (o : Outcome). o.state.core) c.in-Some.ensures.ran)
+    (c.quiet_laws.ensures.stays_code g.row.PAGES s c.args.page c.in-Some.ensures.quick c.loop-made.invariant.code)
