@@ -31,6 +31,13 @@ one_more pages log from start made s t done r later gone step records differ =
           (stayed so_far done start.words s.words t.words differ gone.stayed);
     }
 
+-- another recorder that holds the same steps
+pub recorded_too : (pages : ℕ) (log : List LogEvent) (from : ℕ) (start : State) (made : ℕ) (s : State) (r later : Recording)
+    → ((steps : List Done) → Records pages steps r → Records pages steps later) → HasGone pages log from start made s r
+    → HasGone pages log from start made s later
+recorded_too pages log from start made s r later records gone =
+    record { state = gone.state; recorded = records (trace pages log from start made) gone.recorded; stayed = gone.stayed }
+
 -- a quick one, whose ticks and fall of Random are still to come
 pub quick_more : (pages : ℕ) (log : List LogEvent) (from : ℕ) (start : State) (before made : ℕ) (s t : State) (done : Done) (r later : Recording)
     → arriving log (from + before + made) ≡ [] → HasGone pages log from start (before + made) (state_elapsed made s) r

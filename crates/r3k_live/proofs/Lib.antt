@@ -5,3 +5,5 @@ pub mod Apart
 pub mod Overlaid
 pub mod Gone
 mod Slots
+mod Noted
+mod Stood

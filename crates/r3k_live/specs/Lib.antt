@@ -5,6 +5,7 @@ pub use Rattle.r3k_pages.specs.Pages
 pub mod Record
 pub mod Recording
 pub mod Visits
+pub mod Standing
 pub mod Living
 pub mod Going
 pub mod Slots

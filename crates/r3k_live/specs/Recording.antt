@@ -17,6 +17,7 @@ pub record Recording : Type 0 where
   pub dirty : List ℕ
   pub touched : List ℕ
   pub sent : List SentAt
+  pub stood : List ℕ
 
 -- a step as it is kept with a word: one more than its number, and 0 where there is none
 abbrev pub kept_step : Option ℕ → ℕ

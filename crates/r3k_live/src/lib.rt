@@ -7,6 +7,7 @@ mod laws;
 mod live;
 mod recorder;
 mod stretch;
+mod virtual_pages;
 
 pub use boundary::Boundary;
 pub use flat::FlatMemory;

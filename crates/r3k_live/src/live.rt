@@ -10,6 +10,7 @@ ghost use Rattle.r3k_machine.specs.Run.{run, trace};
 ghost use Rattle.r3k_live.specs.Living.{counted, state_of};
 ghost use Rattle.r3k_live.specs.Record.{dirty_pages};
 ghost use Rattle.r3k_live.specs.Recording.{Records};
+ghost use Rattle.r3k_live.specs.Standing.{HasStood};
 ghost use Rattle.r3k_live.specs.Visits.{first_visit};
 
 use crate::boundary::Boundary;
@@ -20,6 +21,7 @@ use input_log::{Cursor, Event};
 use r3k_image::Image;
 use r3k_machine::{Core, Mem};
 use r3k_pages::PageMarks;
+use r3k_word::layout::PAGE_BYTES;
 use std::alloc::{AllocError, Global};
 use std::marker::Model;
 use std::rc::Rc;
@@ -103,7 +105,8 @@ impl<const PAGES: u32> Live<PAGES> {
     }
 
     /// Runs `steps` steps, at most `SPAN`, from a time on, with the events of their times, and records what they report in a
-    /// recorder that is empty. It takes no memory.
+    /// recorder that is empty. It notes there in which virtual pages the PC stands, at the start and after each step. It takes no
+    /// memory.
     pub fn run<const SPAN: u32>(
         &mut self,
         from: u64,
@@ -120,6 +123,7 @@ impl<const PAGES: u32> Live<PAGES> {
         ensures least { self.old.steps ≤ self.new.steps }
         ensures recorded { Records PAGES (trace PAGES events.now from self.old.state steps) recorder.new }
         ensures dirty { SameOutside (dirty_pages PAGES (trace PAGES events.now from self.old.state steps)) self.old.state.words self.new.state.words }
+        ensures stood { HasStood PAGES events.now from self.old.state steps recorder.old.stood recorder.new.stood }
     {
         let _stopped = self.go_on(from, events, steps, NOWHERE, recorder);
     }
@@ -145,6 +149,7 @@ impl<const PAGES: u32> Live<PAGES> {
         ensures recorded { Records PAGES (trace PAGES events.now from self.old.state (unwrap_or result steps)) recorder.new }
         ensures dirty { SameOutside (dirty_pages PAGES (trace PAGES events.now from self.old.state (unwrap_or result steps)))
             self.old.state.words self.new.state.words }
+        ensures stood { HasStood PAGES events.now from self.old.state (unwrap_or result steps) recorder.old.stood recorder.new.stood }
     {
         self.go_on(from, events, steps, address as u64, recorder)
     }
@@ -171,6 +176,7 @@ impl<const PAGES: u32> Live<PAGES> {
         ensures recorded { Records PAGES (trace PAGES events.now from self.old.state (unwrap_or result steps)) recorder.new }
         ensures dirty { SameOutside (dirty_pages PAGES (trace PAGES events.now from self.old.state (unwrap_or result steps)))
             self.old.state.words self.new.state.words }
+        ensures stood { HasStood PAGES events.now from self.old.state (unwrap_or result steps) recorder.old.stood recorder.new.stood }
     {
         let stopped = step_until(
             &mut self.core,
@@ -250,7 +256,9 @@ fn step_until<const PAGES: u32, const SPAN: u32>(
     ensures dirty { SameOutside (dirty_pages PAGES (trace PAGES events.entry from (state_of core.old memory.old) (unwrap_or result steps)))
         memory.old.words.items memory.new.words.items }
     ensures bound { unwrap_or result steps ≤ steps }
+    ensures stood { HasStood PAGES events.entry from (state_of core.old memory.old) (unwrap_or result steps) recorder.old.stood recorder.new.stood }
 {
+    recorder.stand(core.pc() / PAGE_BYTES);
     let mut made = 0;
     let mut pace = Pace { alone: 0, next: 0 };
     while made < steps {

@@ -11,6 +11,7 @@ ghost use Rattle.r3k_machine.specs.Told.{IsPage, IsRamWord};
 ghost use Rattle.r3k_live.specs.Record.{AreWriters, dirty_pages, sent_from, touched_pages, with_sent};
 ghost use Rattle.r3k_live.specs.Recording.{AreStored, Records, page_of_store, with_writer};
 
+use crate::virtual_pages::VirtualPages;
 use dz_serial::Sent;
 use r3k_machine::Done;
 use r3k_pages::PageMarks;
@@ -33,7 +34,8 @@ pub struct Written {
     pub step: u32,
 }
 
-/// What the steps of a run reported, at most `SPAN` of them, on a machine with `PAGES` pages of RAM. All room is taken when it is made.
+/// What the steps of a run reported, at most `SPAN` of them, on a machine with `PAGES` pages of RAM, and where the PC stood. All room is
+/// taken when it is made.
 #[derive(Drop)]
 pub struct Recorder<const PAGES: u32, const SPAN: u32> {
     steps: u32,
@@ -44,6 +46,8 @@ pub struct Recorder<const PAGES: u32, const SPAN: u32> {
     dirty: PageMarks<PAGES>,
     touched: PageMarks<PAGES>,
     sent: Vec<SentAt>,
+    // The virtual pages in which the PC stood.
+    stood: VirtualPages,
 }
 
 impl<const PAGES: u32, const SPAN: u32> Model for Recorder<PAGES, SPAN> {
@@ -59,6 +63,7 @@ impl<const PAGES: u32, const SPAN: u32> Model for Recorder<PAGES, SPAN> {
       dirty = r.dirty;
       touched = r.touched;
       sent = r.sent.items;
+      stood = r.stood;
     } };
 
     ghost invariant = { λ r. IsRecording PAGES SPAN (vec_capacity r.stored) (vec_capacity r.sent) (record {
@@ -68,6 +73,7 @@ impl<const PAGES: u32, const SPAN: u32> Model for Recorder<PAGES, SPAN> {
       dirty = r.dirty;
       touched = r.touched;
       sent = r.sent.items;
+      stood = r.stood;
     }) };
 }
 
@@ -84,18 +90,21 @@ impl<const PAGES: u32, const SPAN: u32> Recorder<PAGES, SPAN> {
             dirty: PageMarks::new(alloc)?,
             touched: PageMarks::new(alloc)?,
             sent: Vec::with_capacity(alloc, SPAN as usize)?,
+            stood: VirtualPages::new(alloc)?,
         })
     }
 
     /// Empties it, by no more than what was recorded.
     pub fn clear(&mut self)
-        ensures { Records PAGES [] self.new }
+        ensures empty { Records PAGES [] self.new }
+        ensures stood { self.new.stood ≡ [] }
     {
         forget(&mut self.last, &self.stored);
         self.stored.clear();
         self.dirty.clear();
         self.touched.clear();
         self.sent.clear();
+        self.stood.clear();
         self.steps = 0;
     }
 
@@ -142,6 +151,24 @@ impl<const PAGES: u32, const SPAN: u32> Recorder<PAGES, SPAN> {
         self.touched.ascending(alloc)
     }
 
+    /// The virtual pages in which the PC stood, each once, by their numbers.
+    pub fn stood(&self) -> &[u32]
+        ensures { result.now ≡ self.now.stood }
+    {
+        self.stood.pages()
+    }
+
+    // The PC stands in a virtual page.
+    #[inline(always)]
+    pub(crate) fn stand(&mut self, page: u32)
+        requires { page < 2 ^ 20 }
+        ensures stood { (other : ℕ) → holds self.new.stood other ≡ (holds self.old.stood other || nat_eq page other) }
+        ensures records { (steps : List Done) → Records PAGES steps self.old → Records PAGES steps self.new }
+        ensures steps { self.new.steps ≡ self.old.steps }
+    {
+        self.stood.mark(page);
+    }
+
     /// The pages that were stored into.
     pub(crate) fn dirty_marks(&self) -> &PageMarks<PAGES>
         ensures { result.now ≡ self.now.dirty }
@@ -167,6 +194,7 @@ impl<const PAGES: u32, const SPAN: u32> Recorder<PAGES, SPAN> {
         ensures steps { self.new.steps ≡ self.old.steps + 1 }
         ensures records { (steps : List Done) → Records PAGES steps self.old → Records PAGES (steps ++ done ∷ []) self.new }
         ensures touched { (page : ℕ) → IsTrue (holds self.old.touched page) → IsTrue (holds self.new.touched page) }
+        ensures stood { self.new.stood ≡ self.old.stood }
     {
         note_sent(&mut self.sent, done.sent, self.steps);
         note_store(&mut self.last, &mut self.stored, done.stored, self.steps);
@@ -183,6 +211,7 @@ impl<const PAGES: u32, const SPAN: u32> Recorder<PAGES, SPAN> {
         requires touched { All (λ page. IfSome page (IsPage PAGES)) done.touched }
         ensures steps { self.new.steps ≡ self.old.steps + 1 }
         ensures records { (steps : List Done) → Records PAGES steps self.old → Records PAGES (steps ++ done ∷ []) self.new }
+        ensures stood { self.new.stood ≡ self.old.stood }
     {
         note_sent(&mut self.sent, done.sent, self.steps);
         note_store(&mut self.last, &mut self.stored, done.stored, self.steps);

@@ -10,12 +10,14 @@ ghost use Rattle.r3k_pages.specs.Pages.{holds};
 ghost use Rattle.r3k_live.specs.Going.{HasGone, IsFreeFor, PassesBy};
 ghost use Rattle.r3k_live.specs.Living.{state_of};
 ghost use Rattle.r3k_live.specs.Slots.{is_open};
+ghost use Rattle.r3k_live.specs.Standing.{BeginsIn, HasStood};
 
 use crate::flat::FlatMemory;
 use crate::recorder::Recorder;
 use input_log::Cursor;
 use r3k_machine::step::step;
 use r3k_machine::{CodePage, Core, Mem, code_page, learn, quick_step, quiet_laws};
+use r3k_word::layout::PAGE_BYTES;
 
 // Makes quick steps in an open page that was touched before, at most `most`, and ends after one that comes to an address. Their ticks and falls of Random are
 // still to come.
@@ -42,6 +44,10 @@ fn quick_steps<const PAGES: u32, const SPAN: u32>(
     ensures before { (log : List LogEvent) (from : ℕ) (start : State) (made : ℕ) → IsFreeFor most log (from + made) →
         HasGone PAGES log from start made (state_of core.old memory.old) recorder.old →
         PassesBy PAGES log from start stop made (made + result) }
+    ensures inside { (log : List LogEvent) (from : ℕ) (start : State) (made : ℕ) → IsFreeFor most log (from + made) →
+        HasGone PAGES log from start made (state_of core.old memory.old) recorder.old →
+        BeginsIn PAGES log from start page.number made (made + result) }
+    ensures stood { recorder.new.stood ≡ recorder.old.stood }
 {
     quiet_laws();
     let mut made = 0;
@@ -83,6 +89,11 @@ fn stretch<const PAGES: u32, const SPAN: u32>(
         ((later : ℕ) → time ≤ later → arriving events.now later ≡ arriving log later) →
         HasGone PAGES log from start made (state_of core.old memory.old) recorder.old →
         PassesBy PAGES log from start stop made (made + result) }
+    ensures stood { (log : List LogEvent) (from : ℕ) (start : State) (made : ℕ) (before : List ℕ) → time ≡ from + made →
+        ((later : ℕ) → time ≤ later → arriving events.now later ≡ arriving log later) →
+        HasGone PAGES log from start made (state_of core.old memory.old) recorder.old →
+        HasStood PAGES log from start made before recorder.old.stood →
+        HasStood PAGES log from start (made + result) before recorder.new.stood }
 {
     if !wanted {
         return 0;
@@ -100,6 +111,7 @@ fn stretch<const PAGES: u32, const SPAN: u32>(
     let free = u64::from(most.min(quiet)).min(events.free(time)) as u32;
     let made = quick_steps(core, memory, page, free, stop, recorder);
     core.elapse(made);
+    recorder.stand(core.pc() / PAGE_BYTES);
     made
 }
 
@@ -129,6 +141,11 @@ pub(crate) fn advance<const PAGES: u32, const SPAN: u32>(
         ((later : ℕ) → time ≤ later → arriving events.old later ≡ arriving log later) →
         HasGone PAGES log from start made (state_of core.old memory.old) recorder.old →
         PassesBy PAGES log from start stop made (made + result) }
+    ensures stood { (log : List LogEvent) (from : ℕ) (start : State) (made : ℕ) (before : List ℕ) → time ≡ from + made →
+        ((later : ℕ) → time ≤ later → arriving events.old later ≡ arriving log later) →
+        HasGone PAGES log from start made (state_of core.old memory.old) recorder.old →
+        HasStood PAGES log from start made before recorder.old.stood →
+        HasStood PAGES log from start (made + result) before recorder.new.stood }
     ensures left { (later : ℕ) → time + result ≤ later → arriving events.new later ≡ arriving events.old later }
 {
     let made = stretch(core, memory, wanted, time, events, most, stop, recorder);
@@ -137,5 +154,6 @@ pub(crate) fn advance<const PAGES: u32, const SPAN: u32>(
     }
     let done = step(core, memory, events.next(time + made as u64));
     recorder.note(done);
+    recorder.stand(core.pc() / PAGE_BYTES);
     made + 1
 }

@@ -1,8 +1,8 @@
 //! Quick steps: those before which nothing happens but counting, and whose instruction touches registers, PC and memory alone.
 
-ghost use Rattle.std.specs.Prelude.{◌≡◌, ◌^◌, ◌<◌, ℕ, IfSome, IsTrue, None, Ok, Some};
+ghost use Rattle.std.specs.Prelude.{◌≡◌, ◌/◌, ◌^◌, ◌<◌, ℕ, IfSome, IsTrue, None, Ok, Some};
 ghost use Rattle.r3k_exec.specs.Effects.{NamesRegisters};
-ghost use Rattle.r3k_word.specs.declared.layout.TheConstants.{PAGE_WORDS};
+ghost use Rattle.r3k_word.specs.declared.layout.TheConstants.{PAGE_BYTES, PAGE_WORDS};
 ghost use Rattle.r3k_machine.specs.Quiet.{GoesOverBus, IsCodePage, IsIndexIn, IsQuick, IsQuickEffect, IsQuietFor, IsReached, elapsed};
 ghost use Rattle.r3k_machine.specs.Address.{meaning};
 ghost use Rattle.r3k_machine.specs.Locality.{fetched_page};
@@ -205,6 +205,7 @@ pub fn quick_step<M: Mem>(core: &mut Core, memory: &mut M, page: CodePage) -> Op
         ≡ record { state = record { core = core.new; words = M.words memory.new }; done = done }) }
     ensures within { IfSome result (IsTold (M.ram memory.old) (M.words memory.old) (M.words memory.new)) }
     ensures fetched { IfSome result (λ done. fetched_page done ≡ Some page.page) }
+    ensures here { IfSome result (λ done. core.old.pc / PAGE_BYTES ≡ page.number) }
     ensures core { result ≡ None → core.new ≡ core.old }
     ensures words { result ≡ None → M.words memory.new ≡ M.words memory.old }
     ensures same { M.ram memory.new ≡ M.ram memory.old }

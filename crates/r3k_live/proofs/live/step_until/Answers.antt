@@ -1,4 +1,4 @@
-use Rattle.std.proofs.Common.{◌≡◌, ℕ, ◌+◌, ◌-◌, refl, sym, ap, ◌∙◌, subst, arith}
+use Rattle.std.proofs.Common.{◌≡◌, ℕ, ◌+◌, ◌-◌, ◌/◌, ◌||◌, [], nat_eq, refl, sym, ap, ◌∙◌, subst, arith}
 use Rattle.r3k_machine.specs.Run.{run, trace}
 use Rattle.r3k_machine.specs.State.{State}
 use Rattle.r3k_machine.proofs.Splits.{trace_count}
@@ -6,16 +6,23 @@ use Rattle.r3k_live.specs.Going.{HasGone}
 use Rattle.r3k_live.specs.Living.{state_of}
 use Rattle.r3k_live.specs.Record.{is_dirty}
 use Rattle.r3k_pages.proofs.Ascending.{outside_pages}
+use Rattle.r3k_live.specs.Standing.{HasStood}
+use Rattle.r3k_pages.specs.Pages.{holds}
+use Rattle.r3k_word.specs.declared.layout.TheConstants.{PAGE_BYTES}
 use Rattle.r3k_live.specs.Visits.{first_visit}
 use Rattle.r3k_live.proofs.Going.{visits_here, visits_on}
+use Rattle.r3k_live.proofs.Stood.{stood_first}
 use Rattle.r3k_live.proofs.live.step_until.Goals as goal
 
 pub loop-made-init : goal.loop-made-init
 unfolding run trace
 loop-made-init g c = record {
-  gone = record { state = refl; recorded = c.requires.empty; stayed = λ place clean. refl };
+  gone = record { state = refl; recorded = c.stand.ensures.records [] c.requires.empty; stayed = λ place clean. refl };
   found = ap (first_visit g.row.PAGES c.args.events c.args.from (state_of c.args.core.now c.args.memory.now) c.args.stop 0) (omega arith);
   left = λ time later. refl;
+  stood =
+      stood_first g.row.PAGES c.args.events c.args.from (state_of c.args.core.now c.args.memory.now) c.args.recorder.now.stood c.stand.new.self.stood
+      (λ page. c.stand.ensures.stood page ∙ ap (λ (pc : ℕ). holds c.args.recorder.now.stood page || nat_eq (pc / PAGE_BYTES) page) c.pc.ensures);
   bound = omega arith;
 }
 
@@ -36,10 +43,10 @@ returns-then-pc-stop-clause-found g c =
     ∙ visits_here g.row.PAGES log c.args.from start c.args.stop made more c.args.steps c.advance-more.ensures.some
     (omega (arith, c.advance-more.ensures.bound, c.loop-made-test.true))
     (c.advance-more.ensures.before log c.args.from start made refl c.loop-made.invariant.left c.loop-made.invariant.gone)
-    (sym (ap (λ (s : State). s.core.pc) gone.state) ∙ (sym c.pc.ensures ∙ c.if-pc-stop.true)))
+    (sym (ap (λ (s : State). s.core.pc) gone.state) ∙ (sym c.pc-in-loop-made.ensures ∙ c.if-pc-stop.true)))
 
 pub returns-then-pc-stop-clause-never : goal.returns-then-pc-stop-clause-never
-returns-then-pc-stop-clause-never g c = λ high. absurd (let e : ⊥ = omega (arith, high, c.pc.type_inv, c.if-pc-stop.true) in e)
+returns-then-pc-stop-clause-never g c = λ high. absurd (let e : ⊥ = omega (arith, high, c.pc-in-loop-made.type_inv, c.if-pc-stop.true) in e)
 
 pub returns-then-pc-stop-clause-state : goal.returns-then-pc-stop-clause-state
 returns-then-pc-stop-clause-state g c =
@@ -48,6 +55,11 @@ returns-then-pc-stop-clause-state g c =
 pub returns-then-pc-stop-clause-recorded : goal.returns-then-pc-stop-clause-recorded
 returns-then-pc-stop-clause-recorded g c =
     (c.advance-more.ensures.gone c.args.events c.args.from (state_of c.args.core.now c.args.memory.now) c.loop-made.made refl c.loop-made.invariant.left c.loop-made.invariant.gone).recorded
+
+pub returns-then-pc-stop-clause-stood : goal.returns-then-pc-stop-clause-stood
+returns-then-pc-stop-clause-stood g c =
+    c.advance-more.ensures.stood c.args.events c.args.from (state_of c.args.core.now c.args.memory.now) c.loop-made.made c.args.recorder.now.stood refl
+    c.loop-made.invariant.left c.loop-made.invariant.gone c.loop-made.invariant.stood
 
 pub returns-then-pc-stop-clause-dirty : goal.returns-then-pc-stop-clause-dirty
 returns-then-pc-stop-clause-dirty g c =
@@ -70,9 +82,10 @@ loop-made-preserved g c =
           ∙ visits_on g.row.PAGES log c.args.from start c.args.stop made more c.args.steps c.advance-more.ensures.some
           (omega (arith, c.advance-more.ensures.bound, c.loop-made-test.true))
           (c.advance-more.ensures.before log c.args.from start made refl c.loop-made.invariant.left c.loop-made.invariant.gone)
-          (λ here. c.if-pc-stop.false (c.pc.ensures ∙ (ap (λ (s : State). s.core.pc) gone.state ∙ here)));
+          (λ here. c.if-pc-stop.false (c.pc-in-loop-made.ensures ∙ (ap (λ (s : State). s.core.pc) gone.state ∙ here)));
       left = λ time later.
           c.advance-more.ensures.left time (omega (arith, later)) ∙ c.loop-made.invariant.left time (omega (arith, later));
+      stood = c.advance-more.ensures.stood log c.args.from start made c.args.recorder.now.stood refl c.loop-made.invariant.left c.loop-made.invariant.gone c.loop-made.invariant.stood;
       bound = omega (arith, c.advance-more.ensures.bound, c.loop-made-test.true);
     }
 
@@ -104,3 +117,9 @@ returns-clause-dirty g c =
     outside_pages g.row.PAGES (is_dirty (trace g.row.PAGES c.args.events c.args.from start c.args.steps))
     c.args.memory.now.words.items c.loop-made.memory.words.items c.args.memory.now.whole c.loop-made.memory.whole
     (subst (λ (n : ℕ). HasGone g.row.PAGES c.args.events c.args.from start n (state_of c.loop-made.core c.loop-made.memory) c.loop-made.recorder) all c.loop-made.invariant.gone).stayed
+
+pub returns-clause-stood : goal.returns-clause-stood
+returns-clause-stood g c =
+    let start = state_of c.args.core.now c.args.memory.now in
+    let all : c.loop-made.made ≡ c.args.steps = omega (arith, c.loop-made-test.false, c.loop-made.invariant.bound) in
+    subst (λ (n : ℕ). HasStood g.row.PAGES c.args.events c.args.from start n c.args.recorder.now.stood c.loop-made.recorder.stood) all c.loop-made.invariant.stood

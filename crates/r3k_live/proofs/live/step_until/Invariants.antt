@@ -2,16 +2,18 @@ use Rattle.std.proofs.Common.{◌≡◌, ℕ, ◌+◌, ◌-◌, ◌≤◌}
 use Rattle.r3k_machine.specs.Run.{arriving}
 use Rattle.r3k_live.specs.Going.{HasGone}
 use Rattle.r3k_live.specs.Living.{state_of}
+use Rattle.r3k_live.specs.Standing.{HasStood}
 use Rattle.r3k_live.specs.Visits.{first_visit}
 use Rattle.r3k_live.proofs.live.step_until.Given as goal
 
--- `made` steps of the run are made and recorded, none came to the address, and the events of later times are left
+-- `made` steps of the run are made and recorded, none came to the address, the pages in which the PC stood are noted, and the events of later times are left
 abbrev pub invariant-loop-made : goal.invariant-loop-made
 invariant-loop-made g l = record {
   gone : HasGone g.row.PAGES l.fn.events l.from (state_of l.fn.core l.fn.memory) l.made (state_of l.core l.memory) l.recorder;
   found : first_visit g.row.PAGES l.fn.events l.from (state_of l.fn.core l.fn.memory) l.stop 0 l.steps
       ≡ first_visit g.row.PAGES l.fn.events l.from (state_of l.fn.core l.fn.memory) l.stop l.made (l.steps - l.made);
   left : (time : ℕ) → l.from + l.made ≤ time → arriving l.events time ≡ arriving l.fn.events time;
+  stood : HasStood g.row.PAGES l.fn.events l.from (state_of l.fn.core l.fn.memory) l.made l.fn.recorder.stood l.recorder.stood;
   bound : l.made ≤ l.steps;
 }
 

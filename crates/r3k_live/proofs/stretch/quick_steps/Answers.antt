@@ -1,12 +1,16 @@
-use Rattle.std.proofs.Common.{◌≡◌, ℕ, ◌+◌, List, refl, sym, ap, subst, ◌∙◌, arith}
+use Rattle.std.proofs.Common.{◌≡◌, ℕ, ◌+◌, ◌/◌, List, rules, sym, ap, subst, ◌∙◌, arith}
 use Rattle.input_log.specs.Event.{LogEvent}
 use Rattle.r3k_machine.specs.Core.{Core}
 use Rattle.r3k_machine.specs.State.{State}
 use Rattle.r3k_machine.specs.Step.{Outcome}
-use Rattle.r3k_machine.specs.Quiet.{IsQuietFor, IsCodePage}
+use Rattle.r3k_machine.specs.Quiet.{IsQuietFor, IsCodePage, state_elapsed}
 use Rattle.r3k_live.specs.Going.{HasGone, IsFreeFor, PassesBy}
 use Rattle.r3k_live.specs.Living.{state_of}
+use Rattle.r3k_live.specs.Recording.{Recording}
+use Rattle.r3k_live.specs.Standing.{BeginsIn}
+use Rattle.r3k_word.specs.declared.layout.TheConstants.{PAGE_BYTES}
 use Rattle.r3k_live.proofs.Gone.{passes_more, quick_more}
+use Rattle.r3k_live.proofs.Stood.{begins_more}
 use Rattle.r3k_live.proofs.stretch.quick_steps.Goals as goal
 
 pub loop-made-init : goal.loop-made-init
@@ -16,6 +20,8 @@ loop-made-init g c =
           subst (λ (t : State). HasGone g.row.PAGES log from start (before + 0) t c.args.recorder.now) (sym (c.quiet_laws.ensures.none s))
           (subst (λ (n : ℕ). HasGone g.row.PAGES log from start n s c.args.recorder.now) (omega arith) gone);
       passed = λ log from start before free gone k after within there. omega (arith, after, within);
+      begins = λ log from start before free gone k low high. absurd (let e : ⊥ = omega (arith, low, high) in e);
+      stood = search rules;
       quiet = c.requires.quiet;
       code = c.requires.code;
       again = c.requires.again;
@@ -23,6 +29,19 @@ loop-made-init g c =
       steps = omega arith;
       bound = omega arith;
     }
+
+-- each step so far began in the page, and so did the one that was made now
+begins_too : (pages : ℕ) (log : List LogEvent) (from : ℕ) (start : State) (number before made : ℕ) (s : State) (r : Recording)
+    → HasGone pages log from start (before + made) (state_elapsed made s) r → BeginsIn pages log from start number before (before + made)
+    → s.core.pc / PAGE_BYTES ≡ number → BeginsIn pages log from start number before (before + (made + 1))
+begins_too pages log from start number before made s r gone begins here =
+    subst (λ (n : ℕ). BeginsIn pages log from start number before n) (let e : before + made + 1 ≡ before + (made + 1) = omega arith in e)
+    (begins_more pages log from start number before (before + made) begins (ap (λ (u : State). u.core.pc / PAGE_BYTES) (sym gone.state) ∙ here))
+
+pub returns-then-pc-stop-clause-inside : goal.returns-then-pc-stop-clause-inside
+returns-then-pc-stop-clause-inside g c = λ log from start before free gone.
+    begins_too g.row.PAGES log from start c.args.page.number before c.loop-made.made (state_of c.loop-made.core c.loop-made.memory) c.loop-made.recorder
+    (c.loop-made.invariant.gone log from start before free gone) (c.loop-made.invariant.begins log from start before free gone) c.in-Some.ensures.here
 
 pub returns-then-pc-stop-clause-gone : goal.returns-then-pc-stop-clause-gone
 returns-then-pc-stop-clause-gone g c = λ log from start before free gone.
@@ -57,6 +76,10 @@ loop-made-preserved g c =
           passes_more g.row.PAGES log from start c.args.stop before (before + (made + 1))
           (subst (λ (n : ℕ). PassesBy g.row.PAGES log from start c.args.stop before n) (omega arith) (c.loop-made.invariant.passed log from start before free gone))
           (λ here. c.if-pc-stop.false (c.pc-in-loop-made.ensures ∙ (ap (λ (u : State). u.core.pc) (goes log from start before free gone).state ∙ here)));
+      begins = λ log from start before free gone.
+          begins_too g.row.PAGES log from start c.args.page.number before made s c.loop-made.recorder
+          (c.loop-made.invariant.gone log from start before free gone) (c.loop-made.invariant.begins log from start before free gone) c.in-Some.ensures.here;
+      stood = c.note_again.ensures.stood ∙ c.loop-made.invariant.stood;
       quiet = subst (λ (core : Core). IsQuietFor c.args.most core) new (c.quiet_laws.ensures.stays_quiet g.row.PAGES c.args.most s c.in-Some.ensures.quick c.loop-made.invariant.quiet);
       code = subst (λ (core : Core). IsCodePage g.row.PAGES core c.args.page) new (c.quiet_laws.ensures.stays_code g.row.PAGES s c.args.page c.in-Some.ensures.quick c.loop-made.invariant.code);
       again = c.note_again.ensures.touched c.args.page.page c.loop-made.invariant.again;

@@ -5,10 +5,11 @@ use Rattle.r3k_machine.specs.State.{State}
 use Rattle.r3k_pages.specs.Pages.{holds}
 use Rattle.r3k_live.specs.Going.{HasGone, IsFreeFor, PassesBy}
 use Rattle.r3k_live.specs.Slots.{is_open}
+use Rattle.r3k_live.specs.Standing.{BeginsIn}
 use Rattle.r3k_live.specs.Living.{state_of}
 use Rattle.r3k_live.proofs.stretch.quick_steps.Given as goal
 
--- `made` steps more are made and recorded, and none came to the address
+-- `made` steps more are made and recorded, each began in the page, and none came to the address
 abbrev pub invariant-loop-made : goal.invariant-loop-made
 invariant-loop-made g l = record {
   gone : (log : List LogEvent) (from : ℕ) (start : State) (before : ℕ) → IsFreeFor l.most log (from + before) →
@@ -17,6 +18,10 @@ invariant-loop-made g l = record {
   passed : (log : List LogEvent) (from : ℕ) (start : State) (before : ℕ) → IsFreeFor l.most log (from + before) →
       HasGone g.row.PAGES log from start before (state_of l.fn.core l.fn.memory) l.fn.recorder →
       PassesBy g.row.PAGES log from start l.stop before (before + l.made + 1);
+  begins : (log : List LogEvent) (from : ℕ) (start : State) (before : ℕ) → IsFreeFor l.most log (from + before) →
+      HasGone g.row.PAGES log from start before (state_of l.fn.core l.fn.memory) l.fn.recorder →
+      BeginsIn g.row.PAGES log from start l.page.number before (before + l.made);
+  stood : l.recorder.stood ≡ l.fn.recorder.stood;
   quiet : IsQuietFor l.most l.core;
   code : IsCodePage g.row.PAGES l.core l.page;
   again : IsTrue (holds l.recorder.touched l.page.page);

@@ -4,6 +4,7 @@ use Rattle.r3k_pages.specs.Pages.{SameOutside}
 use Rattle.r3k_live.specs.Living.{counted}
 use Rattle.r3k_live.specs.Record.{dirty_pages}
 use Rattle.r3k_live.specs.Recording.{Records}
+use Rattle.r3k_live.specs.Standing.{HasStood}
 use Rattle.r3k_live.proofs.live.Live.run.Goals as goal
 
 pub returns-clause-state : goal.returns-clause-state
@@ -26,3 +27,8 @@ returns-clause-dirty g c =
     subst (λ (o : Option ℕ). SameOutside (dirty_pages g.row.PAGES (trace g.row.PAGES c.args.events.now c.args.from c.args.self.now.state (unwrap_or o c.args.steps)))
     c.args.self.now.state.words c.go_on-stopped.new.self.state.words)
     (c.go_on-stopped.ensures.never (omega arith)) c.go_on-stopped.ensures.dirty
+
+pub returns-clause-stood : goal.returns-clause-stood
+returns-clause-stood g c =
+    subst (λ (o : Option ℕ). HasStood g.row.PAGES c.args.events.now c.args.from c.args.self.now.state (unwrap_or o c.args.steps) c.args.recorder.now.stood c.go_on-stopped.new.recorder.stood)
+    (c.go_on-stopped.ensures.never (omega arith)) c.go_on-stopped.ensures.stood
