@@ -35,7 +35,7 @@ impl VirtualPages {
         ensures { IfOk result (λ set. set ≡ []) }
     {
         Ok(VirtualPages {
-            marks: vec![in alloc; false; COUNT]?,
+            marks: unmarked(alloc, COUNT)?,
             pages: Vec::with_capacity(alloc, COUNT)?,
         })
     }
@@ -66,6 +66,14 @@ impl VirtualPages {
     {
         &self.pages
     }
+}
+
+// This many pages without a mark.
+fn unmarked(alloc: Global, count: usize) -> Result<Vec<bool>, AllocError>
+    ensures long { IfOk result (λ marks. length marks.items ≡ count) }
+    ensures none { IfOk result (λ marks. (page : ℕ) → slice_index_or marks.items page false ≡ false) }
+{
+    vec![in alloc; false; count]
 }
 
 // Adds a page that is not there.

@@ -1,12 +1,13 @@
 -- A span of a run (own): `span` steps from a state, with the events of their times. All else follows from these.
-use Rattle.std.specs.Prelude.{◌≡◌, ℕ, ◌+◌, ◌*◌, List}
+use Rattle.std.specs.Prelude.{◌≡◌, ◌↔◌, ℕ, ◌+◌, ◌*◌, IsTrue, List}
 use Rattle.input_log.specs.Event.{LogEvent}
 use Rattle.input_log.specs.Log.{AreInOrder, AreWithin}
 use Rattle.r3k_machine.specs.State.{State}
 use Rattle.r3k_machine.specs.Run.{run, trace}
 use Rattle.r3k_machine.specs.declared.step.Done.{Done}
-use Rattle.r3k_pages.specs.Pages.{SameOutside}
+use Rattle.r3k_pages.specs.Pages.{SameOutside, holds}
 use Rattle.r3k_live.specs.Record.{AreWriters, dirty_pages, sent_from, touched_pages}
+use Rattle.r3k_live.specs.Standing.{StandsIn}
 use Rattle.r3k_live.specs.declared.recorder.SentAt.{SentAt}
 use Rattle.r3k_live.specs.declared.recorder.Written.{Written}
 
@@ -22,8 +23,12 @@ end_of pages span s = run pages s.events (s.index * span) s.start span
 abbrev pub steps_of : (pages span : ℕ) → Span → List Done
 steps_of pages span s = trace pages s.events (s.index * span) s.start span
 
+-- the PC stands in a virtual page where it starts, or after one of its steps
+abbrev pub StoodIn : (pages span : ℕ) → Span → ℕ → Type 0
+StoodIn pages span s page = StandsIn pages s.events (s.index * span) s.start span page
+
 -- what a record of a span reports is so
-pub record Holds (pages span : ℕ) (s : Span) (end : State) (writers : List Written) (sent : List SentAt) (dirty touched : List ℕ) : Type 0 where
+pub record Holds (pages span : ℕ) (s : Span) (end : State) (writers : List Written) (sent : List SentAt) (dirty touched stood : List ℕ) : Type 0 where
   pub in_order : AreInOrder s.events
   pub within : AreWithin (s.index * span) ((s.index + 1) * span) s.events
   pub ends : end ≡ end_of pages span s
@@ -32,3 +37,4 @@ pub record Holds (pages span : ℕ) (s : Span) (end : State) (writers : List Wri
   pub stored : dirty ≡ dirty_pages pages (steps_of pages span s)
   pub stayed : SameOutside dirty s.start.words end.words
   pub seen : touched ≡ touched_pages pages (steps_of pages span s)
+  pub stands : (page : ℕ) → IsTrue (holds stood page) ↔ StoodIn pages span s page

@@ -1,6 +1,6 @@
 //! The record of a span: `SPAN` steps from a state, with the events of their times.
 
-ghost use Rattle.std.specs.Prelude.{◌≡◌, ◌+◌, ◌*◌, ◌^◌, ◌<◌, ◌≤◌, ℕ, IfOk, List, length, map, slice_index_or};
+ghost use Rattle.std.specs.Prelude.{◌≡◌, ◌↔◌, ◌+◌, ◌*◌, ◌^◌, ◌<◌, ◌≤◌, ℕ, IfOk, IsTrue, List, length, map, slice_index_or};
 ghost use Rattle.std.specs.List.Sorted.{IsNonDecreasingBy, IsStrictlyIncreasing};
 ghost use Rattle.r3k_word.specs.Layout.{word_count_of};
 ghost use Rattle.r3k_word.specs.declared.layout.TheConstants.{PAGE_WORDS};
@@ -11,7 +11,7 @@ ghost use Rattle.r3k_machine.specs.Run.{last_writer};
 ghost use Rattle.r3k_live.specs.Living.{counted};
 ghost use Rattle.r3k_live.specs.Record.{AreWriters, dirty_pages, sent_from, touched_pages};
 ghost use Rattle.r3k_live.specs.declared.recorder.Written.{Written};
-ghost use Rattle.span_fact.specs.Span.{end_of, steps_of};
+ghost use Rattle.span_fact.specs.Span.{StoodIn, end_of, steps_of};
 
 use input_log::Event;
 use r3k_live::{Boundary, Live, Recorder, SentAt, Written};
@@ -31,6 +31,7 @@ pub struct Fact<const PAGES: u32, const SPAN: u32> {
     sent: Vec<SentAt>,
     dirty: Vec<u32>,
     touched: Vec<u32>,
+    stood: Vec<u32>,
 }
 
 impl<const PAGES: u32, const SPAN: u32> Model for Fact<PAGES, SPAN> {
@@ -41,7 +42,7 @@ impl<const PAGES: u32, const SPAN: u32> Model for Fact<PAGES, SPAN> {
     ghost view = { λ f. record { index = f.index; start = f.start.value; events = f.events.items } };
 
     ghost invariant = { λ f. Holds PAGES SPAN (record { index = f.index; start = f.start.value; events = f.events.items })
-        f.end.value f.writers.items f.sent.items f.dirty.items f.touched.items };
+        f.end.value f.writers.items f.sent.items f.dirty.items f.touched.items f.stood.items };
 }
 
 impl<const PAGES: u32, const SPAN: u32> Fact<PAGES, SPAN> {
@@ -76,6 +77,7 @@ impl<const PAGES: u32, const SPAN: u32> Fact<PAGES, SPAN> {
             sent: Vec::from_slice(alloc, recorder.sent())?,
             dirty: recorder.dirty(alloc)?,
             touched: recorder.touched(alloc)?,
+            stood: Vec::from_slice(alloc, recorder.stood())?,
         })
     }
 
@@ -141,6 +143,13 @@ impl<const PAGES: u32, const SPAN: u32> Fact<PAGES, SPAN> {
         ensures set { IsPageSet PAGES result.now }
     {
         &self.touched
+    }
+
+    /// Whether the PC stands in a virtual page, given by its number, where it starts or after one of its steps.
+    pub fn stands_in(&self, page: u32) -> bool
+        ensures { IsTrue result ↔ StoodIn PAGES SPAN self.now page }
+    {
+        self.stood.contains(&page)
     }
 }
 

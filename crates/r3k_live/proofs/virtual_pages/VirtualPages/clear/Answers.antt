@@ -1,4 +1,4 @@
-use Rattle.std.proofs.Common.{◌∙◌, ap, List, ℕ, All, ◌<◌, length, subst, sym, Bool, slice_index_or, ◌&&◌, not, false, ◌≡◌}
+use Rattle.std.proofs.Common.{◌∙◌, ap, List, ℕ, slice_index_or, ◌&&◌, not, false}
 use Rattle.r3k_pages.specs.Pages.{holds}
 use Rattle.r3k_live.proofs.Noted.{none_left, none_noted}
 use Rattle.r3k_live.proofs.virtual_pages.VirtualPages.clear.Goals as goal

@@ -5,6 +5,7 @@ use Rattle.r3k_machine.specs.State.{State}
 use Rattle.r3k_pages.specs.Pages.{SameOutside}
 use Rattle.r3k_live.specs.Record.{AreWriters, dirty_pages, sent_from, touched_pages}
 use Rattle.span_fact.specs.Span.{Holds}
+use Rattle.span_fact.proofs.Stood.{from_none}
 use Rattle.span_fact.proofs.fact.Fact.make.Goals as goal
 
 pub invariant_of-result : goal.invariant_of-result
@@ -21,7 +22,7 @@ invariant_of-result g c =
     let stored = (c.in_ok-dirty.ensures {u = tt}).pages steps c.run.ensures.recorded in
     let recorded = c.run.ensures.recorded in
     subst (λ (kept : List LogEvent). Holds pages span (record { index = index; start = c.args.start.value; events = kept })
-    c.in_ok-keep.field-0.value c.in_ok-writers.field-0.items c.in_ok-from_slice-2.field-0.items c.in_ok-dirty.field-0.items c.in_ok-touched.field-0.items)
+    c.in_ok-keep.field-0.value c.in_ok-writers.field-0.items c.in_ok-from_slice-2.field-0.items c.in_ok-dirty.field-0.items c.in_ok-touched.field-0.items c.in_ok-from_slice-3.field-0.items)
     (sym (c.in_ok-from_slice.ensures {u = tt}).items)
     (record {
       in_order = c.requires.in_order;
@@ -35,4 +36,7 @@ invariant_of-result g c =
           (subst (λ (e : State). SameOutside (dirty_pages pages steps) stood.words e.words) (sym ends) c.run.ensures.dirty));
       stored = stored ∙ ap (λ (s : State). dirty_pages pages (trace pages events from s span)) here;
       seen = (c.in_ok-touched.ensures {u = tt}).pages steps recorded ∙ ap (λ (s : State). touched_pages pages (trace pages events from s span)) here;
+      stands =
+          from_none pages events from stood c.args.start.value span c.clear.new.self.stood c.run.new.recorder.stood c.in_ok-from_slice-3.field-0.items
+          c.run.ensures.stood c.clear.ensures.stood ((c.in_ok-from_slice-3.ensures {u = tt}).items ∙ c.stood.ensures) here;
     })
