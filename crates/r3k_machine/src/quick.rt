@@ -1,7 +1,6 @@
 //! Quick steps: those before which nothing happens but counting, and whose instruction touches registers, PC and memory alone.
 
 ghost use Rattle.std.specs.Prelude.{◌≡◌, ◌^◌, ◌<◌, ℕ, IfSome, IsTrue, None, Ok, Some};
-ghost use Rattle.r3k_exec.specs.Effects.{NamesRegisters};
 ghost use Rattle.r3k_word.specs.declared.layout.TheConstants.{PAGE_WORDS};
 ghost use Rattle.r3k_machine.specs.Quiet.{GoesOverBus, IsCodePage, IsIndexIn, IsQuick, IsQuickEffect, IsQuietFor, IsReached, elapsed};
 ghost use Rattle.r3k_machine.specs.Address.{meaning};
@@ -116,7 +115,6 @@ fn perform_quick<M: Mem>(
     plain: bool,
     effect: Effect,
 ) -> Option<Done>
-    requires registers { NamesRegisters effect }
     requires page { IsPage (M.ram memory.old) page }
     requires plain { IsTrue plain → GoesOverBus core.old }
     ensures quick { IfSome result (λ done. IsQuickEffect (M.ram memory.old) core.old effect) }
@@ -170,7 +168,7 @@ fn perform_quick<M: Mem>(
             let place = place_of(memory.ram_pages(), physical / 4 * 4)?;
             let word = memory.word(place);
             core.complete();
-            let kept = core.registers()[register as usize];
+            let kept = core.registers()[register.index()];
             core.set_slot(register, kind.loaded(address, word, kept));
             return Some(Done::loading(page, Some(page_of(place) as u32)));
         }
