@@ -19,7 +19,7 @@ use Rattle.cop0.specs.Changes as control
 use Rattle.cop0.specs.Status.{in_user_mode}
 use Rattle.kn02_bus.specs.declared.bus.Lines.{Lines}
 use Rattle.kn02_bus.specs.Lines.{lines_of}
-use Rattle.kn02_bus.specs.Quiet.{after}
+use Rattle.kn02_bus.specs.Quiet.{after, quiet_of}
 use Rattle.r3k_decode.specs.Operation.{Operation}
 use Rattle.r3k_decode.specs.Decoding.{operation_of}
 use Rattle.r3k_exec.specs.Access.{stored}
@@ -45,7 +45,7 @@ use Rattle.r3k_machine.specs.Core.{Core}
 use Rattle.r3k_machine.specs.State.{State}
 use Rattle.r3k_machine.specs.Exceptions.{is_unusable}
 use Rattle.r3k_machine.specs.LoadStore.{after_load, after_store, loaded_at, meaning_of_fetch, meaning_of_load, meaning_of_store, ram_word, stored_at, word_at, word_of_place, word_read, words_after, words_with}
-use Rattle.r3k_machine.specs.Step.{Completion, Outcome, arrived, completion_of_effect, completion_of_load, completion_of_store, completion_of_word, operands_of, outcome_of_completion, outcome_of_fetch, outcome_of_instruction, outcome_of_interrupt_or_instruction, outcome_of_step, sampled, ticked, with_fall}
+use Rattle.r3k_machine.specs.Step.{Completion, Outcome, arrived, completion_of_effect, completion_of_load, completion_of_store, completion_of_word, operands_of, outcome_of_completion, outcome_of_fetch, outcome_of_instruction, outcome_of_interrupt_or_instruction, outcome_of_step, outcome_of_word, sampled, ticked, with_fall}
 use Rattle.r3k_machine.specs.declared.quick.CodePage.{CodePage}
 use Rattle.r3k_machine.specs.Known.{IsDecoded, IsKnown, IsStop}
 use Rattle.r3k_machine.specs.Quiet.{GoesOverBus, IsCodePage, IsFetchedFrom, IsIndexIn, IsPlain, IsQuick, IsQuickEffect, IsQuietFor, elapsed, outcome_elapsed, state_elapsed}
@@ -80,6 +80,25 @@ code_kept pages page old new keeps code = record {
   within = code.within;
   fetched = λ address here aligned. rw (keeps.entries, keeps.cop0) (code.fetched address here aligned);
   plain = λ on. record { kernel = rw keeps.cop0 (code.plain on).kernel; shared = rw keeps.cop0 (code.plain on).shared };
+}
+
+-- after some of the steps
+pub quiet_later : (n more : ℕ) (core : Core) → more ≤ quiet_of (after n core.bus) → lines_of (after n core.bus) ≡ lines_of core.bus
+    → IsQuietFor (n + more) core → IsQuietFor more (elapsed n core)
+quiet_later n more core counts same quiet = record {
+  counts = counts;
+  sampled =
+      ap (λ (l : Lines). control.sampled (control.fallen_by n core.cop0) l.board l.clock) same
+      ∙ ap (λ (c : Registers). control.fallen_by n c) quiet.sampled;
+  unwanted = quiet.unwanted;
+}
+
+pub code_later : (pages n : ℕ) (core : Core) (page : CodePage) → IsCodePage pages core page → IsCodePage pages (elapsed n core) page
+unfolding meaning
+code_later pages n core page code = record {
+  within = code.within;
+  fetched = λ address here aligned. code.fetched address here aligned;
+  plain = λ on. record { kernel = (code.plain on).kernel; shared = (code.plain on).shared };
 }
 
 -- an address means the same
@@ -422,3 +441,23 @@ quick_ran pages s quick o completes =
 pub if_both : {P Q R : Done → Type 0} (o : Option Done) → IfSome o P → IfSome o Q → ((done : Done) → P done → Q done → R done) → IfSome o R
 if_both None p q f = tt
 if_both (Some done) p q f = f done p q
+
+-- a quiet step of an instruction of the page that is run in is that of its word after the tick
+ticked_fetch : (core : Core) → meaning_of_fetch (ticked core) ≡ meaning_of_fetch core
+unfolding meaning ticked
+ticked_fetch core = refl
+
+ticked_pc : (core : Core) → (ticked core).pc ≡ core.pc
+unfolding ticked
+ticked_pc core = refl
+
+pub page_instruction : (pages : ℕ) (s : State) (page : CodePage) (index : ℕ) → IsCodePage pages s.core page → IsIndexIn page s.core.pc index
+    → outcome_of_instruction pages (record { core = ticked s.core; words = s.words })
+    ≡ outcome_of_word pages (record { core = ticked s.core; words = s.words }) (record { word = slice_index s.words (page.page * 1024 + index); page = page.page })
+page_instruction pages s page index code at =
+    let t : State = record { core = ticked s.core; words = s.words } in
+    let found = code.fetched s.core.pc at.here at.aligned in
+    let means = ticked_fetch s.core ∙ (aligned_fetch s.core at.aligned ∙ found.1) in
+    let stands = fetched_from pages s.words page.page (s.core.pc % 4096 / 4) found.0.address (omega arith) found.2
+    ∙ ap (λ (n : ℕ). Some (record { word = slice_index s.words (page.page * 1024 + n); page = page.page })) (sym at.is) in
+    plain_fetch pages t (meaning_of_fetch t.core) found.0 (record { word = slice_index s.words (page.page * 1024 + index); page = page.page }) means stands

@@ -198,9 +198,12 @@ outcome_of_completion s page (Ok outcome) = outcome
 outcome_of_completion s page (Err fault) =
     outcome_of_exception (record { core = fault.core; words = s.words }) (Some page) fault.exception
 
+abbrev pub outcome_of_word : ℕ → State → Word → Outcome
+outcome_of_word pages s w = outcome_of_completion s w.page (completion_of_word pages s w)
+
 abbrev pub outcome_of_fetch : ℕ → State → Result Word Exception → Outcome
 outcome_of_fetch pages s (Err exception) = outcome_of_exception s None exception
-outcome_of_fetch pages s (Ok w) = outcome_of_completion s w.page (completion_of_word pages s w)
+outcome_of_fetch pages s (Ok w) = outcome_of_word pages s w
 
 -- the instruction at PC
 abbrev pub outcome_of_instruction : ℕ → State → Outcome

@@ -5,6 +5,7 @@ ghost use Rattle.input_log.specs.Event.{LogEvent};
 ghost use Rattle.input_log.specs.Log.{window_of};
 ghost use Rattle.r3k_word.specs.declared.layout.TheConstants.{PAGE_BYTES};
 ghost use Rattle.r3k_machine.specs.declared.step.Done.{Done};
+ghost use Rattle.r3k_machine.specs.Core.{Core};
 ghost use Rattle.r3k_machine.specs.State.{State};
 ghost use Rattle.r3k_machine.specs.Run.{run, trace, console_of, senders_of, last_writer, later};
 ghost use Rattle.r3k_machine.specs.Step.{next, outcome_of_instruction, outcome_of_step, ticked, told, with_fall};
@@ -49,6 +50,9 @@ pub fn quiet_laws()
         IsQuietFor n (outcome_of_instruction pages s).state.core }
     ensures stays_code { (pages : ℕ) (s : State) (page : CodePage) → IsQuick pages s → IsCodePage pages s.core page →
         IsCodePage pages (outcome_of_instruction pages s).state.core page }
+    // After n of the steps the others are quiet, and the page is what it is.
+    ensures quiet_later { (n more : ℕ) (core : Core) → IsQuietFor (n + more) core → IsQuietFor more (elapsed n core) }
+    ensures code_later { (pages n : ℕ) (core : Core) (page : CodePage) → IsCodePage pages core page → IsCodePage pages (elapsed n core) page }
 {
     kn02_bus::laws::quiet_laws();
 }

@@ -21,6 +21,6 @@ pub use kept::KeptCore;
 pub use known::{decoded, stop};
 pub use laws::{locality, quiet_laws, run_laws};
 pub use memory::Mem;
-pub use quick::{CodePage, code_page, learn, quick_step};
+pub use quick::{CodePage, code_page, learn, quick_step, quiet_step};
 pub use state::{Core, DelayedLoad};
 pub use step::Done;

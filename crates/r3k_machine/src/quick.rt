@@ -1,19 +1,22 @@
 //! Quick steps: those before which nothing happens but counting, and whose instruction touches registers, PC and memory alone.
 
-ghost use Rattle.std.specs.Prelude.{◌≡◌, ◌^◌, ◌<◌, ℕ, IfSome, IsTrue, None, Ok, Some};
-ghost use Rattle.r3k_word.specs.declared.layout.TheConstants.{PAGE_WORDS};
+ghost use Rattle.std.specs.Prelude.{◌≡◌, ◌/◌, ◌^◌, ◌<◌, ℕ, [], IfSome, IsTrue, None, Ok, Some};
+ghost use Rattle.r3k_exec.specs.declared.operands.Effect.TheVariants.{Load, Store};
+ghost use Rattle.r3k_word.specs.declared.layout.TheConstants.{PAGE_BYTES, PAGE_WORDS};
 ghost use Rattle.r3k_machine.specs.Quiet.{GoesOverBus, IsCodePage, IsIndexIn, IsQuick, IsQuickEffect, IsQuietFor, IsReached, elapsed};
 ghost use Rattle.r3k_machine.specs.Address.{meaning};
 ghost use Rattle.r3k_machine.specs.Locality.{fetched_page};
-ghost use Rattle.r3k_machine.specs.Step.{completion_of_effect, outcome_of_instruction};
+ghost use Rattle.r3k_machine.specs.Step.{completion_of_effect, outcome_of_instruction, outcome_of_step};
 ghost use Rattle.r3k_machine.specs.Told.{IsPage, IsTold};
 
 use crate::address::{KSEG0, KSEG2, Use};
-use crate::load_store::{Stored, put};
+use crate::laws::quiet_laws;
+use crate::load_store::{Stored, Word, put};
 use crate::memory::Mem;
 use crate::state::Core;
-use crate::step::Done;
-use r3k_exec::{Effect, effect};
+use crate::step::{Done, run_fetched};
+use r3k_decode::Register;
+use r3k_exec::{Effect, LoadKind, StoreKind, effect};
 use r3k_word::arithmetic::subtract;
 use r3k_word::layout::{PAGE_BYTES, PAGE_WORDS, page_of, place_of};
 
@@ -105,6 +108,169 @@ pub fn code_page<M: Mem>(core: &Core, memory: &M) -> Option<CodePage>
     })
 }
 
+// Makes a load of the instruction at the PC, which was fetched from a page, if it is of a word of RAM or ROM that is known without a
+// search. Else it changes nothing.
+#[inline(always)]
+fn load_quick<M: Mem>(
+    core: &mut Core,
+    memory: &M,
+    page: u32,
+    plain: bool,
+    kind: LoadKind,
+    register: Register,
+    address: u32,
+) -> Option<Done>
+    requires page { IsPage (M.ram memory.now) page }
+    requires plain { IsTrue plain → GoesOverBus core.old }
+    ensures quick { IfSome result (λ done. IsQuickEffect (M.ram memory.now) core.old (Load kind register address)) }
+    ensures ran { IfSome result (λ done.
+        completion_of_effect (M.ram memory.now) (record { core = core.old; words = M.words memory.now }) page (Load kind register address)
+        ≡ Ok (record { state = record { core = core.new; words = M.words memory.now }; done = done })) }
+    ensures within { IfSome result (IsTold (M.ram memory.now) (M.words memory.now) (M.words memory.now)) }
+    ensures fetched { IfSome result (λ done. fetched_page done ≡ Some page) }
+    ensures core { result ≡ None → core.new ≡ core.old }
+{
+    let physical = core.reached(Use::Load, kind.is_aligned(address), address, plain)?;
+    let place = place_of(memory.ram_pages(), physical / 4 * 4)?;
+    let word = memory.word(place);
+    core.complete();
+    let kept = core.registers()[register.index()];
+    core.set_slot(register, kind.loaded(address, word, kept));
+    Some(Done::loading(page, Some(page_of(place) as u32)))
+}
+
+// The same. Each kind has code of its own.
+#[inline(always)]
+fn load_by_kind<M: Mem>(
+    core: &mut Core,
+    memory: &M,
+    page: u32,
+    plain: bool,
+    kind: LoadKind,
+    register: Register,
+    address: u32,
+) -> Option<Done>
+    requires page { IsPage (M.ram memory.now) page }
+    requires plain { IsTrue plain → GoesOverBus core.old }
+    ensures quick { IfSome result (λ done. IsQuickEffect (M.ram memory.now) core.old (Load kind register address)) }
+    ensures ran { IfSome result (λ done.
+        completion_of_effect (M.ram memory.now) (record { core = core.old; words = M.words memory.now }) page (Load kind register address)
+        ≡ Ok (record { state = record { core = core.new; words = M.words memory.now }; done = done })) }
+    ensures within { IfSome result (IsTold (M.ram memory.now) (M.words memory.now) (M.words memory.now)) }
+    ensures fetched { IfSome result (λ done. fetched_page done ≡ Some page) }
+    ensures core { result ≡ None → core.new ≡ core.old }
+{
+    match kind {
+        LoadKind::Word => load_quick(core, memory, page, plain, LoadKind::Word, register, address),
+        LoadKind::Byte => load_quick(core, memory, page, plain, LoadKind::Byte, register, address),
+        LoadKind::ByteUnsigned => load_quick(
+            core,
+            memory,
+            page,
+            plain,
+            LoadKind::ByteUnsigned,
+            register,
+            address,
+        ),
+        LoadKind::Half => load_quick(core, memory, page, plain, LoadKind::Half, register, address),
+        LoadKind::HalfUnsigned => load_quick(
+            core,
+            memory,
+            page,
+            plain,
+            LoadKind::HalfUnsigned,
+            register,
+            address,
+        ),
+        LoadKind::Left => load_quick(core, memory, page, plain, LoadKind::Left, register, address),
+        LoadKind::Right => load_quick(
+            core,
+            memory,
+            page,
+            plain,
+            LoadKind::Right,
+            register,
+            address,
+        ),
+    }
+}
+
+// Makes a store of the instruction at the PC, which was fetched from a page, if it is into a word of RAM that is known without a
+// search. Else it changes nothing.
+#[inline(always)]
+fn store_quick<M: Mem>(
+    core: &mut Core,
+    memory: &mut M,
+    page: u32,
+    plain: bool,
+    kind: StoreKind,
+    address: u32,
+    value: u32,
+) -> Option<Done>
+    requires page { IsPage (M.ram memory.old) page }
+    requires plain { IsTrue plain → GoesOverBus core.old }
+    ensures quick { IfSome result (λ done. IsQuickEffect (M.ram memory.old) core.old (Store kind address value)) }
+    ensures ran { IfSome result (λ done.
+        completion_of_effect (M.ram memory.old) (record { core = core.old; words = M.words memory.old }) page (Store kind address value)
+        ≡ Ok (record { state = record { core = core.new; words = M.words memory.new }; done = done })) }
+    ensures within { IfSome result (IsTold (M.ram memory.old) (M.words memory.old) (M.words memory.new)) }
+    ensures fetched { IfSome result (λ done. fetched_page done ≡ Some page) }
+    ensures core { result ≡ None → core.new ≡ core.old }
+    ensures words { result ≡ None → M.words memory.new ≡ M.words memory.old }
+    ensures same { M.ram memory.new ≡ M.ram memory.old }
+    ensures opened { (other : ℕ) → M.is_open memory.new other ≡ M.is_open memory.old other }
+{
+    let physical = core.reached(Use::Store, kind.is_aligned(address), address, plain)?;
+    let address = put(memory, physical, kind.stored(address, value))?;
+    core.complete();
+    let stored = Stored {
+        address: Some(address),
+        sent: None,
+    };
+    Some(Done::storing(page, stored))
+}
+
+// The same. Each kind has code of its own.
+#[inline(always)]
+fn store_by_kind<M: Mem>(
+    core: &mut Core,
+    memory: &mut M,
+    page: u32,
+    plain: bool,
+    kind: StoreKind,
+    address: u32,
+    value: u32,
+) -> Option<Done>
+    requires page { IsPage (M.ram memory.old) page }
+    requires plain { IsTrue plain → GoesOverBus core.old }
+    ensures quick { IfSome result (λ done. IsQuickEffect (M.ram memory.old) core.old (Store kind address value)) }
+    ensures ran { IfSome result (λ done.
+        completion_of_effect (M.ram memory.old) (record { core = core.old; words = M.words memory.old }) page (Store kind address value)
+        ≡ Ok (record { state = record { core = core.new; words = M.words memory.new }; done = done })) }
+    ensures within { IfSome result (IsTold (M.ram memory.old) (M.words memory.old) (M.words memory.new)) }
+    ensures fetched { IfSome result (λ done. fetched_page done ≡ Some page) }
+    ensures core { result ≡ None → core.new ≡ core.old }
+    ensures words { result ≡ None → M.words memory.new ≡ M.words memory.old }
+    ensures same { M.ram memory.new ≡ M.ram memory.old }
+    ensures opened { (other : ℕ) → M.is_open memory.new other ≡ M.is_open memory.old other }
+{
+    match kind {
+        StoreKind::Word => store_quick(core, memory, page, plain, StoreKind::Word, address, value),
+        StoreKind::Byte => store_quick(core, memory, page, plain, StoreKind::Byte, address, value),
+        StoreKind::Half => store_quick(core, memory, page, plain, StoreKind::Half, address, value),
+        StoreKind::Left => store_quick(core, memory, page, plain, StoreKind::Left, address, value),
+        StoreKind::Right => store_quick(
+            core,
+            memory,
+            page,
+            plain,
+            StoreKind::Right,
+            address,
+            value,
+        ),
+    }
+}
+
 // Performs the effect of the instruction at the PC, which was fetched from a page, if it is on registers, PC and memory alone and
 // that is known without a search. Else it changes nothing.
 #[inline(always)]
@@ -163,29 +329,12 @@ fn perform_quick<M: Mem>(
             kind,
             register,
             address,
-        } => {
-            let physical = core.reached(Use::Load, kind.is_aligned(address), address, plain)?;
-            let place = place_of(memory.ram_pages(), physical / 4 * 4)?;
-            let word = memory.word(place);
-            core.complete();
-            let kept = core.registers()[register.index()];
-            core.set_slot(register, kind.loaded(address, word, kept));
-            return Some(Done::loading(page, Some(page_of(place) as u32)));
-        }
+        } => return load_by_kind(core, memory, page, plain, kind, register, address),
         Effect::Store {
             kind,
             address,
             value,
-        } => {
-            let physical = core.reached(Use::Store, kind.is_aligned(address), address, plain)?;
-            let address = put(memory, physical, kind.stored(address, value))?;
-            core.complete();
-            let stored = Stored {
-                address: Some(address),
-                sent: None,
-            };
-            return Some(Done::storing(page, stored));
-        }
+        } => return store_by_kind(core, memory, page, plain, kind, address, value),
         _ => return None,
     }
     Some(Done::fetching(Some(page)))
@@ -202,6 +351,7 @@ pub fn quick_step<M: Mem>(core: &mut Core, memory: &mut M, page: CodePage) -> Op
     ensures ran { IfSome result (λ done. outcome_of_instruction (M.ram memory.old) (record { core = core.old; words = M.words memory.old })
         ≡ record { state = record { core = core.new; words = M.words memory.new }; done = done }) }
     ensures within { IfSome result (IsTold (M.ram memory.old) (M.words memory.old) (M.words memory.new)) }
+    ensures here { IfSome result (λ done. core.old.pc / PAGE_BYTES ≡ page.number) }
     ensures fetched { IfSome result (λ done. fetched_page done ≡ Some page.page) }
     ensures core { result ≡ None → core.new ≡ core.old }
     ensures words { result ≡ None → M.words memory.new ≡ M.words memory.old }
@@ -212,6 +362,32 @@ pub fn quick_step<M: Mem>(core: &mut Core, memory: &mut M, page: CodePage) -> Op
     let insn = memory.insn(page.page, index);
     let effect = effect(insn, core.operands(insn));
     perform_quick(core, memory, page.page, page.plain, effect)
+}
+
+/// Makes the step of the instruction at the PC if that lies in this page, at a time at which the step is quiet. Else it changes
+/// nothing. The instruction may be any, and may take an exception.
+#[inline]
+pub fn quiet_step<M: Mem>(core: &mut Core, memory: &mut M, page: CodePage) -> Option<Done>
+    requires quiet { IsQuietFor 1 core.old }
+    requires code { IsCodePage (M.ram memory.old) core.old page }
+    requires page { IsPage (M.ram memory.old) page.page }
+    ensures ran { IfSome result (λ done. outcome_of_step (M.ram memory.old) [] (record { core = core.old; words = M.words memory.old })
+        ≡ record { state = record { core = core.new; words = M.words memory.new }; done = done }) }
+    ensures within { IfSome result (IsTold (M.ram memory.old) (M.words memory.old) (M.words memory.new)) }
+    ensures core { result ≡ None → core.new ≡ core.old }
+    ensures words { result ≡ None → M.words memory.new ≡ M.words memory.old }
+    ensures same { M.ram memory.new ≡ M.ram memory.old }
+{
+    quiet_laws();
+    let index = page.index(core.pc())?;
+    let fetched = Word {
+        word: memory.word(page.page as usize * PAGE_WORDS as usize + index),
+        page: page.page,
+    };
+    core.tick();
+    let done = run_fetched(core, memory, fetched);
+    core.fall();
+    Some(done)
 }
 
 // How many words are decoded at once.

@@ -1,12 +1,12 @@
 //! One step, in its written order.
 
 ghost use Rattle.std.specs.Prelude.{◌≡◌, None};
-ghost use Rattle.r3k_machine.specs.Step.{arrived, fallen, fetching, outcome_of_instruction, interrupted, outcome_of_interrupt_or_instruction, loading, next, received, received_as, sampled, storing, ticked, told};
-ghost use Rattle.r3k_machine.specs.Told.{IsTold};
+ghost use Rattle.r3k_machine.specs.Step.{arrived, fallen, fetching, outcome_of_instruction, outcome_of_word, interrupted, outcome_of_interrupt_or_instruction, loading, next, received, received_as, sampled, storing, ticked, told};
+ghost use Rattle.r3k_machine.specs.Told.{IsPage, IsTold};
 
 use crate::exception::Exception;
 use crate::execute::execute_word;
-use crate::load_store::{Stored, fetch};
+use crate::load_store::{Stored, Word, fetch};
 use crate::memory::Mem;
 use crate::state::Core;
 use dz_serial::Sent;
@@ -100,7 +100,7 @@ impl Core {
     // Clock and serial part advance.
     #[inline]
     #[tactic(auto, unfolding(crate::specs::Step::ticked))]
-    fn tick(&mut self)
+    pub(crate) fn tick(&mut self)
         ensures { self.new ≡ ticked self.old }
     {
         self.bus.tick();
@@ -128,10 +128,29 @@ impl Core {
 
     // Random falls.
     #[inline]
-    fn fall(&mut self)
+    pub(crate) fn fall(&mut self)
         ensures { self.new ≡ fallen self.old }
     {
         self.processor.cop0.fall();
+    }
+}
+
+// Runs the instruction that was fetched, or takes its exception.
+#[inline]
+pub(crate) fn run_fetched<M: Mem>(core: &mut Core, memory: &mut M, fetched: Word) -> Done
+    requires { IsPage (M.ram memory.old) fetched.page }
+    ensures state { record { core = core.new; words = M.words memory.new }
+        ≡ (outcome_of_word (M.ram memory.old) (record { core = core.old; words = M.words memory.old }) fetched).state }
+    ensures told { result ≡ (outcome_of_word (M.ram memory.old) (record { core = core.old; words = M.words memory.old }) fetched).done }
+    ensures within { IsTold (M.ram memory.old) (M.words memory.old) (M.words memory.new) result }
+    ensures same { M.ram memory.new ≡ M.ram memory.old }
+{
+    match execute_word(core, memory, fetched) {
+        Ok(done) => done,
+        Err(exception) => {
+            core.enter(exception);
+            Done::fetching(Some(fetched.page))
+        }
     }
 }
 
@@ -144,18 +163,11 @@ fn run_instruction<M: Mem>(core: &mut Core, memory: &mut M) -> Done
     ensures within { IsTold (M.ram memory.old) (M.words memory.old) (M.words memory.new) result }
     ensures same { M.ram memory.new ≡ M.ram memory.old }
 {
-    let fetched = match fetch(core, memory) {
-        Ok(fetched) => fetched,
+    match fetch(core, memory) {
+        Ok(fetched) => run_fetched(core, memory, fetched),
         Err(exception) => {
             core.enter(exception);
-            return Done::fetching(None);
-        }
-    };
-    match execute_word(core, memory, fetched) {
-        Ok(done) => done,
-        Err(exception) => {
-            core.enter(exception);
-            Done::fetching(Some(fetched.page))
+            Done::fetching(None)
         }
     }
 }

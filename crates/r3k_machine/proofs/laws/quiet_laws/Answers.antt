@@ -3,7 +3,7 @@ use Rattle.kn02_bus.specs.Quiet.{after}
 use Rattle.cop0.specs.Changes.{random_after}
 use Rattle.r3k_machine.specs.Step.{ticked, outcome_of_instruction}
 use Rattle.r3k_machine.specs.Quiet.{IsQuietFor, outcome_elapsed}
-use Rattle.r3k_machine.proofs.Quiet.{alone, at_once, code_kept, instruction_ages, quiet_kept}
+use Rattle.r3k_machine.proofs.Quiet.{alone, at_once, code_kept, code_later, instruction_ages, quiet_kept, quiet_later}
 use Rattle.r3k_machine.proofs.laws.quiet_laws.Goals as goal
 
 pub returns-clause-none : goal.returns-clause-none
@@ -31,3 +31,11 @@ returns-clause-stays_quiet c = λ pages n s quick quiet.
 pub returns-clause-stays_code : goal.returns-clause-stays_code
 returns-clause-stays_code c = λ pages s page quick code.
     code_kept pages page s.core (outcome_of_instruction pages s).state.core (instruction_ages pages 0 0 s quick).keeps code
+
+pub returns-clause-quiet_later : goal.returns-clause-quiet_later
+returns-clause-quiet_later c = λ n more core quiet.
+    quiet_later n more core (c.quiet_laws.ensures.stays_quiet core.bus more n (omega (arith, quiet.counts)))
+    (c.quiet_laws.ensures.lines core.bus n (omega (arith, quiet.counts))) quiet
+
+pub returns-clause-code_later : goal.returns-clause-code_later
+returns-clause-code_later c = code_later
