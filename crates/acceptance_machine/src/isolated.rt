@@ -1,6 +1,7 @@
 //! The isolated cache step by step, and copies of the processor: values by hand from the manual's rules. In Status BEV is 0x00400000,
 //! CM 0x00080000, SwC 0x00020000 and IsC 0x00010000.
 use crate::machine::{Machine, plays};
+use r3k_decode::Register;
 use r3k_machine::DelayedLoad;
 use std::test::Fail;
 
@@ -100,6 +101,9 @@ fn copies(rt: HostRuntime) -> Result<(), Fail> {
         copy.assign(&machine.core);
     }
     assert!(rt; copy == machine.core);
-    assert_eq!(rt; copy.load(), Some(DelayedLoad::new(6, 0x4433_2211)));
+    assert_eq!(rt;
+        copy.load(),
+        Some(DelayedLoad::new(Register::new(6), 0x4433_2211))
+    );
     Ok(())
 }

@@ -349,6 +349,9 @@ fn sent(word: &str) -> Result<Option<Sent>, Fail> {
         return Ok(None);
     }
     let (line, byte) = line_and_byte(word)?;
+    if line > 3 {
+        return Err("a line".into());
+    }
     Ok(Some(Sent { line, byte }))
 }
 

@@ -1,6 +1,6 @@
 //! What instructions do with the values that they read: values by hand from the manual.
 use crate::same::same;
-use r3k_decode::decode;
+use r3k_decode::{Register, decode};
 use r3k_exec::{Covered, Effect, LoadKind, Operands, StoreKind, Trap, effect};
 
 const PC: u32 = 0xBFC0_0000;
@@ -54,24 +54,26 @@ fn divisions(rt: HostRuntime) {
 #[test]
 fn overflows(rt: HostRuntime) {
     let trap = Some(Effect::Trap(Trap::Overflow));
+    let r3 = Register::new(3);
+    let r6 = Register::new(6);
     let written = |register, value| Some(Effect::Write { register, value });
     // add r3, r5, r6
     let add = 0x00A6_1820;
-    same(&rt, &done(add, 0x7FFF_FFFF, 0), &written(3, 0x7FFF_FFFF));
+    same(&rt, &done(add, 0x7FFF_FFFF, 0), &written(r3, 0x7FFF_FFFF));
     same(&rt, &done(add, 0x7FFF_FFFF, 1), &trap);
-    same(&rt, &done(add, 0x8000_0000, 0), &written(3, 0x8000_0000));
+    same(&rt, &done(add, 0x8000_0000, 0), &written(r3, 0x8000_0000));
     same(&rt, &done(add, 0x8000_0000, 0xFFFF_FFFF), &trap);
     // addi r6, r5, 1 and addi r6, r5, -1
     same(
         &rt,
         &done(0x20A6_0001, 0x7FFF_FFFE, 0),
-        &written(6, 0x7FFF_FFFF),
+        &written(r6, 0x7FFF_FFFF),
     );
     same(&rt, &done(0x20A6_0001, 0x7FFF_FFFF, 0), &trap);
     same(
         &rt,
         &done(0x20A6_FFFF, 0x8000_0001, 0),
-        &written(6, 0x8000_0000),
+        &written(r6, 0x8000_0000),
     );
     same(&rt, &done(0x20A6_FFFF, 0x8000_0000, 0), &trap);
     // sub r3, r5, r6
@@ -79,50 +81,56 @@ fn overflows(rt: HostRuntime) {
     same(
         &rt,
         &done(sub, 0xFFFF_FFFF, 0x8000_0000),
-        &written(3, 0x7FFF_FFFF),
+        &written(r3, 0x7FFF_FFFF),
     );
     same(&rt, &done(sub, 0, 0x8000_0000), &trap);
-    same(&rt, &done(sub, 0x8000_0001, 1), &written(3, 0x8000_0000));
+    same(&rt, &done(sub, 0x8000_0001, 1), &written(r3, 0x8000_0000));
     same(&rt, &done(sub, 0x8000_0000, 1), &trap);
     // addu r3, r5, r6
     same(
         &rt,
         &done(0x00A6_1821, 0x7FFF_FFFF, 1),
-        &written(3, 0x8000_0000),
+        &written(r3, 0x8000_0000),
     );
 }
 
 #[test]
 fn shifts_and_comparisons(rt: HostRuntime) {
+    let r3 = Register::new(3);
+    let r6 = Register::new(6);
     let written = |register, value| Some(Effect::Write { register, value });
     // sra r3, r6, 4; srl r3, r6, 4; srav r3, r6, r5
     same(
         &rt,
         &done(0x0006_1903, 0, 0x8000_0010),
-        &written(3, 0xF800_0001),
+        &written(r3, 0xF800_0001),
     );
     same(
         &rt,
         &done(0x0006_1902, 0, 0x8000_0010),
-        &written(3, 0x0800_0001),
+        &written(r3, 0x0800_0001),
     );
     same(
         &rt,
         &done(0x00A6_1807, 0xFFFF_FFE1, 0x8000_0000),
-        &written(3, 0xC000_0000),
+        &written(r3, 0xC000_0000),
     );
     // nor r3, r5, r6; slt r3, r5, r6; sltu r3, r5, r6
     same(
         &rt,
         &done(0x00A6_1827, 0xF0F0_F0F0, 0x0000_FFFF),
-        &written(3, 0x0F0F_0000),
+        &written(r3, 0x0F0F_0000),
     );
-    same(&rt, &done(0x00A6_182A, 0xFFFF_FFFF, 0), &written(3, 1));
-    same(&rt, &done(0x00A6_182B, 0xFFFF_FFFF, 0), &written(3, 0));
+    same(&rt, &done(0x00A6_182A, 0xFFFF_FFFF, 0), &written(r3, 1));
+    same(&rt, &done(0x00A6_182B, 0xFFFF_FFFF, 0), &written(r3, 0));
     // slti r6, r5, -1; sltiu r6, r5, -1; andi r6, r5, 0x8000
-    same(&rt, &done(0x28A6_FFFF, 0xFFFF_FFFE, 0), &written(6, 1));
-    same(&rt, &done(0x2CA6_FFFF, 5, 0), &written(6, 1));
-    same(&rt, &done(0x30A6_8000, 0xFFFF_FFFF, 0), &written(6, 0x8000));
+    same(&rt, &done(0x28A6_FFFF, 0xFFFF_FFFE, 0), &written(r6, 1));
+    same(&rt, &done(0x2CA6_FFFF, 5, 0), &written(r6, 1));
+    same(
+        &rt,
+        &done(0x30A6_8000, 0xFFFF_FFFF, 0),
+        &written(r6, 0x8000),
+    );
 }
 
 #[test]
@@ -135,6 +143,7 @@ fn branches_and_links(rt: HostRuntime) {
     same(&rt, &done(0x18A0_0000, 0, 0), &jump(Some(PC + 4)));
     same(&rt, &done(0x1CA0_0000, 0, 0), &jump(None));
     same(&rt, &done(0x1CA0_0000, 0x8000_0000, 0), &jump(None));
+    let r31 = Register::new(31);
     let linked = |target, register| {
         Some(Effect::JumpAndLink {
             target,
@@ -143,17 +152,17 @@ fn branches_and_links(rt: HostRuntime) {
         })
     };
     // bgezal r5, not taken and taken; jal 0x0fc00000; jalr r31, r5
-    same(&rt, &done(0x04B1_0001, 0x8000_0000, 0), &linked(None, 31));
-    same(&rt, &done(0x04B1_0001, 0, 0), &linked(Some(PC + 8), 31));
+    same(&rt, &done(0x04B1_0001, 0x8000_0000, 0), &linked(None, r31));
+    same(&rt, &done(0x04B1_0001, 0, 0), &linked(Some(PC + 8), r31));
     same(
         &rt,
         &done(0x0FF0_0000, 0, 0),
-        &linked(Some(0xBFC0_0000), 31),
+        &linked(Some(0xBFC0_0000), r31),
     );
     same(
         &rt,
         &done(0x00A0_F809, 0x8000_1234, 0),
-        &linked(Some(0x8000_1234), 31),
+        &linked(Some(0x8000_1234), r31),
     );
 }
 
@@ -179,7 +188,7 @@ fn merging_loads(rt: HostRuntime) {
         &loads,
         &Some(Effect::Load {
             kind: left,
-            register: 6,
+            register: Register::new(6),
             address,
         }),
     );

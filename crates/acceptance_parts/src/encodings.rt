@@ -149,9 +149,9 @@ fn every_instruction_both_ways(rt: HostRuntime) {
             same(&rt, &number, &(place % 65));
             same(&rt, &rows[number].name, &*name);
             let seen = [
-                u32::from(insn.rs()),
-                u32::from(insn.rt()),
-                u32::from(insn.rd()),
+                u32::from(insn.rs().number()),
+                u32::from(insn.rt().number()),
+                u32::from(insn.rd().number()),
                 u32::from(insn.sa()),
                 u32::from(insn.imm()),
                 insn.index(),

@@ -35,7 +35,11 @@ fn tick_and_send(dz: &mut Dz, byte: u32) -> Option<Sent> {
     dz.write(TDR, byte, 15)
 }
 
+// A byte that was sent on a line.
 fn on(line: u8, byte: u8) -> Option<Sent> {
+    if line > 3 {
+        return None;
+    }
     Some(Sent { line, byte })
 }
 

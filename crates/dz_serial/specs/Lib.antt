@@ -3,6 +3,7 @@ pub mod Character
 pub mod Serial
 pub mod Silo
 pub mod Scan
+pub mod Sent
 pub mod Quiet
 pub mod Bits
 pub mod Reads

@@ -5,12 +5,10 @@ ghost use Rattle.dz_serial.specs.Serial.{reset_serial};
 ghost use Rattle.dz_serial.specs.Silo.{rdone};
 ghost use Rattle.dz_serial.specs.Reads.{interrupt_line_of};
 
+use crate::line::{LINES, Line};
 use crate::silo::{Received, SILO};
 use arrayvec::ArrayVec;
 use std::marker::Model;
-
-/// How many lines there are.
-pub(crate) const LINES: usize = 4;
 
 /// The serial part. It has four lines, 0 to 3, and takes no memory beyond its own.
 #[derive(Debug, Drop, PartialEq, Eq)]
@@ -25,14 +23,14 @@ pub struct Dz {
     pub(crate) receivers: [bool; LINES],
     /// Of each line: whether it may send.
     pub(crate) enabled: [bool; LINES],
-    pub(crate) tline: u8,
+    pub(crate) tline: Line,
     pub(crate) trdy: bool,
     pub(crate) tie: bool,
     pub(crate) rie: bool,
     pub(crate) mse: bool,
     pub(crate) maint: bool,
     /// The line that a byte was last sent on.
-    pub(crate) last_served: u8,
+    pub(crate) last_served: Line,
     /// For how many ticks a line sends a byte.
     pub(crate) byte_time: u16,
 }
@@ -59,7 +57,7 @@ impl Model for Dz {
       byte_time = a.byte_time;
     } };
 
-    ghost invariant = { λ a. (a.tline ≤ 3) × (a.last_served ≤ 3) × (1 ≤ a.byte_time) };
+    ghost invariant = { λ a. 1 ≤ a.byte_time };
 
     ghost inverse = { λ s. record {
       silo = record { items = s.silo };
@@ -91,13 +89,13 @@ impl Dz {
             lost: [false; LINES],
             receivers: [false; LINES],
             enabled: [false; LINES],
-            tline: 0,
+            tline: Line::new(0),
             trdy: false,
             tie: false,
             rie: false,
             mse: false,
             maint: false,
-            last_served: 0,
+            last_served: Line::new(0),
             byte_time: byte_time as u16,
         }
     }

@@ -4,6 +4,7 @@
 #![tactic(auto)]
 
 mod dz;
+mod line;
 mod quiet;
 mod read;
 mod registers;

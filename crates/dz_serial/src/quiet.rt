@@ -6,7 +6,8 @@ ghost use Rattle.dz_serial.specs.Scan.{ticked};
 ghost use Rattle.dz_serial.specs.Reads.{interrupt_line_of};
 ghost use Rattle.dz_serial.specs.Quiet.{after, passed, quiet_line, quiet_of};
 
-use crate::dz::{Dz, LINES};
+use crate::dz::Dz;
+use crate::line::Line;
 
 /// The number that stands for all ticks to come.
 pub(crate) const FOREVER: u32 = u32::MAX;
@@ -22,19 +23,19 @@ impl Dz {
             return FOREVER;
         }
         let served = self.last_served;
-        let first = self.quiet_line((served + 1) % LINES as u8);
-        let second = self.quiet_line((served + 2) % LINES as u8);
-        let third = self.quiet_line((served + 3) % LINES as u8);
+        let first = self.quiet_line(served.up(1));
+        let second = self.quiet_line(served.up(2));
+        let third = self.quiet_line(served.up(3));
         first.min(second.min(third.min(self.quiet_line(served))))
     }
 
     /// How many ticks pass before the one after which a line can take a byte.
-    fn quiet_line(&self, line: u8) -> u32
-        requires { line ≤ 3 }
+    fn quiet_line(&self, line: Line) -> u32
         ensures { result ≡ quiet_line self.now line }
     {
-        if self.enabled[line as usize] {
-            u32::from(self.busy[line as usize].saturating_sub(1))
+        let place = line.index();
+        if self.enabled[place] {
+            u32::from(self.busy[place].saturating_sub(1))
         } else {
             FOREVER
         }

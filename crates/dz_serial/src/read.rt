@@ -31,7 +31,7 @@ impl Dz {
     {
         flag(TRDY, self.trdy)
             + flag(TIE, self.tie)
-            + self.tline as u32 * TLINE
+            + u32::from(self.tline.number()) * TLINE
             + flag(RDONE, self.rdone())
             + flag(RIE, self.rie)
             + flag(MSE, self.mse)
@@ -51,8 +51,8 @@ impl Dz {
         flag(DVAL, true)
             + flag(OERR, oldest.overrun)
             + flag(FERR, oldest.framing)
-            + oldest.line as u32 * RX_LINE
-            + oldest.byte as u32
+            + u32::from(oldest.line.number()) * RX_LINE
+            + u32::from(oldest.byte)
     }
 
     /// The word of TCR.

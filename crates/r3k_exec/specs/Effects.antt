@@ -378,12 +378,3 @@ effects =
 -- what an instruction does: the effect of its row
 abbrev pub effect_of : Operation → Operands → Effect
 effect_of i = slice_index_or effects i.row sll_effect i
-
--- the registers of an effect are among the 32
-abbrev pub NamesRegisters : Effect → Type 0
-NamesRegisters (Write register value) = register < 32
-NamesRegisters (JumpAndLink target register value) = register < 32
-NamesRegisters (Load kind register address) = register < 32
-NamesRegisters (MoveFromControl register control) = (register < 32) × (control < 32)
-NamesRegisters (MoveToControl control value) = control < 32
-NamesRegisters effect = Unit {0}

@@ -1,11 +1,11 @@
 //! Sums, differences, products and quotients.
 
 ghost use Rattle.std.specs.Prelude.{◌≡◌};
-ghost use Rattle.r3k_exec.specs.Effects.{mult_effect, multu_effect, div_effect, divu_effect, add_effect, addu_effect, sub_effect, subu_effect, addi_effect, addiu_effect, write_hi_lo, write_if_some, NamesRegisters};
+ghost use Rattle.r3k_exec.specs.Effects.{mult_effect, multu_effect, div_effect, divu_effect, add_effect, addu_effect, sub_effect, subu_effect, addi_effect, addiu_effect, write_hi_lo, write_if_some};
 
 use crate::immediate::extended;
 use crate::operands::{Effect, Operands, Trap};
-use r3k_decode::Insn;
+use r3k_decode::{Insn, Register};
 use r3k_word::arithmetic::{
     self as word, HiLo, checked_add, checked_subtract, division, product, signed_division,
     signed_product, subtract,
@@ -13,7 +13,7 @@ use r3k_word::arithmetic::{
 
 // Writes what did not overflow.
 #[inline]
-fn write_or_trap(register: u8, value: Option<u32>) -> Effect
+fn write_or_trap(register: Register, value: Option<u32>) -> Effect
     ensures { result ≡ write_if_some register value }
 {
     match value {
@@ -36,8 +36,7 @@ fn write_hi_lo(both: HiLo) -> Effect
 /// Multiply: the 64-bit product of the signed readings.
 #[inline]
 pub(crate) fn mult(_insn: &Insn, operands: Operands) -> Effect
-    ensures effect { result ≡ mult_effect _insn.now operands }
-    ensures within { NamesRegisters result }
+    ensures { result ≡ mult_effect _insn.now operands }
 {
     write_hi_lo(signed_product(operands.rs, operands.rt))
 }
@@ -45,8 +44,7 @@ pub(crate) fn mult(_insn: &Insn, operands: Operands) -> Effect
 /// Multiply unsigned.
 #[inline]
 pub(crate) fn multu(_insn: &Insn, operands: Operands) -> Effect
-    ensures effect { result ≡ multu_effect _insn.now operands }
-    ensures within { NamesRegisters result }
+    ensures { result ≡ multu_effect _insn.now operands }
 {
     write_hi_lo(product(operands.rs, operands.rt))
 }
@@ -54,8 +52,7 @@ pub(crate) fn multu(_insn: &Insn, operands: Operands) -> Effect
 /// Divide: quotient and remainder of the signed readings.
 #[inline]
 pub(crate) fn div(_insn: &Insn, operands: Operands) -> Effect
-    ensures effect { result ≡ div_effect _insn.now operands }
-    ensures within { NamesRegisters result }
+    ensures { result ≡ div_effect _insn.now operands }
 {
     write_hi_lo(signed_division(operands.rs, operands.rt))
 }
@@ -63,8 +60,7 @@ pub(crate) fn div(_insn: &Insn, operands: Operands) -> Effect
 /// Divide unsigned.
 #[inline]
 pub(crate) fn divu(_insn: &Insn, operands: Operands) -> Effect
-    ensures effect { result ≡ divu_effect _insn.now operands }
-    ensures within { NamesRegisters result }
+    ensures { result ≡ divu_effect _insn.now operands }
 {
     write_hi_lo(division(operands.rs, operands.rt))
 }
@@ -72,8 +68,7 @@ pub(crate) fn divu(_insn: &Insn, operands: Operands) -> Effect
 /// Add: Ov on signed overflow.
 #[inline]
 pub(crate) fn add(insn: &Insn, operands: Operands) -> Effect
-    ensures effect { result ≡ add_effect insn.now operands }
-    ensures within { NamesRegisters result }
+    ensures { result ≡ add_effect insn.now operands }
 {
     write_or_trap(insn.rd(), checked_add(operands.rs, operands.rt))
 }
@@ -81,8 +76,7 @@ pub(crate) fn add(insn: &Insn, operands: Operands) -> Effect
 /// Add unsigned: no trap.
 #[inline]
 pub(crate) fn addu(insn: &Insn, operands: Operands) -> Effect
-    ensures effect { result ≡ addu_effect insn.now operands }
-    ensures within { NamesRegisters result }
+    ensures { result ≡ addu_effect insn.now operands }
 {
     Effect::Write {
         register: insn.rd(),
@@ -93,8 +87,7 @@ pub(crate) fn addu(insn: &Insn, operands: Operands) -> Effect
 /// Subtract: Ov on signed overflow.
 #[inline]
 pub(crate) fn sub(insn: &Insn, operands: Operands) -> Effect
-    ensures effect { result ≡ sub_effect insn.now operands }
-    ensures within { NamesRegisters result }
+    ensures { result ≡ sub_effect insn.now operands }
 {
     write_or_trap(insn.rd(), checked_subtract(operands.rs, operands.rt))
 }
@@ -102,8 +95,7 @@ pub(crate) fn sub(insn: &Insn, operands: Operands) -> Effect
 /// Subtract unsigned: no trap.
 #[inline]
 pub(crate) fn subu(insn: &Insn, operands: Operands) -> Effect
-    ensures effect { result ≡ subu_effect insn.now operands }
-    ensures within { NamesRegisters result }
+    ensures { result ≡ subu_effect insn.now operands }
 {
     Effect::Write {
         register: insn.rd(),
@@ -114,8 +106,7 @@ pub(crate) fn subu(insn: &Insn, operands: Operands) -> Effect
 /// Add immediate: Ov on signed overflow.
 #[inline]
 pub(crate) fn addi(insn: &Insn, operands: Operands) -> Effect
-    ensures effect { result ≡ addi_effect insn.now operands }
-    ensures within { NamesRegisters result }
+    ensures { result ≡ addi_effect insn.now operands }
 {
     write_or_trap(insn.rt(), checked_add(operands.rs, extended(insn)))
 }
@@ -123,8 +114,7 @@ pub(crate) fn addi(insn: &Insn, operands: Operands) -> Effect
 /// Add immediate unsigned: no trap.
 #[inline]
 pub(crate) fn addiu(insn: &Insn, operands: Operands) -> Effect
-    ensures effect { result ≡ addiu_effect insn.now operands }
-    ensures within { NamesRegisters result }
+    ensures { result ≡ addiu_effect insn.now operands }
 {
     Effect::Write {
         register: insn.rt(),

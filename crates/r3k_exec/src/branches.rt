@@ -1,12 +1,12 @@
 //! Branches and jumps. The instruction after each of them stands in its delay slot.
 
 ghost use Rattle.std.specs.Prelude.{◌≡◌};
-ghost use Rattle.r3k_exec.specs.Effects.{jr_effect, jalr_effect, bltz_effect, bgez_effect, bltzal_effect, bgezal_effect, j_effect, jal_effect, beq_effect, bne_effect, blez_effect, bgtz_effect, taken_target, has_sign_bit, return_address_of, NamesRegisters};
+ghost use Rattle.r3k_exec.specs.Effects.{jr_effect, jalr_effect, bltz_effect, bgez_effect, bltzal_effect, bgezal_effect, j_effect, jal_effect, beq_effect, bne_effect, blez_effect, bgtz_effect, taken_target, has_sign_bit, return_address_of};
 ghost use Rattle.r3k_exec.specs.declared.operands.Effect.TheVariants.{Jump, JumpAndLink};
 
 use crate::operands::{Effect, Operands};
-use r3k_decode::Insn;
 use r3k_decode::target::{branch_target, jump_target};
+use r3k_decode::{Insn, Register};
 use r3k_word::arithmetic::add;
 
 // Whether the signed reading of a word is below 0.
@@ -54,7 +54,7 @@ fn branch_and_link(taken: bool, insn: &Insn, operands: Operands) -> Effect
 {
     Effect::JumpAndLink {
         target: taken_target(taken, insn, operands),
-        register: 31,
+        register: Register::new(31),
         value: return_address(operands.pc),
     }
 }
@@ -62,8 +62,7 @@ fn branch_and_link(taken: bool, insn: &Insn, operands: Operands) -> Effect
 /// Jump register.
 #[inline]
 pub(crate) fn jr(_insn: &Insn, operands: Operands) -> Effect
-    ensures effect { result ≡ jr_effect _insn.now operands }
-    ensures within { NamesRegisters result }
+    ensures { result ≡ jr_effect _insn.now operands }
 {
     Effect::Jump {
         target: Some(operands.rs),
@@ -73,8 +72,7 @@ pub(crate) fn jr(_insn: &Insn, operands: Operands) -> Effect
 /// Jump and link register: to rs as it was read.
 #[inline]
 pub(crate) fn jalr(insn: &Insn, operands: Operands) -> Effect
-    ensures effect { result ≡ jalr_effect insn.now operands }
-    ensures within { NamesRegisters result }
+    ensures { result ≡ jalr_effect insn.now operands }
 {
     Effect::JumpAndLink {
         target: Some(operands.rs),
@@ -86,8 +84,7 @@ pub(crate) fn jalr(insn: &Insn, operands: Operands) -> Effect
 /// Branch on less than zero.
 #[inline]
 pub(crate) fn bltz(insn: &Insn, operands: Operands) -> Effect
-    ensures effect { result ≡ bltz_effect insn.now operands }
-    ensures within { NamesRegisters result }
+    ensures { result ≡ bltz_effect insn.now operands }
 {
     branch(is_negative(operands.rs), insn, operands)
 }
@@ -95,8 +92,7 @@ pub(crate) fn bltz(insn: &Insn, operands: Operands) -> Effect
 /// Branch on greater than or equal to zero.
 #[inline]
 pub(crate) fn bgez(insn: &Insn, operands: Operands) -> Effect
-    ensures effect { result ≡ bgez_effect insn.now operands }
-    ensures within { NamesRegisters result }
+    ensures { result ≡ bgez_effect insn.now operands }
 {
     branch(!is_negative(operands.rs), insn, operands)
 }
@@ -104,8 +100,7 @@ pub(crate) fn bgez(insn: &Insn, operands: Operands) -> Effect
 /// Branch on less than zero and link, taken or not.
 #[inline]
 pub(crate) fn bltzal(insn: &Insn, operands: Operands) -> Effect
-    ensures effect { result ≡ bltzal_effect insn.now operands }
-    ensures within { NamesRegisters result }
+    ensures { result ≡ bltzal_effect insn.now operands }
 {
     branch_and_link(is_negative(operands.rs), insn, operands)
 }
@@ -113,8 +108,7 @@ pub(crate) fn bltzal(insn: &Insn, operands: Operands) -> Effect
 /// Branch on greater than or equal to zero and link, taken or not.
 #[inline]
 pub(crate) fn bgezal(insn: &Insn, operands: Operands) -> Effect
-    ensures effect { result ≡ bgezal_effect insn.now operands }
-    ensures within { NamesRegisters result }
+    ensures { result ≡ bgezal_effect insn.now operands }
 {
     branch_and_link(!is_negative(operands.rs), insn, operands)
 }
@@ -122,8 +116,7 @@ pub(crate) fn bgezal(insn: &Insn, operands: Operands) -> Effect
 /// Jump.
 #[inline]
 pub(crate) fn j(insn: &Insn, operands: Operands) -> Effect
-    ensures effect { result ≡ j_effect insn.now operands }
-    ensures within { NamesRegisters result }
+    ensures { result ≡ j_effect insn.now operands }
 {
     Effect::Jump {
         target: Some(jump_target(operands.pc, insn.index())),
@@ -133,12 +126,11 @@ pub(crate) fn j(insn: &Insn, operands: Operands) -> Effect
 /// Jump and link.
 #[inline]
 pub(crate) fn jal(insn: &Insn, operands: Operands) -> Effect
-    ensures effect { result ≡ jal_effect insn.now operands }
-    ensures within { NamesRegisters result }
+    ensures { result ≡ jal_effect insn.now operands }
 {
     Effect::JumpAndLink {
         target: Some(jump_target(operands.pc, insn.index())),
-        register: 31,
+        register: Register::new(31),
         value: return_address(operands.pc),
     }
 }
@@ -146,8 +138,7 @@ pub(crate) fn jal(insn: &Insn, operands: Operands) -> Effect
 /// Branch on equal.
 #[inline]
 pub(crate) fn beq(insn: &Insn, operands: Operands) -> Effect
-    ensures effect { result ≡ beq_effect insn.now operands }
-    ensures within { NamesRegisters result }
+    ensures { result ≡ beq_effect insn.now operands }
 {
     branch(operands.rs == operands.rt, insn, operands)
 }
@@ -155,8 +146,7 @@ pub(crate) fn beq(insn: &Insn, operands: Operands) -> Effect
 /// Branch on not equal.
 #[inline]
 pub(crate) fn bne(insn: &Insn, operands: Operands) -> Effect
-    ensures effect { result ≡ bne_effect insn.now operands }
-    ensures within { NamesRegisters result }
+    ensures { result ≡ bne_effect insn.now operands }
 {
     branch(operands.rs != operands.rt, insn, operands)
 }
@@ -164,8 +154,7 @@ pub(crate) fn bne(insn: &Insn, operands: Operands) -> Effect
 /// Branch on less than or equal to zero.
 #[inline]
 pub(crate) fn blez(insn: &Insn, operands: Operands) -> Effect
-    ensures effect { result ≡ blez_effect insn.now operands }
-    ensures within { NamesRegisters result }
+    ensures { result ≡ blez_effect insn.now operands }
 {
     branch(operands.rs == 0 || is_negative(operands.rs), insn, operands)
 }
@@ -173,8 +162,7 @@ pub(crate) fn blez(insn: &Insn, operands: Operands) -> Effect
 /// Branch on greater than zero.
 #[inline]
 pub(crate) fn bgtz(insn: &Insn, operands: Operands) -> Effect
-    ensures effect { result ≡ bgtz_effect insn.now operands }
-    ensures within { NamesRegisters result }
+    ensures { result ≡ bgtz_effect insn.now operands }
 {
     branch(
         !(operands.rs == 0 || is_negative(operands.rs)),

@@ -1,7 +1,7 @@
 //! System calls, breakpoints, and the instructions of coprocessor 0.
 
 ghost use Rattle.std.specs.Prelude.{◌≡◌};
-ghost use Rattle.r3k_exec.specs.Effects.{syscall_effect, break_effect, mfc0_effect, mtc0_effect, tlbr_effect, tlbwi_effect, tlbwr_effect, tlbp_effect, rfe_effect, NamesRegisters};
+ghost use Rattle.r3k_exec.specs.Effects.{syscall_effect, break_effect, mfc0_effect, mtc0_effect, tlbr_effect, tlbwi_effect, tlbwr_effect, tlbp_effect, rfe_effect};
 
 use crate::operands::{Effect, Operands, Trap};
 use r3k_decode::Insn;
@@ -9,8 +9,7 @@ use r3k_decode::Insn;
 /// System call.
 #[inline]
 pub(crate) fn syscall(_insn: &Insn, _operands: Operands) -> Effect
-    ensures effect { result ≡ syscall_effect _insn.now _operands }
-    ensures within { NamesRegisters result }
+    ensures { result ≡ syscall_effect _insn.now _operands }
 {
     Effect::Trap(Trap::SystemCall)
 }
@@ -18,8 +17,7 @@ pub(crate) fn syscall(_insn: &Insn, _operands: Operands) -> Effect
 /// Breakpoint.
 #[inline]
 pub(crate) fn break_(_insn: &Insn, _operands: Operands) -> Effect
-    ensures effect { result ≡ break_effect _insn.now _operands }
-    ensures within { NamesRegisters result }
+    ensures { result ≡ break_effect _insn.now _operands }
 {
     Effect::Trap(Trap::Breakpoint)
 }
@@ -27,8 +25,7 @@ pub(crate) fn break_(_insn: &Insn, _operands: Operands) -> Effect
 /// Move from coprocessor 0.
 #[inline]
 pub(crate) fn mfc0(insn: &Insn, _operands: Operands) -> Effect
-    ensures effect { result ≡ mfc0_effect insn.now _operands }
-    ensures within { NamesRegisters result }
+    ensures { result ≡ mfc0_effect insn.now _operands }
 {
     Effect::MoveFromControl {
         register: insn.rt(),
@@ -39,8 +36,7 @@ pub(crate) fn mfc0(insn: &Insn, _operands: Operands) -> Effect
 /// Move to coprocessor 0.
 #[inline]
 pub(crate) fn mtc0(insn: &Insn, operands: Operands) -> Effect
-    ensures effect { result ≡ mtc0_effect insn.now operands }
-    ensures within { NamesRegisters result }
+    ensures { result ≡ mtc0_effect insn.now operands }
 {
     Effect::MoveToControl {
         control: insn.rd(),
@@ -51,8 +47,7 @@ pub(crate) fn mtc0(insn: &Insn, operands: Operands) -> Effect
 /// Read the entry that Index names.
 #[inline]
 pub(crate) fn tlbr(_insn: &Insn, _operands: Operands) -> Effect
-    ensures effect { result ≡ tlbr_effect _insn.now _operands }
-    ensures within { NamesRegisters result }
+    ensures { result ≡ tlbr_effect _insn.now _operands }
 {
     Effect::ReadEntry
 }
@@ -60,8 +55,7 @@ pub(crate) fn tlbr(_insn: &Insn, _operands: Operands) -> Effect
 /// Write the entry that Index names.
 #[inline]
 pub(crate) fn tlbwi(_insn: &Insn, _operands: Operands) -> Effect
-    ensures effect { result ≡ tlbwi_effect _insn.now _operands }
-    ensures within { NamesRegisters result }
+    ensures { result ≡ tlbwi_effect _insn.now _operands }
 {
     Effect::WriteIndexedEntry
 }
@@ -69,8 +63,7 @@ pub(crate) fn tlbwi(_insn: &Insn, _operands: Operands) -> Effect
 /// Write the entry that Random names.
 #[inline]
 pub(crate) fn tlbwr(_insn: &Insn, _operands: Operands) -> Effect
-    ensures effect { result ≡ tlbwr_effect _insn.now _operands }
-    ensures within { NamesRegisters result }
+    ensures { result ≡ tlbwr_effect _insn.now _operands }
 {
     Effect::WriteRandomEntry
 }
@@ -78,8 +71,7 @@ pub(crate) fn tlbwr(_insn: &Insn, _operands: Operands) -> Effect
 /// Probe for the entry of EntryHi.
 #[inline]
 pub(crate) fn tlbp(_insn: &Insn, _operands: Operands) -> Effect
-    ensures effect { result ≡ tlbp_effect _insn.now _operands }
-    ensures within { NamesRegisters result }
+    ensures { result ≡ tlbp_effect _insn.now _operands }
 {
     Effect::ProbeEntry
 }
@@ -87,8 +79,7 @@ pub(crate) fn tlbp(_insn: &Insn, _operands: Operands) -> Effect
 /// Restore from exception.
 #[inline]
 pub(crate) fn rfe(_insn: &Insn, _operands: Operands) -> Effect
-    ensures effect { result ≡ rfe_effect _insn.now _operands }
-    ensures within { NamesRegisters result }
+    ensures { result ≡ rfe_effect _insn.now _operands }
 {
     Effect::ReturnFromException
 }

@@ -1,7 +1,7 @@
 //! The effect of an instruction, by its row.
 
 ghost use Rattle.std.specs.Prelude.{◌≡◌};
-ghost use Rattle.r3k_exec.specs.Effects.{effect_of, NamesRegisters};
+ghost use Rattle.r3k_exec.specs.Effects.{effect_of};
 
 use crate::arithmetic::{add, addi, addiu, addu, div, divu, mult, multu, sub, subu};
 use crate::branches::{beq, bgez, bgezal, bgtz, blez, bltz, bltzal, bne, j, jal, jalr, jr};
@@ -26,8 +26,7 @@ macro_rules! by_number {
 /// What an instruction does with the values that it reads, by its row in the table.
 #[inline(always)]
 pub fn effect(insn: &Insn, operands: Operands) -> Effect
-    ensures effect { result ≡ effect_of insn.now operands }
-    ensures within { NamesRegisters result }
+    ensures { result ≡ effect_of insn.now operands }
 {
     rows!(all by_number (insn, operands))
 }

@@ -1,7 +1,7 @@
 //! Bitwise operations, comparisons, and the load of an upper immediate.
 
 ghost use Rattle.std.specs.Prelude.{◌≡◌};
-ghost use Rattle.r3k_exec.specs.Effects.{and_effect, or_effect, xor_effect, nor_effect, slt_effect, sltu_effect, slti_effect, sltiu_effect, andi_effect, ori_effect, xori_effect, lui_effect, NamesRegisters};
+ghost use Rattle.r3k_exec.specs.Effects.{and_effect, or_effect, xor_effect, nor_effect, slt_effect, sltu_effect, slti_effect, sltiu_effect, andi_effect, ori_effect, xori_effect, lui_effect};
 
 use crate::immediate::extended;
 use crate::operands::{Effect, Operands};
@@ -10,8 +10,7 @@ use r3k_decode::Insn;
 /// And.
 #[inline]
 pub(crate) fn and(insn: &Insn, operands: Operands) -> Effect
-    ensures effect { result ≡ and_effect insn.now operands }
-    ensures within { NamesRegisters result }
+    ensures { result ≡ and_effect insn.now operands }
 {
     Effect::Write {
         register: insn.rd(),
@@ -22,8 +21,7 @@ pub(crate) fn and(insn: &Insn, operands: Operands) -> Effect
 /// Or.
 #[inline]
 pub(crate) fn or(insn: &Insn, operands: Operands) -> Effect
-    ensures effect { result ≡ or_effect insn.now operands }
-    ensures within { NamesRegisters result }
+    ensures { result ≡ or_effect insn.now operands }
 {
     Effect::Write {
         register: insn.rd(),
@@ -34,8 +32,7 @@ pub(crate) fn or(insn: &Insn, operands: Operands) -> Effect
 /// Exclusive or.
 #[inline]
 pub(crate) fn xor(insn: &Insn, operands: Operands) -> Effect
-    ensures effect { result ≡ xor_effect insn.now operands }
-    ensures within { NamesRegisters result }
+    ensures { result ≡ xor_effect insn.now operands }
 {
     Effect::Write {
         register: insn.rd(),
@@ -46,8 +43,7 @@ pub(crate) fn xor(insn: &Insn, operands: Operands) -> Effect
 /// Nor.
 #[inline]
 pub(crate) fn nor(insn: &Insn, operands: Operands) -> Effect
-    ensures effect { result ≡ nor_effect insn.now operands }
-    ensures within { NamesRegisters result }
+    ensures { result ≡ nor_effect insn.now operands }
 {
     Effect::Write {
         register: insn.rd(),
@@ -58,8 +54,7 @@ pub(crate) fn nor(insn: &Insn, operands: Operands) -> Effect
 /// Set on less than.
 #[inline]
 pub(crate) fn slt(insn: &Insn, operands: Operands) -> Effect
-    ensures effect { result ≡ slt_effect insn.now operands }
-    ensures within { NamesRegisters result }
+    ensures { result ≡ slt_effect insn.now operands }
 {
     Effect::Write {
         register: insn.rd(),
@@ -70,8 +65,7 @@ pub(crate) fn slt(insn: &Insn, operands: Operands) -> Effect
 /// Set on less than unsigned.
 #[inline]
 pub(crate) fn sltu(insn: &Insn, operands: Operands) -> Effect
-    ensures effect { result ≡ sltu_effect insn.now operands }
-    ensures within { NamesRegisters result }
+    ensures { result ≡ sltu_effect insn.now operands }
 {
     Effect::Write {
         register: insn.rd(),
@@ -82,8 +76,7 @@ pub(crate) fn sltu(insn: &Insn, operands: Operands) -> Effect
 /// Set on less than immediate.
 #[inline]
 pub(crate) fn slti(insn: &Insn, operands: Operands) -> Effect
-    ensures effect { result ≡ slti_effect insn.now operands }
-    ensures within { NamesRegisters result }
+    ensures { result ≡ slti_effect insn.now operands }
 {
     Effect::Write {
         register: insn.rt(),
@@ -94,8 +87,7 @@ pub(crate) fn slti(insn: &Insn, operands: Operands) -> Effect
 /// Set on less than immediate unsigned: the immediate is sign-extended all the same.
 #[inline]
 pub(crate) fn sltiu(insn: &Insn, operands: Operands) -> Effect
-    ensures effect { result ≡ sltiu_effect insn.now operands }
-    ensures within { NamesRegisters result }
+    ensures { result ≡ sltiu_effect insn.now operands }
 {
     Effect::Write {
         register: insn.rt(),
@@ -106,8 +98,7 @@ pub(crate) fn sltiu(insn: &Insn, operands: Operands) -> Effect
 /// And immediate, zero-extended.
 #[inline]
 pub(crate) fn andi(insn: &Insn, operands: Operands) -> Effect
-    ensures effect { result ≡ andi_effect insn.now operands }
-    ensures within { NamesRegisters result }
+    ensures { result ≡ andi_effect insn.now operands }
 {
     Effect::Write {
         register: insn.rt(),
@@ -118,8 +109,7 @@ pub(crate) fn andi(insn: &Insn, operands: Operands) -> Effect
 /// Or immediate, zero-extended.
 #[inline]
 pub(crate) fn ori(insn: &Insn, operands: Operands) -> Effect
-    ensures effect { result ≡ ori_effect insn.now operands }
-    ensures within { NamesRegisters result }
+    ensures { result ≡ ori_effect insn.now operands }
 {
     Effect::Write {
         register: insn.rt(),
@@ -130,8 +120,7 @@ pub(crate) fn ori(insn: &Insn, operands: Operands) -> Effect
 /// Exclusive or immediate, zero-extended.
 #[inline]
 pub(crate) fn xori(insn: &Insn, operands: Operands) -> Effect
-    ensures effect { result ≡ xori_effect insn.now operands }
-    ensures within { NamesRegisters result }
+    ensures { result ≡ xori_effect insn.now operands }
 {
     Effect::Write {
         register: insn.rt(),
@@ -142,8 +131,7 @@ pub(crate) fn xori(insn: &Insn, operands: Operands) -> Effect
 /// Load upper immediate.
 #[inline]
 pub(crate) fn lui(insn: &Insn, _operands: Operands) -> Effect
-    ensures effect { result ≡ lui_effect insn.now _operands }
-    ensures within { NamesRegisters result }
+    ensures { result ≡ lui_effect insn.now _operands }
 {
     Effect::Write {
         register: insn.rt(),

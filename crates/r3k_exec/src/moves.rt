@@ -1,7 +1,7 @@
 //! Moves from and to HI and LO.
 
 ghost use Rattle.std.specs.Prelude.{◌≡◌};
-ghost use Rattle.r3k_exec.specs.Effects.{mfhi_effect, mflo_effect, mthi_effect, mtlo_effect, NamesRegisters};
+ghost use Rattle.r3k_exec.specs.Effects.{mfhi_effect, mflo_effect, mthi_effect, mtlo_effect};
 
 use crate::operands::{Effect, Operands};
 use r3k_decode::Insn;
@@ -9,8 +9,7 @@ use r3k_decode::Insn;
 /// Move from HI.
 #[inline]
 pub(crate) fn mfhi(insn: &Insn, operands: Operands) -> Effect
-    ensures effect { result ≡ mfhi_effect insn.now operands }
-    ensures within { NamesRegisters result }
+    ensures { result ≡ mfhi_effect insn.now operands }
 {
     Effect::Write {
         register: insn.rd(),
@@ -21,8 +20,7 @@ pub(crate) fn mfhi(insn: &Insn, operands: Operands) -> Effect
 /// Move from LO.
 #[inline]
 pub(crate) fn mflo(insn: &Insn, operands: Operands) -> Effect
-    ensures effect { result ≡ mflo_effect insn.now operands }
-    ensures within { NamesRegisters result }
+    ensures { result ≡ mflo_effect insn.now operands }
 {
     Effect::Write {
         register: insn.rd(),
@@ -33,8 +31,7 @@ pub(crate) fn mflo(insn: &Insn, operands: Operands) -> Effect
 /// Move to HI.
 #[inline]
 pub(crate) fn mthi(_insn: &Insn, operands: Operands) -> Effect
-    ensures effect { result ≡ mthi_effect _insn.now operands }
-    ensures within { NamesRegisters result }
+    ensures { result ≡ mthi_effect _insn.now operands }
 {
     Effect::WriteHi { value: operands.rs }
 }
@@ -42,8 +39,7 @@ pub(crate) fn mthi(_insn: &Insn, operands: Operands) -> Effect
 /// Move to LO.
 #[inline]
 pub(crate) fn mtlo(_insn: &Insn, operands: Operands) -> Effect
-    ensures effect { result ≡ mtlo_effect _insn.now operands }
-    ensures within { NamesRegisters result }
+    ensures { result ≡ mtlo_effect _insn.now operands }
 {
     Effect::WriteLo { value: operands.rs }
 }

@@ -1,6 +1,7 @@
 //! The values that an instruction reads, and what it does with them.
 
 use crate::access::{LoadKind, StoreKind};
+use r3k_decode::Register;
 
 /// The values that an instruction reads: those of its registers, which a pending load has not reached, HI, LO and its own
 /// address.
@@ -29,7 +30,7 @@ pub enum Trap {
 pub enum Effect {
     /// Writes a value into a register.
     Write {
-        register: u8,
+        register: Register,
         value: u32,
     },
     /// Writes HI.
@@ -52,7 +53,7 @@ pub enum Effect {
     /// The same, and writes the return address into a register.
     JumpAndLink {
         target: Option<u32>,
-        register: u8,
+        register: Register,
         value: u32,
     },
     /// Takes an exception.
@@ -60,7 +61,7 @@ pub enum Effect {
     /// Loads from an address, for the load slot of a register.
     Load {
         kind: LoadKind,
-        register: u8,
+        register: Register,
         address: u32,
     },
     /// Stores a value, or a part of it, to an address.
@@ -71,12 +72,12 @@ pub enum Effect {
     },
     /// Moves a register of coprocessor 0 into the load slot of a register.
     MoveFromControl {
-        register: u8,
-        control: u8,
+        register: Register,
+        control: Register,
     },
     /// Moves a value into a register of coprocessor 0.
     MoveToControl {
-        control: u8,
+        control: Register,
         value: u32,
     },
     /// Reads the translation entry that Index names.

@@ -1,7 +1,7 @@
 //! Shifts.
 
 ghost use Rattle.std.specs.Prelude.{◌≡◌};
-ghost use Rattle.r3k_exec.specs.Effects.{sll_effect, srl_effect, sra_effect, sllv_effect, srlv_effect, srav_effect, NamesRegisters};
+ghost use Rattle.r3k_exec.specs.Effects.{sll_effect, srl_effect, sra_effect, sllv_effect, srlv_effect, srav_effect};
 
 use crate::operands::{Effect, Operands};
 use r3k_decode::Insn;
@@ -9,8 +9,7 @@ use r3k_decode::Insn;
 /// Shift left logical.
 #[inline]
 pub(crate) fn sll(insn: &Insn, operands: Operands) -> Effect
-    ensures effect { result ≡ sll_effect insn.now operands }
-    ensures within { NamesRegisters result }
+    ensures { result ≡ sll_effect insn.now operands }
 {
     Effect::Write {
         register: insn.rd(),
@@ -21,8 +20,7 @@ pub(crate) fn sll(insn: &Insn, operands: Operands) -> Effect
 /// Shift right logical.
 #[inline]
 pub(crate) fn srl(insn: &Insn, operands: Operands) -> Effect
-    ensures effect { result ≡ srl_effect insn.now operands }
-    ensures within { NamesRegisters result }
+    ensures { result ≡ srl_effect insn.now operands }
 {
     Effect::Write {
         register: insn.rd(),
@@ -33,8 +31,7 @@ pub(crate) fn srl(insn: &Insn, operands: Operands) -> Effect
 /// Shift right arithmetic: the sign is copied.
 #[inline]
 pub(crate) fn sra(insn: &Insn, operands: Operands) -> Effect
-    ensures effect { result ≡ sra_effect insn.now operands }
-    ensures within { NamesRegisters result }
+    ensures { result ≡ sra_effect insn.now operands }
 {
     Effect::Write {
         register: insn.rd(),
@@ -45,8 +42,7 @@ pub(crate) fn sra(insn: &Insn, operands: Operands) -> Effect
 /// Shift left logical variable.
 #[inline]
 pub(crate) fn sllv(insn: &Insn, operands: Operands) -> Effect
-    ensures effect { result ≡ sllv_effect insn.now operands }
-    ensures within { NamesRegisters result }
+    ensures { result ≡ sllv_effect insn.now operands }
 {
     Effect::Write {
         register: insn.rd(),
@@ -57,8 +53,7 @@ pub(crate) fn sllv(insn: &Insn, operands: Operands) -> Effect
 /// Shift right logical variable.
 #[inline]
 pub(crate) fn srlv(insn: &Insn, operands: Operands) -> Effect
-    ensures effect { result ≡ srlv_effect insn.now operands }
-    ensures within { NamesRegisters result }
+    ensures { result ≡ srlv_effect insn.now operands }
 {
     Effect::Write {
         register: insn.rd(),
@@ -69,8 +64,7 @@ pub(crate) fn srlv(insn: &Insn, operands: Operands) -> Effect
 /// Shift right arithmetic variable.
 #[inline]
 pub(crate) fn srav(insn: &Insn, operands: Operands) -> Effect
-    ensures effect { result ≡ srav_effect insn.now operands }
-    ensures within { NamesRegisters result }
+    ensures { result ≡ srav_effect insn.now operands }
 {
     Effect::Write {
         register: insn.rd(),

@@ -1,7 +1,7 @@
 //! Loads and stores.
 
 ghost use Rattle.std.specs.Prelude.{◌≡◌};
-ghost use Rattle.r3k_exec.specs.Effects.{lb_effect, lh_effect, lwl_effect, lw_effect, lbu_effect, lhu_effect, lwr_effect, sb_effect, sh_effect, swl_effect, sw_effect, swr_effect, address_of, NamesRegisters};
+ghost use Rattle.r3k_exec.specs.Effects.{lb_effect, lh_effect, lwl_effect, lw_effect, lbu_effect, lhu_effect, lwr_effect, sb_effect, sh_effect, swl_effect, sw_effect, swr_effect, address_of};
 
 use crate::access::{LoadKind, StoreKind};
 use crate::immediate::extended;
@@ -20,8 +20,7 @@ fn address(insn: &Insn, operands: Operands) -> u32
 /// Load byte.
 #[inline]
 pub(crate) fn lb(insn: &Insn, operands: Operands) -> Effect
-    ensures effect { result ≡ lb_effect insn.now operands }
-    ensures within { NamesRegisters result }
+    ensures { result ≡ lb_effect insn.now operands }
 {
     Effect::Load {
         kind: LoadKind::Byte,
@@ -33,8 +32,7 @@ pub(crate) fn lb(insn: &Insn, operands: Operands) -> Effect
 /// Load halfword.
 #[inline]
 pub(crate) fn lh(insn: &Insn, operands: Operands) -> Effect
-    ensures effect { result ≡ lh_effect insn.now operands }
-    ensures within { NamesRegisters result }
+    ensures { result ≡ lh_effect insn.now operands }
 {
     Effect::Load {
         kind: LoadKind::Half,
@@ -46,8 +44,7 @@ pub(crate) fn lh(insn: &Insn, operands: Operands) -> Effect
 /// Load word left.
 #[inline]
 pub(crate) fn lwl(insn: &Insn, operands: Operands) -> Effect
-    ensures effect { result ≡ lwl_effect insn.now operands }
-    ensures within { NamesRegisters result }
+    ensures { result ≡ lwl_effect insn.now operands }
 {
     Effect::Load {
         kind: LoadKind::Left,
@@ -59,8 +56,7 @@ pub(crate) fn lwl(insn: &Insn, operands: Operands) -> Effect
 /// Load word.
 #[inline]
 pub(crate) fn lw(insn: &Insn, operands: Operands) -> Effect
-    ensures effect { result ≡ lw_effect insn.now operands }
-    ensures within { NamesRegisters result }
+    ensures { result ≡ lw_effect insn.now operands }
 {
     Effect::Load {
         kind: LoadKind::Word,
@@ -72,8 +68,7 @@ pub(crate) fn lw(insn: &Insn, operands: Operands) -> Effect
 /// Load byte unsigned.
 #[inline]
 pub(crate) fn lbu(insn: &Insn, operands: Operands) -> Effect
-    ensures effect { result ≡ lbu_effect insn.now operands }
-    ensures within { NamesRegisters result }
+    ensures { result ≡ lbu_effect insn.now operands }
 {
     Effect::Load {
         kind: LoadKind::ByteUnsigned,
@@ -85,8 +80,7 @@ pub(crate) fn lbu(insn: &Insn, operands: Operands) -> Effect
 /// Load halfword unsigned.
 #[inline]
 pub(crate) fn lhu(insn: &Insn, operands: Operands) -> Effect
-    ensures effect { result ≡ lhu_effect insn.now operands }
-    ensures within { NamesRegisters result }
+    ensures { result ≡ lhu_effect insn.now operands }
 {
     Effect::Load {
         kind: LoadKind::HalfUnsigned,
@@ -98,8 +92,7 @@ pub(crate) fn lhu(insn: &Insn, operands: Operands) -> Effect
 /// Load word right.
 #[inline]
 pub(crate) fn lwr(insn: &Insn, operands: Operands) -> Effect
-    ensures effect { result ≡ lwr_effect insn.now operands }
-    ensures within { NamesRegisters result }
+    ensures { result ≡ lwr_effect insn.now operands }
 {
     Effect::Load {
         kind: LoadKind::Right,
@@ -111,8 +104,7 @@ pub(crate) fn lwr(insn: &Insn, operands: Operands) -> Effect
 /// Store byte.
 #[inline]
 pub(crate) fn sb(insn: &Insn, operands: Operands) -> Effect
-    ensures effect { result ≡ sb_effect insn.now operands }
-    ensures within { NamesRegisters result }
+    ensures { result ≡ sb_effect insn.now operands }
 {
     Effect::Store {
         kind: StoreKind::Byte,
@@ -124,8 +116,7 @@ pub(crate) fn sb(insn: &Insn, operands: Operands) -> Effect
 /// Store halfword.
 #[inline]
 pub(crate) fn sh(insn: &Insn, operands: Operands) -> Effect
-    ensures effect { result ≡ sh_effect insn.now operands }
-    ensures within { NamesRegisters result }
+    ensures { result ≡ sh_effect insn.now operands }
 {
     Effect::Store {
         kind: StoreKind::Half,
@@ -137,8 +128,7 @@ pub(crate) fn sh(insn: &Insn, operands: Operands) -> Effect
 /// Store word left.
 #[inline]
 pub(crate) fn swl(insn: &Insn, operands: Operands) -> Effect
-    ensures effect { result ≡ swl_effect insn.now operands }
-    ensures within { NamesRegisters result }
+    ensures { result ≡ swl_effect insn.now operands }
 {
     Effect::Store {
         kind: StoreKind::Left,
@@ -150,8 +140,7 @@ pub(crate) fn swl(insn: &Insn, operands: Operands) -> Effect
 /// Store word.
 #[inline]
 pub(crate) fn sw(insn: &Insn, operands: Operands) -> Effect
-    ensures effect { result ≡ sw_effect insn.now operands }
-    ensures within { NamesRegisters result }
+    ensures { result ≡ sw_effect insn.now operands }
 {
     Effect::Store {
         kind: StoreKind::Word,
@@ -163,8 +152,7 @@ pub(crate) fn sw(insn: &Insn, operands: Operands) -> Effect
 /// Store word right.
 #[inline]
 pub(crate) fn swr(insn: &Insn, operands: Operands) -> Effect
-    ensures effect { result ≡ swr_effect insn.now operands }
-    ensures within { NamesRegisters result }
+    ensures { result ≡ swr_effect insn.now operands }
 {
     Effect::Store {
         kind: StoreKind::Right,

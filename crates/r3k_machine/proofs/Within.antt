@@ -1,7 +1,8 @@
 -- A step reports pages of the machine alone.
-use Rattle.std.proofs.Common.{ℕ, zero, suc, ◌+◌, ◌-◌, ◌*◌, ◌/◌, ◌%◌, List, [], ◌∷◌, All, Option, Some, None, IfSome, Result, Ok, Err, IfOk, if◌then◌else◌, slice_index, nat_lt, nat_le, ◌==◌, ◌&&◌, inl, inr, arith}
-use Rattle.std.proofs.lemmas.Bool.{and_parts, cases_Bool, ltb-true}
+use Rattle.std.proofs.Common.{ℕ, zero, suc, ◌+◌, ◌-◌, ◌*◌, ◌/◌, ◌%◌, List, [], ◌∷◌, All, Option, Some, None, IfSome, Result, Ok, Err, IfOk, if◌then◌else◌, slice_index, IsTrue, nat_eq, nat_lt, nat_le, ◌==◌, ◌&&◌, inl, inr, refl, arith}
+use Rattle.std.proofs.lemmas.Bool.{and_parts, cases_Bool, eq-eqb, ltb-true, or_right}
 use Rattle.input_log.specs.Event.{LogEvent}
+use Rattle.dz_serial.specs.declared.write.Sent.{Sent}
 use Rattle.kn02_bus.specs.Region.{region_of}
 use Rattle.kn02_bus.specs.declared.region.Region.{Region}
 use Rattle.r3k_word.specs.Layout.{page_of_place, place_of_word}
@@ -28,6 +29,7 @@ use Rattle.r3k_machine.specs.Address.{met}
 use Rattle.r3k_machine.specs.Exceptions.{is_unusable}
 use Rattle.r3k_machine.specs.Devices.{word_of_device}
 use Rattle.r3k_machine.specs.Isolated.{is_isolated}
+use Rattle.r3k_machine.specs.Locality.{touches}
 use Rattle.r3k_machine.specs.LoadStore.{loaded_at, loaded_elsewhere, loaded_over_bus, meaning_of_fetch, meaning_of_load, meaning_of_store, core_after_load, core_after_store, loaded_from, ram_word, stored_at, stored_over_bus, stored_to, word_of_place, word_or, word_read, words_after}
 use Rattle.r3k_machine.specs.Step.{Completion, Outcome, arrived, completion_of_effect, completion_of_load, completion_of_operation, completion_of_store, completion_of_word, fetching, operands_of, outcome_of_completion, outcome_of_fetch, outcome_of_interrupt_or_instruction, outcome_of_step, page_stored, sampled, ticked, told}
 use Rattle.r3k_machine.specs.Told.{IsPage}
@@ -104,14 +106,25 @@ store_in pages core covered (Ok physical) =
       | inr over_bus ↦ rw over_bus (bus_store_in pages core (region_of pages physical.address) covered (ram_word pages physical.address) (ram_in pages physical.address))
     ]
 
+-- the page of the word that a step stored into is one that it touched
+abbrev StoresInTouched : Done → Type 0
+StoresInTouched done = IfSome done.stored (λ address. IsTrue (touches (address / PAGE_BYTES) done))
+
+store_touches : (page : ℕ) (sent : Option Sent) (address : Option ℕ)
+    → StoresInTouched (record { sent = sent; stored = address; touched = Some page ∷ page_stored address ∷ [] })
+store_touches page sent None = tt
+store_touches page sent (Some address) =
+    let here = address / PAGE_BYTES in or_right (nat_eq page here) (nat_eq here here) (eq-eqb here here refl)
+
 -- the pages that a step reports, and the one that it stored into
 record IsWithin (pages : ℕ) (done : Done) : Type 0 where
   touched : All (IsIn pages) done.touched
   stored : IsIn pages (page_stored done.stored)
+  among : StoresInTouched done
 
 -- where it was only fetched from one, if from any
 only_fetched : (pages : ℕ) (page : Option ℕ) → IsIn pages page → IsWithin pages (fetching page)
-only_fetched pages page here = record { touched = two pages page None here tt; stored = tt }
+only_fetched pages page here = record { touched = two pages page None here tt; stored = tt; among = tt }
 
 -- what an instruction reports, where it completes
 abbrev CompletesIn : ℕ → Completion → Type 0
@@ -120,12 +133,12 @@ CompletesIn pages completion = IfOk completion (λ outcome. IsWithin pages outco
 load_completes : (pages : ℕ) (s : State) (page : ℕ) (kind : LoadKind) (number address : ℕ) (r : Result Loaded Exception) → IsPage pages page
     → IfOk r (λ loaded. IsIn pages loaded.page) → CompletesIn pages (completion_of_load s page kind number address r)
 load_completes pages s page kind number address (Err e) here there = tt
-load_completes pages s page kind number address (Ok a) here there = record { touched = two pages (Some page) a.page here there; stored = tt }
+load_completes pages s page kind number address (Ok a) here there = record { touched = two pages (Some page) a.page here there; stored = tt; among = tt }
 
 store_completes : (pages : ℕ) (s : State) (page : ℕ) (words : List ℕ) (r : Result Stored Exception) → IsPage pages page
     → IfOk r (λ stored. IsIn pages (page_stored stored.address)) → CompletesIn pages (completion_of_store s page words r)
 store_completes pages s page words (Err e) here there = tt
-store_completes pages s page words (Ok a) here there = record { touched = two pages (Some page) (page_stored a.address) here there; stored = there }
+store_completes pages s page words (Ok a) here there = record { touched = two pages (Some page) (page_stored a.address) here there; stored = there; among = store_touches page a.sent a.address }
 
 effect_completes : (pages : ℕ) (s : State) (page : ℕ) (effect : Effect) → IsPage pages page → CompletesIn pages (completion_of_effect pages s page effect)
 effect_completes pages s page (Write number value) here = only_fetched pages (Some page) here
@@ -202,3 +215,6 @@ store_within pages events s = at_word (told pages events s).stored (step_tells p
     at_word : (stored : Option ℕ) → IsIn pages (page_stored stored) → IfSome stored (λ address. IsPage pages (address / PAGE_BYTES))
     at_word None here = tt
     at_word (Some address) here = here
+
+pub store_touched : (pages : ℕ) (events : List LogEvent) (s : State) → StoresInTouched (told pages events s)
+store_touched pages events s = (step_tells pages events s).among

@@ -1,8 +1,7 @@
 -- What a step reports lies within the machine (own): of use to whoever keeps pages and words by what steps report.
-use Rattle.std.specs.Prelude.{◌≡◌, ℕ, ◌+◌, ◌*◌, ◌/◌, ◌%◌, ◌<◌, ◌≤◌, List, All, IfSome, Option, Some, None, slice_set}
+use Rattle.std.specs.Prelude.{◌≡◌, ℕ, ◌+◌, ◌*◌, ◌/◌, ◌%◌, ◌<◌, List, All, IfSome, Option, Some, None, slice_set}
 use Rattle.r3k_word.specs.declared.layout.TheConstants.{PAGE_BYTES, ROM_PAGES}
 use Rattle.r3k_machine.specs.declared.step.Done.{Done}
-use Rattle.dz_serial.specs.declared.write.Sent.{Sent}
 
 -- a page of RAM or ROM
 abbrev pub IsPage : ℕ → ℕ → Type 0
@@ -17,13 +16,8 @@ abbrev pub DifferAt : Option ℕ → (old new : List ℕ) → Type 0
 DifferAt None old new = new ≡ old
 DifferAt (Some address) old new = (value : ℕ) × (new ≡ slice_set old (address / 4) value)
 
--- a byte of one of the four lines
-abbrev pub IsSent : Option Sent → Type 0
-IsSent sent = IfSome sent (λ sent. sent.line ≤ 3)
-
 -- what is reported of a step between these words
 pub record IsTold (pages : ℕ) (old new : List ℕ) (done : Done) : Type 0 where
-  pub sent : IsSent done.sent
   pub stored : IfSome done.stored (IsRamWord pages)
   pub words : DifferAt done.stored old new
   pub touched : All (λ page. IfSome page (IsPage pages)) done.touched

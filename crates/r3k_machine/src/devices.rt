@@ -3,7 +3,6 @@
 ghost use Rattle.std.specs.Prelude.{◌≡◌};
 ghost use Rattle.kn02_bus.specs.Region.{region_of};
 ghost use Rattle.r3k_machine.specs.Devices.{sent_by_device, with_device_load, with_device_store, word_of_device};
-ghost use Rattle.r3k_machine.specs.Told.{IsSent};
 
 use crate::state::Core;
 use dz_serial::Sent;
@@ -33,7 +32,6 @@ impl Core {
     ) -> Option<Sent>
         ensures core { self.new ≡ with_device_store self.old (region_of pages physical) covered }
         ensures sent { result ≡ sent_by_device self.old (region_of pages physical) covered }
-        ensures line { IsSent result }
     {
         match Region::of(physical, pages) {
             Region::Device(device) => self.bus.store(device, covered.word, covered.lanes),

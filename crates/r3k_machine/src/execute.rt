@@ -3,7 +3,6 @@
 ghost use Rattle.std.specs.Prelude.{◌≡◌, ◌<◌, IfOk};
 ghost use Rattle.cop0.specs.Changes as control;
 ghost use Rattle.cop0.specs.Registers.{written};
-ghost use Rattle.r3k_exec.specs.Effects.{NamesRegisters};
 ghost use Rattle.r3k_machine.specs.Exceptions.{is_unusable};
 ghost use Rattle.r3k_machine.specs.State.{with_register};
 ghost use Rattle.r3k_machine.specs.Step.{IsCompletion, branched, completion_of_word, operands_of, passed, completion_of_effect, slot_after_load};
@@ -16,7 +15,7 @@ use crate::state::{Core, DelayedLoad};
 use crate::step::Done;
 use cop0::Coprocessor;
 use cop0::number::{INDEX, RANDOM};
-use r3k_decode::{Insn, decode};
+use r3k_decode::{Insn, Register, decode};
 use r3k_exec::{Effect, Operands, effect};
 use r3k_word::arithmetic::add;
 use r3k_word::field::field;
@@ -28,8 +27,8 @@ impl Core {
         ensures { result ≡ operands_of self.now insn.now }
     {
         Operands {
-            rs: self.processor.registers[insn.rs() as usize],
-            rt: self.processor.registers[insn.rt() as usize],
+            rs: self.processor.registers[insn.rs().index()],
+            rt: self.processor.registers[insn.rt().index()],
             hi: self.processor.hi,
             lo: self.processor.lo,
             pc: self.processor.pc,
@@ -57,12 +56,11 @@ impl Core {
 
     // Writes a register. r0 stays 0.
     #[inline]
-    pub(crate) fn set_register(&mut self, number: u8, value: u32)
-        requires { number < 32 }
-        ensures { self.new ≡ record self.old { registers = with_register self.old.registers number value } }
+    pub(crate) fn set_register(&mut self, register: Register, value: u32)
+        ensures { self.new ≡ record self.old { registers = with_register self.old.registers register value } }
     {
-        if number != 0 {
-            self.processor.registers[number as usize] = value;
+        if register.number() != 0 {
+            self.processor.registers[register.index()] = value;
         }
     }
 
@@ -82,10 +80,10 @@ impl Core {
 
     // Writes a control register.
     #[inline]
-    fn write_control(&mut self, number: u8, value: u32)
-        ensures { self.new ≡ record self.old { cop0 = written self.old.cop0 number value } }
+    fn write_control(&mut self, register: Register, value: u32)
+        ensures { self.new ≡ record self.old { cop0 = written self.old.cop0 register value } }
     {
-        self.processor.cop0.write(number, value);
+        self.processor.cop0.write(register.number(), value);
     }
 
     // Returns from an exception.
@@ -98,14 +96,13 @@ impl Core {
 
     // Fills the load slot. A load into r0 leaves it empty.
     #[inline]
-    pub(crate) fn set_slot(&mut self, number: u8, value: u32)
-        requires { number < 32 }
-        ensures { self.new ≡ record self.old { load = slot_after_load number value } }
+    pub(crate) fn set_slot(&mut self, register: Register, value: u32)
+        ensures { self.new ≡ record self.old { load = slot_after_load register value } }
     {
-        self.processor.load = if number == 0 {
+        self.processor.load = if register.number() == 0 {
             None
         } else {
-            Some(DelayedLoad::new(number, value))
+            Some(DelayedLoad::new(register, value))
         };
     }
 
@@ -130,8 +127,7 @@ fn perform_effect<M: Mem>(
     page: u32,
     effect: Effect,
 ) -> Result<Done, Exception>
-    requires registers { NamesRegisters effect }
-    requires page { IsPage (M.ram memory.old) page }
+    requires { IsPage (M.ram memory.old) page }
     ensures completes { IsCompletion result
         (record { core = core.old; words = M.words memory.old }) (record { core = core.new; words = M.words memory.new })
         (completion_of_effect (M.ram memory.old) (record { core = core.old; words = M.words memory.old }) page effect) }
@@ -177,7 +173,7 @@ fn perform_effect<M: Mem>(
         } => {
             let loaded = load(core, memory, kind, address)?;
             core.complete();
-            let kept = core.registers()[register as usize];
+            let kept = core.registers()[register.index()];
             core.set_slot(register, kind.loaded(address, loaded.word, kept));
             return Ok(Done::loading(page, loaded.page));
         }
@@ -191,7 +187,7 @@ fn perform_effect<M: Mem>(
             return Ok(Done::storing(page, stored));
         }
         Effect::MoveFromControl { register, control } => {
-            let value = core.cop0().read(control);
+            let value = core.cop0().read(control.number());
             core.complete();
             core.set_slot(register, value);
         }

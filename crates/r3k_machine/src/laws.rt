@@ -1,6 +1,6 @@
 //! Laws of the run: nothing runs here.
 
-ghost use Rattle.std.specs.Prelude.{◌≡◌, ℕ, ◌+◌, ◌/◌, [], ◌++◌, All, Bool, IfSome, List, length};
+ghost use Rattle.std.specs.Prelude.{◌≡◌, ℕ, ◌+◌, ◌/◌, [], ◌++◌, All, Bool, IfSome, IsTrue, List, length};
 ghost use Rattle.input_log.specs.Event.{LogEvent};
 ghost use Rattle.input_log.specs.Log.{window_of};
 ghost use Rattle.r3k_word.specs.declared.layout.TheConstants.{PAGE_BYTES};
@@ -59,11 +59,13 @@ pub fn quiet_laws()
 
 /// A step that touches no page of a set reports the same from the state with any other words in these pages, and the next
 /// state is the same with these words in them. So it is with the trace and the end of a run. There is one such state alone.
-/// Any page that a step touches is one of the machine, and so is that of the word that it stores into.
+/// Any page that a step touches is one of the machine, and that of the word that it stores into is one that it touches.
 pub fn locality()
     ensures pages { (pages : ℕ) (events : List LogEvent) (s : State) → All (λ page. IfSome page (IsPage pages)) (told pages events s).touched }
     ensures stored { (pages : ℕ) (events : List LogEvent) (s : State) →
         IfSome (told pages events s).stored (λ address. IsPage pages (address / PAGE_BYTES)) }
+    ensures stored_touched { (pages : ℕ) (events : List LogEvent) (s : State) →
+        IfSome (told pages events s).stored (λ address. IsTrue (touches (address / PAGE_BYTES) (told pages events s))) }
     ensures told { (pages : ℕ) (events : List LogEvent) (set : ℕ → Bool) (s t : State) (other : List ℕ) →
         IsWithPages set s other t → IsApart set (λ page. touches page (told pages events s)) →
         told pages events t ≡ told pages events s }

@@ -7,7 +7,7 @@ ghost use Rattle.kn02_bus.specs.Region.{region_of};
 ghost use Rattle.r3k_word.specs.Layout.{place_of_word};
 ghost use Rattle.r3k_word.specs.Word.{merged};
 ghost use Rattle.r3k_machine.specs.LoadStore.{after_load_over_bus, after_store_over_bus, core_after_load, core_after_store, fetched, lane_mask, loaded_from, loaded_over_bus, meaning_of_fetch, ram_word, stored_over_bus, stored_to, word_at, words_after, words_with};
-ghost use Rattle.r3k_machine.specs.Told.{DifferAt, IsPage, IsRamWord, IsSent};
+ghost use Rattle.r3k_machine.specs.Told.{DifferAt, IsPage, IsRamWord};
 
 use crate::address::{Physical, Segment, Use};
 use crate::exception::Exception;
@@ -175,7 +175,6 @@ fn store_over_bus<M: Mem>(
     ensures words { M.words memory.new ≡ words_with (M.words memory.old) (ram_word (M.ram memory.old) physical) covered }
     ensures within { IfSome result.address (IsRamWord (M.ram memory.old)) }
     ensures differ { DifferAt result.address (M.words memory.old) (M.words memory.new) }
-    ensures sent { IsSent result.sent }
     ensures same { M.ram memory.new ≡ M.ram memory.old }
 {
     match put(memory, physical, covered) {
@@ -206,7 +205,6 @@ pub(crate) fn store<M: Mem>(
         (stored_to (M.ram memory.old) core.old kind address value) (stored kind (address % 4) value) }
     ensures within { IfOk result (λ stored. IfSome stored.address (IsRamWord (M.ram memory.old))) }
     ensures differ { IfOk result (λ stored. DifferAt stored.address (M.words memory.old) (M.words memory.new)) }
-    ensures sent { IfOk result (λ stored. IsSent stored.sent) }
     ensures same { M.ram memory.new ≡ M.ram memory.old }
 {
     let aligned = kind.is_aligned(address);

@@ -1,7 +1,6 @@
 //! Quick steps: those before which nothing happens but counting, and whose instruction touches registers, PC and memory alone.
 
 ghost use Rattle.std.specs.Prelude.{◌≡◌, ◌/◌, ◌^◌, ◌<◌, ℕ, [], IfSome, IsTrue, None, Ok, Some};
-ghost use Rattle.r3k_exec.specs.Effects.{NamesRegisters};
 ghost use Rattle.r3k_exec.specs.declared.operands.Effect.TheVariants.{Load, Store};
 ghost use Rattle.r3k_word.specs.declared.layout.TheConstants.{PAGE_BYTES, PAGE_WORDS};
 ghost use Rattle.r3k_machine.specs.Quiet.{GoesOverBus, IsCodePage, IsIndexIn, IsQuick, IsQuickEffect, IsQuietFor, IsReached, elapsed};
@@ -16,6 +15,7 @@ use crate::load_store::{Stored, Word, put};
 use crate::memory::Mem;
 use crate::state::Core;
 use crate::step::{Done, run_fetched};
+use r3k_decode::Register;
 use r3k_exec::{Effect, LoadKind, StoreKind, effect};
 use r3k_word::arithmetic::subtract;
 use r3k_word::layout::{PAGE_BYTES, PAGE_WORDS, page_of, place_of};
@@ -117,10 +117,9 @@ fn load_quick<M: Mem>(
     page: u32,
     plain: bool,
     kind: LoadKind,
-    register: u8,
+    register: Register,
     address: u32,
 ) -> Option<Done>
-    requires register { register < 32 }
     requires page { IsPage (M.ram memory.now) page }
     requires plain { IsTrue plain → GoesOverBus core.old }
     ensures quick { IfSome result (λ done. IsQuickEffect (M.ram memory.now) core.old (Load kind register address)) }
@@ -135,7 +134,7 @@ fn load_quick<M: Mem>(
     let place = place_of(memory.ram_pages(), physical / 4 * 4)?;
     let word = memory.word(place);
     core.complete();
-    let kept = core.registers()[register as usize];
+    let kept = core.registers()[register.index()];
     core.set_slot(register, kind.loaded(address, word, kept));
     Some(Done::loading(page, Some(page_of(place) as u32)))
 }
@@ -148,10 +147,9 @@ fn load_by_kind<M: Mem>(
     page: u32,
     plain: bool,
     kind: LoadKind,
-    register: u8,
+    register: Register,
     address: u32,
 ) -> Option<Done>
-    requires register { register < 32 }
     requires page { IsPage (M.ram memory.now) page }
     requires plain { IsTrue plain → GoesOverBus core.old }
     ensures quick { IfSome result (λ done. IsQuickEffect (M.ram memory.now) core.old (Load kind register address)) }
@@ -283,7 +281,6 @@ fn perform_quick<M: Mem>(
     plain: bool,
     effect: Effect,
 ) -> Option<Done>
-    requires registers { NamesRegisters effect }
     requires page { IsPage (M.ram memory.old) page }
     requires plain { IsTrue plain → GoesOverBus core.old }
     ensures quick { IfSome result (λ done. IsQuickEffect (M.ram memory.old) core.old effect) }

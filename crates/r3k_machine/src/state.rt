@@ -9,6 +9,7 @@ ghost use Rattle.r3k_machine.specs.SameProcessor.{is_same_processor};
 use cop0::Cop0;
 use dcache::Caches;
 use kn02_bus::Bus;
+use r3k_decode::Register;
 use r3k_image::Image;
 use std::alloc::{AllocError, Global};
 use std::marker::Model;
@@ -37,13 +38,12 @@ impl Model for DelayedLoad {
 impl DelayedLoad {
     /// A load into a register that is not r0.
     #[inline]
-    pub fn new(register: u8, value: u32) -> DelayedLoad
-        requires above { 0 < register }
-        requires within { register < 32 }
+    pub fn new(register: Register, value: u32) -> DelayedLoad
+        requires { 0 < register }
         ensures { result ≡ record { register = register; value = value } }
     {
         DelayedLoad {
-            register: u32::from(register),
+            register: u32::from(register.number()),
             value,
         }
     }

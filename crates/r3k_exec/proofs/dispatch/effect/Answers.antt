@@ -3,7 +3,7 @@ use Rattle.r3k_exec.specs.Effects.{sll_effect, effects}
 use Rattle.r3k_exec.proofs.dispatch.effect.Goals as goal
 
 -- the row is that of sra
-pub returns-in-2-rows-clause-effect : goal.returns-in-2-rows-clause-effect
-returns-in-2-rows-clause-effect c =
+pub returns-in-2-rows : goal.returns-in-2-rows
+returns-in-2-rows c =
     let row : c.args.insn.now.row ≡ 2 = omega arith in
-    c.sra.ensures.effect ∙ ap (λ (n : ℕ). slice_index_or effects n sll_effect c.args.insn.now c.args.operands) (sym row)
+    c.sra.ensures ∙ ap (λ (n : ℕ). slice_index_or effects n sll_effect c.args.insn.now c.args.operands) (sym row)

@@ -1,4 +1,4 @@
 use Rattle.r3k_exec.proofs.logic.andi.Goals as goal
 
-pub returns-clause-effect : goal.returns-clause-effect
-returns-clause-effect c = cc
+pub returns : goal.returns
+returns c = cc

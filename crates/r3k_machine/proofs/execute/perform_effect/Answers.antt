@@ -8,6 +8,7 @@ returns-in-Load-clause-completes g c = rw (
   c.loading.ensures,
   c.set_slot.ensures,
   c.loaded.ensures,
+  c.index.ensures.value,
   c.registers.ensures.registers,
   c.complete-in-Load.ensures,
   c.in_ok-loaded-in-Load.ensures.core,
@@ -53,6 +54,7 @@ returns-clause-completes g c =
         w.set_slot-in-MoveFromControl.ensures,
         w.complete-in-MoveFromControl.ensures,
         w.read-value.ensures,
+        w.number.ensures.value,
         w.cop0.ensures,
         c.fetching.ensures,
       ) refl

@@ -1,6 +1,6 @@
 use Rattle.r3k_machine.proofs.Carried.{one_state}
 use Rattle.r3k_machine.proofs.Elsewhere.{run_elsewhere, step_elsewhere}
-use Rattle.r3k_machine.proofs.Within.{pages_within, store_within}
+use Rattle.r3k_machine.proofs.Within.{pages_within, store_touched, store_within}
 use Rattle.r3k_machine.proofs.laws.locality.Goals as goal
 
 pub returns-clause-pages : goal.returns-clause-pages
@@ -8,6 +8,9 @@ returns-clause-pages c = pages_within
 
 pub returns-clause-stored : goal.returns-clause-stored
 returns-clause-stored c = store_within
+
+pub returns-clause-stored_touched : goal.returns-clause-stored_touched
+returns-clause-stored_touched c = store_touched
 
 pub returns-clause-told : goal.returns-clause-told
 returns-clause-told c = λ pages events set s t other w apart. (step_elsewhere pages events set s t other w apart).0

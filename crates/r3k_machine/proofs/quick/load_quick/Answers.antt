@@ -24,6 +24,7 @@ returns-clause-ran g c =
       c.page_of.ensures,
       c.set_slot.ensures,
       c.loaded.ensures,
+      c.index.ensures.value,
       c.registers.ensures.registers,
       c.complete.ensures,
       c.word-word.ensures,

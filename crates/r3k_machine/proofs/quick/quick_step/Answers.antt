@@ -14,7 +14,7 @@ returns-clause-quick g c =
     if_both c.perform_quick.result c.perform_quick.ensures.quick c.perform_quick.ensures.ran
     (λ done effect ran.
     quick_known (g.M.Mem.ram c.args.memory.now) s c.args.page c.in_ok-index.index c.insn-insn.result.now c.requires.code there c.insn-insn.ensures
-    (rw (c.effect-effect.ensures.effect, c.operands.ensures) at effect))
+    (rw (c.effect-effect.ensures, c.operands.ensures) at effect))
 
 pub returns-clause-ran : goal.returns-clause-ran
 returns-clause-ran g c =
@@ -23,6 +23,6 @@ returns-clause-ran g c =
     if_both c.perform_quick.result c.perform_quick.ensures.quick c.perform_quick.ensures.ran
     (λ done effect ran.
     let quick = quick_known (g.M.Mem.ram c.args.memory.now) s c.args.page c.in_ok-index.index c.insn-insn.result.now c.requires.code there c.insn-insn.ensures
-    (rw (c.effect-effect.ensures.effect, c.operands.ensures) at effect) in
+    (rw (c.effect-effect.ensures, c.operands.ensures) at effect) in
     quick_ran (g.M.Mem.ram c.args.memory.now) s quick _
-    (rw (c.effect-effect.ensures.effect, c.operands.ensures) at ran))
+    (rw (c.effect-effect.ensures, c.operands.ensures) at ran))
