@@ -75,7 +75,7 @@ impl LoadKind {
     }
 
     // The same, for any kind.
-    #[inline(never)]
+    #[inline]
     fn any_loaded(self, address: u32, word: u32, kept: u32) -> u32
         ensures { result ≡ loaded self (address % 4) word kept }
     {
