@@ -5,8 +5,8 @@ ghost use Rattle.arrayvec.specs.ArrayString.{array_string_len};
 ghost use Rattle.r3k_disasm.specs.Instruction.{operand_text, operands_text, register_text, hexadecimal_text, most_bytes};
 
 use crate::number::{Text, push_decimal, push_hexadecimal, push_signed};
-use r3k_decode::{Insn, Register};
 use r3k_decode::target::{branch_target, jump_target};
+use r3k_decode::{Insn, Register};
 use r3k_table::operand::Operand;
 
 /// Appends the operands of an instruction at an address, the first of them after a separator, and each other one after a comma

@@ -1,5 +1,5 @@
 -- What each instruction does with the values that it reads, after Kane and Heinrich, appendix A, in the order of the table.
-use Rattle.std.specs.Prelude.{ℕ, ℤ, ◌-◌, ◌*◌, ◌/◌, ◌%◌, ◌^◌, ◌<◌, ◌+ℤ◌, ◌-ℤ◌, Bool, not, ◌||◌, ◌&&◌, nat_eq, nat_lt, nat_le, int_lt, int_le, bit_and, bit_or, bit_xor, if◌then◌else◌, List, [], ◌∷◌, slice_index_or, Option, Some, None}
+use Rattle.std.specs.Prelude.{ℕ, ℤ, ◌-◌, ◌*◌, ◌/◌, ◌%◌, ◌^◌, ◌+ℤ◌, ◌-ℤ◌, Bool, not, ◌||◌, ◌&&◌, nat_eq, nat_lt, nat_le, int_lt, int_le, bit_and, bit_or, bit_xor, if◌then◌else◌, List, [], ◌∷◌, slice_index_or, Option, Some, None}
 use Rattle.std.specs.Int.{w32, cast_unsigned, int_shr}
 use Rattle.r3k_word.specs.Word.{flag, signed, sum_of, difference_of, product_of, signed_product_of, division_of, signed_division_of, sign_extended}
 use Rattle.r3k_word.specs.declared.arithmetic.HiLo.{HiLo}
