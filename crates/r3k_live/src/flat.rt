@@ -191,6 +191,7 @@ impl<const PAGES: u32> Mem for FlatMemory<PAGES> {
         &self.known[slot_of(PAGES, page) * WORDS + index]
     }
 
+    #[inline(always)]
     fn learn(&mut self, page: u32, index: usize) -> bool {
         let place = slot_of(PAGES, page) * WORDS + index;
         if self.known[place].row() != self.stop.row() {

@@ -59,12 +59,12 @@ fn quick_steps<const PAGES: u32, const SPAN: u32, const STOPS: bool>(
     ensures stood { recorder.new.stood ≡ recorder.old.stood }
     ensures quiet { IsQuietFor most core.new }
     ensures code { IsCodePage PAGES core.new page }
+    ensures opened { IsTrue (is_open PAGES memory.new.opened.items page.page) }
 {
     quiet_laws();
     let mut made = 0;
     while made < most {
         let Some(done) = quick_step(core, memory, page) else {
-            learn(memory, page, core.pc());
             return made;
         };
         recorder.note_again(done);
@@ -106,6 +106,7 @@ fn quick_steps_to<const PAGES: u32, const SPAN: u32>(
     ensures stood { recorder.new.stood ≡ recorder.old.stood }
     ensures quiet { IsQuietFor most core.new }
     ensures code { IsCodePage PAGES core.new page }
+    ensures opened { IsTrue (is_open PAGES memory.new.opened.items page.page) }
 {
     if stop / PAGE_BYTES as u64 == page.number as u64 {
         return quick_steps::<PAGES, SPAN, true>(core, memory, page, most, stop, recorder);
@@ -189,6 +190,7 @@ fn run_in<const PAGES: u32, const SPAN: u32>(
     quiet_laws();
     let made = quick_steps_to(core, memory, page, most, stop, recorder);
     core.elapse(made);
+    learn(memory, page, core.pc());
     let wanted = goes_on(made, most, core.pc(), stop);
     let more = quiet_on(core, memory, page, wanted, recorder);
     recorder.stand(core.pc() / PAGE_BYTES);

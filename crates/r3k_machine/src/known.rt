@@ -10,6 +10,8 @@ use r3k_word::field::field;
 const BREAK: u32 = 0xD;
 
 /// The instruction that a word is, unless it is none or one of coprocessor 0.
+#[cold]
+#[inline(never)]
 pub fn decoded(word: u32) -> Option<Insn>
     ensures { IfSome result (λ insn. IsDecoded word insn) }
 {

@@ -391,12 +391,8 @@ pub fn quiet_step<M: Mem>(core: &mut Core, memory: &mut M, page: CodePage) -> Op
     Some(done)
 }
 
-// How many words are decoded at once.
-const AHEAD: usize = 16;
-
 /// Decodes the word at an address, if that lies in this page, which is open, and some words after it, up to one that is known.
-#[cold]
-#[inline(never)]
+#[inline(always)]
 pub fn learn<M: Mem>(memory: &mut M, page: CodePage, address: u32)
     requires number { page.number < 2 ^ 20 }
     requires page { IsPage (M.ram memory.old) page.page }
@@ -405,11 +401,30 @@ pub fn learn<M: Mem>(memory: &mut M, page: CodePage, address: u32)
     ensures same { M.ram memory.new ≡ M.ram memory.old }
     ensures opened { (other : ℕ) → M.is_open memory.new other ≡ M.is_open memory.old other }
 {
-    let Some(first) = page.index(address) else {
+    let Some(index) = page.index(address) else {
         return;
     };
-    for index in first..(first + AHEAD).min(PAGE_WORDS as usize) {
-        if !memory.learn(page.page, index) {
+    if memory.learn(page.page, index) {
+        learn_ahead(memory, page.page, index);
+    }
+}
+
+// How many words are decoded after one.
+const AHEAD: usize = 15;
+
+// Decodes some words of an open page after one, up to one that is known.
+#[cold]
+#[inline(never)]
+fn learn_ahead<M: Mem>(memory: &mut M, page: u32, first: usize)
+    requires page { IsPage (M.ram memory.old) page }
+    requires opened { IsTrue (M.is_open memory.old page) }
+    requires first { first < PAGE_WORDS }
+    ensures words { M.words memory.new ≡ M.words memory.old }
+    ensures same { M.ram memory.new ≡ M.ram memory.old }
+    ensures opened { (other : ℕ) → M.is_open memory.new other ≡ M.is_open memory.old other }
+{
+    for index in first + 1..(first + 1 + AHEAD).min(PAGE_WORDS as usize) {
+        if !memory.learn(page, index) {
             return;
         }
     }

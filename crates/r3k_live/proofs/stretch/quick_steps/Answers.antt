@@ -76,7 +76,7 @@ loop-made-preserved g c =
       passed = λ log from start before stops free gone.
           passes_more g.row.PAGES log from start c.args.stop before (before + (made + 1))
           (subst (λ (n : ℕ). PassesBy g.row.PAGES log from start c.args.stop before n) (omega arith) (c.loop-made.invariant.passed log from start before stops free gone))
-          (λ here. true≢false (sym (c.is_stop.ensures.1 (stops, c.pc-in-loop-made.ensures ∙ (ap (λ (u : State). u.core.pc) (goes log from start before free gone).state ∙ here))) ∙ c.if-is_stop.false));
+          (λ here. true≢false (sym (c.is_stop.ensures.1 (stops, c.pc.ensures ∙ (ap (λ (u : State). u.core.pc) (goes log from start before free gone).state ∙ here))) ∙ c.if-is_stop.false));
       begins = λ log from start before free gone.
           begins_too g.row.PAGES log from start c.args.page.number before made s c.loop-made.recorder
           (c.loop-made.invariant.gone log from start before free gone) (c.loop-made.invariant.begins log from start before free gone) c.in-Some.ensures.here;
@@ -97,7 +97,7 @@ returns-then-is_stop-clause-before g c = λ log from start before stops free gon
 
 pub returns-in_default-clause-gone : goal.returns-in_default-clause-gone
 returns-in_default-clause-gone g c = λ log from start before free gone.
-    rw (c.quick_step.ensures.core c.in_default.is, c.learn.ensures.words, c.quick_step.ensures.words c.in_default.is)
+    rw (c.quick_step.ensures.core c.in_default.is, c.quick_step.ensures.words c.in_default.is)
     (c.loop-made.invariant.gone log from start before free gone)
 
 pub returns-then-is_stop-clause-quiet : goal.returns-then-is_stop-clause-quiet

@@ -43,7 +43,7 @@ returns-clause-gone g c = λ log from start made free gone.
     let there : HasGone g.row.PAGES log from start (made + quick) (state_of c.elapse.new.self c.quick_steps_to-made.new.memory) c.quick_steps_to-made.new.recorder =
     rw c.elapse.ensures (c.quick_steps_to-made.ensures.gone log from start made free gone) in
     let on = c.quiet_on-more.ensures.gone log from start (made + quick)
-    (λ wanted. ap (arriving log) (let e : from + (made + quick) ≡ from + made + quick = omega arith in e) ∙ free quick (c.goes_on-wanted.ensures.room wanted)) there in
+    (λ wanted. ap (arriving log) (let e : from + (made + quick) ≡ from + made + quick = omega arith in e) ∙ free quick (c.goes_on-wanted.ensures.room wanted)) (subst (λ (words : List ℕ). HasGone g.row.PAGES log from start (made + quick) (record { core = c.elapse.new.self; words = words }) c.quick_steps_to-made.new.recorder) (sym c.learn.ensures.words) there) in
     recorded_too g.row.PAGES log from start _ _ c.quiet_on-more.new.recorder c.stand.new.self c.stand.ensures.records
     (subst (λ (n : ℕ). HasGone g.row.PAGES log from start n (state_of c.quiet_on-more.new.core c.quiet_on-more.new.memory) c.quiet_on-more.new.recorder)
     (let e : made + quick + c.quiet_on-more.result ≡ made + (quick + c.quiet_on-more.result) = omega arith in e) on)
@@ -56,7 +56,7 @@ returns-clause-before g c = λ log from start made free gone.
     passes_on g.row.PAGES log from start c.args.stop made quick c.quiet_on-more.result
     (c.quick_steps_to-made.ensures.before log from start made free gone) c.quiet_on-more.ensures.bound
     (λ some made_some here.
-    c.goes_on-wanted.ensures.past (c.quiet_on-more.ensures.wanted some) made_some (c.pc.ensures ∙ (ap (λ (s : State). s.core.pc) there.state ∙ here)))
+    c.goes_on-wanted.ensures.past (c.quiet_on-more.ensures.wanted some) made_some (c.pc-2.ensures ∙ (ap (λ (s : State). s.core.pc) there.state ∙ here)))
 
 pub returns-clause-stood : goal.returns-clause-stood
 returns-clause-stood g c = λ log from start made before free gone so_far.
@@ -72,4 +72,4 @@ returns-clause-stood g c = λ log from start made before free gone so_far.
     (λ page.
     c.stand.ensures.stood page
     ∙ ap₂ (λ (set : List ℕ) (pc : ℕ). holds set page || nat_eq (pc / PAGE_BYTES) page)
-    (c.quiet_on-more.ensures.stood ∙ c.quick_steps_to-made.ensures.stood) (c.pc-2.ensures ∙ here))
+    (c.quiet_on-more.ensures.stood ∙ c.quick_steps_to-made.ensures.stood) (c.pc-3.ensures ∙ here))

@@ -1,5 +1,5 @@
 use Rattle.std.proofs.Common.{◌≡◌, ℕ}
-use Rattle.r3k_machine.proofs.quick.learn.Given as goal
+use Rattle.r3k_machine.proofs.quick.learn_ahead.Given as goal
 
 abbrev pub invariant-loop-index : goal.invariant-loop-index
 invariant-loop-index g l = record {
