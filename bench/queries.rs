@@ -8,7 +8,7 @@ use std::time::Instant;
 // The steps of a span in the program.
 const SPAN: u64 = 65_536;
 
-// What `visit` runs at most. It keeps nothing.
+// How many steps `visit` looks at, at most. Those that it runs are not kept.
 const VISIT: u64 = 1_048_576;
 
 // The program, with commands going in and replies coming out.
@@ -56,17 +56,42 @@ impl Asked {
         line.split_whitespace().nth(1).and_then(|n| n.parse().ok()).expect("a number")
     }
 
-    // The seconds that this many steps take that keep nothing.
+    // The last word of the page in which the PC stands there. None of the programs comes to it.
+    fn end_of_page(&mut self, position: u64) -> u32 {
+        self.ask(&format!("goto {position}"));
+        let (reply, _) = self.ask("regs");
+        // The registers follow, four a line.
+        for _ in 0..8 {
+            self.replies.read_line(&mut String::new()).expect("it replies");
+        }
+        let pc = reply.strip_prefix("pc 0x").and_then(|rest| u32::from_str_radix(&rest[..8], 16).ok()).expect("a PC");
+        pc | 0xffc
+    }
+
+    // The seconds that this many steps take that keep nothing: a search for an address in a page where the PC stands in each span.
     fn plain(&mut self, steps: u64) -> f64 {
+        let address = self.end_of_page(VISIT / 2);
         let mut seconds = 0.0;
         for _ in 0..steps / VISIT {
             // The machine stands there, so that no start is laid out while it is timed.
             self.at(0);
-            let (reply, time) = self.ask(&format!("visit 0 {VISIT}"));
+            let (reply, time) = self.ask(&format!("visit {address} {VISIT}"));
             assert_eq!(reply, "error 8 NotFound");
             seconds += time;
         }
         seconds * steps as f64 / (steps / VISIT * VISIT) as f64
+    }
+
+    // The seconds of a search from reset, over this many steps, for an address in a page where the PC never stands.
+    fn search(&mut self, steps: u64) -> f64 {
+        let mut seconds = 0.0;
+        for piece in 0..steps / VISIT {
+            self.ask(&format!("goto {}", piece * VISIT));
+            let (reply, time) = self.ask(&format!("visit 0 {VISIT}"));
+            assert_eq!(reply, "error 8 NotFound");
+            seconds += time;
+        }
+        seconds
     }
 
     // The seconds of the first query at a position, made in pieces, and those of as many steps that keep nothing, measured between
@@ -115,6 +140,7 @@ fn main() {
     line("again", asked.at(inside) * 1e3, "ms", "5");
     line("at an earlier position in the span", asked.at(inside - 20_000) * 1e3, "ms", "5");
     line("at a later one", asked.at(inside + 10_000) * 1e3, "ms", "5");
+    line("search for an address that is never reached", asked.search(steps) * 1e3, "ms", "");
     asked.at(steps);
     asked.ask("add 1000 0 0x41");
     line("after a byte was added at step 1000", asked.at(steps) * 1e3, "ms", "50");

@@ -24,4 +24,6 @@ mod Told
 mod Totals
 mod Touched
 mod Visits
+mod StaysOut
+mod Pieces
 mod Written

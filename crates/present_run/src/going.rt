@@ -1,15 +1,17 @@
 //! The machine goes along the present run.
 
-ghost use Rattle.std.specs.Prelude.{◌≡◌, ◌+◌, ◌-◌, ◌*◌, ◌/◌, ◌%◌, ◌^◌, ◌<◌, ◌≤◌, IfOk, IfSome, Some, unwrap_or};
-ghost use Rattle.r3k_machine.specs.Run.{next_visit};
+ghost use Rattle.std.specs.Prelude.{◌≡◌, ◌↔◌, ◌+◌, ◌-◌, ◌*◌, ◌/◌, ◌%◌, ◌^◌, ◌<◌, ◌≤◌, IfOk, IfSome, IsTrue, Some, unwrap_or};
+ghost use Rattle.r3k_machine.specs.Run.{next_visit, state_at};
 ghost use Rattle.r3k_live.specs.Living.{counted};
 ghost use Rattle.r3k_live.specs.Recording.{Records};
+ghost use Rattle.r3k_live.specs.Standing.{StandsIn};
 ghost use Rattle.input_log.specs.Limits.{max_position};
 ghost use Rattle.present_run.specs.Reuse.{Reaches, Spends};
 ghost use Rattle.present_run.specs.Runs.{steps_between};
 ghost use Rattle.present_run.specs.Shown.{Stays, holding_of};
 
 use crate::present::Present;
+use r3k_word::layout::PAGE_BYTES;
 use std::alloc::AllocError;
 
 impl<const PAGES: u32, const SPAN: u32> Present<PAGES, SPAN> {
@@ -25,6 +27,24 @@ impl<const PAGES: u32, const SPAN: u32> Present<PAGES, SPAN> {
     {
         let index = position / SPAN as u64;
         self.reach(index)?;
+        self.stand_at(index, position)
+    }
+
+    // Makes the machine stand at a position of a span. All spans before that are joined, unless the machine stands there.
+    fn stand_at(&mut self, index: u64, position: u64) -> Result<(), AllocError>
+        requires joined { ¬ (self.old.runs.at ≡ Some position) → index ≤ self.old.runs.kept.valid }
+        requires in_span { index * SPAN ≤ position }
+        requires near { position ≤ index * SPAN + SPAN }
+        requires time { position < 2 ^ 64 }
+        ensures stays { Stays self.old self.new }
+        ensures stands { IfOk result (λ _. self.new.runs.at ≡ Some position) }
+        ensures spans { self.new.runs.kept.spans ≡ self.old.runs.kept.spans }
+        ensures count { self.new.runs.live.steps ≤ self.old.runs.live.steps + (position - index * SPAN) }
+        ensures least { self.old.runs.live.steps ≤ self.new.runs.live.steps }
+    {
+        if self.runs.at == Some(position) {
+            return Ok(());
+        }
         let time = self.stand_in(index, position)?;
         self.go_on(time, position);
         Ok(())
@@ -164,27 +184,43 @@ impl<const PAGES: u32, const SPAN: u32> Present<PAGES, SPAN> {
         }
     }
 
-    // Goes on from a position to the next one at which the PC holds an address, if there is one up to a last one.
-    fn visit(&mut self, position: u64, address: u32, last: u64) -> Option<u64>
-        requires stands { self.old.runs.at ≡ Some position }
+    // Whether a span is joined, and the PC stands in no address of a virtual page from its start to its end.
+    fn stays_out(&self, index: u64, page: u32) -> bool
+        ensures { IsTrue result ↔ ((index < self.now.runs.kept.valid) × ¬ StandsIn PAGES self.now.inputs.log (index * SPAN)
+            (state_at PAGES self.now.inputs.image self.now.inputs.log (index * SPAN)) SPAN page) }
+    {
+        match self.runs.kept.fact(index) {
+            Some(fact) if index < self.runs.kept.valid() => !fact.stands_in(page),
+            _ => false,
+        }
+    }
+
+    // The next position after one at which the PC holds an address, if there is one up to a last one. It runs no step of a joined
+    // span in which the PC stands nowhere in the page of the address.
+    fn visit(&mut self, position: u64, address: u32, last: u64) -> Result<Option<u64>, AllocError>
+        requires joined { position / SPAN ≤ self.old.runs.kept.valid }
         requires before { position ≤ last }
         requires bound { last ≤ max_position }
         ensures stays { Stays self.old self.new }
-        ensures found { result ≡ next_visit PAGES self.old.inputs.image self.old.inputs.log address position (last - position) }
-        ensures bound { IfSome result (λ found. found ≤ last) }
+        ensures found { IfOk result (λ found. found ≡ next_visit PAGES self.old.inputs.image self.old.inputs.log address position (last - position)) }
+        ensures bound { IfOk result (λ found. IfSome found (λ found. found ≤ last)) }
         ensures spans { self.new.runs.kept.spans ≡ self.old.runs.kept.spans }
-        ensures count { self.new.runs.live.steps ≤ self.old.runs.live.steps + (last - position) }
+        ensures count { self.new.runs.live.steps ≤ self.old.runs.live.steps + (position % SPAN + (last - position)) }
         ensures least { self.old.runs.live.steps ≤ self.new.runs.live.steps }
     {
         let mut time = position;
         while time < last {
-            let to = last.min(time + SPAN as u64);
-            if let Some(found) = self.visit_in(time, address, to) {
-                return Some(found);
+            let index = time / SPAN as u64;
+            let to = last.min((index + 1) * SPAN as u64);
+            if !self.stays_out(index, address / PAGE_BYTES) {
+                self.stand_at(index, time)?;
+                if let Some(found) = self.visit_in(time, address, to) {
+                    return Ok(Some(found));
+                }
             }
             time = to;
         }
-        None
+        Ok(None)
     }
 
     /// The next position after one at which the PC holds an address, if there is one up to a last one.
@@ -204,7 +240,7 @@ impl<const PAGES: u32, const SPAN: u32> Present<PAGES, SPAN> {
         ensures reaches { IfOk result (λ _. Reaches PAGES SPAN (position / SPAN)
             (holding_of self.old) (holding_of self.new)) }
     {
-        self.stand(position)?;
-        Ok(self.visit(position, address, last))
+        self.reach(position / SPAN as u64)?;
+        self.visit(position, address, last)
     }
 }

@@ -1,29 +1,36 @@
-use Rattle.std.proofs.Common.{◌-◌, ◌/◌, ◌%◌, ap, ◌∙◌}
+use Rattle.std.proofs.Common.{◌≡◌, ℕ, ◌+◌, ◌-◌, ◌/◌, ◌%◌, Option, IfOk, ap, ◌∙◌}
 use Rattle.r3k_machine.specs.Run.{next_visit}
 use Rattle.present_run.specs.History.{History}
+use Rattle.present_run.specs.Reuse.{Reaches}
 use Rattle.present_run.specs.Shown.{holding_of}
-use Rattle.present_run.proofs.Counts.{reaches_more, spends_more}
+use Rattle.present_run.proofs.Counts.{reaches_more, spends_rest}
+use Rattle.present_run.proofs.Spans.{map_ok, ok_all}
 use Rattle.present_run.proofs.Stays.{stays_on}
 use Rattle.present_run.proofs.present.Present.next_visit.Goals as goal
 
 pub returns-clause-spends : goal.returns-clause-spends
 returns-clause-spends g c =
     let position = c.args.position in
-    spends_more g.row.PAGES g.row.SPAN (position / g.row.SPAN) (position % g.row.SPAN) (c.args.last - position) (holding_of c.args.self.now) (holding_of c.stand.new.self)
-    (holding_of c.visit.new.self) c.stand.ensures.spends c.visit.ensures.stays.history c.visit.ensures.spans c.visit.ensures.least c.visit.ensures.count
+    spends_rest g.row.PAGES g.row.SPAN (position / g.row.SPAN) (position % g.row.SPAN + (c.args.last - position)) (holding_of c.args.self.now) (holding_of c.reach.new.self)
+    (holding_of c.visit.new.self) c.reach.ensures.spends c.visit.ensures.stays.history c.visit.ensures.spans c.visit.ensures.least c.visit.ensures.count
 
 pub returns-clause-reaches : goal.returns-clause-reaches
 returns-clause-reaches g c =
-    reaches_more g.row.PAGES g.row.SPAN (c.args.position / g.row.SPAN) (holding_of c.args.self.now) (holding_of c.stand.new.self)
-    (holding_of c.visit.new.self) (c.in_ok-stand.ensures {u = tt}).reaches c.visit.ensures.stays.history c.visit.ensures.spans c.visit.ensures.least
+    let index = c.args.position / g.row.SPAN in
+    ok_all c.visit.result (Reaches g.row.PAGES g.row.SPAN index (holding_of c.args.self.now) (holding_of c.visit.new.self))
+    (reaches_more g.row.PAGES g.row.SPAN index (holding_of c.args.self.now) (holding_of c.reach.new.self)
+    (holding_of c.visit.new.self) (c.in_ok-reach.ensures {u = tt}).reaches c.visit.ensures.stays.history c.visit.ensures.spans c.visit.ensures.least)
 
 pub returns-clause-found : goal.returns-clause-found
 returns-clause-found g c =
+    map_ok (λ found. found ≡ next_visit g.row.PAGES c.reach.new.self.inputs.image c.reach.new.self.inputs.log c.args.address c.args.position (c.args.last - c.args.position))
+    (λ found. found ≡ next_visit g.row.PAGES c.args.self.now.inputs.image c.args.self.now.inputs.log c.args.address c.args.position (c.args.last - c.args.position))
+    c.visit.result
+    (λ found is. is ∙ ap (λ (h : History). next_visit g.row.PAGES h.image h.log c.args.address c.args.position (c.args.last - c.args.position)) c.reach.ensures.stays.history)
     c.visit.ensures.found
-    ∙ ap (λ (h : History). next_visit g.row.PAGES h.image h.log c.args.address c.args.position (c.args.last - c.args.position)) c.stand.ensures.stays.history
 
 pub returns-clause-bound : goal.returns-clause-bound
 returns-clause-bound g c = c.visit.ensures.bound
 
 pub returns-clause-stays : goal.returns-clause-stays
-returns-clause-stays g c = let stays = stays_on c.stand.ensures.stays c.visit.ensures.stays in record { history = stays.history; landings = stays.landings }
+returns-clause-stays g c = let stays = stays_on c.reach.ensures.stays c.visit.ensures.stays in record { history = stays.history; landings = stays.landings }

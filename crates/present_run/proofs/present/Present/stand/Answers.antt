@@ -1,49 +1,37 @@
 use Rattle.std.proofs.Common.{◌/◌, ◌%◌, ◌<◌, ap, ◌∙◌, arith}
-use Rattle.std.proofs.Math.Nat.{mod-eq-sub-div-mul, mod-lt}
-use Rattle.present_run.specs.Reuse.{Holding}
+use Rattle.std.proofs.Math.Nat.{div-mul-le_self, lt-div-mul-add, mod-eq-sub-div-mul}
+use Rattle.present_run.specs.Reuse.{Reaches}
 use Rattle.present_run.specs.Shown.{holding_of}
+use Rattle.present_run.proofs.Spans.{ok_all}
 use Rattle.present_run.proofs.Stays.{stays_on}
 use Rattle.present_run.proofs.Counts.{reaches_more, spends_rest}
 use Rattle.present_run.proofs.present.Present.stand.Goals as goal
 
-pub returns-in_err-time-clause-spends : goal.returns-in_err-time-clause-spends
-returns-in_err-time-clause-spends g c =
-    let pages = g.row.PAGES in
-    let span = g.row.SPAN in
-    let position = c.args.position in
-    let steps = ap (λ (h : Holding). h.steps) c.stand_in.ensures.same in
-    spends_rest pages span (position / span) (position % span) (holding_of c.args.self.now) (holding_of c.reach.new.self) (holding_of c.stand_in.new.self)
-    c.reach.ensures.spends c.stand_in.ensures.stays.history (ap (λ (h : Holding). h.spans) c.stand_in.ensures.same) (omega (arith, steps)) (omega (arith, steps))
+pub stand_at-requires : goal.stand_at-requires
+stand_at-requires g c =
+    let some : 0 < g.row.SPAN = omega (arith, c.args.self.now.of.sizes.least_span) in
+    let high = lt-div-mul-add {a = c.args.position} {b = g.row.SPAN} some in (
+      omega arith,
+      (λ elsewhere. (c.in_ok-reach.ensures {u = tt}).joined, (div-mul-le_self c.args.position g.row.SPAN, (omega (arith, high), omega (arith, c.requires.position)))),
+    )
 
 pub returns-clause-spends : goal.returns-clause-spends
 returns-clause-spends g c =
     let pages = g.row.PAGES in
     let span = g.row.SPAN in
     let position = c.args.position in
-    let rest = mod-eq-sub-div-mul position span in
-    let steps = ap (λ (h : Holding). h.steps) c.stand_in.ensures.same in
-    spends_rest pages span (position / span) (position % span) (holding_of c.args.self.now) (holding_of c.reach.new.self) (holding_of c.go_on.new.self)
-    c.reach.ensures.spends (c.go_on.ensures.stays.history ∙ c.stand_in.ensures.stays.history) (c.go_on.ensures.spans ∙ ap (λ (h : Holding). h.spans) c.stand_in.ensures.same)
-    (omega (arith, c.go_on.ensures.least, steps))
-    (omega (arith, c.go_on.ensures.count, steps, rest, (c.in_ok-time.ensures {u = tt}).in_span, (c.in_ok-time.ensures {u = tt}).before))
+    spends_rest pages span (position / span) (position % span) (holding_of c.args.self.now) (holding_of c.reach.new.self) (holding_of c.stand_at.new.self)
+    c.reach.ensures.spends c.stand_at.ensures.stays.history c.stand_at.ensures.spans c.stand_at.ensures.least
+    (omega (arith, c.stand_at.ensures.count, mod-eq-sub-div-mul position span))
 
 pub returns-clause-reaches : goal.returns-clause-reaches
 returns-clause-reaches g c =
     let pages = g.row.PAGES in
     let span = g.row.SPAN in
-    let steps = ap (λ (h : Holding). h.steps) c.stand_in.ensures.same in
-    reaches_more pages span (c.args.position / span) (holding_of c.args.self.now) (holding_of c.reach.new.self) (holding_of c.go_on.new.self)
-    (c.in_ok-reach.ensures {u = tt}).reaches (c.go_on.ensures.stays.history ∙ c.stand_in.ensures.stays.history) (c.go_on.ensures.spans ∙ ap (λ (h : Holding). h.spans) c.stand_in.ensures.same)
-    (omega (arith, c.go_on.ensures.least, steps))
-
-pub go_on-requires : goal.go_on-requires
-go_on-requires g c =
-    let there = c.in_ok-time.ensures {u = tt} in
-    let some : 0 < g.row.SPAN = omega (arith, c.args.self.now.of.sizes.least_span) in
-    (omega arith, (there.stands, (there.before, omega (arith, mod-eq-sub-div-mul c.args.position g.row.SPAN, mod-lt c.args.position some, there.in_span))))
-
-pub returns-in_err-time-clause-stays : goal.returns-in_err-time-clause-stays
-returns-in_err-time-clause-stays g c = let stays = stays_on c.reach.ensures.stays c.stand_in.ensures.stays in record { history = stays.history; landings = stays.landings }
+    let index = c.args.position / span in
+    ok_all c.stand_at.result (Reaches pages span index (holding_of c.args.self.now) (holding_of c.stand_at.new.self))
+    (reaches_more pages span index (holding_of c.args.self.now) (holding_of c.reach.new.self) (holding_of c.stand_at.new.self)
+    (c.in_ok-reach.ensures {u = tt}).reaches c.stand_at.ensures.stays.history c.stand_at.ensures.spans c.stand_at.ensures.least)
 
 pub returns-clause-stays : goal.returns-clause-stays
-returns-clause-stays g c = let stays = stays_on c.reach.ensures.stays (stays_on c.stand_in.ensures.stays c.go_on.ensures.stays) in record { history = stays.history; landings = stays.landings }
+returns-clause-stays g c = let stays = stays_on c.reach.ensures.stays c.stand_at.ensures.stays in record { history = stays.history; landings = stays.landings }

@@ -1,17 +1,19 @@
-use Rattle.std.proofs.Common.{◌≡◌, ◌+◌, ◌-◌, ◌≤◌, Some}
+use Rattle.std.proofs.Common.{◌≡◌, ◌+◌, ◌-◌, ◌/◌, ◌%◌, ◌<◌, ◌≤◌, Some}
 use Rattle.r3k_machine.specs.Run.{next_visit}
 use Rattle.present_run.specs.Shown.{Stays}
 use Rattle.present_run.proofs.present.Present.visit.Given as goal
 
--- it stands in the run, and the search goes on where it stands
+-- the search goes on at a time. If the machine does not stand there, the spans before it are joined. The steps so far leave room for
+-- those from the start of its span
 abbrev pub invariant-loop-time : goal.invariant-loop-time
 invariant-loop-time g l = record {
   stays : Stays l.fn.self l.self;
-  at : l.self.runs.at ≡ Some l.time;
+  at : l.time < l.last → ¬ (l.self.runs.at ≡ Some l.time) → l.time / g.row.SPAN ≤ l.self.runs.kept.valid;
   found : next_visit g.row.PAGES l.fn.self.inputs.image l.fn.self.inputs.log l.address l.position (l.last - l.position)
       ≡ next_visit g.row.PAGES l.fn.self.inputs.image l.fn.self.inputs.log l.address l.time (l.last - l.time);
   spans : l.self.runs.kept.spans ≡ l.fn.self.runs.kept.spans;
-  count : l.self.runs.live.steps ≤ l.fn.self.runs.live.steps + (l.time - l.position);
+  count : l.self.runs.live.steps ≤ l.fn.self.runs.live.steps + (l.position % g.row.SPAN + (l.time - l.position));
+  room : l.time < l.last → l.self.runs.live.steps + l.time % g.row.SPAN ≤ l.fn.self.runs.live.steps + (l.position % g.row.SPAN + (l.time - l.position));
   least : l.fn.self.runs.live.steps ≤ l.self.runs.live.steps;
   after : l.position ≤ l.time;
   bound : l.time ≤ l.last;
