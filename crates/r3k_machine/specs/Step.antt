@@ -27,7 +27,7 @@ use Rattle.kn02_bus.specs.State.{BusState}
 use Rattle.kn02_bus.specs.Lines.{lines_of}
 use Rattle.r3k_machine.specs.Core.{Core}
 use Rattle.r3k_machine.specs.declared.step.Done.{Done}
-use Rattle.r3k_machine.specs.LoadSlot.{DelayedLoad}
+use Rattle.r3k_machine.specs.LoadSlot.{slot_after_load}
 use Rattle.r3k_machine.specs.State.{State, register, with_register, landed}
 use Rattle.r3k_machine.specs.LoadStore.{meaning_of_fetch, fetched, loaded_from, core_after_load, stored_to, core_after_store, words_after}
 use Rattle.r3k_machine.specs.Address.{met}
@@ -104,10 +104,7 @@ passed core = record core {
 abbrev pub with_write : Core → (number value : ℕ) → Core
 with_write core number value = record core { registers = with_register core.registers number value }
 
--- The value of a load waits in the slot. One for r0 leaves the slot empty.
-abbrev pub slot_after_load : (number value : ℕ) → Option DelayedLoad
-slot_after_load number value = if number == 0 then None else Some (record { register = number; value = value })
-
+-- The value of a load waits in the slot.
 abbrev pub with_slot : Core → (number value : ℕ) → Core
 with_slot core number value = record core { load = slot_after_load number value }
 

@@ -4,7 +4,7 @@ ghost use Rattle.std.specs.Prelude.{◌≡◌};
 ghost use Rattle.r3k_machine.specs.State.{landed};
 ghost use Rattle.r3k_machine.specs.Exceptions.{bad_of, code_of, entered, exc_of, exception_of, is_mapped, is_refill, without_row};
 
-use crate::state::Core;
+use crate::state::{Core, LoadSlot};
 use cop0::{Coprocessor, Exc, ExcCode};
 use r3k_exec::Trap;
 use r3k_word::arithmetic::add;
@@ -131,9 +131,9 @@ impl Core {
     pub(crate) fn land(&mut self)
         ensures { self.new ≡ record self.old { registers = landed self.old.registers self.old.load; load = None } }
     {
-        if let Some(load) = self.processor.load {
+        if let Some(load) = self.processor.load.pending() {
             self.processor.registers[load.register() as usize] = load.value();
-            self.processor.load = None;
+            self.processor.load = LoadSlot::empty();
         }
     }
 

@@ -5,13 +5,14 @@ ghost use Rattle.cop0.specs.Changes as control;
 ghost use Rattle.cop0.specs.Registers.{written};
 ghost use Rattle.r3k_machine.specs.Exceptions.{is_unusable};
 ghost use Rattle.r3k_machine.specs.State.{with_register};
-ghost use Rattle.r3k_machine.specs.Step.{IsCompletion, branched, completion_of_word, operands_of, passed, completion_of_effect, slot_after_load};
+ghost use Rattle.r3k_machine.specs.Step.{IsCompletion, branched, completion_of_word, operands_of, passed, completion_of_effect};
+ghost use Rattle.r3k_machine.specs.LoadSlot.{slot_after_load};
 ghost use Rattle.r3k_machine.specs.Told.{IsPage, IsTold};
 
 use crate::exception::Exception;
 use crate::load_store::{Word, load, store};
 use crate::memory::Mem;
-use crate::state::{Core, DelayedLoad};
+use crate::state::{Core, LoadSlot};
 use crate::step::Done;
 use cop0::Coprocessor;
 use cop0::number::{INDEX, RANDOM};
@@ -99,11 +100,7 @@ impl Core {
     pub(crate) fn set_slot(&mut self, register: Register, value: u32)
         ensures { self.new ≡ record self.old { load = slot_after_load register value } }
     {
-        self.processor.load = if register.number() == 0 {
-            None
-        } else {
-            Some(DelayedLoad::new(register, value))
-        };
+        self.processor.load = LoadSlot::of(register, value);
     }
 
     // Marks the next instruction as one in a delay slot, with the target after it.

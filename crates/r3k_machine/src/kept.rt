@@ -21,6 +21,7 @@ pub struct KeptCore {
 
 impl Model for KeptCore {
     ghost use Rattle.r3k_machine.specs.Core.{Core, HoldsZero};
+    ghost use Rattle.r3k_machine.specs.Pending.{pending_of};
 
     ghost Value = { Core };
 
@@ -31,7 +32,7 @@ impl Model for KeptCore {
       pc = c.processor.pc;
       next_pc = c.processor.next_pc;
       delay = c.processor.delay;
-      load = c.processor.load;
+      load = pending_of c.processor.load;
       cop0 = c.processor.cop0;
       entries = c.tlb;
       caches = c.caches.value;

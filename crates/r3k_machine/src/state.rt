@@ -67,6 +67,49 @@ impl DelayedLoad {
     }
 }
 
+/// The load slot: a register and the value that has not landed in it yet, or r0 where it is empty.
+#[derive(Clone, Copy, Debug)]
+pub(crate) struct LoadSlot {
+    register: Register,
+    value: u32,
+}
+
+impl LoadSlot {
+    ghost use Rattle.std.specs.Prelude.{None};
+    ghost use Rattle.r3k_machine.specs.LoadSlot.{slot_after_load};
+    ghost use Rattle.r3k_machine.specs.Pending.{pending_of};
+
+    /// No load is pending.
+    #[inline]
+    pub(crate) fn empty() -> LoadSlot
+        ensures { pending_of result ≡ None }
+    {
+        LoadSlot {
+            register: Register::new(0),
+            value: 0,
+        }
+    }
+
+    /// A load into a register. One into r0 leaves the slot empty.
+    #[inline]
+    pub(crate) fn of(register: Register, value: u32) -> LoadSlot
+        ensures { pending_of result ≡ slot_after_load register value }
+    {
+        LoadSlot { register, value }
+    }
+
+    /// The load that is pending.
+    #[inline]
+    pub(crate) fn pending(self) -> Option<DelayedLoad>
+        ensures { result ≡ pending_of self }
+    {
+        if self.register.number() == 0 {
+            return None;
+        }
+        Some(DelayedLoad::new(self.register, self.value))
+    }
+}
+
 /// The small part of the processor, which is copied freely.
 #[derive(Clone, Copy, Debug)]
 pub(crate) struct Processor {
@@ -76,7 +119,7 @@ pub(crate) struct Processor {
     pub(crate) pc: u32,
     pub(crate) next_pc: u32,
     pub(crate) delay: bool,
-    pub(crate) load: Option<DelayedLoad>,
+    pub(crate) load: LoadSlot,
     pub(crate) cop0: Cop0,
 }
 
@@ -93,6 +136,7 @@ pub struct Core {
 
 impl Model for Core {
     ghost use Rattle.r3k_machine.specs.Core.{Core, HoldsZero};
+    ghost use Rattle.r3k_machine.specs.Pending.{pending_of};
 
     ghost Value = { Core };
 
@@ -103,7 +147,7 @@ impl Model for Core {
       pc = c.processor.pc;
       next_pc = c.processor.next_pc;
       delay = c.processor.delay;
-      load = c.processor.load;
+      load = pending_of c.processor.load;
       cop0 = c.processor.cop0;
       entries = c.tlb;
       caches = c.caches;
@@ -123,7 +167,7 @@ pub(crate) fn is_same_processor(a: &Processor, b: &Processor) -> bool
         && a.pc == b.pc
         && a.next_pc == b.next_pc
         && a.delay == b.delay
-        && a.load == b.load
+        && a.load.pending() == b.load.pending()
         && a.cop0 == b.cop0
 }
 
@@ -144,7 +188,7 @@ impl Core {
                 pc: RESET_PC,
                 next_pc: RESET_PC + 4,
                 delay: false,
-                load: None,
+                load: LoadSlot::empty(),
                 cop0: Cop0::new(),
             },
             tlb: Tlb::new(),
@@ -231,7 +275,7 @@ impl Core {
     pub fn load(&self) -> Option<DelayedLoad>
         ensures { result ≡ self.now.load }
     {
-        self.processor.load
+        self.processor.load.pending()
     }
 
     /// The control registers.

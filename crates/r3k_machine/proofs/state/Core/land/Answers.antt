@@ -1,4 +1,4 @@
-use Rattle.std.proofs.Common.{◌≡◌, arith, refl}
+use Rattle.std.proofs.Common.{◌≡◌, ◌∙◌, arith, refl, sym}
 use Rattle.std.proofs.lemmas.Bool.{ne_eqb}
 use Rattle.r3k_machine.proofs.state.Core.land.Goals as goal
 
@@ -9,7 +9,7 @@ returns-in-Some c =
       c.register.ensures.above,
       c.register.ensures.value,
     ) in no in
-    rw (← c.self.view_is, c.in-Some.is, c.register.ensures.value, c.value.ensures, ne_eqb c.in-Some.load.register 0 some) refl
+    rw (← c.self.view_is, sym c.in-Some.ensures, c.register.ensures.value, c.value.ensures, ne_eqb c.in-Some.load.register 0 some, c.empty-self-inside.ensures) refl
 
 pub returns-in_default : goal.returns-in_default
-returns-in_default c = rw (← c.self.view_is, c.in_default.is) refl
+returns-in_default c = rw (← c.self.view_is, sym c.pending.ensures ∙ c.in_default.is) refl
