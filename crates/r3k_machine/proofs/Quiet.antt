@@ -21,7 +21,6 @@ use Rattle.kn02_bus.specs.declared.bus.Lines.{Lines}
 use Rattle.kn02_bus.specs.Lines.{lines_of}
 use Rattle.kn02_bus.specs.Quiet.{after, quiet_of}
 use Rattle.r3k_decode.specs.Operation.{Operation}
-use Rattle.r3k_decode.specs.Decoding.{operation_of}
 use Rattle.r3k_exec.specs.Access.{stored}
 use Rattle.r3k_exec.specs.Effects.{effect_of}
 use Rattle.r3k_exec.specs.declared.access.LoadKind.{LoadKind}
@@ -43,7 +42,6 @@ use Rattle.r3k_machine.specs.declared.step.Done.{Done}
 use Rattle.r3k_machine.specs.Address.{Meaning, found_for, meaning, meaning_in, meaning_of_found, met, segment_of}
 use Rattle.r3k_machine.specs.Core.{Core}
 use Rattle.r3k_machine.specs.State.{State}
-use Rattle.r3k_machine.specs.Exceptions.{is_unusable}
 use Rattle.r3k_machine.specs.LoadStore.{after_load, after_store, loaded_at, meaning_of_fetch, meaning_of_load, meaning_of_store, ram_word, stored_at, word_at, word_of_place, word_read, words_after, words_with}
 use Rattle.r3k_machine.specs.Step.{Completion, Outcome, arrived, completion_of_effect, completion_of_load, completion_of_store, completion_of_word, operands_of, outcome_of_completion, outcome_of_fetch, outcome_of_instruction, outcome_of_interrupt_or_instruction, outcome_of_step, outcome_of_word, sampled, ticked, with_fall}
 use Rattle.r3k_machine.specs.declared.quick.CodePage.{CodePage}

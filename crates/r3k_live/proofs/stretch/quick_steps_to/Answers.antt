@@ -1,4 +1,4 @@
-use Rattle.std.proofs.Common.{◌≡◌, ℕ, ◌/◌, refl, sym, ap, ◌∙◌, arith}
+use Rattle.std.proofs.Common.{ℕ, ◌/◌, refl, sym, ap, ◌∙◌, arith}
 use Rattle.r3k_live.proofs.stretch.quick_steps_to.Goals as goal
 
 pub returns-then-stop-page-clause-before : goal.returns-then-stop-page-clause-before

@@ -1,4 +1,4 @@
-use Rattle.std.proofs.Common.{◌≡◌, ℕ, ◌+◌, List, sym, ap, subst, ◌∙◌, arith}
+use Rattle.std.proofs.Common.{◌≡◌, ℕ, ◌+◌, List, ap, subst, ◌∙◌, arith}
 use Rattle.input_log.specs.Event.{LogEvent}
 use Rattle.r3k_machine.specs.Step.{outcome_of_step}
 use Rattle.r3k_live.specs.Going.{HasGone}

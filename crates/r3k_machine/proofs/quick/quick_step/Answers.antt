@@ -1,9 +1,5 @@
-use Rattle.std.proofs.Common.{◌≡◌, ◌*◌, ◌+◌, ◌/◌, ◌%◌, inl, inr, refl, slice_index}
-use Rattle.r3k_exec.specs.Effects.{effect_of}
-use Rattle.r3k_machine.specs.Known.{IsDecoded, IsKnown}
-use Rattle.r3k_machine.specs.Quiet.{IsIndexIn, IsQuick}
+use Rattle.r3k_machine.specs.Quiet.{IsIndexIn}
 use Rattle.r3k_machine.specs.State.{State}
-use Rattle.r3k_machine.specs.Step.{operands_of}
 use Rattle.r3k_machine.proofs.Quiet.{if_both, quick_known, quick_ran}
 use Rattle.r3k_machine.proofs.quick.quick_step.Goals as goal
 
