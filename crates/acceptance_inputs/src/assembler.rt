@@ -42,7 +42,7 @@ addu r4, r2, r0\n";
     Ok(())
 }
 
-// The sources of a table, each with what is wanted of it.
+// The sources of a table, each with the text of what is wanted of it, which there is.
 fn sources(alloc: Global, table: &str) -> Result<Vec<(String, String)>, Fail> {
     let mut sources = Vec::new(alloc);
     for row in table
@@ -51,7 +51,11 @@ fn sources(alloc: Global, table: &str) -> Result<Vec<(String, String)>, Fail> {
     {
         let (texts, wanted) = row.rsplit_once(" = ").ok_or("nothing is wanted")?;
         for text in texts.split("; ") {
-            sources.push((text.replace(alloc, "|", "\n")?, plain(alloc, wanted)?))?;
+            let wanted = format!(in alloc; "Some {wanted}")?;
+            sources.push((
+                text.replace(alloc, "|", "\n")?,
+                plain(alloc, wanted.as_str())?,
+            ))?;
         }
     }
     Ok(sources)

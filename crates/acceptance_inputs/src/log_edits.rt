@@ -62,36 +62,48 @@ fn edited(alloc: Global, log: &mut Log, edit: &str) -> Result<String, Fail> {
         ("set", [place, byte]) => shown(alloc, &log.set(*place, u8::try_from(*byte)?))?,
         ("move", [place, time]) => shown(alloc, &log.move_to(*place, *time))?,
         ("erase", [from, to]) => shown(alloc, &log.erase(*from, *to))?,
-        ("log", []) => shown(alloc, &log.events())?,
+        ("log", []) => events(alloc, log)?,
         _ => return Err("no edit".into()),
     })
+}
+
+// The time, kind, line and byte of each event.
+fn events(alloc: Global, log: &Log) -> Result<String, Fail> {
+    if log.events().is_empty() {
+        return Ok(plain(alloc, "empty")?);
+    }
+    let mut events = Vec::new(alloc);
+    for event in log.events() {
+        events.push((event.time, event.kind, event.line, event.byte))?;
+    }
+    Ok(shown(alloc, &events)?)
 }
 
 // Edits, with `; ` between, each with its answer, and `log` with the events. A list begins with its name and with its log: an empty one,
 // that of `THREE`, or that of `MIXED`, which `again` brings back.
 const LISTS: &str = "
 $ adds after the events of its time: empty
-add 5 0 1 = 0; add 5 3 2 = 1; add 4 0 3 = 0; add 4294967294 0 255 = 3; add 0 1 0 = 0; add 5 0 4 = 4
+add 5 0 1 = Ok 0; add 5 3 2 = Ok 1; add 4 0 3 = Ok 0; add 4294967294 0 255 = Ok 3; add 0 1 0 = Ok 0; add 5 0 4 = Ok 4
 log = 0 Byte 1 0, 4 Byte 0 3, 5 Byte 0 1, 5 Byte 3 2, 5 Byte 0 4, 4294967294 Byte 0 255
 
 $ adds each kind: empty
-add 5 0 0xff = 0; ferr 5 3 0xff = 1; wire 5 2 1 = 2; wire 4 0 0 = 0; ferr 1099511627774 0 0 = 4; wire 1099511627774 1 0 = 5
-ferr 0 1 2 = 0
+add 5 0 0xff = Ok 0; ferr 5 3 0xff = Ok 1; wire 5 2 1 = Ok 2; wire 4 0 0 = Ok 0; ferr 1099511627774 0 0 = Ok 4; wire 1099511627774 1 0 = Ok 5
+ferr 0 1 2 = Ok 0
 log = 0 Framing 1 2, 4 Wire 0 0, 5 Byte 0 255, 5 Framing 3 255, 5 Wire 2 1, 1099511627774 Framing 0 0, 1099511627774 Wire 1 0
 
 $ edits of each kind: empty
 # An event is set, moved and deleted as a byte is, and keeps its kind.
-add 4 3 1 = 0; ferr 5 3 2 = 1; wire 6 2 1 = 2; set 0 255 = Ok; set 1 255 = Ok; set 2 0 = Ok
+add 4 3 1 = Ok 0; ferr 5 3 2 = Ok 1; wire 6 2 1 = Ok 2; set 0 255 = Ok; set 1 255 = Ok; set 2 0 = Ok
 log = 4 Byte 3 255, 5 Framing 3 255, 6 Wire 2 0
-set 2 1 = Ok; move 2 4 = 1; move 2 3 = 0; move 1 9 = 2
+set 2 1 = Ok; move 2 4 = Ok 1; move 2 3 = Ok 0; move 1 9 = Ok 2
 log = 3 Framing 3 255, 4 Wire 2 1, 9 Byte 3 255
 del 1 = Ok; del 0 = Ok; log = 9 Byte 3 255
 
 $ refused edits of each kind: mixed
 # Events 1 and 3 are levels.
-wire 0 3 0 = Range; wire 0 0 2 = Range; wire 0 255 255 = Range; wire 1099511627775 0 0 = Range
-wire 18446744073709551615 2 1 = Range; ferr 0 4 0 = Range; ferr 1099511627775 0 0 = Range; ferr 18446744073709551615 255 0 = Range
-set 1 2 = Range; set 3 255 = Range; set 4 0 = NoEvent; set 4 2 = NoEvent; set 18446744073709551615 255 = NoEvent
+wire 0 3 0 = Err Range; wire 0 0 2 = Err Range; wire 0 255 255 = Err Range; wire 1099511627775 0 0 = Err Range
+wire 18446744073709551615 2 1 = Err Range; ferr 0 4 0 = Err Range; ferr 1099511627775 0 0 = Err Range; ferr 18446744073709551615 255 0 = Err Range
+set 1 2 = Err Range; set 3 255 = Err Range; set 4 0 = Err NoEvent; set 4 2 = Err NoEvent; set 18446744073709551615 255 = Err NoEvent
 log = 4 Framing 3 255, 5 Wire 2 1, 5 Byte 3 2, 4294967294 Wire 0 0
 
 $ erases: mixed
@@ -107,44 +119,44 @@ again = Ok; erase 4 4294967294 = Ok; log = 4294967294 Wire 0 0
 again = Ok; erase 5 4294967294 = Ok; log = 4 Framing 3 255, 4294967294 Wire 0 0
 again = Ok; erase 5 1099511627775 = Ok; log = 4 Framing 3 255
 again = Ok; erase 4294967294 1099511627775 = Ok; log = 4 Framing 3 255, 5 Wire 2 1, 5 Byte 3 2
-again = Ok; erase 0 1099511627775 = Ok; log = Ok
-again = Ok; erase 4 1099511627775 = Ok; log = Ok
-again = Ok; erase 0 4294967295 = Ok; log = Ok
-erase 0 1099511627775 = Ok; log = Ok
+again = Ok; erase 0 1099511627775 = Ok; log = empty
+again = Ok; erase 4 1099511627775 = Ok; log = empty
+again = Ok; erase 0 4294967295 = Ok; log = empty
+erase 0 1099511627775 = Ok; log = empty
 
 $ refused erasing: mixed
-erase 1 0 = Range; erase 6 5 = Range; erase 1099511627775 0 = Range; erase 0 1099511627776 = Range
-erase 1099511627776 1099511627776 = Range; erase 0 18446744073709551615 = Range
-erase 18446744073709551615 18446744073709551615 = Range; erase 18446744073709551615 0 = Range
+erase 1 0 = Err Range; erase 6 5 = Err Range; erase 1099511627775 0 = Err Range; erase 0 1099511627776 = Err Range
+erase 1099511627776 1099511627776 = Err Range; erase 0 18446744073709551615 = Err Range
+erase 18446744073709551615 18446744073709551615 = Err Range; erase 18446744073709551615 0 = Err Range
 log = 4 Framing 3 255, 5 Wire 2 1, 5 Byte 3 2, 4294967294 Wire 0 0
 
 $ takes out and changes: three
 set 1 255 = Ok; log = 4 Byte 3 255, 5 Byte 0 255, 5 Byte 1 2
 del 2 = Ok; log = 4 Byte 3 255, 5 Byte 0 255
 del 0 = Ok; log = 5 Byte 0 255
-del 0 = Ok; log = Ok
+del 0 = Ok; log = empty
 
 $ moves: empty
 # The events of the times 1, 2, 2, 3 are moved, one at a time, each from where the move before left them.
-add 1 0 10 = 0; add 2 0 20 = 1; add 2 0 21 = 2; add 3 0 30 = 3
+add 1 0 10 = Ok 0; add 2 0 20 = Ok 1; add 2 0 21 = Ok 2; add 3 0 30 = Ok 3
 # The last of its time stays.
-move 2 2 = 2; log = 1 Byte 0 10, 2 Byte 0 20, 2 Byte 0 21, 3 Byte 0 30
+move 2 2 = Ok 2; log = 1 Byte 0 10, 2 Byte 0 20, 2 Byte 0 21, 3 Byte 0 30
 # The first of its time comes after the other.
-move 1 2 = 2; log = 1 Byte 0 10, 2 Byte 0 21, 2 Byte 0 20, 3 Byte 0 30
+move 1 2 = Ok 2; log = 1 Byte 0 10, 2 Byte 0 21, 2 Byte 0 20, 3 Byte 0 30
 # Forward to the end.
-move 0 4294967294 = 3; log = 2 Byte 0 21, 2 Byte 0 20, 3 Byte 0 30, 4294967294 Byte 0 10
+move 0 4294967294 = Ok 3; log = 2 Byte 0 21, 2 Byte 0 20, 3 Byte 0 30, 4294967294 Byte 0 10
 # Backward, after the events of the new time.
-move 3 2 = 2; log = 2 Byte 0 21, 2 Byte 0 20, 2 Byte 0 10, 3 Byte 0 30
+move 3 2 = Ok 2; log = 2 Byte 0 21, 2 Byte 0 20, 2 Byte 0 10, 3 Byte 0 30
 # To another time between the same neighbours, and to the front.
-move 3 7 = 3; move 3 0 = 0; log = 0 Byte 0 30, 2 Byte 0 21, 2 Byte 0 20, 2 Byte 0 10
+move 3 7 = Ok 3; move 3 0 = Ok 0; log = 0 Byte 0 30, 2 Byte 0 21, 2 Byte 0 20, 2 Byte 0 10
 
 $ refused edits: three
 # The range comes first.
-add 0 4 0 = Range; add 1099511627775 0 0 = Range; add 18446744073709551615 255 0 = Range; move 0 1099511627775 = Range
-del 3 = NoEvent; set 3 0 = NoEvent; move 3 1099511627774 = NoEvent; move 3 1099511627775 = Range
-del 4294967296 = NoEvent; set 4294967296 0 = NoEvent; move 4294967296 1099511627774 = NoEvent; move 4294967296 1099511627775 = Range
-del 18446744073709551615 = NoEvent; set 18446744073709551615 0 = NoEvent; move 18446744073709551615 1099511627774 = NoEvent
-move 18446744073709551615 1099511627775 = Range
+add 0 4 0 = Err Range; add 1099511627775 0 0 = Err Range; add 18446744073709551615 255 0 = Err Range; move 0 1099511627775 = Err Range
+del 3 = Err NoEvent; set 3 0 = Err NoEvent; move 3 1099511627774 = Err NoEvent; move 3 1099511627775 = Err Range
+del 4294967296 = Err NoEvent; set 4294967296 0 = Err NoEvent; move 4294967296 1099511627774 = Err NoEvent; move 4294967296 1099511627775 = Err Range
+del 18446744073709551615 = Err NoEvent; set 18446744073709551615 0 = Err NoEvent; move 18446744073709551615 1099511627774 = Err NoEvent
+move 18446744073709551615 1099511627775 = Err Range
 log = 4 Byte 3 255, 5 Byte 0 1, 5 Byte 1 2
 ";
 

@@ -221,21 +221,21 @@ fn faults(rt: &(impl Abort + AllocGlobal), log: &[u8], rows: &str) -> Result<(),
 }
 
 const OF_THREE: &str =
-    "0 0x52 30 = None; 7 0xd 30 = Bad Magic; 7 0xd 8 = Bad Magic; 7 0xd 7 = Bad Short; 10 0x10 30 = Bad Count; 10 0x10 12 = Bad Count
-10 0x10 11 = Bad Short; 8 0 30 = Bad Extra; 8 2 30 = Bad Extra; 8 4 30 = Bad Short; 15 0xff 30 = Bad Time; 16 4 30 = Bad Line; 16 4 17 = Bad Line
-16 4 16 = Bad Short; 12 5 30 = None; 12 6 30 = Bad Time; 18 4 30 = None; 18 3 30 = Bad Time; 18 3 22 = Bad Time; 18 3 21 = Bad Short
-22 4 30 = Bad Line; 22 4 23 = Bad Line; 24 4 30 = Bad Time; 28 4 29 = Bad Line
+    "0 0x52 30 = None; 7 0xd 30 = Some Bad Magic; 7 0xd 8 = Some Bad Magic; 7 0xd 7 = Some Bad Short; 10 0x10 30 = Some Bad Count; 10 0x10 12 = Some Bad Count
+10 0x10 11 = Some Bad Short; 8 0 30 = Some Bad Extra; 8 2 30 = Some Bad Extra; 8 4 30 = Some Bad Short; 15 0xff 30 = Some Bad Time; 16 4 30 = Some Bad Line; 16 4 17 = Some Bad Line
+16 4 16 = Some Bad Short; 12 5 30 = None; 12 6 30 = Some Bad Time; 18 4 30 = None; 18 3 30 = Some Bad Time; 18 3 22 = Some Bad Time; 18 3 21 = Some Bad Short
+22 4 30 = Some Bad Line; 22 4 23 = Some Bad Line; 24 4 30 = Some Bad Time; 28 4 29 = Some Bad Line
 ";
 
-const OF_MIXED: &str = "6 0x33 56 = Bad Magic; 6 0x33 8 = Bad Magic; 6 0x33 7 = Bad Short
+const OF_MIXED: &str = "6 0x33 56 = Some Bad Magic; 6 0x33 8 = Some Bad Magic; 6 0x33 7 = Some Bad Short
 # In version one byte 22 is the line of the second event.
-6 0x31 56 = Bad Line; 10 0x10 56 = Bad Count; 10 0x10 12 = Bad Count; 10 0x10 11 = Bad Short; 8 3 56 = Bad Extra; 8 5 56 = Bad Short
-12 5 56 = None; 12 6 56 = Bad Time; 12 6 31 = Bad Time; 12 6 30 = Bad Short; 17 1 56 = Bad Time; 19 1 20 = Bad Time; 19 1 19 = Bad Short
-20 3 56 = Bad Kind; 20 0xff 56 = Bad Kind; 20 3 21 = Bad Kind; 20 3 20 = Bad Short; 20 0 56 = None
+6 0x31 56 = Some Bad Line; 10 0x10 56 = Some Bad Count; 10 0x10 12 = Some Bad Count; 10 0x10 11 = Some Bad Short; 8 3 56 = Some Bad Extra; 8 5 56 = Some Bad Short
+12 5 56 = None; 12 6 56 = Some Bad Time; 12 6 31 = Some Bad Time; 12 6 30 = Some Bad Short; 17 1 56 = Some Bad Time; 19 1 20 = Some Bad Time; 19 1 19 = Some Bad Short
+20 3 56 = Some Bad Kind; 20 0xff 56 = Some Bad Kind; 20 3 21 = Some Bad Kind; 20 3 20 = Some Bad Short; 20 0 56 = None
 # An external line 3.
-20 2 56 = Bad Line; 20 2 22 = Bad Line; 20 2 21 = Bad Short; 21 4 56 = Bad Line; 32 3 56 = Bad Line; 32 3 33 = Bad Line; 32 3 32 = Bad Short
-32 1 56 = None; 33 0 56 = None; 33 2 56 = Bad Value; 33 2 34 = Bad Value; 33 2 33 = Bad Short; 31 1 56 = None; 43 4 56 = Bad Line
-55 0xff 56 = Bad Value
+20 2 56 = Some Bad Line; 20 2 22 = Some Bad Line; 20 2 21 = Some Bad Short; 21 4 56 = Some Bad Line; 32 3 56 = Some Bad Line; 32 3 33 = Some Bad Line; 32 3 32 = Some Bad Short
+32 1 56 = None; 33 0 56 = None; 33 2 56 = Some Bad Value; 33 2 34 = Some Bad Value; 33 2 33 = Some Bad Short; 31 1 56 = None; 43 4 56 = Some Bad Line
+55 0xff 56 = Some Bad Value
 ";
 
 // Of one event with several faults the time is judged first, then the kind, the line and the value.

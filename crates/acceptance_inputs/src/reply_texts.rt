@@ -5,7 +5,7 @@ use input_log::{Event, Kind};
 use refusal::Fault;
 use std::process::Abort;
 use std::test::Fail;
-use wb_text::{EntryNumber, LineNumber, Reply, Where, Writer, reply_text};
+use wb_text::{EntryNumber, LineNumber, RegisterNumber, Reply, Where, Writer, reply_text};
 
 fn shows(rt: &impl Abort, reply: &Reply, wanted: &str) {
     same(rt, &reply_text(reply).as_slice(), &wanted.as_bytes());
@@ -21,6 +21,13 @@ fn numbers(rt: HostRuntime) -> Result<(), Fail> {
             "tlb 63 0x00001040 0xabc00f00\n",
         ),
         (Reply::Where(Where::AddressError), "where adel\n"),
+        (
+            Reply::Register {
+                number: RegisterNumber::new(31).ok_or("31")?,
+                value: 0xffff_ffff,
+            },
+            "r31 0xffffffff\n",
+        ),
         (Reply::Event(1_048_575), "event 1048575\n"),
         (Reply::Left(u64::MAX), "log 18446744073709551615\n"),
         (Reply::Writer(Writer::Step(0)), "writer 0\n"),
@@ -74,6 +81,25 @@ fn events_of_the_log(rt: HostRuntime) {
         events: ArrayVec::new(),
     };
     shows(&rt, &empty, "log 0\n");
+    let byte = Event {
+        time: 70,
+        kind: Kind::Byte,
+        line: 0,
+        byte: 0x41,
+    };
+    let mut events = ArrayVec::new();
+    events.push(byte);
+    events.push(last);
+    let two = Reply::Log {
+        total: 9,
+        first: 7,
+        events,
+    };
+    shows(
+        &rt,
+        &two,
+        "log 9\n7 70 0 0x41\n8 4294967294 3 0x0a\n",
+    );
     let text = reply_text(&Reply::Log {
         total: 1_048_576,
         first: u64::MAX - 15,

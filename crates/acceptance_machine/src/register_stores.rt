@@ -76,12 +76,12 @@ lui r3, 0x0104; ori r3, r3, 0x1002; addiu r4, r0, 0x10; addiu r1, r1, 8; $1; lw 
 --
 run 12, receive 0:0x41 1:0x42 2:0x43 3:0x44, run 2, landed 8 $2
 
-$ stores of r3: $1
+$ stores of r3: $1, %1
 # What each store of r3, 0x41424344, brings to byte 0 and to byte 2 of the word at r1. swl brings the top bytes of r3 to byte 0 and on, up
-# to the byte that it names; swr brings the low bytes to that byte and on. First to TDR: line 3 may send and has TRDY, 0x8320. A store
-# that covers byte 0 sends it and takes TRDY for 16 ticks, another does nothing. Then to TCR, which has line 3 before, and afterwards the
-# low four bits of what came to byte 0. Then to a register of the clock's RAM, which is 0x11 before, and afterwards what came to byte 0.
-# Then to the board's enables, which are 0x11 before, and afterwards what came to byte 2. Its other bytes stay 0.
+# to the byte that it names; swr brings the low bytes to that byte and on. To TDR: line 3 may send and has TRDY, 0x8320. A store
+# that covers byte 0 sends it and takes TRDY for 16 ticks, another does nothing. To TCR, which has line 3 before, and afterwards the
+# low four bits of what came to byte 0. To a register of the clock's RAM, which is 0x11 before, and afterwards what came to byte 0.
+# To the board's enables, which are 0x11 before, and afterwards what came to byte 2. Its other bytes stay 0.
 | sw r3, 0(r1) | 3:0x44 | 0x0320 | 4 | 0x44 | 0x00420000
 | sh r3, 0(r1) | 3:0x44 | 0x0320 | 4 | 0x44 | 0x00110000
 | sh r3, 2(r1) | none | 0x8320 | 8 | 0x11 | 0x00440000
@@ -97,11 +97,13 @@ $ stores of r3: $1
 | swr r3, 1(r1) | none | 0x8320 | 8 | 0x11 | 0x00430000
 | swr r3, 2(r1) | none | 0x8320 | 8 | 0x11 | 0x00440000
 | swr r3, 3(r1) | none | 0x8320 | 8 | 0x11 | 0x00110000
-lui r4, 0xbfe0; addiu r2, r0, 8; sw r2, 16(r4); addiu r2, r0, 0x20; sw r2, 0(r4); lui r3, 0x4142; ori r3, r3, 0x4344
-addiu r1, r4, 24; $1; lw r5, 0(r4); addiu r1, r4, 16; $1; lw r6, 0(r1); lui r1, 0xbfe8; addiu r1, r1, 56; addiu r2, r0, 0x11
-sw r2, 0(r1); $1; lw r7, 0(r1); lui r1, 0xbff0; lui r2, 0x0011; sw r2, 0(r1); $1; lw r8, 0(r1)
+/ lui r4, 0xbfe0; addiu r2, r0, 8; sw r2, 16(r4); addiu r2, r0, 0x20; sw r2, 0(r4); addiu r1, r4, 24 | 0(r4) | run 9, sent $2, run 1, landed 5 $3
+/ lui r1, 0xbfe0; addiu r1, r1, 16; addiu r2, r0, 8; sw r2, 0(r1) | 0(r1) | run 8, landed 5 $4
+/ lui r1, 0xbfe8; addiu r1, r1, 56; addiu r2, r0, 0x11; sw r2, 0(r1) | 0(r1) | run 8, landed 5 $5
+/ lui r1, 0xbff0; lui r2, 0x0011; sw r2, 0(r1) | 0(r1) | run 7, landed 5 $6
+lui r3, 0x4142; ori r3, r3, 0x4344; %1; $1; lw r5, %2
 --
-run 9, sent $2, run 15, landed 5 $3 $4 $5 $6
+%3
 
 $ stores of each clock register
 # 0xff to every register of the clock up to the first byte of RAM. Time and alarms keep it; A has no UIP, with DV 7; B has no

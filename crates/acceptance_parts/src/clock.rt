@@ -1,11 +1,13 @@
 //! The clock on its own.
+use crate::lists::{Part, plays};
 use crate::same::{same, same_at};
 use mc146818::Clock;
 use mc146818::registers::{
-    AF, AIE, DAY, DM, HOURS, HOURS_ALARM, IRQF, MINUTES, MINUTES_ALARM, MONTH, PF, PM, RAM,
-    REGISTER_A, REGISTER_B, REGISTER_C, REGISTER_D, SECONDS, SECONDS_ALARM, SET, UF, UIE, UIP,
-    WEEKDAY, YEAR,
+    AF, AIE, DAY, DM, HOURS, HOURS_ALARM, IRQF, MINUTES, MINUTES_ALARM, MONTH, REGISTER_A,
+    REGISTER_B, REGISTER_C, SECONDS, SECONDS_ALARM, UF, WEEKDAY, YEAR,
 };
+use std::mem;
+use std::test::Fail;
 
 // Seconds, minutes, hours, weekday, day, month and year.
 type Fields = [u8; 7];
@@ -17,30 +19,25 @@ fn fields(bytes: u64) -> Fields {
     [seconds, minutes, hours, weekday, day, month, year]
 }
 
+// The registers of the time, in the order of its fields.
+const TIME: [u8; 7] = [SECONDS, MINUTES, HOURS, WEEKDAY, DAY, MONTH, YEAR];
+
 // A clock whose divider runs, with a second of 8192 ticks.
 fn clock_at(b: u8, time: Fields) -> Clock {
     let mut clock = Clock::new([0, 0, 0, 0, 0, 0, 1, 1, 1, 0, 0x20, 0x06], 1);
-    clock.write(SECONDS, time[0]);
-    clock.write(MINUTES, time[1]);
-    clock.write(HOURS, time[2]);
-    clock.write(WEEKDAY, time[3]);
-    clock.write(DAY, time[4]);
-    clock.write(MONTH, time[5]);
-    clock.write(YEAR, time[6]);
+    for (register, byte) in TIME.iter().zip(&time) {
+        clock.write((*register).min(63), *byte);
+    }
     clock.write(REGISTER_B, b);
     clock
 }
 
 fn time_of(clock: &mut Clock) -> Fields {
-    [
-        clock.read(SECONDS),
-        clock.read(MINUTES),
-        clock.read(HOURS),
-        clock.read(WEEKDAY),
-        clock.read(DAY),
-        clock.read(MONTH),
-        clock.read(YEAR),
-    ]
+    let mut time = [0; 7];
+    for (register, byte) in TIME.iter().zip(&mut time) {
+        *byte = clock.read((*register).min(63));
+    }
+    time
 }
 
 fn tick(clock: &mut Clock, ticks: u32) {
@@ -55,39 +52,143 @@ fn second_later(b: u8, time: Fields) -> Fields {
     time_of(&mut clock)
 }
 
+// A clock, and another one, with these clauses. Register 10 is A, 11 B, 12 C and 13 D.
+//
+//     start U B ..                a clock with a unit and the 12 bytes of an image's start
+//     at B S M H W D O Y          one whose divider runs, with a second of 8192 ticks: register B and the time
+//     tick N, pass N, quiet N     ticks; at most so many that only count; how many of them there are
+//     write R B, reads R B ..     a register is written; what those from one on read
+//     ram R S                     the registers from one up to another read 0, and hold what is written
+//     interrupts V                whether the clock asks for an interrupt
+//     mark, swap, same, other     the other one becomes as this one; they change places; they are equal, or are not
+#[derive(Drop)]
+struct Pair {
+    clock: Clock,
+    other: Clock,
+}
+
+impl Part for Pair {
+    fn begin() -> Pair {
+        Pair {
+            clock: clock_at(0, [0; 7]),
+            other: clock_at(0, [0; 7]),
+        }
+    }
+
+    fn clause(&mut self, name: &str, numbers: &[u32]) -> Result<bool, Fail> {
+        Ok(self.does(name, numbers)? || self.is_so(name, numbers)?)
+    }
+}
+
+impl Pair {
+    // Does what is said, and answers whether something is.
+    fn does(&mut self, name: &str, numbers: &[u32]) -> Result<bool, Fail> {
+        match (name, numbers) {
+            ("start", [unit, bytes @ ..]) => self.start(*unit, bytes)?,
+            ("at", [b, bytes @ ..]) => {
+                let mut time = [0; 7];
+                for (byte, number) in time.iter_mut().zip(bytes) {
+                    *byte = u8::try_from(*number)?;
+                }
+                self.clock = clock_at(u8::try_from(*b)?, time);
+            }
+            ("tick", [ticks]) => tick(&mut self.clock, *ticks),
+            ("pass", [ticks]) => self.clock.pass((*ticks).min(self.clock.quiet())),
+            ("write", [register, byte]) => self.write(*register, u8::try_from(*byte)?)?,
+            ("mark", []) => self.other.assign(&self.clock),
+            ("swap", []) => mem::swap(&mut self.clock, &mut self.other),
+            _ => return Ok(false),
+        }
+        Ok(true)
+    }
+
+    // Whether the clock is as is said.
+    fn is_so(&mut self, name: &str, numbers: &[u32]) -> Result<bool, Fail> {
+        Ok(match (name, numbers) {
+            ("reads", [register, wants @ ..]) => self.reads(*register, wants)?,
+            ("ram", [first, last]) => self.is_ram(*first, *last)?,
+            ("quiet", [want]) => self.clock.quiet() == *want,
+            ("interrupts", [want]) => self.clock.interrupts() as u32 == *want,
+            ("same", []) => self.clock == self.other,
+            ("other", []) => self.clock != self.other,
+            _ => false,
+        })
+    }
+
+    fn start(&mut self, unit: u32, bytes: &[u32]) -> Result<(), Fail> {
+        let mut start = [0; 12];
+        for (byte, number) in start.iter_mut().zip(bytes) {
+            *byte = u8::try_from(*number)?;
+        }
+        if unit == 0 || unit > 65_535 || start[10] >= 128 || start[11] % 2 != 0 {
+            return Err("no start".into());
+        }
+        self.clock = Clock::new(start, unit);
+        Ok(())
+    }
+
+    fn write(&mut self, register: u32, byte: u8) -> Result<(), Fail> {
+        let register = u8::try_from(register)?;
+        if register > 63 {
+            return Err("no register".into());
+        }
+        self.clock.write(register, byte);
+        Ok(())
+    }
+
+    fn read(&mut self, register: u32) -> Result<u8, Fail> {
+        let register = u8::try_from(register)?;
+        if register > 63 {
+            return Err("no register".into());
+        }
+        Ok(self.clock.read(register))
+    }
+
+    // Whether the registers from one on read so.
+    fn reads(&mut self, first: u32, wants: &[u32]) -> Result<bool, Fail> {
+        for (register, want) in (first..64).zip(wants) {
+            if self.read(register)? as u32 != *want {
+                return Ok(false);
+            }
+        }
+        Ok(true)
+    }
+
+    // Whether the registers from one up to another read 0, and hold what is written.
+    fn is_ram(&mut self, first: u32, last: u32) -> Result<bool, Fail> {
+        for register in first..=last {
+            if self.read(register)? != 0 {
+                return Ok(false);
+            }
+            self.write(register, u8::try_from(register)? ^ 0xFF)?;
+        }
+        for register in first..=last {
+            if self.read(register)? != u8::try_from(register)? ^ 0xFF {
+                return Ok(false);
+            }
+        }
+        Ok(true)
+    }
+}
+
 // Updates in progress, a leap day, and a century's last second; the start is that of an image.
 #[test]
-fn clock(rt: HostRuntime) {
-    let start = [0x59, 0, 0x59, 0, 0x23, 0, 7, 0x28, 2, 4, 0x20, 2];
-    let mut clock = Clock::new(start, 1);
-    tick(&mut clock, 8189);
-    same(&rt, &clock.read(REGISTER_A), &0x20);
-    clock.tick();
-    same(&rt, &clock.read(REGISTER_A), &0xA0);
-    tick(&mut clock, 2);
-    let want = [0, 0, 0, 0, 0, 0, 1, 0x29, 2, 4];
-    for r in 0..10u8 {
-        same_at(&rt, &r, &clock.read(r), &want[r as usize]);
-    }
-    same(&rt, &clock.read(REGISTER_C), &0x30);
-    same(&rt, &clock.read(REGISTER_C), &0);
+fn clock(rt: HostRuntime) -> Result<(), Fail> {
+    plays::<Pair>(
+        &rt,
+        "
+$ a leap day
+start 1 0x59 0 0x59 0 0x23 0 7 0x28 2 4 0x20 2
+tick 8189, reads 10 0x20, tick 1, reads 10 0xa0, tick 2, reads 0 0 0 0 0 0 0 1 0x29 2 4, reads 12 0x30, reads 12 0
 
-    let start = [0x3b, 0, 0x3b, 0, 0x8b, 0, 7, 0x1f, 0x0c, 0x63, 0x20, 4];
-    let mut clock = Clock::new(start, 1);
-    tick(&mut clock, 8192);
-    let want = [0, 0, 0, 0, 0x0c, 0, 1, 1, 1, 0];
-    for r in 0..10u8 {
-        same_at(&rt, &r, &clock.read(r), &want[r as usize]);
-    }
-    same(&rt, &clock.read(REGISTER_C), &0x10);
+$ a century's last second
+start 1 0x3b 0 0x3b 0 0x8b 0 7 0x1f 0x0c 0x63 0x20 4
+tick 8192, reads 0 0 0 0 0 0x0c 0 1 1 1 0, reads 12 0x10
 
-    let start = [0, 0, 0, 0, 0, 0, 1, 1, 1, 0, 0x23, 0x46];
-    let mut clock = Clock::new(start, 1);
-    clock.tick();
-    assert!(rt; clock.interrupts());
-    same(&rt, &clock.read(REGISTER_C), &0xC0);
-    same(&rt, &clock.read(REGISTER_C), &0);
-    assert!(rt; !clock.interrupts());
+$ a periodic interrupt
+start 1 0 0 0 0 0 0 1 1 1 0 0x23 0x46
+tick 1, interrupts 1, reads 12 0xc0, reads 12 0, interrupts 0",
+    )
 }
 
 // A number below 100 as a byte of the format that register B sets.
@@ -228,145 +329,90 @@ fn alarms(rt: HostRuntime) {
 
 // A divider that is held stands at 0, and a second later than its start there is an update.
 #[test]
-fn divider(rt: HostRuntime) {
-    for held in [0x00, 0x10, 0x30, 0x60, 0x70] {
-        let mut clock = clock_at(BCD_24, [0x55, 0, 0, 1, 1, 1, 1]);
-        tick(&mut clock, 8191);
-        clock.write(REGISTER_A, held);
-        same(&rt, &clock.read(REGISTER_A), &held);
-        tick(&mut clock, 10_000);
-        same(&rt, &clock.read(REGISTER_C), &0);
-        clock.write(REGISTER_A, 0x2F);
-        tick(&mut clock, 8191);
-        same(&rt, &clock.read(REGISTER_A), &0xAF);
-        same(&rt, &clock.read(REGISTER_C), &PF);
-        clock.write(REGISTER_A, 0x20);
-        clock.tick();
-        same(&rt, &clock.read(REGISTER_C), &UF);
-        same(&rt, &clock.read(SECONDS), &0x56);
-    }
-    let mut clock = Clock::new([0, 0, 0, 0, 0, 0, 1, 1, 1, 0, 0x20, 6], 3);
-    tick(&mut clock, 24_569);
-    same(&rt, &clock.read(REGISTER_A), &0x20);
-    clock.tick();
-    same(&rt, &clock.read(REGISTER_A), &0xA0);
-    tick(&mut clock, 5);
-    same(&rt, &clock.read(REGISTER_C), &0);
-    clock.tick();
-    same(&rt, &clock.read(REGISTER_C), &UF);
+fn divider(rt: HostRuntime) -> Result<(), Fail> {
+    plays::<Pair>(
+        &rt,
+        "
+$ held by $1
+| 0x00
+| 0x10
+| 0x30
+| 0x60
+| 0x70
+at 0x02 0x55 0 0 1 1 1 1, tick 8191, write 10 $1, reads 10 $1, tick 10000, reads 12 0, write 10 0x2f, tick 8191
+# PF, and then UF.
+reads 10 0xaf, reads 12 0x40, write 10 0x20, tick 1, reads 12 0x10, reads 0 0x56
+
+$ a unit of 3
+start 3 0 0 0 0 0 0 1 1 1 0 0x20 6
+tick 24569, reads 10 0x20, tick 1, reads 10 0xa0, tick 5, reads 12 0, tick 1, reads 12 0x10",
+    )
 }
 
 // SET holds the time while the divider runs on, and clears UIE where it becomes 1.
 #[test]
-fn set(rt: HostRuntime) {
-    let mut clock = clock_at(UIE | BCD_24, [0x55, 0, 0, 1, 1, 1, 1]);
-    tick(&mut clock, 8191);
-    clock.write(REGISTER_B, SET | UIE | BCD_24);
-    same(&rt, &clock.read(REGISTER_B), &(SET | BCD_24));
-    same(&rt, &clock.read(REGISTER_A), &0x20);
-    tick(&mut clock, 8192);
-    same(&rt, &clock.read(SECONDS), &0x55);
-    same(&rt, &clock.read(REGISTER_C), &0);
-    clock.write(REGISTER_B, SET | UIE | BCD_24);
-    same(&rt, &clock.read(REGISTER_B), &(SET | UIE | BCD_24));
-    clock.write(REGISTER_B, UIE | BCD_24);
-    same(&rt, &clock.read(REGISTER_A), &0xA0);
-    clock.tick();
-    same(&rt, &clock.read(SECONDS), &0x56);
-    assert!(rt; clock.interrupts());
-    same(&rt, &clock.read(REGISTER_C), &(IRQF | UF));
+fn set(rt: HostRuntime) -> Result<(), Fail> {
+    plays::<Pair>(
+        &rt,
+        "
+$ SET
+# Register B with UIE, and with SET; then with both, and with UIE again.
+at 0x12 0x55 0 0 1 1 1 1, tick 8191, write 11 0x92, reads 11 0x82, reads 10 0x20, tick 8192, reads 0 0x55, reads 12 0
+write 11 0x92, reads 11 0x92, write 11 0x12, reads 10 0xa0, tick 1, reads 0 0x56, interrupts 1, reads 12 0x90",
+    )
 }
 
 // C and D are read only, as are UIP and daylight saving; the 50 bytes of RAM are all held.
 #[test]
-fn writes(rt: HostRuntime) {
-    let mut clock = clock_at(BCD_24, [0; 7]);
-    clock.write(REGISTER_C, 0xFF);
-    same(&rt, &clock.read(REGISTER_C), &0);
-    tick(&mut clock, 8192);
-    clock.write(REGISTER_C, 0);
-    clock.write(REGISTER_D, 0);
-    same(&rt, &clock.read(REGISTER_C), &UF);
-    same(&rt, &clock.read(REGISTER_D), &0x80);
-    clock.write(REGISTER_A, 0xFF);
-    same(&rt, &clock.read(REGISTER_A), &0x7F);
-    clock.write(REGISTER_B, 0xFF);
-    same(&rt, &clock.read(REGISTER_B), &0xEE);
-    for r in RAM..64 {
-        same_at(&rt, &r, &clock.read(r), &0);
-        clock.write(r, r ^ 0xFF);
-    }
-    for r in RAM..64 {
-        same_at(&rt, &r, &clock.read(r), &(r ^ 0xFF));
-    }
+fn writes(rt: HostRuntime) -> Result<(), Fail> {
+    plays::<Pair>(
+        &rt,
+        "
+$ writes
+at 0x02 0 0 0 0 0 0 0, write 12 0xff, reads 12 0, tick 8192, write 12 0, write 13 0, reads 12 0x10, reads 13 0x80
+write 10 0xff, reads 10 0x7f, write 11 0xff, reads 11 0xee, ram 14 63",
+    )
 }
 
 // The divider is part of a clock, and so is the unit.
 #[test]
-fn equality(rt: HostRuntime) {
-    let start = [0, 0, 0, 0, 0, 0, 1, 1, 1, 0, 0x20, 6];
-    let one = Clock::new(start, 2);
-    let mut other = Clock::new(start, 2);
-    assert!(rt; one == other);
-    other.tick();
-    assert!(rt; one != other);
-    other.assign(&one);
-    assert!(rt; one == other);
-    assert!(rt; one != Clock::new(start, 1));
-    other.write(63, 1);
-    assert!(rt; one != other);
-}
-
-// Passes at most `ticks` ticks, as far as they are quiet.
-fn pass(clock: &mut Clock, ticks: u32) {
-    clock.pass(ticks.min(clock.quiet()));
+fn equality(rt: HostRuntime) -> Result<(), Fail> {
+    plays::<Pair>(
+        &rt,
+        "
+$ equality
+start 2 0 0 0 0 0 0 1 1 1 0 0x20 6, mark, same, swap, tick 1, other, swap, mark, same
+swap, start 1 0 0 0 0 0 0 1 1 1 0 0x20 6, other, swap, mark, write 63 1, other",
+    )
 }
 
 // How many ticks pass before the second's end, also with SET and with the greatest unit. The ticks of
 // a divider that is held are all quiet.
 #[test]
-fn quiet_seconds(rt: HostRuntime) {
-    let mut clock = clock_at(BCD_24, [0x55, 0, 0, 1, 1, 1, 1]);
-    same(&rt, &clock.quiet(), &8191);
-    clock.tick();
-    same(&rt, &clock.quiet(), &8190);
-    pass(&mut clock, 8190);
-    same(&rt, &clock.quiet(), &0);
-    same(&rt, &clock.read(REGISTER_A), &0xA0);
-    same(&rt, &clock.read(SECONDS), &0x55);
-    clock.tick();
-    same(&rt, &clock.read(SECONDS), &0x56);
-    same(&rt, &clock.quiet(), &8191);
-    clock.write(REGISTER_B, SET | BCD_24);
-    same(&rt, &clock.quiet(), &8191);
-    clock.write(REGISTER_A, 0);
-    same(&rt, &clock.quiet(), &0xFFFF_FFFF);
-    pass(&mut clock, 0xFFFF_FFFF);
-    clock.write(REGISTER_A, 0x20);
-    same(&rt, &clock.quiet(), &8191);
-    let slow = Clock::new([0, 0, 0, 0, 0, 0, 1, 1, 1, 0, 0x20, 6], 65_535);
-    same(&rt, &slow.quiet(), &536_862_719);
+fn quiet_seconds(rt: HostRuntime) -> Result<(), Fail> {
+    plays::<Pair>(
+        &rt,
+        "
+$ quiet seconds
+at 0x02 0x55 0 0 1 1 1 1, quiet 8191, tick 1, quiet 8190, pass 8190, quiet 0, reads 10 0xa0, reads 0 0x55, tick 1
+reads 0 0x56, quiet 8191
+# SET, and a divider that is held and runs again.
+write 11 0x82, quiet 8191, write 10 0, quiet 0xffffffff, pass 0xffffffff, write 10 0x20, quiet 8191
+start 65535 0 0 0 0 0 0 1 1 1 0 0x20 6, quiet 536862719",
+    )
 }
 
 // How many ticks pass before PF is set, with a unit of 3 ticks: by the rate, a period is 96 ticks,
 // 192, 3 or up to 12,288. Where PF is set already the second's end comes next.
 #[test]
-fn quiet_periods(rt: HostRuntime) {
-    let mut clock = Clock::new([0, 0, 0, 0, 0, 0, 1, 1, 1, 0, 0x20, 0x42], 3);
-    for (rate, quiet) in [(0, 24_575), (1, 95), (2, 191), (3, 2), (4, 5), (15, 12_287)] {
-        clock.write(REGISTER_A, 0x20 + rate);
-        same_at(&rt, &rate, &clock.quiet(), &quiet);
-    }
-    pass(&mut clock, 200);
-    same(&rt, &clock.quiet(), &12_087);
-    clock.write(REGISTER_A, 0x21);
-    same(&rt, &clock.quiet(), &87);
-    pass(&mut clock, 87);
-    assert!(rt; !clock.interrupts());
-    same(&rt, &clock.quiet(), &0);
-    clock.tick();
-    assert!(rt; clock.interrupts());
-    same(&rt, &clock.quiet(), &24_287);
-    same(&rt, &clock.read(REGISTER_C), &(IRQF | PF));
-    same(&rt, &clock.quiet(), &95);
+fn quiet_periods(rt: HostRuntime) -> Result<(), Fail> {
+    plays::<Pair>(
+        &rt,
+        "
+$ quiet periods
+start 3 0 0 0 0 0 0 1 1 1 0 0x20 0x42, write 10 0x20, quiet 24575, write 10 0x21, quiet 95, write 10 0x22, quiet 191
+write 10 0x23, quiet 2, write 10 0x24, quiet 5, write 10 0x2f, quiet 12287
+pass 200, quiet 12087, write 10 0x21, quiet 87, pass 87, interrupts 0, quiet 0, tick 1, interrupts 1, quiet 24287
+reads 12 0xc0, quiet 95",
+    )
 }

@@ -18,6 +18,8 @@ mod entries;
 #[cfg(test)]
 mod indexes;
 #[cfg(test)]
+mod lists;
+#[cfg(test)]
 mod pages;
 #[cfg(test)]
 mod same;

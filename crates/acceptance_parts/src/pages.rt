@@ -217,46 +217,59 @@ fn many_pages_change(rt: HostRuntime) -> Result<(), Fail> {
 // A page that is handed over as changed, but did not, is the same; and so is all memory.
 #[test]
 fn set_that_is_too_large(rt: HostRuntime) -> Result<(), Fail> {
-    let none = PageMarks::new(rt.alloc())?;
-    let one = set_of(&rt, rt.alloc(), &[5])?;
-    let two = set_of(&rt, rt.alloc(), &[5, 40])?;
-    let words = filled::<16>(rt.alloc())?;
-    let earlier = Snapshot::<16>::capture(rt.alloc(), &words, None, &none)?;
-    let later = again(rt.alloc(), &words, &earlier, &two)?;
-    holds(&rt, &later, &[]);
-    differ_in(&rt, &earlier, &later, &[]);
+    stays_the_same::<16>(&rt, rt.alloc(), &[5], &[5, 40])
+}
+
+fn stays_the_same<const PAGES: u32>(
+    rt: &impl Abort,
+    alloc: Global,
+    one: &[u32],
+    two: &[u32],
+) -> Result<(), Fail>
+    requires { PAGES ≤ MAX_RAM_PAGES }
+{
+    let none = PageMarks::new(alloc)?;
+    let one = set_of(rt, alloc, one)?;
+    let two = set_of(rt, alloc, two)?;
+    let words = filled::<PAGES>(alloc)?;
+    let earlier = Snapshot::<PAGES>::capture(alloc, &words, None, &none)?;
+    let later = again(alloc, &words, &earlier, &two)?;
+    holds(rt, &later, &[]);
+    differ_in(rt, &earlier, &later, &[]);
     // Without an earlier one the set says nothing.
-    let alone = Snapshot::<16>::capture(rt.alloc(), &words, None, &one)?;
-    holds(&rt, &alone, &[]);
+    let alone = Snapshot::<PAGES>::capture(alloc, &words, None, &one)?;
+    holds(rt, &alone, &[]);
     Ok(())
 }
 
 // Pages of two spans, one of them in both: each snapshot stands for its own time.
 #[test]
 fn snapshots_one_behind_another(rt: HostRuntime) -> Result<(), Fail> {
-    let none = PageMarks::new(rt.alloc())?;
-    let mut words = filled::<16>(rt.alloc())?;
-    let first = Snapshot::<16>::capture(rt.alloc(), &words, None, &none)?;
-    let second = after(
-        &rt,
-        rt.alloc(),
-        &mut words,
-        &first,
-        &set_of(&rt, rt.alloc(), &[3, 70])?,
-    )?;
-    let third = after(
-        &rt,
-        rt.alloc(),
-        &mut words,
-        &second,
-        &set_of(&rt, rt.alloc(), &[3, 4, 33])?,
-    )?;
+    stand_apart::<16>(&rt, rt.alloc(), &[3, 70], &[3, 4, 33], &[4, 33, 70])
+}
+
+fn stand_apart<const PAGES: u32>(
+    rt: &impl Abort,
+    alloc: Global,
+    one: &[u32],
+    two: &[u32],
+    once: &[u32],
+) -> Result<(), Fail>
+    requires { PAGES ≤ MAX_RAM_PAGES }
+{
+    let none = PageMarks::new(alloc)?;
+    let mut words = filled::<PAGES>(alloc)?;
+    let first = Snapshot::<PAGES>::capture(alloc, &words, None, &none)?;
+    let set = set_of(rt, alloc, one)?;
+    let second = after(rt, alloc, &mut words, &first, &set)?;
+    let set = set_of(rt, alloc, two)?;
+    let third = after(rt, alloc, &mut words, &second, &set)?;
     drop(first);
-    differ_in(&rt, &second, &third, &[3, 4, 33]);
-    holds(&rt, &second, &[3, 70]);
-    holds(&rt, &third, &[4, 33, 70]);
+    differ_in(rt, &second, &third, two);
+    holds(rt, &second, one);
+    holds(rt, &third, once);
     drop(second);
-    holds(&rt, &third, &[4, 33, 70]);
+    holds(rt, &third, once);
     Ok(())
 }
 
@@ -280,33 +293,49 @@ fn one_word_is_set(rt: HostRuntime) -> Result<(), Fail> {
 // Of pages that all differ the named ones are taken from the other one.
 #[test]
 fn pages_of_another(rt: HostRuntime) -> Result<(), Fail> {
-    let empty = PageMarks::new(rt.alloc())?;
-    let mut words = filled::<16>(rt.alloc())?;
-    let own = Snapshot::<16>::capture(rt.alloc(), &words, None, &empty)?;
     let all = [0, 1, 15, 16, 31, 32, 63, 64, 79];
-    let other = after(
-        &rt,
-        rt.alloc(),
-        &mut words,
-        &own,
-        &set_of(&rt, rt.alloc(), &all)?,
-    )?;
-    let none = own.overlay(rt.alloc(), &empty, &other)?;
-    holds(&rt, &none, &[]);
+    taken_from_another::<16>(&rt, rt.alloc(), &all, &[1, 16, 31, 79])
+}
+
+fn taken_from_another<const PAGES: u32>(
+    rt: &impl Abort,
+    alloc: Global,
+    all: &[u32],
+    some: &[u32],
+) -> Result<(), Fail>
+    requires { PAGES ≤ MAX_RAM_PAGES }
+{
+    let none = PageMarks::new(alloc)?;
+    let mut words = filled::<PAGES>(alloc)?;
+    let own = Snapshot::<PAGES>::capture(alloc, &words, None, &none)?;
+    let set = set_of(rt, alloc, all)?;
+    let other = after(rt, alloc, &mut words, &own, &set)?;
+    is_overlaid(rt, alloc, &own, &other, &[])?;
     for page in all {
-        let both = own.overlay(rt.alloc(), &set_of(&rt, rt.alloc(), &[page])?, &other)?;
-        holds(&rt, &both, &[page]);
-        let back = both.overlay(rt.alloc(), &set_of(&rt, rt.alloc(), &[5, page])?, &own)?;
-        holds(&rt, &back, &[]);
+        is_overlaid(rt, alloc, &own, &other, &[*page])?;
     }
-    let both = own.overlay(
-        rt.alloc(),
-        &set_of(&rt, rt.alloc(), &[1, 16, 31, 79])?,
-        &other,
-    )?;
-    holds(&rt, &both, &[1, 16, 31, 79]);
-    holds(&rt, &own, &[]);
-    holds(&rt, &other, &all);
+    is_overlaid(rt, alloc, &own, &other, some)?;
+    holds(rt, &own, &[]);
+    holds(rt, &other, all);
+    Ok(())
+}
+
+// Takes pages from the other one, and takes them back, with one that does not differ.
+fn is_overlaid<const PAGES: u32>(
+    rt: &impl Abort,
+    alloc: Global,
+    own: &Snapshot<PAGES>,
+    other: &Snapshot<PAGES>,
+    pages: &[u32],
+) -> Result<(), Fail>
+    requires { PAGES ≤ MAX_RAM_PAGES }
+{
+    let mut set = set_of(rt, alloc, pages)?;
+    let both = own.overlay(alloc, &set, other)?;
+    holds(rt, &both, pages);
+    set.mark(5);
+    let back = both.overlay(alloc, &set, own)?;
+    holds(rt, &back, &[]);
     Ok(())
 }
 
@@ -343,19 +372,21 @@ fn page_of_the_echo_program(rt: HostRuntime) -> Result<(), Fail> {
 #[test]
 fn marked_pages(rt: HostRuntime) -> Result<(), Fail> {
     let mut marks = PageMarks::<16>::new(rt.alloc())?;
-    assert!(rt; marks.pages().is_empty());
+    same(&rt, &marks.pages().len(), &0);
     marks.add(&[3, 79]);
     marks.add(&[0, 79, 3, 16, 0]);
-    assert!(rt; marks.pages() == [3, 79, 0, 16].as_slice());
+    same(&rt, &marks.pages(), &[3, 79, 0, 16].as_slice());
     marks.clear();
-    assert!(rt; marks.pages().is_empty());
+    same(&rt, &marks.pages().len(), &0);
     marks.add(&[79]);
-    assert!(rt; marks.pages() == [79].as_slice());
+    same(&rt, &marks.pages(), &[79].as_slice());
     marks.mark(5);
     marks.mark(79);
-    assert!(rt; marks.pages() == [79, 5].as_slice());
-    assert!(rt; marks.holds(5) && !marks.holds(6) && !marks.holds(80));
-    assert!(rt; marks.ascending(rt.alloc())?.as_slice() == [5, 79].as_slice());
+    same(&rt, &marks.pages(), &[79, 5].as_slice());
+    let held = [marks.holds(5), marks.holds(6), marks.holds(80)];
+    same(&rt, &held, &[true, false, false]);
+    let ascending = marks.ascending(rt.alloc())?;
+    same(&rt, &ascending.as_slice(), &[5, 79].as_slice());
     Ok(())
 }
 

@@ -4,6 +4,7 @@
 use std::alloc::{AllocError, Global};
 use std::fmt::Debug;
 use std::num::ParseIntError;
+use std::test::Fail;
 
 /// No segments; byte time 16, unit 1, and the clock of a raw ROM.
 pub const EMPTY_IMAGE: [u8; 32] = *b"R3KIMG1\n\x10\0\0\0\x01\0\0\0\
@@ -60,12 +61,12 @@ pub fn number(word: &str) -> Result<u64, ParseIntError> {
 }
 
 /// A source in which instructions stand with `; ` between, and `N*` before one that stands there N times, line by line.
-pub fn program(alloc: Global, source: &str) -> Result<String, AllocError> {
+pub fn program(alloc: Global, source: &str) -> Result<String, Fail> {
     let mut program = String::new(alloc);
     for line in source.lines().filter(|line| !line.starts_with("#")) {
         for part in line.split("; ") {
             let (count, part) = part.split_once('*').unwrap_or(("1", part));
-            for _ in 0..number(count).unwrap_or(0) {
+            for _ in 0..number(count)? {
                 program.push_str(part)?;
                 program.push_str("\n")?;
             }
@@ -74,10 +75,67 @@ pub fn program(alloc: Global, source: &str) -> Result<String, AllocError> {
     Ok(program)
 }
 
-// Words of a value's text that say nothing more.
-const SKIPPED: [&str; 5] = ["Bounded", "Err", "Event", "Ok", "Some"];
+/// The lists of a text. Each begins with a line of `$` and its name. One with rows `| X | Y` is there for each row, with X in place of
+/// $1, Y in place of $2 and so on. One with rows `/ X | Y` too is there for each of them too, with X in place of %1.
+pub fn lists(alloc: Global, text: &str) -> Result<Vec<String>, AllocError> {
+    let mut lists = Vec::new(alloc);
+    for rows in text.split("\n$ ").skip(1) {
+        for rows in &each_row(alloc, rows, "| ", &DOLLARS)? {
+            for list in each_row(alloc, rows.as_str(), "/ ", &PERCENTS)? {
+                lists.push(list)?;
+            }
+        }
+    }
+    Ok(lists)
+}
 
-/// The numbers of a text, in decimal, and its words with a capital letter in front.
+/// What stands for the cells of a row.
+pub const DOLLARS: [&str; 9] = ["$1", "$2", "$3", "$4", "$5", "$6", "$7", "$8", "$9"];
+
+const PERCENTS: [&str; 9] = ["%1", "%2", "%3", "%4", "%5", "%6", "%7", "%8", "%9"];
+
+// A list for each of its rows with a mark, or itself.
+fn each_row(
+    alloc: Global,
+    list: &str,
+    mark: &str,
+    places: &[&str],
+) -> Result<Vec<String>, AllocError> {
+    let mut text = String::new(alloc);
+    let mut rows = Vec::new(alloc);
+    for line in list.lines() {
+        if let Some(row) = line.strip_prefix(mark) {
+            rows.push(row)?;
+        } else {
+            text.push_str(line)?;
+            text.push_str("\n")?;
+        }
+    }
+    let mut lists = Vec::new(alloc);
+    for row in &rows {
+        lists.push(filled(alloc, text.as_str(), *row, places)?)?;
+    }
+    if rows.is_empty() {
+        lists.push(text)?;
+    }
+    Ok(lists)
+}
+
+/// A text with the cells of a row at their places.
+pub fn filled(
+    alloc: Global,
+    text: &str,
+    row: &str,
+    places: &[&str],
+) -> Result<String, AllocError> {
+    let mut text = text.to_string(alloc)?;
+    for (place, cell) in places.iter().zip(row.split(" | ")) {
+        text = text.replace(alloc, *place, cell.trim())?;
+    }
+    Ok(text)
+}
+
+/// The words and numbers of a text, without what stands between, and the numbers in decimal.
 pub fn plain(alloc: Global, text: &str) -> Result<String, AllocError> {
     let mut words = String::new(alloc);
     for letter in text.chars() {
@@ -86,17 +144,15 @@ pub fn plain(alloc: Global, text: &str) -> Result<String, AllocError> {
     }
     let mut plain = String::new(alloc);
     for word in words.as_str().split_whitespace() {
-        if let Ok(number) = number(word) {
-            plain.push_str(format!(in alloc; "{number} ")?.as_str())?;
-        } else if word < "a" && !SKIPPED.contains(&word) {
-            plain.push_str(word)?;
-            plain.push_str(" ")?;
+        match number(word) {
+            Ok(number) => plain.push_str(format!(in alloc; "{number} ")?.as_str())?,
+            Err(_) => plain.push_str(format!(in alloc; "{word} ")?.as_str())?,
         }
     }
     Ok(plain)
 }
 
-/// What of a value's text is so: its variants and its numbers.
+/// The words and numbers of a value's text: its variants, its fields and what they hold.
 pub fn shown<T: Debug>(alloc: Global, value: &T) -> Result<String, AllocError> {
     plain(alloc, format!(in alloc; "{value:?}")?.as_str())
 }
