@@ -46,9 +46,7 @@ fn done(alloc: Global, source: &str, rs: &str, rt: &str) -> Result<String, Fail>
     let effect = effect(&insn, operands);
     // A register counts as its number.
     let text = format!(in alloc; "{effect:?}")?;
-    let text = text
-        .as_str()
-        .replace(alloc, "Register { number: ", "")?;
+    let text = text.as_str().replace(alloc, "Register { number: ", "")?;
     Ok(plain(alloc, text.as_str())?)
 }
 

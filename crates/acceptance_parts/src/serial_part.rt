@@ -163,6 +163,9 @@ impl Serial {
 
 fn on(line: u32, byte: u32) -> Result<Option<Sent>, Fail> {
     let (line, byte) = (u8::try_from(line)?, u8::try_from(byte)?);
+    if line > 3 {
+        return Err("no line".into());
+    }
     Ok(Some(Sent { line, byte }))
 }
 
