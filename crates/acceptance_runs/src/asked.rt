@@ -25,6 +25,8 @@ pub enum Ask<'a> {
     Pc(u64, u32),
     /// The next position after one, at most 20 steps after it, at which the PC holds an address.
     NextPc(u64, u32, u64),
+    /// No position after one, at most n steps after it, holds an address in PC.
+    NeverPc(u64, u32, u64),
     /// The step before a position that sent the byte at a place of line 0.
     Sent(u64, u64, Result<u64, Fault>),
     /// The bytes of line 0 that were sent before a position, eight at most.
@@ -101,6 +103,9 @@ impl<const PAGES: u32, const SPAN: u32> Asked<PAGES, SPAN> {
             Ask::Word(position, address, want) => self.word(rt, *position, *address, *want),
             Ask::Pc(position, want) => self.pc(rt, *position, *want),
             Ask::NextPc(position, address, want) => self.next_pc(rt, *position, *address, *want),
+            Ask::NeverPc(position, address, limit) => self.never_pc(
+                rt, *position, *address, *limit,
+            ),
             Ask::Sent(position, place, want) => self.sent(rt, *position, *place, *want),
             Ask::Console(position, want) => self.console(rt, *position, want),
             Ask::Add(time, byte) => self.add(rt, *time, *byte),
@@ -153,6 +158,12 @@ impl<const PAGES: u32, const SPAN: u32> Asked<PAGES, SPAN> {
     fn next_pc(&mut self, rt: &impl Abort, position: u64, address: u32, want: u64) {
         let found = self.timeline.next_pc(position, address, 20);
         assert!(rt; found == Ok(want));
+    }
+
+    // No position after one, at most n steps after it, holds an address in PC.
+    fn never_pc(&mut self, rt: &impl Abort, position: u64, address: u32, limit: u64) {
+        let found = self.timeline.next_pc(position, address, limit);
+        assert!(rt; found == Err(Fault::NotFound));
     }
 
     // The step that sent the byte at a place of line 0.

@@ -39,6 +39,31 @@ fn edited_echo(rt: HostRuntime) -> Result<(), Fail> {
     )
 }
 
+/// A search passes the spans of records in which the PC stands nowhere in the page of the address. The program stands in its first page
+/// up to step 9, and then in its second one alone.
+#[test]
+fn search_by_spans(rt: HostRuntime) -> Result<(), Fail> {
+    asks(
+        &rt,
+        rt.alloc(),
+        echo(rt.alloc())?,
+        &[
+            Ask::Writer(256, RECEIVED, Writer::Step(253)),
+            Ask::Costs(256),
+            Ask::NeverPc(0, 0xBFC0_2000, 256),
+            Ask::NeverPc(100, 0xBFC0_0FFC, 156),
+            Ask::Costs(0),
+            Ask::NeverPc(0, 0xBFC0_0FFC, 256),
+            Ask::Costs(64),
+            Ask::NextPc(20, 0xBFC0_1000, 31),
+            // The span after these has no record.
+            Ask::CostsAtMost(64),
+            Ask::NeverPc(128, 0xBFC0_2000, 192),
+            Ask::Costs(64),
+        ],
+    )
+}
+
 /// Two bytes cost two spans, and one deleted its own.
 #[test]
 fn two_edits(rt: HostRuntime) -> Result<(), Fail> {
