@@ -227,7 +227,8 @@ const OF_THREE: &str =
 22 4 30 = Some Bad Line; 22 4 23 = Some Bad Line; 24 4 30 = Some Bad Time; 28 4 29 = Some Bad Line
 ";
 
-const OF_MIXED: &str = "6 0x33 56 = Some Bad Magic; 6 0x33 8 = Some Bad Magic; 6 0x33 7 = Some Bad Short
+const OF_MIXED: &str =
+    "6 0x33 56 = Some Bad Magic; 6 0x33 8 = Some Bad Magic; 6 0x33 7 = Some Bad Short
 # In version one byte 22 is the line of the second event.
 6 0x31 56 = Some Bad Line; 10 0x10 56 = Some Bad Count; 10 0x10 12 = Some Bad Count; 10 0x10 11 = Some Bad Short; 8 3 56 = Some Bad Extra; 8 5 56 = Some Bad Short
 12 5 56 = None; 12 6 56 = Some Bad Time; 12 6 31 = Some Bad Time; 12 6 30 = Some Bad Short; 17 1 56 = Some Bad Time; 19 1 20 = Some Bad Time; 19 1 19 = Some Bad Short

@@ -95,11 +95,7 @@ fn events_of_the_log(rt: HostRuntime) {
         first: 7,
         events,
     };
-    shows(
-        &rt,
-        &two,
-        "log 9\n7 70 0 0x41\n8 4294967294 3 0x0a\n",
-    );
+    shows(&rt, &two, "log 9\n7 70 0 0x41\n8 4294967294 3 0x0a\n");
     let text = reply_text(&Reply::Log {
         total: 1_048_576,
         first: u64::MAX - 15,

@@ -122,12 +122,7 @@ fn each_row(
 }
 
 /// A text with the cells of a row at their places.
-pub fn filled(
-    alloc: Global,
-    text: &str,
-    row: &str,
-    places: &[&str],
-) -> Result<String, AllocError> {
+pub fn filled(alloc: Global, text: &str, row: &str, places: &[&str]) -> Result<String, AllocError> {
     let mut text = text.to_string(alloc)?;
     for (place, cell) in places.iter().zip(row.split(" | ")) {
         text = text.replace(alloc, *place, cell.trim())?;
