@@ -8,8 +8,8 @@ use r3k_live::FlatMemory;
 use r3k_machine::step::step;
 use r3k_machine::{Core, Done, Mem, Where};
 use r3k_word::layout::word_count;
-use samples::program;
-use std::alloc::{AllocError, Global};
+use samples::{DOLLARS, filled, program};
+use std::alloc::Global;
 use std::process::Abort;
 use std::test::Fail;
 
@@ -37,50 +37,10 @@ use std::test::Fail;
 /// N*X stands for N times X, also in a program, N+M for a sum, and numbers are as in a source. A list with rows `| X | Y` is played for each row with X in place
 /// of $1, Y in place of $2 and so on. With rows `/ X | Y` too it is played for each of them too, with X in place of %1.
 pub fn plays(rt: &(impl Abort + AllocGlobal), source: &str, lists: &str) -> Result<(), Fail> {
-    for rows in lists.split("\n$ ").skip(1) {
-        for rows in &each_row(rt.alloc(), rows, "| ", &DOLLARS)? {
-            for list in &each_row(rt.alloc(), rows.as_str(), "/ ", &PERCENTS)? {
-                plays_one(rt, rt.alloc(), source, list.as_str())?;
-            }
-        }
+    for list in &samples::lists(rt.alloc(), lists)? {
+        plays_one(rt, rt.alloc(), source, list.as_str())?;
     }
     Ok(())
-}
-
-// What stands for the cells of a row.
-const DOLLARS: [&str; 9] = ["$1", "$2", "$3", "$4", "$5", "$6", "$7", "$8", "$9"];
-
-const PERCENTS: [&str; 9] = ["%1", "%2", "%3", "%4", "%5", "%6", "%7", "%8", "%9"];
-
-// A list for each of its rows with a mark, or itself.
-fn each_row(alloc: Global, list: &str, mark: &str, places: &[&str]) -> Result<Vec<String>, Fail> {
-    let mut text = String::new(alloc);
-    let mut rows = Vec::new(alloc);
-    for line in list.lines() {
-        if let Some(row) = line.strip_prefix(mark) {
-            rows.push(row)?;
-        } else {
-            text.push_str(line)?;
-            text.push_str("\n")?;
-        }
-    }
-    let mut lists = Vec::new(alloc);
-    for row in &rows {
-        lists.push(filled(alloc, text.as_str(), *row, places)?)?;
-    }
-    if rows.is_empty() {
-        lists.push(text)?;
-    }
-    Ok(lists)
-}
-
-// A text with the cells of a row at their places.
-fn filled(alloc: Global, text: &str, row: &str, places: &[&str]) -> Result<String, AllocError> {
-    let mut text = text.to_string(alloc)?;
-    for (place, cell) in places.iter().zip(row.split(" | ")) {
-        text = text.replace(alloc, *place, cell.trim())?;
-    }
-    Ok(text)
 }
 
 // Plays a list without rows.
@@ -217,7 +177,7 @@ impl Machine {
             ["touched", fetch, other] => self.done.touched == [option(fetch)?, option(other)?],
             ["pc", want] => self.core.pc() == number(want)?,
             ["next", want] => self.core.next_pc() == number(want)?,
-            ["delay", want] => self.core.delay() == (*want == "1"),
+            ["delay", want] => self.core.delay() as u32 == number(want)?,
             ["register", register, want] => self.register(number(register)?) == Some(number(want)?),
             ["landed", first, wants @ ..] => self.landed(number(first)?, wants)?,
             ["load", "none"] => self.core.load().is_none(),
@@ -405,7 +365,8 @@ fn place(word: &str) -> Result<Where, Fail> {
         _ => match word {
             "refill" => Where::Refill,
             "tlbl" => Where::Tlbl,
-            _ => Where::Adel,
+            "adel" => Where::Adel,
+            _ => return Err("no place".into()),
         },
     })
 }

@@ -5,135 +5,91 @@ ghost use Rattle.r3k_word.specs.declared.layout.TheConstants.{MAX_RAM_PAGES};
 ghost use Rattle.r3k_pages.specs.Pages.{SameOutside, page_count_of};
 ghost use Rattle.checkpoints.specs.Kept.{span_at};
 
-use crate::running::{FIRST, LOOP, Running, SECOND, Then, echo, plays, record_of};
+use crate::lists::{echo, plays};
+use crate::running::{Running, record_of};
 use crate::same::{same, same_at};
 use checkpoints::Kept;
 use input_log::{Event, Kind, Log};
-use r3k_asm::assemble;
 use r3k_live::{Boundary, counted};
 use r3k_pages::{PageMarks, page_laws};
 use r3k_word::layout::{ROM_PAGES, page_of, word_count};
+use samples::ECHO;
 use span_fact::Fact;
 use std::alloc::{AllocError, Global};
 use std::process::Abort;
 use std::rc::Rc;
 use std::test::Fail;
 
-/// The first span of the echo program, without events: turn 4 stores in step 55, and turn 5 begins after the span. These have no
-/// writer: the words beside the one that is stored into, an address of no word, one of ROM, and the first one past RAM. What is
-/// stored is 0, as before.
 #[test]
-fn first_span(rt: HostRuntime) -> Result<(), Fail> {
-    plays(
-        &rt,
-        "the echo program",
-        echo(rt.alloc())?,
-        &[
-            Then::Record(0, 0, &[]),
-            Then::Stands(LOOP, 64),
-            Then::RecordIs(0, 0, &[]),
-            Then::RecordTells(
-                &[
-                    (0x100, Some(55)),
-                    (0xFC, None),
-                    (0x104, None),
-                    (0x102, None),
-                    (0x1FC0_0000, None),
-                    (0x1_0000, None),
-                ],
-                &[],
-                &[0],
-                &[0, 16, 17],
-            ),
-            Then::Load(0),
-            Then::Stands(0xBFC0_0000, 64),
-            Then::Load(1),
-            Then::Stands(LOOP, 64),
-            Then::Differ(1, 0, &[]),
-        ],
-    )
+fn records(rt: HostRuntime) -> Result<(), Fail> {
+    plays(&rt, ECHO, LISTS)
 }
 
-/// Spans that start where others end, with bytes of steps 70 and 200. By hand: the second span has the stores of step 121, its
-/// last one of RBUF, and 81, and the byte sent in step 83; the third has the store of step 187 and no event; the fourth those of
-/// steps 253 and 213, and the byte of step 215.
-#[test]
-fn spans_with_bytes(rt: HostRuntime) -> Result<(), Fail> {
-    let log = [FIRST, SECOND];
-    plays(
-        &rt,
-        "the echo program",
-        echo(rt.alloc())?,
-        &[
-            Then::Record(0, 0, &log),
-            Then::RecordIs(0, 0, &[]),
-            Then::Record(1, 1, &log),
-            Then::Stands(0xBFC0_1030, 128),
-            Then::RecordIs(1, 1, &[(70, 0x41)]),
-            Then::RecordTells(
-                &[(0x100, Some(57)), (0x104, Some(17))],
-                &[(0x41, 19)],
-                &[0],
-                &[0, 17],
-            ),
-            Then::Record(2, 2, &log),
-            Then::RecordIs(2, 2, &[]),
-            Then::RecordTells(&[(0x100, Some(59)), (0x104, None)], &[], &[0], &[0, 17]),
-            Then::Record(3, 3, &log),
-            Then::RecordIs(3, 3, &[(200, 0x42)]),
-            Then::RecordTells(
-                &[(0x100, Some(61)), (0x104, Some(21))],
-                &[(0x42, 23)],
-                &[0],
-                &[0, 17],
-            ),
-        ],
-    )
-}
+const LISTS: &str = "
+$ first span
+# The first span of the echo program, without events: turn 4 stores in step 55, and turn 5 begins after the span. These have no
+# writer: the words beside the one that is stored into, an address of no word, one of ROM, and the first one past RAM. What is
+# stored is 0, as before.
+--
+record 0 0, stands 0xbfc01000 64, fact is 0 0
+fact writers 0x100:55 0xfc:none 0x104:none 0x102:none 0x1fc00000:none 0x10000:none, fact sent, fact dirty 0, fact touched 0 16 17
+load 0, stands 0xbfc00000 64, load 1, stands 0xbfc01000 64, differ 1 0
 
-// Steps 4 to 10 store into page 15, page 3, byte 3 of a word of page 1, load from page 5, store into ROM, which has no effect,
-// into page 3 again, and into bytes 2 and 3 of the word of page 1. r8 has zeros in its low half.
-const STORES: &str = "lui r8, 0xa000
-ori r9, r8, 0x5000
-ori r10, r8, 0xf000
-lui r11, 0xbfc0
-sw r8, 0(r10)
-sw r8, 0x3000(r8)
-sb r8, 0x1003(r8)
-lw r2, 0(r9)
-sw r8, 0(r11)
-sw r8, 0x3000(r8)
-sh r8, 0x1002(r8)
+$ spans with bytes
+# Spans that start where others end, with bytes of steps 70 and 200. By hand: the second span has the stores of step 121, its
+# last one of RBUF, and 81, and the byte sent in step 83; the third has the store of step 187 and no event; the fourth those of
+# steps 253 and 213, and the byte of step 215.
+--
+log 70:0:0x41 200:0:0x42, record 0 0, fact is 0 0, record 1 1, stands 0xbfc01030 128, fact is 1 1 70:0:0x41
+fact writers 0x100:57 0x104:17, fact sent 0x41:19, fact dirty 0, fact touched 0 17, record 2 2, fact is 2 2
+fact writers 0x100:59 0x104:none, fact sent, fact dirty 0, fact touched 0 17, record 3 3, fact is 3 3 200:0:0x42
+fact writers 0x100:61 0x104:21, fact sent 0x42:23, fact dirty 0, fact touched 0 17
+
+$ stores into pages
+# Stores into several pages: the page that is only loaded from is touched, and one that is stored into is dirty though its
+# words stay. After the program there is no word, which is no operation.
+# Steps 4 to 10 store into page 15, page 3, byte 3 of a word of page 1, load from page 5, store into ROM, which has no effect,
+# into page 3 again, and into bytes 2 and 3 of the word of page 1. r8 has zeros in its low half.
+lui r8, 0xa000; ori r9, r8, 0x5000; ori r10, r8, 0xf000; lui r11, 0xbfc0; sw r8, 0(r10); sw r8, 0x3000(r8)
+sb r8, 0x1003(r8); lw r2, 0(r9); sw r8, 0(r11); sw r8, 0x3000(r8); sh r8, 0x1002(r8)
+--
+record 0 0, stands 0xbfc00100 64
+fact writers 0x1000:10 0x3000:9 0x5000:none 0xf000:4 0x1fc00000:none, fact sent, fact dirty 1 3 15, fact touched 1 3 5 15 16
+holds 0xc00:0xa0000000 0x3c00:0xa0000000, differ 0 1 3 15
+
+$ record of the first span
+# A record is taken only for its own span: not with one more event, and not from a start with another core, as that of its end,
+# where all words are the same. A machine that is made anew starts where this one did.
+--
+records, leaves 0 0, record 0 0, put, records 0, takes 0 0, leaves 1 0, log 5:0:0x41, leaves 0 0, differ 0 1
+log, leaves 0 1, reset, takes 0 2
+
+$ record with an event
+# A record with an event is taken for that event alone.
+--
+log 70:0:0x41, record 0 0, record 1 1, put, takes 1 1, log, leaves 1 1, log 70:0:0x41 70:0:0x41, leaves 1 1
+log 71:0:0x41, leaves 1 1, log 70:1:0x41, leaves 1 1, log 70:0:0x42, leaves 1 1
+
+$ valid records
+# The valid records are counted from the first on. One that is no longer valid is kept.
+--
+record 0 0, put, record 1 1, put, valid 0, join, valid 1, join, valid 2, truncate 5, valid 2, records 0 1
+truncate 2, valid 2, records 0 1, truncate 1, valid 1, records 0 1, truncate 3, valid 1, records 0 1
+truncate 0, valid 0, records 0 1, taken 0 0
+
+$ records apart
+# Records of any order of numbers: none is kept between them.
+--
+record 0 70, put, record 0 2, put, records 2 70, taken 0 2 70
+
+$ record with an event: $1
+# A record with an event is taken for one of its kind alone.
+| 70:0:1 | f70:0:1 | w70:0:1
+| f70:0:1 | w70:0:1 | 70:0:1
+| w70:0:1 | 70:0:1 | f70:0:1
+--
+record 0 0, log $1, record 1 1, put, takes 1 1, log $2, leaves 1 1, log $3, leaves 1 1, log, leaves 1 1
 ";
-
-/// Stores into several pages: the page that is only loaded from is touched, and one that is stored into is dirty though its
-/// words stay. After the program there is no word, which is no operation.
-#[test]
-fn stores_into_pages(rt: HostRuntime) -> Result<(), Fail> {
-    plays(
-        &rt,
-        "stores into several pages",
-        assemble(rt.alloc(), STORES.as_bytes())?,
-        &[
-            Then::Record(0, 0, &[]),
-            Then::Stands(0xBFC0_0100, 64),
-            Then::RecordTells(
-                &[
-                    (0x1000, Some(10)),
-                    (0x3000, Some(9)),
-                    (0x5000, None),
-                    (0xF000, Some(4)),
-                    (0x1FC0_0000, None),
-                ],
-                &[],
-                &[1, 3, 15],
-                &[1, 3, 5, 15, 16],
-            ),
-            Then::Holds(&[(0xC00, 0xA000_0000), (0x3C00, 0xA000_0000)]),
-            Then::Differ(0, 1, &[3, 15]),
-        ],
-    )
-}
 
 // An event of step 5, where the echo program has not turned its receiver on: nothing comes of it, but the events differ.
 const EARLY: Event = Event {
@@ -143,106 +99,7 @@ const EARLY: Event = Event {
     byte: 0x41,
 };
 
-/// A record is taken only for its own span: not with one more event, and not from a start with another core, as that of its end,
-/// where all words are the same. A machine that is made anew starts where this one did.
-#[test]
-fn record_of_the_first_span(rt: HostRuntime) -> Result<(), Fail> {
-    plays(
-        &rt,
-        "the echo program",
-        echo(rt.alloc())?,
-        &[
-            Then::Records(&[]),
-            Then::Applies(0, 0, &[], false),
-            Then::Record(0, 0, &[]),
-            Then::Put,
-            Then::Records(&[0]),
-            Then::Applies(0, 0, &[], true),
-            Then::Applies(1, 0, &[], false),
-            Then::Applies(0, 0, &[EARLY], false),
-            Then::Differ(0, 1, &[]),
-            Then::Applies(0, 1, &[], false),
-            Then::KeepReset,
-            Then::Applies(0, 2, &[], true),
-        ],
-    )
-}
-
-/// A record with an event is taken for that event alone.
-#[test]
-fn record_with_an_event(rt: HostRuntime) -> Result<(), Fail> {
-    plays(
-        &rt,
-        "the echo program",
-        echo(rt.alloc())?,
-        &[
-            Then::Record(0, 0, &[FIRST]),
-            Then::Record(1, 1, &[FIRST]),
-            Then::Put,
-            Then::Applies(1, 1, &[FIRST], true),
-            Then::Applies(1, 1, &[], false),
-            Then::Applies(1, 1, &[FIRST, FIRST], false),
-            Then::Applies(1, 1, &[Event { time: 71, ..FIRST }], false),
-            Then::Applies(1, 1, &[Event { line: 1, ..FIRST }], false),
-            Then::Applies(
-                1,
-                1,
-                &[Event {
-                    byte: 0x42,
-                    ..FIRST
-                }],
-                false,
-            ),
-        ],
-    )
-}
-
-// Events that differ in their kind alone.
-const BYTE: Event = Event { byte: 1, ..FIRST };
-
-const FRAMING: Event = Event {
-    kind: Kind::Framing,
-    ..BYTE
-};
-
-const WIRE: Event = Event {
-    kind: Kind::Wire,
-    ..BYTE
-};
-
-// A record with an event is not taken for the same event of two other kinds.
-fn told_apart<'a>(
-    rt: &(impl Abort + AllocGlobal),
-    event: &'a [Event],
-    other: &'a [Event],
-    third: &'a [Event],
-) -> Result<(), Fail> {
-    plays(
-        rt,
-        "the echo program",
-        echo(rt.alloc())?,
-        &[
-            Then::Record(0, 0, &[]),
-            Then::Record(1, 1, event),
-            Then::Put,
-            Then::Applies(1, 1, event, true),
-            Then::Applies(1, 1, other, false),
-            Then::Applies(1, 1, third, false),
-            Then::Applies(1, 1, &[], false),
-        ],
-    )
-}
-
-/// A record with an event is taken for one of its kind alone.
-#[test]
-fn record_with_an_event_of_each_kind(rt: HostRuntime) -> Result<(), Fail> {
-    told_apart(&rt, &[BYTE], &[FRAMING], &[WIRE])?;
-    told_apart(&rt, &[FRAMING], &[WIRE], &[BYTE])?;
-    told_apart(&rt, &[WIRE], &[BYTE], &[FRAMING])
-}
-
 // A start with one word set, at a place of this page: what is outside the page stays.
-
 fn with_word<const PAGES: u32>(
     rt: &impl Abort,
     alloc: Global,
@@ -300,7 +157,7 @@ fn one_other_word_applies<const PAGES: u32, const SPAN: u32>(
 ) -> Result<(), Fail>
     requires { PAGES ≤ MAX_RAM_PAGES }
 {
-    let mut machine = Running::<PAGES, SPAN>::boot(alloc)?;
+    let mut machine = Running::<PAGES, SPAN>::of(alloc, echo(alloc)?)?;
     let start = machine.live.keep(alloc)?;
     let fact = record_of(alloc, &mut machine, &start, 0, &Log::new(alloc))?;
     let mut kept = Kept::<PAGES, SPAN>::new(alloc);
@@ -346,7 +203,7 @@ fn nearly_and_not_applies<const PAGES: u32, const SPAN: u32>(
 ) -> Result<(), Fail>
     requires { PAGES ≤ MAX_RAM_PAGES }
 {
-    let mut machine = Running::<PAGES, SPAN>::boot(alloc)?;
+    let mut machine = Running::<PAGES, SPAN>::of(alloc, echo(alloc)?)?;
     let start = machine.live.keep(alloc)?;
     let fact = record_of(alloc, &mut machine, &start, 0, &Log::new(alloc))?;
     let mut kept = Kept::<PAGES, SPAN>::new(alloc);
@@ -429,7 +286,7 @@ fn tied_records_continue<const PAGES: u32, const SPAN: u32>(
 ) -> Result<(), Fail>
     requires { PAGES ≤ MAX_RAM_PAGES }
 {
-    let mut machine = Running::<PAGES, SPAN>::boot(alloc)?;
+    let mut machine = Running::<PAGES, SPAN>::of(alloc, echo(alloc)?)?;
     let start = machine.live.keep(alloc)?;
     let mut kept = Kept::<PAGES, SPAN>::new(alloc);
     for later in [false, true] {
@@ -486,54 +343,6 @@ fn put_again<const PAGES: u32, const SPAN: u32>(
     Ok(())
 }
 
-/// The valid records are counted from the first on. One that is no longer valid is kept.
-#[test]
-fn valid_records(rt: HostRuntime) -> Result<(), Fail> {
-    plays(
-        &rt,
-        "the echo program",
-        echo(rt.alloc())?,
-        &[
-            Then::Record(0, 0, &[]),
-            Then::Put,
-            Then::Record(1, 1, &[]),
-            Then::Put,
-            Then::Valid(0),
-            Then::Join(1),
-            Then::Join(2),
-            Then::Truncate(5, 2),
-            Then::Records(&[0, 1]),
-            Then::Truncate(2, 2),
-            Then::Records(&[0, 1]),
-            Then::Truncate(1, 1),
-            Then::Records(&[0, 1]),
-            Then::Truncate(3, 1),
-            Then::Records(&[0, 1]),
-            Then::Truncate(0, 0),
-            Then::Records(&[0, 1]),
-            Then::AreTaken(0, &[0]),
-        ],
-    )
-}
-
-/// Records of any order of numbers: none is kept between them.
-#[test]
-fn records_apart(rt: HostRuntime) -> Result<(), Fail> {
-    plays(
-        &rt,
-        "the echo program",
-        echo(rt.alloc())?,
-        &[
-            Then::Record(0, 70, &[]),
-            Then::Put,
-            Then::Record(0, 2, &[]),
-            Then::Put,
-            Then::Records(&[2, 70]),
-            Then::AreTaken(0, &[2, 70]),
-        ],
-    )
-}
-
 // The record of the first span, made again where memory was refused: then the machine made at most the span's steps.
 fn first_or_again<const PAGES: u32, const SPAN: u32>(
     rt: &impl Abort,
@@ -584,7 +393,7 @@ fn refused_memory_changes_nothing<const PAGES: u32, const SPAN: u32>(
 ) -> Result<(), Fail>
     requires { PAGES ≤ MAX_RAM_PAGES }
 {
-    let mut machine = Running::<PAGES, SPAN>::boot(alloc)?;
+    let mut machine = Running::<PAGES, SPAN>::of(alloc, echo(alloc)?)?;
     let start = machine.live.keep(alloc)?;
     let fact = first_or_again(rt, alloc, &mut machine, &start)?;
     tells_the_first_span(rt, &fact);

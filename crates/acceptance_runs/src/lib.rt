@@ -8,6 +8,8 @@ mod carried;
 #[cfg(test)]
 mod facts;
 #[cfg(test)]
+mod lists;
+#[cfg(test)]
 mod live;
 #[cfg(test)]
 mod meets;

@@ -2,260 +2,94 @@
 ghost use Rattle.std.specs.Prelude.{◌≤◌};
 ghost use Rattle.r3k_word.specs.declared.layout.TheConstants.{MAX_RAM_PAGES};
 
-use crate::running::{FIRST, LOOP, RECEIVED, Running, SECOND, TAKEN, Then, echo, plays};
+use crate::lists::{echo, plays};
+use crate::running::Running;
 use crate::same::same;
 use r3k_image::Image;
+use samples::ECHO;
 use std::alloc::Global;
 use std::process::Abort;
 use std::test::Fail;
 
 #[test]
-fn at_reset(rt: HostRuntime) -> Result<(), Fail> {
-    plays(
-        &rt,
-        "the echo program",
-        echo(rt.alloc())?,
-        &[
-            Then::Stands(0xBFC0_0000, 0),
-            Then::NextPc(0xBFC0_0004, false),
-            // The first and the last word of the program.
-            Then::Word(16 * 1024, 0x3C01_BFE0),
-            Then::Word(17 * 1024 + 12, 0x0BF0_0400),
-            Then::Holds(&[]),
-            Then::Tells(&[], &[], &[], &[]),
-        ],
-    )
+fn runs(rt: HostRuntime) -> Result<(), Fail> {
+    plays(&rt, ECHO, LISTS)
 }
 
-// The loop has turns of 11 steps from step 9 on, and stores in the third step of each. The last store of each span is that of
-// step 55, 121, 187 and 253.
-#[test]
-fn four_spans(rt: HostRuntime) -> Result<(), Fail> {
-    plays(
-        &rt,
-        "the echo program",
-        echo(rt.alloc())?,
-        &[
-            Then::Run(0, 64, &[]),
-            Then::Stands(LOOP, 64),
-            Then::Holds(&[]),
-            Then::Tells(&[(RECEIVED, 55)], &[], &[0], &[0, 16, 17]),
-            Then::Run(64, 64, &[]),
-            Then::Stands(0xBFC0_1030, 128),
-            Then::Tells(&[(RECEIVED, 57)], &[], &[0], &[0, 17]),
-            Then::Run(128, 64, &[]),
-            Then::Stands(0xBFC0_1028, 192),
-            Then::Tells(&[(RECEIVED, 59)], &[], &[0], &[0, 17]),
-            Then::Run(192, 64, &[]),
-            Then::Stands(0xBFC0_1014, 256),
-            Then::Tells(&[(RECEIVED, 61)], &[], &[0], &[0, 17]),
-            Then::NextPc(0xBFC0_1024, true),
-            Then::Holds(&[]),
-        ],
-    )
-}
+const LISTS: &str = "
+$ at reset
+--
+stands 0xbfc00000 0, next 0xbfc00004 0
+# The first and the last word of the program.
+word 16384 0x3c01bfe0, word 17420 0x0bf00400, holds, written, sent, dirty, touched
 
-// Bytes of steps 70 and 200 are taken in steps 81 and 213 and sent in steps 83 and 215; the last stores of RBUF stay the same.
-#[test]
-fn bytes_of_the_log(rt: HostRuntime) -> Result<(), Fail> {
-    let log = [FIRST, SECOND];
-    plays(
-        &rt,
-        "the echo program",
-        echo(rt.alloc())?,
-        &[
-            Then::Run(0, 64, &log),
-            Then::Tells(&[(RECEIVED, 55)], &[], &[0], &[0, 16, 17]),
-            Then::Run(64, 64, &log),
-            Then::Tells(
-                &[(RECEIVED, 57), (TAKEN, 17)],
-                &[(0x41, 19)],
-                &[0],
-                &[0, 17],
-            ),
-            Then::Run(128, 64, &log),
-            Then::Tells(&[(RECEIVED, 59)], &[], &[0], &[0, 17]),
-            Then::Run(192, 64, &log),
-            Then::Tells(
-                &[(RECEIVED, 61), (TAKEN, 21)],
-                &[(0x42, 23)],
-                &[0],
-                &[0, 17],
-            ),
-            Then::Stands(0xBFC0_1014, 256),
-            Then::Holds(&[]),
-        ],
-    )
-}
+$ four spans
+# The loop has turns of 11 steps from step 9 on, and stores in the third step of each. The last store of each span is that of
+# step 55, 121, 187 and 253.
+--
+run 0 64, stands 0xbfc01000 64, holds, written 0x40:55, sent, dirty 0, touched 0 16 17, run 64 64
+stands 0xbfc01030 128, written 0x40:57, sent, dirty 0, touched 0 17, run 128 64, stands 0xbfc01028 192
+written 0x40:59, sent, dirty 0, touched 0 17, run 192 64, stands 0xbfc01014 256
+written 0x40:61, sent, dirty 0, touched 0 17, next 0xbfc01024 1, holds
 
-// Step 77 stores RBUF with the byte, and step 88 RBUF of an empty silo. A run of no step changes nothing, and the first 11 store
-// nothing.
-#[test]
-fn spans_of_any_length(rt: HostRuntime) -> Result<(), Fail> {
-    let log = [FIRST];
-    plays(
-        &rt,
-        "the echo program",
-        echo(rt.alloc())?,
-        &[
-            Then::Run(0, 0, &log),
-            Then::Stands(0xBFC0_0000, 0),
-            Then::Holds(&[]),
-            Then::Tells(&[], &[], &[], &[]),
-            Then::Run(0, 11, &log),
-            Then::Tells(&[], &[], &[], &[16, 17]),
-            Then::Run(11, 1, &log),
-            Then::Tells(&[(RECEIVED, 0)], &[], &[0], &[0, 17]),
-            Then::Run(12, 52, &log),
-            Then::Run(64, 14, &log),
-            Then::Stands(0xBFC0_100C, 78),
-            Then::Holds(&[(RECEIVED, 0x8041)]),
-            Then::Tells(&[(RECEIVED, 13)], &[], &[0], &[0, 17]),
-            Then::Run(78, 11, &log),
-            Then::Holds(&[]),
-            Then::Tells(&[(RECEIVED, 10), (TAKEN, 3)], &[(0x41, 5)], &[0], &[0, 17]),
-        ],
-    )
-}
+$ bytes of the log
+# Bytes of steps 70 and 200 are taken in steps 81 and 213 and sent in steps 83 and 215; the last stores of RBUF stay the same.
+--
+log 70:0:0x41 200:0:0x42, run 0 64, written 0x40:55, sent, dirty 0, touched 0 16 17, run 64 64
+written 0x40:57 0x41:17, sent 0x41:19, dirty 0, touched 0 17, run 128 64, written 0x40:59, sent, dirty 0, touched 0 17
+run 192 64, written 0x40:61 0x41:21, sent 0x42:23, dirty 0, touched 0 17, stands 0xbfc01014 256, holds
 
-// A machine that goes back runs the same steps again, and counts them.
-#[test]
-fn back_and_again(rt: HostRuntime) -> Result<(), Fail> {
-    plays(
-        &rt,
-        "the echo program",
-        echo(rt.alloc())?,
-        &[
-            Then::Record(0, 0, &[]),
-            Then::Load(0),
-            Then::Stands(0xBFC0_0000, 64),
-            Then::Holds(&[]),
-            Then::Record(0, 0, &[]),
-            Then::Stands(LOOP, 128),
-            Then::SameCore(1, 2, true),
-            Then::Differ(1, 2, &[]),
-            Then::Tells(&[(RECEIVED, 55)], &[], &[0], &[0, 16, 17]),
-        ],
-    )
-}
+$ spans of any length
+# Step 77 stores RBUF with the byte, and step 88 RBUF of an empty silo. A run of no step changes nothing, and the first 11 store
+# nothing.
+--
+log 70:0:0x41, run 0 0, stands 0xbfc00000 0, holds, written, sent, dirty, touched, run 0 11
+written, sent, dirty, touched 16 17, run 11 1, written 0x40:0, sent, dirty 0, touched 0 17, run 12 52, run 64 14
+stands 0xbfc0100c 78, holds 0x40:0x8041, written 0x40:13, sent, dirty 0, touched 0 17, run 78 11, holds
+written 0x40:10 0x41:3, sent 0x41:5, dirty 0, touched 0 17
 
-// From a boundary on without and with a byte: at 128 nothing of it is left.
-#[test]
-fn two_ways_on(rt: HostRuntime) -> Result<(), Fail> {
-    plays(
-        &rt,
-        "the echo program",
-        echo(rt.alloc())?,
-        &[
-            Then::Run(0, 64, &[]),
-            Then::Keep,
-            Then::Run(64, 64, &[]),
-            Then::Tells(&[(RECEIVED, 57)], &[], &[0], &[0, 17]),
-            Then::Keep,
-            Then::Load(1),
-            Then::Run(64, 64, &[FIRST]),
-            Then::Tells(
-                &[(RECEIVED, 57), (TAKEN, 17)],
-                &[(0x41, 19)],
-                &[0],
-                &[0, 17],
-            ),
-            Then::Stands(0xBFC0_1030, 192),
-            Then::Keep,
-            Then::SameCore(2, 3, true),
-            Then::SameCore(1, 3, false),
-        ],
-    )
-}
+$ back and again
+# A machine that goes back runs the same steps again, and counts them.
+--
+record 0 0, load 0, stands 0xbfc00000 64, holds, record 0 0, stands 0xbfc01000 128, same 1 2, differ 1 2
+written 0x40:55, sent, dirty 0, touched 0 16 17
 
-// A boundary keeps its words when the machine goes on. Only pages that a step stored into may differ.
-#[test]
-fn kept_words(rt: HostRuntime) -> Result<(), Fail> {
-    let mut image = echo(rt.alloc())?;
-    image.patch(0x100, 0x1234)?;
-    plays(
-        &rt,
-        "the echo program with a word of RAM",
-        image,
-        &[
-            Then::Record(0, 0, &[]),
-            Then::KeptWord(0, 0x40, 0x1234),
-            Then::KeptWord(1, 0x40, 0),
-            Then::Differ(0, 1, &[0]),
-            Then::Load(0),
-            Then::Stands(0xBFC0_0000, 64),
-            Then::Word(0x40, 0x1234),
-            Then::Load(1),
-            Then::Stands(LOOP, 64),
-            Then::Word(0x40, 0),
-        ],
-    )
-}
+$ two ways on
+# From a boundary on without and with a byte: at 128 nothing of it is left.
+--
+run 0 64, keep, run 64 64, written 0x40:57, sent, dirty 0, touched 0 17, keep, load 1, log 70:0:0x41, run 64 64
+written 0x40:57 0x41:17, sent 0x41:19, dirty 0, touched 0 17, stands 0xbfc01030 192, keep, same 2 3, other 1 3
 
-// What is stored is 0 as before, until a byte is there.
-#[test]
-fn stored_and_equal(rt: HostRuntime) -> Result<(), Fail> {
-    plays(
-        &rt,
-        "the echo program",
-        echo(rt.alloc())?,
-        &[
-            Then::Record(0, 0, &[]),
-            Then::Differ(0, 1, &[]),
-            Then::Run(64, 14, &[FIRST]),
-            Then::Keep,
-            Then::Differ(1, 2, &[0]),
-            Then::KeptWord(2, 0x40, 0x8041),
-        ],
-    )
-}
+$ kept words
+# A boundary keeps its words when the machine goes on. Only pages that a step stored into may differ.
+<source>
+.org 0x100
+.word 0x1234
+--
+record 0 0, kept 0 0x40 0x1234, kept 1 0x40 0, differ 0 1 0, load 0, stands 0xbfc00000 64, word 0x40 0x1234, load 1
+stands 0xbfc01000 64, word 0x40 0
 
-// The PC is at the loop after 9 steps, after 11 more, and not in between; where it stands already does not count.
-#[test]
-fn visits(rt: HostRuntime) -> Result<(), Fail> {
-    plays(
-        &rt,
-        "the echo program",
-        echo(rt.alloc())?,
-        &[
-            Then::Visit(0, 0, &[], LOOP, None),
-            Then::Visit(0, 8, &[], LOOP, None),
-            Then::Stands(0xBFC0_0020, 8),
-            Then::Tells(&[], &[], &[], &[16]),
-            Then::Visit(8, 64, &[], LOOP, Some(1)),
-            Then::Stands(LOOP, 9),
-            Then::Keep,
-            Then::Visit(9, 10, &[], LOOP, None),
-            Then::Stands(0xBFC0_1034, 19),
-            Then::Tells(&[(RECEIVED, 2)], &[], &[0], &[0, 17]),
-            Then::Load(1),
-            Then::Visit(9, 11, &[], LOOP, Some(11)),
-            Then::Stands(LOOP, 30),
-            Then::Tells(&[(RECEIVED, 2)], &[], &[0], &[0, 17]),
-        ],
-    )
-}
+$ stored and equal
+# What is stored is 0 as before, until a byte is there.
+--
+record 0 0, differ 0 1, log 70:0:0x41, run 64 14, keep, differ 1 2 0, kept 2 0x40 0x8041
 
-// From reset in one go; then an address where no instruction of the program stands, and one on the path of a byte: that of step 70
-// has the program come to the store of 0 in step 81.
-#[test]
-fn visits_from_reset(rt: HostRuntime) -> Result<(), Fail> {
-    plays(
-        &rt,
-        "the echo program",
-        echo(rt.alloc())?,
-        &[
-            Then::Visit(0, 64, &[], LOOP, Some(9)),
-            Then::Stands(LOOP, 9),
-            Then::Tells(&[], &[], &[], &[16]),
-            Then::Visit(9, 55, &[], 0xBFC0_2000, None),
-            Then::Stands(LOOP, 64),
-            Then::Visit(64, 64, &[FIRST], 0xBFC0_1018, Some(17)),
-            Then::Stands(0xBFC0_1018, 81),
-            Then::Tells(&[(RECEIVED, 13)], &[], &[0], &[0, 17]),
-        ],
-    )
-}
+$ visits
+# The PC is at the loop after 9 steps, after 11 more, and not in between; where it stands already does not count.
+--
+visit 0 0 0xbfc01000 none, visit 0 8 0xbfc01000 none, stands 0xbfc00020 8, written, sent, dirty, touched 16
+visit 8 64 0xbfc01000 1, stands 0xbfc01000 9, keep, visit 9 10 0xbfc01000 none, stands 0xbfc01034 19
+written 0x40:2, sent, dirty 0, touched 0 17, load 1, visit 9 11 0xbfc01000 11, stands 0xbfc01000 30
+written 0x40:2, sent, dirty 0, touched 0 17
+
+$ visits from reset
+# From reset in one go; then an address where no instruction of the program stands, and one on the path of a byte: that of step 70
+# has the program come to the store of 0 in step 81.
+--
+visit 0 64 0xbfc01000 9, stands 0xbfc01000 9, written, sent, dirty, touched 16, visit 9 55 0xbfc02000 none
+stands 0xbfc01000 64, log 70:0:0x41, visit 64 64 0xbfc01018 17, stands 0xbfc01018 81
+written 0x40:13, sent, dirty 0, touched 0 17
+";
 
 // What runs asks for no memory: where requests are refused, as in a run with failing ones, it answers the same.
 #[test]
@@ -278,18 +112,29 @@ fn answers_the_same<const PAGES: u32, const SPAN: u32>(
     };
     let kept = machine.keep(alloc).is_ok();
     for made in [64, 128] {
-        machine.run(rt, alloc, 0, 64, &[])?;
-        machine.stands(rt, LOOP, made);
+        machine.run(0, 64)?;
+        stands(rt, &machine, 0xBFC0_1000, made);
         same(rt, &machine.recorder.writer(0x100), &Some(55));
         same(rt, &machine.recorder.writer(0x104), &None);
         same(rt, &machine.recorder.sent().len(), &0);
-        machine.holds(rt, &[]);
+        assert!(rt; machine.holds(&[]));
         let _end = machine.keep(alloc);
         if !kept {
             return Ok(());
         }
-        machine.load(rt, 0)?;
-        machine.stands(rt, 0xBFC0_0000, made);
+        machine.load(0)?;
+        stands(rt, &machine, 0xBFC0_0000, made);
     }
     Ok(())
+}
+
+// The machine stands before this instruction, and has made n steps.
+fn stands<const PAGES: u32, const SPAN: u32>(
+    rt: &impl Abort,
+    machine: &Running<PAGES, SPAN>,
+    pc: u32,
+    steps: u64,
+) {
+    same(rt, &machine.live.core().pc(), &pc);
+    same(rt, &machine.live.steps(), &steps);
 }

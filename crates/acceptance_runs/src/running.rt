@@ -1,147 +1,60 @@
-//! A machine that runs a program in spans of 64 steps, its record, kept places of its run, kept records of spans, and lists of what
-//! is done to it and asked of it.
+//! A machine that runs a program in spans of 64 steps, its record, kept places of its run, and kept records of spans.
 ghost use Rattle.std.specs.Prelude.{◌≡◌, ◌+◌, ◌*◌, ◌^◌, ◌<◌, ◌≤◌, IfOk};
+ghost use Rattle.r3k_word.specs.Layout.{word_count_of};
 ghost use Rattle.r3k_word.specs.declared.layout.TheConstants.{MAX_RAM_PAGES};
 
 use checkpoints::Kept;
-use input_log::{Event, Kind, Log};
-use r3k_asm::{AsmFault, assemble};
+use cop0::number::{RANDOM, STATUS};
+use input_log::Log;
 use r3k_image::Image;
-use r3k_live::{Boundary, Live, Recorder, SentAt, Written};
-use r3k_word::layout::{PAGE_WORDS, ROM_PAGES, word_count};
-use samples::ECHO;
+use r3k_live::{Boundary, Live, Recorder, SentAt};
+use r3k_word::layout::{PAGE_WORDS, ROM_PAGES, address_of, word_count};
+use samples::{NONE, number};
 use span_fact::Fact;
 use std::alloc::{AllocError, Global};
-use std::fmt::Debug;
 use std::process::Abort;
 use std::rc::Rc;
 use std::test::Fail;
 
-/// Where the loop of the program begins.
-pub const LOOP: u32 = 0xBFC0_1000;
-
-/// The place of the word that each turn of the loop stores RBUF in.
-pub const RECEIVED: u32 = 0x40;
-
-/// The place of the word that a turn stores 0 in for a byte.
-pub const TAKEN: u32 = 0x41;
-
-/// A byte for the turn that begins at step 75.
-pub const FIRST: Event = Event {
-    time: 70,
-    kind: Kind::Byte,
-    line: 0,
-    byte: 0x41,
-};
-
-/// A byte for the turn that begins at step 207.
-pub const SECOND: Event = Event {
-    time: 200,
-    kind: Kind::Byte,
-    line: 0,
-    byte: 0x42,
-};
-
-/// The program's image.
-pub fn echo(alloc: Global) -> Result<Image, AsmFault> {
-    assemble(alloc, ECHO.as_bytes())
-}
-
-/// What is done to a machine, or what it is asked, with the answer that is wanted. Places in its run are kept under numbers, of which
-/// 0 is reset.
-#[derive(Clone, Copy)]
-pub enum Then<'a> {
-    /// Runs n steps from a time on, with a log.
-    Run(u64, u32, &'a [Event]),
-    /// Runs so until it comes to an address: how many steps it went, if it came there.
-    Visit(u64, u32, &'a [Event], u32, Option<u32>),
-    /// It stands before this instruction, and has made n steps since it was made.
-    Stands(u32, u64),
-    /// The address of the instruction after this one, and whether this one stands in a delay slot.
-    NextPc(u32, bool),
-    /// A control register.
-    Cop0(u8, u32),
-    /// The word at a place in memory.
-    Word(usize, u32),
-    /// All words: those of the image in ROM, these in RAM, and else 0.
-    Holds(&'a [(u32, u32)]),
-    /// What the record of the last run holds: words by their places, each with its last step; bytes with the steps that sent them;
-    /// pages stored into, and pages touched.
-    Tells(&'a [(u32, u32)], &'a [(u8, u32)], &'a [u32], &'a [u32]),
-    /// Keeps where it stands, under the next number.
-    Keep,
-    /// Keeps where another machine of the image stands at reset.
-    KeepReset,
-    /// Stands at a place again.
-    Load(usize),
-    /// The word at a place in the memory of a place.
-    KeptWord(usize, usize, u32),
-    /// Of all pages of two places these alone differ.
-    Differ(usize, usize, &'a [u32]),
-    /// Whether the processor is the same at two places.
-    SameCore(usize, usize, bool),
-    /// Makes the record of the span of a number from a place on, with a log, and keeps where it ends.
-    Record(usize, u64, &'a [Event]),
-    /// The number of that record, where it starts, and the times and bytes of its events, all on line 0.
-    RecordIs(u64, usize, &'a [(u64, u8)]),
-    /// What it reports: words by their addresses, each with its last step, if there is one; bytes with the steps that sent them;
-    /// pages stored into, and pages touched.
-    RecordTells(&'a [(u32, Option<u32>)], &'a [(u8, u32)], &'a [u32], &'a [u32]),
-    /// Keeps it among the records.
-    Put,
-    /// Of the first 72 spans, and of the last one that there can be, these alone have a record, which has their number.
-    Records(&'a [u64]),
-    /// Of the first 72 spans the records of these alone are taken for a start, without events.
-    AreTaken(usize, &'a [u64]),
-    /// This many records are valid.
-    Valid(u64),
-    /// One more becomes valid, which makes n.
-    Join(u64),
-    /// The records from a number on are not valid, which leaves n.
-    Truncate(u64, u64),
-    /// Whether the record of a span is taken for a start and events.
-    Applies(u64, usize, &'a [Event], bool),
-}
-
-/// Plays a list on the machine of an image, under a name.
-pub fn plays(
-    rt: &(impl Abort + AllocGlobal),
-    name: &str,
+/// Plays what is done to the machine of an image and asked of it. A message gives the clause that fails, and the list.
+pub fn plays_machine(
+    rt: &impl Abort,
+    alloc: Global,
     image: Image,
-    thens: &[Then],
+    list: &str,
+    asked: &str,
 ) -> Result<(), Fail> {
-    plays_of::<16, 64>(rt, rt.alloc(), name, image, thens)
+    plays_of::<16, 64>(rt, alloc, image, list, asked)
 }
 
 // Checks over spans are made for sizes that are not known yet.
 fn plays_of<const PAGES: u32, const SPAN: u32>(
     rt: &impl Abort,
     alloc: Global,
-    name: &str,
     image: Image,
-    thens: &[Then],
+    list: &str,
+    asked: &str,
 ) -> Result<(), Fail>
     requires { PAGES ≤ MAX_RAM_PAGES }
 {
     let mut machine = Running::<PAGES, SPAN>::of(alloc, image)?;
-    machine.name.push_str(name)?;
     machine.keep(alloc)?;
-    for (row, then) in thens.iter().enumerate() {
-        machine.row = row;
-        machine.then(rt, alloc, then)?;
+    for line in asked.lines().filter(|line| !line.starts_with("#")) {
+        for clause in line.split(", ") {
+            let holds = machine.clause(alloc, clause)?;
+            assert!(rt; holds, "{clause} of {list}");
+        }
     }
     Ok(())
 }
 
-/// The machine, its image and its record, and what is kept of its run.
+/// The machine, its image, the log and its record, and what is kept of its run.
 #[derive(Drop)]
 pub struct Running<const PAGES: u32, const SPAN: u32> {
     image: Image,
     pub live: Live<PAGES>,
     pub recorder: Recorder<PAGES, SPAN>,
-    // What messages give: the name of the list, and the place in it.
-    name: String,
-    row: usize,
+    log: Log,
     places: Vec<Rc<Boundary<PAGES>>>,
     // The record that was made last, until it is put.
     fact: Option<Fact<PAGES, SPAN>>,
@@ -149,13 +62,6 @@ pub struct Running<const PAGES: u32, const SPAN: u32> {
 }
 
 impl<const PAGES: u32, const SPAN: u32> Running<PAGES, SPAN> {
-    /// On the echo program.
-    pub fn boot(alloc: Global) -> Result<Running<PAGES, SPAN>, Fail>
-        requires { PAGES ≤ MAX_RAM_PAGES }
-    {
-        Ok(Running::of(alloc, echo(alloc)?)?)
-    }
-
     /// On an image.
     pub fn of(alloc: Global, image: Image) -> Result<Running<PAGES, SPAN>, AllocError>
         requires { PAGES ≤ MAX_RAM_PAGES }
@@ -163,8 +69,7 @@ impl<const PAGES: u32, const SPAN: u32> Running<PAGES, SPAN> {
         Ok(Running {
             live: Live::new(alloc, &image)?,
             recorder: Recorder::new(alloc)?,
-            name: String::new(alloc),
-            row: 0,
+            log: Log::new(alloc),
             places: Vec::new(alloc),
             fact: None,
             kept: Kept::new(alloc),
@@ -172,164 +77,212 @@ impl<const PAGES: u32, const SPAN: u32> Running<PAGES, SPAN> {
         })
     }
 
-    // One of them.
-    fn then(&mut self, rt: &impl Abort, alloc: Global, then: &Then) -> Result<(), Fail>
+    // Does or asks what a clause says, and answers whether all was as it says.
+    fn clause(&mut self, alloc: Global, clause: &str) -> Result<bool, Fail>
         requires { PAGES ≤ MAX_RAM_PAGES }
     {
-        match then {
-            Then::Run(from, steps, log) => self.run(rt, alloc, *from, *steps, log)?,
-            Then::Visit(from, steps, log, address, want) => {
-                let found = self.visit(rt, alloc, *from, *steps, log, *address)?;
-                self.same(rt, &found, want);
+        let (name, rest) = clause.split_once(' ').unwrap_or((clause, ""));
+        let words: Vec<&str> = rest.split_whitespace().collect(alloc)?;
+        match name {
+            "log" => {
+                self.log = log_of(alloc, words.as_slice())?;
+                Ok(true)
             }
-            Then::Stands(pc, steps) => self.stands(rt, *pc, *steps),
-            Then::NextPc(pc, delay) => self.next_pc(rt, *pc, *delay),
-            Then::Cop0(number, want) => self.cop0(rt, *number, *want),
-            Then::Word(place, want) => self.word(rt, *place, *want),
-            Then::Holds(ram) => self.holds(rt, ram),
-            Then::Tells(writers, sent, dirty, touched) => {
-                self.tells(rt, alloc, writers, sent, dirty, touched)?
+            "fact" => self.tells(alloc, words.as_slice()),
+            "holds" | "written" | "sent" => {
+                let pairs = pairs_of(alloc, words.as_slice())?;
+                self.shows(alloc, name, pairs.as_slice())
             }
-            Then::Keep => self.keep(alloc)?,
-            Then::KeepReset => self.keep_reset(alloc)?,
-            Then::Load(place) => self.load(rt, *place)?,
-            Then::KeptWord(place, word, want) => self.kept_word(rt, *place, *word, *want)?,
-            Then::Differ(one, other, pages) => self.differ(rt, *one, *other, pages)?,
-            Then::SameCore(one, other, want) => self.same_core(rt, *one, *other, *want)?,
-            Then::Record(place, index, log) => self.record(rt, alloc, *place, *index, log)?,
-            Then::RecordIs(index, place, events) => self.record_is(rt, *index, *place, events)?,
-            Then::RecordTells(writers, sent, dirty, touched) => {
-                self.record_tells(rt, writers, sent, dirty, touched)?
-            }
-            Then::Put => self.put()?,
-            Then::Records(spans) => self.records(rt, spans),
-            Then::AreTaken(place, spans) => self.are_taken(rt, *place, spans)?,
-            Then::Valid(want) => self.same(rt, &self.kept.valid(), want),
-            Then::Join(want) => self.join(rt, *want),
-            Then::Truncate(index, want) => self.truncate(rt, *index, *want),
-            Then::Applies(index, place, events, want) => {
-                self.applies(rt, *index, *place, events, *want)?
+            _ => {
+                let numbers = numbers_of(alloc, words.as_slice())?;
+                Ok(
+                    self.does(alloc, name, numbers.as_slice())?
+                        || self.stands_so(name, numbers.as_slice())
+                        || self.keeps(alloc, name, numbers.as_slice())?,
+                )
             }
         }
-        Ok(())
     }
 
-    // Ends the test where two values differ.
-    fn same<T: PartialEq + Debug>(&self, rt: &impl Abort, found: &T, want: &T) {
-        assert_eq!(rt;
-            *found,
-            *want,
-            "in row {} of {}",
-            self.row,
-            self.name.as_str()
-        );
+    // Does what is said, and answers whether something is.
+    fn does(&mut self, alloc: Global, name: &str, numbers: &[u64]) -> Result<bool, Fail>
+        requires { PAGES ≤ MAX_RAM_PAGES }
+    {
+        match (name, numbers) {
+            ("", []) => {}
+            ("run", [from, steps]) => self.run(*from, *steps)?,
+            ("visit", [from, steps, address, want]) => {
+                return Ok(self.visit(*from, *steps, *address)? == *want);
+            }
+            ("keep", []) => self.keep(alloc)?,
+            ("reset", []) => self.keep_reset(alloc)?,
+            ("load", [place]) => self.load(*place)?,
+            ("record", [place, index]) => self.record(alloc, *place, *index)?,
+            ("put", []) => self.put()?,
+            ("join", []) => self.join()?,
+            ("truncate", [index]) => self.kept.truncate_valid(*index),
+            _ => return Ok(false),
+        }
+        Ok(true)
+    }
+
+    // Whether the machine stands as is said.
+    fn stands_so(&self, name: &str, numbers: &[u64]) -> bool {
+        match (name, numbers) {
+            ("stands", [pc, steps]) => {
+                self.live.core().pc() as u64 == *pc && self.live.steps() == *steps
+            }
+            ("next", [pc, delay]) => {
+                self.live.core().next_pc() as u64 == *pc
+                    && self.live.core().delay() as u64 == *delay
+            }
+            ("random", [want]) => self.live.core().cop0().read(RANDOM) as u64 == *want,
+            ("status", [want]) => self.live.core().cop0().read(STATUS) as u64 == *want,
+            ("word", [place, want]) => self.word(*place) == Some(*want),
+            ("valid", [want]) => self.kept.valid() == *want,
+            ("records", spans) => self.records(spans),
+            _ => false,
+        }
+    }
+
+    // Whether the record of the last run and what is kept are as is said.
+    fn keeps(&self, alloc: Global, name: &str, numbers: &[u64]) -> Result<bool, Fail>
+        requires { PAGES ≤ MAX_RAM_PAGES }
+    {
+        match (name, numbers) {
+            ("dirty", pages) => Ok(are_numbers(self.recorder.dirty(alloc)?.as_slice(), pages)),
+            ("touched", pages) => Ok(are_numbers(self.recorder.touched(alloc)?.as_slice(), pages)),
+            ("kept", [place, word, want]) => self.kept_word(*place, *word, *want),
+            ("differ", [one, other, pages @ ..]) => self.differ(*one, *other, pages),
+            ("same", [one, other]) => self.same_core(*one, *other),
+            ("other", [one, other]) => Ok(!self.same_core(*one, *other)?),
+            ("takes", [index, place]) => self.applies(*index, *place),
+            ("leaves", [index, place]) => Ok(!self.applies(*index, *place)?),
+            ("taken", [place, spans @ ..]) => self.are_taken(*place, spans),
+            _ => Ok(false),
+        }
+    }
+
+    // Whether words, or the record of the last run, are as is said.
+    fn shows(&self, alloc: Global, name: &str, pairs: &[(u64, u64)]) -> Result<bool, Fail>
+        requires { PAGES ≤ MAX_RAM_PAGES }
+    {
+        match name {
+            "holds" => Ok(self.holds(pairs)),
+            "written" => self.is_written(alloc, pairs),
+            _ => Ok(is_sent(self.recorder.sent(), pairs)),
+        }
+    }
+
+    // Whether the record of a span is as is said.
+    fn tells(&self, alloc: Global, words: &[&str]) -> Result<bool, Fail>
+        requires { PAGES ≤ MAX_RAM_PAGES }
+    {
+        let fact = self.fact.as_ref().ok_or("no record")?;
+        let [name, words @ ..] = words else {
+            return Ok(false);
+        };
+        match (*name, words) {
+            ("is", [index, place, events @ ..]) => {
+                let log = log_of(alloc, events)?;
+                Ok(
+                    fact.index() == number(index)?
+                        && fact.events() == log.events()
+                        && self.starts_at(fact, number(place)?)?,
+                )
+            }
+            ("writers", words) => Ok(are_writers(fact, pairs_of(alloc, words)?.as_slice())),
+            ("sent", words) => Ok(is_sent(fact.sent(), pairs_of(alloc, words)?.as_slice())),
+            ("dirty", words) => Ok(are_numbers(fact.dirty(), numbers_of(alloc, words)?.as_slice())),
+            ("touched", words) => {
+                Ok(are_numbers(fact.touched(), numbers_of(alloc, words)?.as_slice()))
+            }
+            _ => Ok(false),
+        }
     }
 
     /// Runs `steps` steps from a time on.
-    pub fn run(
-        &mut self,
-        rt: &impl Abort,
-        alloc: Global,
-        from: u64,
-        steps: u32,
-        log: &[Event],
-    ) -> Result<(), Fail> {
-        let log = log_of(alloc, log)?;
-        assert!(rt; steps <= SPAN && from < MOST);
+    pub fn run(&mut self, from: u64, steps: u64) -> Result<(), Fail> {
+        let steps = u32::try_from(steps)?;
+        if steps > SPAN || from >= MOST {
+            return Err("too far".into());
+        }
         self.recorder.clear();
         self.live
-            .run(from, log.window(0, MOST), steps, &mut self.recorder);
+            .run(from, self.log.window(0, MOST), steps, &mut self.recorder);
         Ok(())
     }
 
     // Runs so until it comes to an address, and gives how many steps it went, if it came there.
-    fn visit(
-        &mut self,
-        rt: &impl Abort,
-        alloc: Global,
-        from: u64,
-        steps: u32,
-        log: &[Event],
-        address: u32,
-    ) -> Result<Option<u32>, Fail> {
-        let log = log_of(alloc, log)?;
-        assert!(rt; steps <= SPAN && from < MOST);
+    fn visit(&mut self, from: u64, steps: u64, address: u64) -> Result<u64, Fail> {
+        let steps = u32::try_from(steps)?;
+        let address = u32::try_from(address)?;
+        if steps > SPAN || from >= MOST {
+            return Err("too far".into());
+        }
         self.recorder.clear();
-        let events = log.window(0, MOST);
-        Ok(
-            self.live
-                .visit(from, events, steps, address, &mut self.recorder),
-        )
-    }
-
-    /// It stands before this instruction, and has made `steps` steps since it was made.
-    pub fn stands(&self, rt: &impl Abort, pc: u32, steps: u64) {
-        self.same(rt, &self.live.core().pc(), &pc);
-        self.same(rt, &self.live.steps(), &steps);
-    }
-
-    // The address of the instruction after this one, and whether this one stands in a delay slot.
-    fn next_pc(&self, rt: &impl Abort, pc: u32, delay: bool) {
-        self.same(rt, &self.live.core().next_pc(), &pc);
-        self.same(rt, &self.live.core().delay(), &delay);
-    }
-
-    // A control register.
-    fn cop0(&self, rt: &impl Abort, number: u8, want: u32) {
-        self.same(rt, &self.live.core().cop0().read(number), &want);
+        let events = self.log.window(0, MOST);
+        let found = self
+            .live
+            .visit(from, events, steps, address, &mut self.recorder);
+        Ok(found.map_or(NONE, |steps| steps as u64))
     }
 
     // The word at a place in memory.
-    fn word(&self, rt: &impl Abort, place: usize, want: u32) {
-        assert!(rt; place < self.live.words().len());
-        self.same(rt, &self.live.word(place), &want);
+    fn word(&self, place: u64) -> Option<u64> {
+        self.live
+            .words()
+            .get(place as usize)
+            .map(|word| *word as u64)
     }
 
-    /// All words of the machine: those of the image in ROM, these in RAM, and else 0.
-    pub fn holds(&self, rt: &impl Abort, ram: &[(u32, u32)])
+    /// Whether these are all words of the machine: those of the image in ROM, these in RAM, and else 0.
+    pub fn holds(&self, ram: &[(u64, u64)]) -> bool
         requires { PAGES ≤ MAX_RAM_PAGES }
     {
-        let ram_words = PAGES as usize * PAGE_WORDS as usize;
-        self.same(rt, &self.live.words().len(), &word_count(PAGES));
+        if self.live.words().len() != word_count(PAGES) {
+            return false;
+        }
         for place in 0..word_count(PAGES) {
-            let want = if place < ram_words {
-                match ram.iter().find(|word| word.0 as usize == place) {
-                    Some(word) => word.1,
-                    None => 0,
-                }
-            } else {
-                self.image
-                    .word(0x1FC0_0000 + 4 * (place - ram_words) as u32)
-                    .unwrap_or(0)
-            };
-            self.same(rt, &(place, self.live.word(place)), &(place, want));
-            self.same(rt, &(place, self.live.words()[place]), &(place, want));
+            let want = self.wanted(ram, place);
+            if self.live.word(place) as u64 != want || self.live.words()[place] as u64 != want {
+                return false;
+            }
         }
+        true
     }
 
-    // What the record of the last run holds.
-    fn tells(
-        &self,
-        rt: &impl Abort,
-        alloc: Global,
-        writers: &[(u32, u32)],
-        sent: &[(u8, u32)],
-        dirty: &[u32],
-        touched: &[u32],
-    ) -> Result<(), AllocError>
+    // What is wanted at a place.
+    fn wanted(&self, ram: &[(u64, u64)], place: usize) -> u64
+        requires few { PAGES ≤ MAX_RAM_PAGES }
+        requires within { place < word_count_of PAGES }
+    {
+        if place >= PAGES as usize * PAGE_WORDS as usize {
+            let word = self.image.word(address_of(PAGES, place));
+            return word.unwrap_or(0) as u64;
+        }
+        let word = ram.iter().find(|word| word.0 == place as u64);
+        word.map_or(0, |word| word.1)
+    }
+
+    // Whether these words alone were stored into, by their places, each last by its step.
+    fn is_written(&self, alloc: Global, wants: &[(u64, u64)]) -> Result<bool, Fail>
         requires { PAGES ≤ MAX_RAM_PAGES }
     {
-        let told = is_written(alloc, &self.recorder, writers)?;
-        self.same(rt, &told, &true);
-        for place in 0..PAGES * PAGE_WORDS {
-            let writer = writers.iter().find(|word| word.0 == place);
-            let found = self.recorder.writer(4 * place);
-            self.same(rt, &(place, found), &(place, writer.map(|word| word.1)));
+        let mut found = Vec::new(alloc);
+        for written in &self.recorder.writers(alloc)? {
+            found.push((written.place as u64, written.step as u64))?;
         }
-        self.same(rt, &is_sent(self.recorder.sent(), sent), &true);
-        let told = are_pages(alloc, &self.recorder, dirty, touched)?;
-        self.same(rt, &told, &true);
-        Ok(())
+        for place in 0..PAGES * PAGE_WORDS {
+            let want = wants
+                .iter()
+                .find(|word| word.0 == place as u64)
+                .map(|word| word.1);
+            if self.recorder.writer(4 * place).map(|step| step as u64) != want {
+                return Ok(false);
+            }
+        }
+        Ok(found.as_slice() == wants)
     }
 
     /// Keeps where it stands.
@@ -340,9 +293,9 @@ impl<const PAGES: u32, const SPAN: u32> Running<PAGES, SPAN> {
     }
 
     // A place that is kept.
-    fn place(&self, rt: &impl Abort, number: usize) -> Result<Rc<Boundary<PAGES>>, AllocError> {
-        assert!(rt; number < self.places.len());
-        self.places[number].clone()
+    fn place(&self, number: u64) -> Result<Rc<Boundary<PAGES>>, Fail> {
+        let place = self.places.get(number as usize).ok_or("no place")?;
+        Ok(place.clone()?)
     }
 
     // Keeps where another machine of the image stands at reset.
@@ -355,189 +308,124 @@ impl<const PAGES: u32, const SPAN: u32> Running<PAGES, SPAN> {
     }
 
     /// Stands at a place again.
-    pub fn load(&mut self, rt: &impl Abort, place: usize) -> Result<(), Fail> {
-        let place = self.place(rt, place)?;
+    pub fn load(&mut self, place: u64) -> Result<(), Fail> {
+        let place = self.place(place)?;
         self.live.load(place);
         Ok(())
     }
 
-    // A word of a place.
-    fn kept_word(&self, rt: &impl Abort, place: usize, word: usize, want: u32) -> Result<(), Fail> {
-        let place = self.place(rt, place)?;
-        assert!(rt; word < word_count(PAGES));
-        self.same(rt, &place.memory().word(word), &want);
-        Ok(())
+    // Whether this is a word of a place.
+    fn kept_word(&self, place: u64, word: u64, want: u64) -> Result<bool, Fail> {
+        let place = self.place(place)?;
+        let word = word as usize;
+        Ok(word < word_count(PAGES) && place.memory().word(word) as u64 == want)
     }
 
-    // Of all pages of two places these alone differ.
-    fn differ(&self, rt: &impl Abort, one: usize, other: usize, pages: &[u32]) -> Result<(), Fail>
+    // Whether of all pages of two places these alone differ.
+    fn differ(&self, one: u64, other: u64, pages: &[u64]) -> Result<bool, Fail>
         requires { PAGES ≤ MAX_RAM_PAGES }
     {
-        let one = self.place(rt, one)?;
-        let other = self.place(rt, other)?;
-        self.differs(rt, &one, &other, pages);
-        Ok(())
-    }
-
-    fn differs(
-        &self,
-        rt: &impl Abort,
-        one: &Boundary<PAGES>,
-        other: &Boundary<PAGES>,
-        pages: &[u32],
-    )
-        requires { PAGES ≤ MAX_RAM_PAGES }
-    {
-        for page in 0..PAGES + ROM_PAGES {
-            let same = one.memory().same_page(page, other.memory());
-            self.same(rt, &(page, same), &(page, !pages.contains(&page)));
-        }
+        let one = self.place(one)?;
+        let other = self.place(other)?;
+        Ok(differs(&one, &other, pages))
     }
 
     // Whether the processor is the same at two places.
-    fn same_core(&self, rt: &impl Abort, one: usize, other: usize, want: bool) -> Result<(), Fail> {
-        let one = self.place(rt, one)?;
-        let other = self.place(rt, other)?;
-        let found = one.core() == other.core();
-        self.same(rt, &found, &want);
-        Ok(())
+    fn same_core(&self, one: u64, other: u64) -> Result<bool, Fail> {
+        let one = self.place(one)?;
+        let other = self.place(other)?;
+        Ok(one.core() == other.core())
+    }
+
+    // Whether a record starts at a place.
+    fn starts_at(&self, fact: &Fact<PAGES, SPAN>, place: u64) -> Result<bool, Fail>
+        requires { PAGES ≤ MAX_RAM_PAGES }
+    {
+        let start = self.place(place)?;
+        Ok(fact.start().core() == start.core() && differs(fact.start(), &start, &[]))
     }
 
     // Makes the record of a span, and keeps where it ends.
-    fn record(
-        &mut self,
-        rt: &impl Abort,
-        alloc: Global,
-        start: usize,
-        index: u64,
-        log: &[Event],
-    ) -> Result<(), Fail> {
-        let log = log_of(alloc, log)?;
-        let start = self.place(rt, start)?;
-        assert!(rt; index < 1 << 31);
-        let fact = record_of(alloc, self, &start, index, &log)?;
+    fn record(&mut self, alloc: Global, start: u64, index: u64) -> Result<(), Fail> {
+        let start = self.place(start)?;
+        if index >= 1 << 31 {
+            return Err("too far".into());
+        }
+        let events = self
+            .log
+            .window(index * SPAN as u64, (index + 1) * SPAN as u64);
+        self.live.load(start.clone()?);
+        let fact = Fact::make(
+            alloc,
+            &mut self.live,
+            &mut self.recorder,
+            start,
+            index,
+            events,
+        )?;
         self.places.push(fact.end().clone()?)?;
         self.fact = Some(fact);
         Ok(())
     }
 
-    // The number of that record, the place where it starts, and its events.
-    fn record_is(
-        &self,
-        rt: &impl Abort,
-        index: u64,
-        start: usize,
-        events: &[(u64, u8)],
-    ) -> Result<(), Fail>
-        requires { PAGES ≤ MAX_RAM_PAGES }
-    {
-        let start = self.place(rt, start)?;
-        let Some(fact) = &self.fact else {
-            return Err(AllocError.into());
-        };
-        self.same(rt, &fact.index(), &index);
-        self.same(rt, &are_events(fact.events(), events), &true);
-        self.same(rt, &(fact.start().core() == start.core()), &true);
-        self.differs(rt, fact.start(), &start, &[]);
-        Ok(())
-    }
-
-    // What it reports.
-    fn record_tells(
-        &self,
-        rt: &impl Abort,
-        writers: &[(u32, Option<u32>)],
-        sent: &[(u8, u32)],
-        dirty: &[u32],
-        touched: &[u32],
-    ) -> Result<(), Fail> {
-        let Some(fact) = &self.fact else {
-            return Err(AllocError.into());
-        };
-        for (address, step) in writers {
-            self.same(rt, &(address, fact.writer(*address)), &(address, *step));
-        }
-        self.same(rt, &is_sent(fact.sent(), sent), &true);
-        self.same(rt, &(fact.dirty() == dirty), &true);
-        self.same(rt, &(fact.touched() == touched), &true);
-        Ok(())
-    }
-
     // Keeps it among the records.
     fn put(&mut self) -> Result<(), Fail> {
-        let Some(fact) = self.fact.take() else {
-            return Err(AllocError.into());
-        };
+        let fact = self.fact.take().ok_or("no record")?;
         Ok(self.kept.put(fact)?)
     }
 
-    // Of the first 72 spans, and of the last one that there can be, these alone have a record, which has their number.
-    fn records(&self, rt: &impl Abort, spans: &[u64]) {
+    // Whether of the first 72 spans, and of the last one that there can be, these alone have a record, which has their number.
+    fn records(&self, spans: &[u64]) -> bool {
         for index in (0..72).chain([u64::MAX]) {
             let want = spans.contains(&index).then_some(index);
-            let found = self.kept.fact(index).map(|fact| fact.index());
-            self.same(rt, &(index, found), &(index, want));
+            if self.kept.fact(index).map(|fact| fact.index()) != want {
+                return false;
+            }
         }
+        true
     }
 
-    // Of the first 72 spans the records of these alone are taken for a start, without events.
-    fn are_taken(&self, rt: &impl Abort, start: usize, spans: &[u64]) -> Result<(), Fail> {
+    // Whether of the first 72 spans the records of these alone are taken for a start.
+    fn are_taken(&self, start: u64, spans: &[u64]) -> Result<bool, Fail> {
         for index in 0..72 {
-            self.applies(rt, index, start, &[], spans.contains(&index))?;
+            if self.applies(index, start)? != spans.contains(&index) {
+                return Ok(false);
+            }
         }
-        Ok(())
+        Ok(true)
     }
 
     // One more record becomes valid.
-    fn join(&mut self, rt: &impl Abort, want: u64) {
+    fn join(&mut self) -> Result<(), Fail> {
         let valid = self.kept.valid();
-        assert!(rt; valid < 72 && self.kept.fact(valid).is_some());
+        if valid >= 72 || self.kept.fact(valid).is_none() {
+            return Err("no next record".into());
+        }
         self.kept.join();
-        self.same(rt, &self.kept.valid(), &want);
-    }
-
-    // The records from a number on are not valid.
-    fn truncate(&mut self, rt: &impl Abort, index: u64, want: u64) {
-        self.kept.truncate_valid(index);
-        self.same(rt, &self.kept.valid(), &want);
-    }
-
-    // Whether the record of a span is taken for a start and events.
-    fn applies(
-        &self,
-        rt: &impl Abort,
-        index: u64,
-        start: usize,
-        events: &[Event],
-        want: bool,
-    ) -> Result<(), Fail> {
-        let start = self.place(rt, start)?;
-        let found = self.kept.applies(index, &start, events, None);
-        self.same(rt, &found, &want);
         Ok(())
+    }
+
+    // Whether the record of a span is taken for a start and the events.
+    fn applies(&self, index: u64, start: u64) -> Result<bool, Fail> {
+        let start = self.place(start)?;
+        Ok(self.kept.applies(index, &start, self.log.events(), None))
     }
 }
 
 // Above all times of these tests.
 const MOST: u64 = 1 << 32;
 
-// The log of these events.
-fn log_of(alloc: Global, events: &[Event]) -> Result<Log, Fail> {
-    let mut log = Log::new(alloc);
-    for event in events {
-        let Event {
-            time,
-            line,
-            byte,
-            ..
-        } = *event;
-        match event.kind {
-            Kind::Byte => log.add(time, line, byte)?,
-            Kind::Framing => log.ferr(time, line, byte)?,
-            Kind::Wire => log.wire(time, line, byte)?,
-        };
+// Whether of all pages of two boundaries these alone differ.
+fn differs<const PAGES: u32>(one: &Boundary<PAGES>, other: &Boundary<PAGES>, pages: &[u64]) -> bool
+    requires { PAGES ≤ MAX_RAM_PAGES }
+{
+    for page in 0..PAGES + ROM_PAGES {
+        let same = one.memory().same_page(page, other.memory());
+        if same == pages.contains(&(page as u64)) {
+            return false;
+        }
     }
-    Ok(log)
+    true
 }
 
 /// The record of the span of a number from a boundary on, with the events of its times.
@@ -566,45 +454,83 @@ pub fn record_of<const PAGES: u32, const SPAN: u32>(
     )
 }
 
-// The words that were stored into.
-fn is_written<const PAGES: u32, const SPAN: u32>(
-    alloc: Global,
-    recorder: &Recorder<PAGES, SPAN>,
-    writers: &[(u32, u32)],
-) -> Result<bool, AllocError> {
-    let mut written = Vec::new(alloc);
-    for (place, step) in writers {
-        written.push(Written {
-            place: *place,
-            step: *step,
-        })?;
+// Whether the words at these addresses have these last steps, or none, in a record.
+fn are_writers<const PAGES: u32, const SPAN: u32>(
+    fact: &Fact<PAGES, SPAN>,
+    wants: &[(u64, u64)],
+) -> bool {
+    for (address, step) in wants {
+        let Ok(address) = u32::try_from(*address) else {
+            return false;
+        };
+        if fact.writer(address).map_or(NONE, |step| step as u64) != *step {
+            return false;
+        }
     }
-    Ok(recorder.writers(alloc)? == written)
+    true
 }
 
-// The pages that were stored into, and those that were touched.
-fn are_pages<const PAGES: u32, const SPAN: u32>(
-    alloc: Global,
-    recorder: &Recorder<PAGES, SPAN>,
-    dirty: &[u32],
-    touched: &[u32],
-) -> Result<bool, AllocError> {
-    Ok(recorder.dirty(alloc)?.as_slice() == dirty && recorder.touched(alloc)?.as_slice() == touched)
-}
-
-// Bytes of line 0, by their times and themselves.
-fn are_events(found: &[Event], events: &[(u64, u8)]) -> bool {
-    found.len() == events.len()
-        && found.iter().zip(events).all(|(found, event)| found.line == 0
-            && found.kind == Kind::Byte
-            && found.time == event.0
-            && found.byte == event.1)
-}
-
-/// Bytes that were sent on line 0, each with its step.
-pub fn is_sent(told: &[SentAt], sent: &[(u8, u32)]) -> bool {
+// Whether these are the bytes that were sent, on line 0, each with its step.
+fn is_sent(told: &[SentAt], sent: &[(u64, u64)]) -> bool {
     told.len() == sent.len()
         && told.iter().zip(sent).all(|(told, sent)| told.line == 0
-            && told.byte == sent.0
-            && told.step == sent.1)
+            && told.byte as u64 == sent.0
+            && told.step as u64 == sent.1)
+}
+
+// Whether these are the numbers.
+fn are_numbers(found: &[u32], wants: &[u64]) -> bool {
+    found.len() == wants.len()
+        && found
+            .iter()
+            .zip(wants)
+            .all(|(found, want)| *found as u64 == *want)
+}
+
+fn numbers_of(alloc: Global, words: &[&str]) -> Result<Vec<u64>, Fail> {
+    let mut numbers = Vec::new(alloc);
+    for word in words {
+        numbers.push(number(word)?)?;
+    }
+    Ok(numbers)
+}
+
+// Two numbers of each word.
+fn pairs_of(alloc: Global, words: &[&str]) -> Result<Vec<(u64, u64)>, Fail> {
+    let mut pairs = Vec::new(alloc);
+    for word in words {
+        let (one, other) = word.split_once(':').ok_or("one number")?;
+        pairs.push((number(one)?, number(other)?))?;
+    }
+    Ok(pairs)
+}
+
+// The log of events.
+fn log_of(alloc: Global, words: &[&str]) -> Result<Log, Fail> {
+    let mut log = Log::new(alloc);
+    for word in words {
+        let (count, event) = word.split_once('*').unwrap_or(("1", *word));
+        for _ in 0..number(count)? {
+            add(&mut log, event)?;
+        }
+    }
+    Ok(log)
+}
+
+// Puts an event into a log.
+fn add(log: &mut Log, event: &str) -> Result<(), Fail> {
+    let numbers = event.strip_prefix("f").or(event.strip_prefix("w"));
+    let (time, rest) = numbers.unwrap_or(event).split_once(':').ok_or("no line")?;
+    let (line, byte) = rest.split_once(':').ok_or("no byte")?;
+    let time = number(time)?;
+    let line = u8::try_from(number(line)?)?;
+    let byte = u8::try_from(number(byte)?)?;
+    if event.starts_with("f") {
+        log.ferr(time, line, byte)?;
+    } else if event.starts_with("w") {
+        log.wire(time, line, byte)?;
+    } else {
+        log.add(time, line, byte)?;
+    }
+    Ok(())
 }
