@@ -1,6 +1,6 @@
 //! Stretches of quick steps.
 
-ghost use Rattle.std.specs.Prelude.{◌≡◌, ◌+◌, ◌-◌, ◌*◌, ◌/◌, ◌^◌, ◌<◌, ◌≤◌, ◌↔◌, IsTrue, ℕ, [], List};
+ghost use Rattle.std.specs.Prelude.{◌≡◌, ◌+◌, ◌-◌, ◌*◌, ◌/◌, ◌^◌, ◌<◌, ◌≤◌, IsTrue, ℕ, [], List};
 ghost use Rattle.input_log.specs.Event.{LogEvent};
 ghost use Rattle.r3k_word.specs.declared.layout.TheConstants.{PAGE_BYTES};
 ghost use Rattle.r3k_machine.specs.Quiet.{IsCodePage, IsQuietFor, state_elapsed};
@@ -20,65 +20,10 @@ use r3k_machine::step::step;
 use r3k_machine::{CodePage, Core, Mem, code_page, learn, quick_step, quiet_laws, quiet_step};
 use r3k_word::layout::PAGE_BYTES;
 
-// Whether the PC holds the address at which steps end, if they end at one.
-#[inline(always)]
-fn is_stop<const STOPS: bool>(pc: u32, stop: u64) -> bool
-    ensures { IsTrue result ↔ (IsTrue STOPS × (pc ≡ stop)) }
-{
-    STOPS && pc as u64 == stop
-}
-
-// Makes quick steps in an open page that was touched before, at most `most`. If it `STOPS`, it ends after one that comes to an address.
-// Their ticks and falls of Random are still to come.
+// Makes quick steps in an open page that was touched before, at most `most`, and ends after one that comes to an address. Their ticks
+// and falls of Random are still to come. It has one caller, so that all of a step is in line: two copies of the loop would be too large.
 #[inline(never)]
-fn quick_steps<const PAGES: u32, const SPAN: u32, const STOPS: bool>(
-    core: &mut Core,
-    memory: &mut FlatMemory<PAGES>,
-    page: CodePage,
-    most: u32,
-    stop: u64,
-    recorder: &mut Recorder<PAGES, SPAN>,
-) -> u32
-    requires quiet { IsQuietFor most core.old }
-    requires code { IsCodePage PAGES core.old page }
-    requires page { IsPage PAGES page.page }
-    requires opened { IsTrue (is_open PAGES memory.old.opened.items page.page) }
-    requires room { recorder.old.steps + most ≤ SPAN }
-    requires again { IsTrue (holds recorder.old.touched page.page) }
-    ensures bound { result ≤ most }
-    ensures steps { recorder.new.steps ≡ recorder.old.steps + result }
-    ensures gone { (log : List LogEvent) (from : ℕ) (start : State) (made : ℕ) → IsFreeFor most log (from + made) →
-        HasGone PAGES log from start made (state_of core.old memory.old) recorder.old →
-        HasGone PAGES log from start (made + result) (state_elapsed result (state_of core.new memory.new)) recorder.new }
-    ensures before { (log : List LogEvent) (from : ℕ) (start : State) (made : ℕ) → IsTrue STOPS → IsFreeFor most log (from + made) →
-        HasGone PAGES log from start made (state_of core.old memory.old) recorder.old →
-        PassesBy PAGES log from start stop made (made + result) }
-    ensures inside { (log : List LogEvent) (from : ℕ) (start : State) (made : ℕ) → IsFreeFor most log (from + made) →
-        HasGone PAGES log from start made (state_of core.old memory.old) recorder.old →
-        BeginsIn PAGES log from start page.number made (made + result) }
-    ensures stood { recorder.new.stood ≡ recorder.old.stood }
-    ensures quiet { IsQuietFor most core.new }
-    ensures code { IsCodePage PAGES core.new page }
-    ensures opened { IsTrue (is_open PAGES memory.new.opened.items page.page) }
-{
-    quiet_laws();
-    let mut made = 0;
-    while made < most {
-        let Some(done) = quick_step(core, memory, page) else {
-            return made;
-        };
-        recorder.note_again(done);
-        made += 1;
-        if is_stop::<STOPS>(core.pc(), stop) {
-            return made;
-        }
-    }
-    made
-}
-
-// The same, and it ends after one that comes to the address.
-#[inline(always)]
-fn quick_steps_to<const PAGES: u32, const SPAN: u32>(
+fn quick_steps<const PAGES: u32, const SPAN: u32>(
     core: &mut Core,
     memory: &mut FlatMemory<PAGES>,
     page: CodePage,
@@ -108,11 +53,19 @@ fn quick_steps_to<const PAGES: u32, const SPAN: u32>(
     ensures code { IsCodePage PAGES core.new page }
     ensures opened { IsTrue (is_open PAGES memory.new.opened.items page.page) }
 {
-    if stop / PAGE_BYTES as u64 == page.number as u64 {
-        return quick_steps::<PAGES, SPAN, true>(core, memory, page, most, stop, recorder);
+    quiet_laws();
+    let mut made = 0;
+    while made < most {
+        let Some(done) = quick_step(core, memory, page) else {
+            return made;
+        };
+        recorder.note_again(done);
+        made += 1;
+        if core.pc() as u64 == stop {
+            return made;
+        }
     }
-    // No address of this page is the one to stop at.
-    quick_steps::<PAGES, SPAN, false>(core, memory, page, most, stop, recorder)
+    made
 }
 
 // Whether one more step is wanted after some of at most `most` steps: there is room for it, and none of them came to the address where
@@ -188,7 +141,7 @@ fn run_in<const PAGES: u32, const SPAN: u32>(
         HasStood PAGES log from start (made + result) before recorder.new.stood }
 {
     quiet_laws();
-    let made = quick_steps_to(core, memory, page, most, stop, recorder);
+    let made = quick_steps(core, memory, page, most, stop, recorder);
     core.elapse(made);
     learn(memory, page, core.pc());
     let wanted = goes_on(made, most, core.pc(), stop);

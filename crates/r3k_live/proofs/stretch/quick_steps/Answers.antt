@@ -1,5 +1,4 @@
 use Rattle.std.proofs.Common.{◌≡◌, ℕ, ◌+◌, ◌/◌, List, rules, sym, ap, subst, ◌∙◌, arith}
-use Rattle.std.proofs.lemmas.Bool.{true≢false}
 use Rattle.input_log.specs.Event.{LogEvent}
 use Rattle.r3k_machine.specs.Core.{Core}
 use Rattle.r3k_machine.specs.State.{State}
@@ -20,7 +19,7 @@ loop-made-init g c =
       gone = λ log from start before free gone.
           subst (λ (t : State). HasGone g.row.PAGES log from start (before + 0) t c.args.recorder.now) (sym (c.quiet_laws.ensures.none s))
           (subst (λ (n : ℕ). HasGone g.row.PAGES log from start n s c.args.recorder.now) (omega arith) gone);
-      passed = λ log from start before stops free gone k after within there. omega (arith, after, within);
+      passed = λ log from start before free gone k after within there. omega (arith, after, within);
       begins = λ log from start before free gone k low high. absurd (let e : ⊥ = omega (arith, low, high) in e);
       stood = search rules;
       quiet = c.requires.quiet;
@@ -39,13 +38,13 @@ begins_too pages log from start number before made s r gone begins here =
     subst (λ (n : ℕ). BeginsIn pages log from start number before n) (let e : before + made + 1 ≡ before + (made + 1) = omega arith in e)
     (begins_more pages log from start number before (before + made) begins (ap (λ (u : State). u.core.pc / PAGE_BYTES) (sym gone.state) ∙ here))
 
-pub returns-then-is_stop-clause-inside : goal.returns-then-is_stop-clause-inside
-returns-then-is_stop-clause-inside g c = λ log from start before free gone.
+pub returns-then-pc-stop-clause-inside : goal.returns-then-pc-stop-clause-inside
+returns-then-pc-stop-clause-inside g c = λ log from start before free gone.
     begins_too g.row.PAGES log from start c.args.page.number before c.loop-made.made (state_of c.loop-made.core c.loop-made.memory) c.loop-made.recorder
     (c.loop-made.invariant.gone log from start before free gone) (c.loop-made.invariant.begins log from start before free gone) c.in-Some.ensures.here
 
-pub returns-then-is_stop-clause-gone : goal.returns-then-is_stop-clause-gone
-returns-then-is_stop-clause-gone g c = λ log from start before free gone.
+pub returns-then-pc-stop-clause-gone : goal.returns-then-pc-stop-clause-gone
+returns-then-pc-stop-clause-gone g c = λ log from start before free gone.
     let made = c.loop-made.made in
     let s = state_of c.loop-made.core c.loop-made.memory in
     let quiet : IsQuietFor (made + 1) s.core = record {
@@ -73,10 +72,10 @@ loop-made-preserved g c =
     (free made c.loop-made-test.true) (c.loop-made.invariant.gone log from start before free gone)
     (c.quiet_laws.ensures.at_once g.row.PAGES made s quiet c.in-Some.ensures.quick) c.in-Some.ensures.ran c.note_again.ensures.records c.in-Some.ensures.within.words in record {
       gone = goes;
-      passed = λ log from start before stops free gone.
+      passed = λ log from start before free gone.
           passes_more g.row.PAGES log from start c.args.stop before (before + (made + 1))
-          (subst (λ (n : ℕ). PassesBy g.row.PAGES log from start c.args.stop before n) (omega arith) (c.loop-made.invariant.passed log from start before stops free gone))
-          (λ here. true≢false (sym (c.is_stop.ensures.1 (stops, c.pc.ensures ∙ (ap (λ (u : State). u.core.pc) (goes log from start before free gone).state ∙ here))) ∙ c.if-is_stop.false));
+          (subst (λ (n : ℕ). PassesBy g.row.PAGES log from start c.args.stop before n) (omega arith) (c.loop-made.invariant.passed log from start before free gone))
+          (λ here. c.if-pc-stop.false (c.pc.ensures ∙ (ap (λ (u : State). u.core.pc) (goes log from start before free gone).state ∙ here)));
       begins = λ log from start before free gone.
           begins_too g.row.PAGES log from start c.args.page.number before made s c.loop-made.recorder
           (c.loop-made.invariant.gone log from start before free gone) (c.loop-made.invariant.begins log from start before free gone) c.in-Some.ensures.here;
@@ -89,25 +88,25 @@ loop-made-preserved g c =
       bound = omega (arith, c.loop-made-test.true);
     }
 
-pub returns-then-is_stop-clause-before : goal.returns-then-is_stop-clause-before
-returns-then-is_stop-clause-before g c = λ log from start before stops free gone.
+pub returns-then-pc-stop-clause-before : goal.returns-then-pc-stop-clause-before
+returns-then-pc-stop-clause-before g c = λ log from start before free gone.
     subst (λ (n : ℕ). PassesBy g.row.PAGES log from start c.args.stop before n)
     (let e : before + c.loop-made.made + 1 ≡ before + (c.loop-made.made + 1) = omega arith in e)
-    (c.loop-made.invariant.passed log from start before stops free gone)
+    (c.loop-made.invariant.passed log from start before free gone)
 
 pub returns-in_default-clause-gone : goal.returns-in_default-clause-gone
 returns-in_default-clause-gone g c = λ log from start before free gone.
     rw (c.quick_step.ensures.core c.in_default.is, c.quick_step.ensures.words c.in_default.is)
     (c.loop-made.invariant.gone log from start before free gone)
 
-pub returns-then-is_stop-clause-quiet : goal.returns-then-is_stop-clause-quiet
-returns-then-is_stop-clause-quiet g c =
+pub returns-then-pc-stop-clause-quiet : goal.returns-then-pc-stop-clause-quiet
+returns-then-pc-stop-clause-quiet g c =
     let s = state_of c.loop-made.core c.loop-made.memory in
     subst (λ (core : Core). IsQuietFor c.args.most core) (ap (λ (o : Outcome). o.state.core) c.in-Some.ensures.ran)
     (c.quiet_laws.ensures.stays_quiet g.row.PAGES c.args.most s c.in-Some.ensures.quick c.loop-made.invariant.quiet)
 
-pub returns-then-is_stop-clause-code : goal.returns-then-is_stop-clause-code
-returns-then-is_stop-clause-code g c =
+pub returns-then-pc-stop-clause-code : goal.returns-then-pc-stop-clause-code
+returns-then-pc-stop-clause-code g c =
     let s = state_of c.loop-made.core c.loop-made.memory in
     subst (λ (core : Core). IsCodePage g.row.PAGES core c.args.page) (ap (λ (o : Outcome). o.state.core) c.in-Some.ensures.ran)
     (c.quiet_laws.ensures.stays_code g.row.PAGES s c.args.page c.in-Some.ensures.quick c.loop-made.invariant.code)

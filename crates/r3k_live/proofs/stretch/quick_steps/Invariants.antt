@@ -1,4 +1,4 @@
-use Rattle.std.proofs.Common.{◌≡◌, ℕ, ◌+◌, ◌-◌, ◌≤◌, ◌==◌, not, IsTrue, List}
+use Rattle.std.proofs.Common.{◌≡◌, ℕ, ◌+◌, ◌-◌, ◌≤◌, IsTrue, List}
 use Rattle.input_log.specs.Event.{LogEvent}
 use Rattle.r3k_machine.specs.Quiet.{IsCodePage, IsQuietFor, state_elapsed}
 use Rattle.r3k_machine.specs.State.{State}
@@ -15,7 +15,7 @@ invariant-loop-made g l = record {
   gone : (log : List LogEvent) (from : ℕ) (start : State) (before : ℕ) → IsFreeFor l.most log (from + before) →
       HasGone g.row.PAGES log from start before (state_of l.fn.core l.fn.memory) l.fn.recorder →
       HasGone g.row.PAGES log from start (before + l.made) (state_elapsed l.made (state_of l.core l.memory)) l.recorder;
-  passed : (log : List LogEvent) (from : ℕ) (start : State) (before : ℕ) → IsTrue (not (g.row.STOPS == 0)) → IsFreeFor l.most log (from + before) →
+  passed : (log : List LogEvent) (from : ℕ) (start : State) (before : ℕ) → IsFreeFor l.most log (from + before) →
       HasGone g.row.PAGES log from start before (state_of l.fn.core l.fn.memory) l.fn.recorder →
       PassesBy g.row.PAGES log from start l.stop before (before + l.made + 1);
   begins : (log : List LogEvent) (from : ℕ) (start : State) (before : ℕ) → IsFreeFor l.most log (from + before) →

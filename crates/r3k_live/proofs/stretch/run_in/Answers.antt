@@ -13,9 +13,9 @@ use Rattle.r3k_live.proofs.stretch.run_in.Goals as goal
 
 pub quiet_on-more-requires : goal.quiet_on-more-requires
 quiet_on-more-requires g c =
-    let made = c.quick_steps_to-made.result in
-    let core = c.quick_steps_to-made.new.core in
-    let quiet = c.quick_steps_to-made.ensures.quiet in
+    let made = c.quick_steps-made.result in
+    let core = c.quick_steps-made.new.core in
+    let quiet = c.quick_steps-made.ensures.quiet in
     let left = λ (room : made < c.args.most). let at_least : IsQuietFor (made + 1) core = record {
       counts = omega (arith, quiet.counts, room);
       sampled = quiet.sampled;
@@ -27,10 +27,10 @@ quiet_on-more-requires g c =
         (
           λ wanted. rw c.elapse.ensures (c.quiet_laws.ensures.quiet_later made 1 core (left (c.goes_on-wanted.ensures.room wanted))),
           (
-            rw c.elapse.ensures (c.quiet_laws.ensures.code_later g.row.PAGES made core c.args.page c.quick_steps_to-made.ensures.code),
+            rw c.elapse.ensures (c.quiet_laws.ensures.code_later g.row.PAGES made core c.args.page c.quick_steps-made.ensures.code),
             (
               c.requires.page,
-              λ wanted. omega (arith, c.quick_steps_to-made.ensures.steps, c.requires.room, c.goes_on-wanted.ensures.room wanted),
+              λ wanted. omega (arith, c.quick_steps-made.ensures.steps, c.requires.room, c.goes_on-wanted.ensures.room wanted),
             ),
           ),
         ),
@@ -39,37 +39,37 @@ quiet_on-more-requires g c =
 
 pub returns-clause-gone : goal.returns-clause-gone
 returns-clause-gone g c = λ log from start made free gone.
-    let quick = c.quick_steps_to-made.result in
-    let there : HasGone g.row.PAGES log from start (made + quick) (state_of c.elapse.new.self c.quick_steps_to-made.new.memory) c.quick_steps_to-made.new.recorder =
-    rw c.elapse.ensures (c.quick_steps_to-made.ensures.gone log from start made free gone) in
+    let quick = c.quick_steps-made.result in
+    let there : HasGone g.row.PAGES log from start (made + quick) (state_of c.elapse.new.self c.quick_steps-made.new.memory) c.quick_steps-made.new.recorder =
+    rw c.elapse.ensures (c.quick_steps-made.ensures.gone log from start made free gone) in
     let on = c.quiet_on-more.ensures.gone log from start (made + quick)
-    (λ wanted. ap (arriving log) (let e : from + (made + quick) ≡ from + made + quick = omega arith in e) ∙ free quick (c.goes_on-wanted.ensures.room wanted)) (subst (λ (words : List ℕ). HasGone g.row.PAGES log from start (made + quick) (record { core = c.elapse.new.self; words = words }) c.quick_steps_to-made.new.recorder) (sym c.learn.ensures.words) there) in
+    (λ wanted. ap (arriving log) (let e : from + (made + quick) ≡ from + made + quick = omega arith in e) ∙ free quick (c.goes_on-wanted.ensures.room wanted)) (subst (λ (words : List ℕ). HasGone g.row.PAGES log from start (made + quick) (record { core = c.elapse.new.self; words = words }) c.quick_steps-made.new.recorder) (sym c.learn.ensures.words) there) in
     recorded_too g.row.PAGES log from start _ _ c.quiet_on-more.new.recorder c.stand.new.self c.stand.ensures.records
     (subst (λ (n : ℕ). HasGone g.row.PAGES log from start n (state_of c.quiet_on-more.new.core c.quiet_on-more.new.memory) c.quiet_on-more.new.recorder)
     (let e : made + quick + c.quiet_on-more.result ≡ made + (quick + c.quiet_on-more.result) = omega arith in e) on)
 
 pub returns-clause-before : goal.returns-clause-before
 returns-clause-before g c = λ log from start made free gone.
-    let quick = c.quick_steps_to-made.result in
-    let there : HasGone g.row.PAGES log from start (made + quick) (state_of c.elapse.new.self c.quick_steps_to-made.new.memory) c.quick_steps_to-made.new.recorder =
-    rw c.elapse.ensures (c.quick_steps_to-made.ensures.gone log from start made free gone) in
+    let quick = c.quick_steps-made.result in
+    let there : HasGone g.row.PAGES log from start (made + quick) (state_of c.elapse.new.self c.quick_steps-made.new.memory) c.quick_steps-made.new.recorder =
+    rw c.elapse.ensures (c.quick_steps-made.ensures.gone log from start made free gone) in
     passes_on g.row.PAGES log from start c.args.stop made quick c.quiet_on-more.result
-    (c.quick_steps_to-made.ensures.before log from start made free gone) c.quiet_on-more.ensures.bound
+    (c.quick_steps-made.ensures.before log from start made free gone) c.quiet_on-more.ensures.bound
     (λ some made_some here.
     c.goes_on-wanted.ensures.past (c.quiet_on-more.ensures.wanted some) made_some (c.pc-2.ensures ∙ (ap (λ (s : State). s.core.pc) there.state ∙ here)))
 
 pub returns-clause-stood : goal.returns-clause-stood
 returns-clause-stood g c = λ log from start made before free gone so_far.
-    let quick = c.quick_steps_to-made.result in
+    let quick = c.quick_steps-made.result in
     let more = c.quiet_on-more.result in
-    let there : HasGone g.row.PAGES log from start (made + quick) (state_of c.elapse.new.self c.quick_steps_to-made.new.memory) c.quick_steps_to-made.new.recorder =
-    rw c.elapse.ensures (c.quick_steps_to-made.ensures.gone log from start made free gone) in
+    let there : HasGone g.row.PAGES log from start (made + quick) (state_of c.elapse.new.self c.quick_steps-made.new.memory) c.quick_steps-made.new.recorder =
+    rw c.elapse.ensures (c.quick_steps-made.ensures.gone log from start made free gone) in
     let begins = begins_on g.row.PAGES log from start c.args.page.number made quick more
-    (c.quick_steps_to-made.ensures.inside log from start made free gone) c.quiet_on-more.ensures.bound
+    (c.quick_steps-made.ensures.inside log from start made free gone) c.quiet_on-more.ensures.bound
     (λ some. ap (λ (s : State). s.core.pc / PAGE_BYTES) (sym there.state) ∙ c.quiet_on-more.ensures.here some) in
     let here = ap (λ (s : State). s.core.pc) (returns-clause-gone g c log from start made free gone).state in
     stood_more g.row.PAGES log from start made (quick + more) c.args.page.number before c.args.recorder.now.stood c.stand.new.self.stood so_far begins
     (λ page.
     c.stand.ensures.stood page
     ∙ ap₂ (λ (set : List ℕ) (pc : ℕ). holds set page || nat_eq (pc / PAGE_BYTES) page)
-    (c.quiet_on-more.ensures.stood ∙ c.quick_steps_to-made.ensures.stood) (c.pc-3.ensures ∙ here))
+    (c.quiet_on-more.ensures.stood ∙ c.quick_steps-made.ensures.stood) (c.pc-3.ensures ∙ here))
