@@ -14,4 +14,5 @@ mod write;
 
 pub use dz::Dz;
 pub use quiet::quiet_laws;
+pub use registers::CSR;
 pub use write::Sent;

@@ -24,8 +24,8 @@ impl Dz {
         }
     }
 
-    /// The word of CSR.
-    fn csr(&self) -> u32
+    /// The word of CSR. A read changes nothing.
+    pub fn csr(&self) -> u32
         ensures word { result ≡ csr_of self.now }
         ensures fits { result < 2 ^ 16 }
     {

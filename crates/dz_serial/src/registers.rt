@@ -4,7 +4,7 @@ ghost use Rattle.std.specs.Prelude.{◌≡◌, ◌≤◌};
 ghost use Rattle.dz_serial.specs.Bits.{flag_of};
 
 /// Offset of the control and status register.
-pub(crate) const CSR: u32 = 0;
+pub const CSR: u32 = 0;
 
 /// Offset of the receiver buffer, which is read.
 pub(crate) const RBUF: u32 = 8;

@@ -1,11 +1,17 @@
 -- What neither sees quiet ticks nor ends them: a byte that arrives, and a read of the serial part.
-use Rattle.std.proofs.Common.{◌≡◌, ℕ, Bool, true, false, [], ◌∷◌, ◌++◌, length, refl}
+use Rattle.std.proofs.Common.{◌≡◌, ℕ, Bool, true, false, Option, Some, None, sym, subst, [], ◌∷◌, ◌++◌, length, refl}
 use Rattle.std.specs.Prelude.{◌==◌, ◌&&◌, nat_lt, slice_set, if◌then◌else◌}
+use Rattle.std.proofs.lemmas.Bool.{eqb-true}
 use Rattle.dz_serial.specs.Character.{Character}
 use Rattle.dz_serial.specs.Serial.{Serial, entry_of}
 use Rattle.dz_serial.specs.Silo.{arrived, arrived_framing, stored, taken, without_oldest}
-use Rattle.dz_serial.specs.Reads.{word_read, after_read}
+use Rattle.dz_serial.specs.Reads.{csr_of, word_read, after_read}
 use Rattle.dz_serial.specs.Quiet.{passed, quiet_of}
+use Rattle.kn02_bus.specs.declared.region.Device.{Device}
+use Rattle.kn02_bus.specs.declared.region.Device.TheVariants as device
+use Rattle.kn02_bus.specs.State.{BusState}
+use Rattle.kn02_bus.specs.Access.{after_load, loaded}
+use Rattle.kn02_bus.specs.Quiet.{steady_word}
 
 -- a choice, by its cases
 chosen : {X Y : Type 0} (f : X → Y) (b : Bool) (x y : X) (x' y' : Y) → f x ≡ x' → f y ≡ y'
@@ -68,3 +74,22 @@ passed_read n s offset = chosen (passed n) (offset == 8) (without_oldest s) s _ 
 pub word_of_passed : (n : ℕ) (s : Serial) (offset : ℕ) → word_read (passed n s) offset ≡ word_read s offset
 unfolding word_read
 word_of_passed n s offset = refl
+
+-- a load of a register that is steady
+if_some : (b : Bool) (x y : ℕ) → (let o : Option ℕ = if b then Some x else None in o) ≡ Some y → (b ≡ true) × (x ≡ y)
+if_some true x y is = (refl, cc is)
+if_some false x y is = let no : ⊥ = cc is in absurd no
+
+pub steady_now : (bus : BusState) (device : Device) (word : ℕ) → steady_word bus device ≡ Some word → loaded bus device ≡ word
+unfolding word_read
+steady_now bus (device.Serial offset) word is = let at = if_some (offset == 0) (csr_of bus.serial) word is in rw at.0 at.1
+steady_now bus (device.Clock register) word is = cc is
+steady_now bus device.Csr word is = cc is
+
+pub steady_left : (bus later : BusState) (device : Device) (word : ℕ) → steady_word bus device ≡ Some word → after_load later device ≡ later
+unfolding after_read
+steady_left bus later (device.Serial offset) word is =
+    let at = if_some (offset == 0) (csr_of bus.serial) word is in
+    subst (λ (n : ℕ). after_load later (device.Serial n) ≡ later) (sym (eqb-true offset 0 at.0)) refl
+steady_left bus later (device.Clock register) word is = cc is
+steady_left bus later device.Csr word is = refl

@@ -9,7 +9,7 @@ ghost use Rattle.kn02_bus.specs.State.{BusState};
 ghost use Rattle.kn02_bus.specs.Lines.{lines_of};
 ghost use Rattle.kn02_bus.specs.Access.{csr_of, loaded, after_load};
 ghost use Rattle.kn02_bus.specs.Tick.{arrived, arrived_framing, wired};
-ghost use Rattle.kn02_bus.specs.Quiet.{after, passed, quiet_of};
+ghost use Rattle.kn02_bus.specs.Quiet.{after, passed, quiet_of, steady_word};
 
 use crate::region::Device;
 use r3k_word::layout::{PAGE_WORDS, ROM_START};
@@ -28,7 +28,8 @@ pub fn region_laws()
 
 /// In quiet ticks the parts do nothing but count. Ticks may be taken in parts: after a part of the quiet ticks the rest are quiet.
 /// The interrupt lines and CSR stay as they are. A byte that arrives (with a framing error or without), an external line that gets
-/// its level and a read of the serial part neither see those ticks nor end them.
+/// its level and a read of the serial part neither see those ticks nor end them. A register that is steady reads the same all the while,
+/// and a load leaves it as it is.
 pub fn quiet_laws()
     ensures passes { (bus : BusState) (n : ℕ) → n ≤ quiet_of bus → after n bus ≡ passed n bus }
     ensures in_parts { (bus : BusState) (m n : ℕ) → after (m + n) bus ≡ after m (after n bus) }
@@ -53,6 +54,8 @@ pub fn quiet_laws()
         after n (after_load bus (device.Serial offset)) ≡ after_load (after n bus) (device.Serial offset) }
     ensures quiet_read { (bus : BusState) (offset : ℕ) →
         quiet_of (after_load bus (device.Serial offset)) ≡ quiet_of bus }
+    ensures steady { (bus : BusState) (n word : ℕ) (device : Device) → n ≤ quiet_of bus → steady_word bus device ≡ Some word →
+        (loaded (after n bus) device ≡ word) × (after_load (after n bus) device ≡ after n bus) }
 {
     dz_serial::quiet_laws();
     mc146818::quiet_laws();

@@ -5,6 +5,7 @@ ghost use Rattle.dz_serial.specs.Reads as serial;
 ghost use Rattle.mc146818.specs.Clock.{registers, after_read};
 ghost use Rattle.kn02_bus.specs.declared.region.Device.TheVariants as device;
 ghost use Rattle.kn02_bus.specs.Access.{csr_of, loaded, after_load};
+ghost use Rattle.kn02_bus.specs.Quiet.{steady_word};
 
 use crate::bus::Bus;
 use crate::csr::ENABLE;
@@ -12,6 +13,7 @@ use crate::laws::quiet_laws;
 use crate::parts::Parts;
 use crate::region::{ClockRegister, Device};
 use crate::schedule::Schedule;
+use dz_serial::CSR;
 
 impl Bus {
     /// Loads a word of a device, with the effect of that read.
@@ -24,6 +26,27 @@ impl Bus {
             Device::Clock(register) => self.load_clock(register),
             Device::Csr => self.load_csr(),
         }
+    }
+
+    /// The word of a register that stays over quiet ticks, and that a load leaves as it is: CSR of the serial part and of the board.
+    #[inline]
+    pub fn steady(&self, device: Device) -> Option<u32>
+        ensures { result ≡ steady_word self.now device }
+    {
+        match device {
+            Device::Serial(CSR) => Some(self.serial_csr()),
+            Device::Csr => Some(self.load_csr()),
+            _ => None,
+        }
+    }
+
+    // CSR of the serial part stays as it is over quiet ticks.
+    #[inline]
+    fn serial_csr(&self) -> u32
+        ensures { result ≡ serial.csr_of self.now.serial }
+    {
+        quiet_laws();
+        self.parts.serial.csr()
     }
 
     // A read of the serial part neither sees quiet ticks nor ends them.

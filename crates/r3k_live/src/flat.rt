@@ -157,7 +157,7 @@ impl<const PAGES: u32> FlatMemory<PAGES> {
 impl<const PAGES: u32> Mem for FlatMemory<PAGES> {
     ghost words = { λ memory. memory.words.items };
 
-    ghost ram = { λ _. PAGES };
+    ghost ram = { PAGES };
 
     ghost is_open = { λ memory page. is_open PAGES memory.opened.items page };
 

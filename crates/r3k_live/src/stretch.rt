@@ -3,6 +3,7 @@
 ghost use Rattle.std.specs.Prelude.{◌≡◌, ◌+◌, ◌-◌, ◌*◌, ◌/◌, ◌^◌, ◌<◌, ◌≤◌, IsTrue, ℕ, [], List};
 ghost use Rattle.input_log.specs.Event.{LogEvent};
 ghost use Rattle.r3k_word.specs.declared.layout.TheConstants.{PAGE_BYTES};
+ghost use Rattle.r3k_machine.specs.Flow.{with_flow};
 ghost use Rattle.r3k_machine.specs.Quiet.{IsCodePage, IsQuietFor, state_elapsed};
 ghost use Rattle.r3k_machine.specs.Run.{arriving};
 ghost use Rattle.r3k_machine.specs.State.{State};
@@ -17,55 +18,59 @@ use crate::flat::FlatMemory;
 use crate::recorder::Recorder;
 use input_log::Cursor;
 use r3k_machine::step::step;
-use r3k_machine::{CodePage, Core, Mem, code_page, learn, quick_step, quiet_laws, quiet_step};
+use r3k_machine::{
+    CodePage, Core, Flow, Mem, code_page, learn, quick_step, quiet_laws, quiet_step,
+};
 use r3k_word::layout::PAGE_BYTES;
 
 // Makes quick steps in an open page that was touched before, at most `most`, and ends after one that comes to an address. Their ticks
-// and falls of Random are still to come. It has one caller, so that all of a step is in line: two copies of the loop would be too large.
+// and falls of Random are still to come. The core stands where the flow does, which comes and goes by value, so that it is kept in
+// registers. It has one caller, so that all of a step is in line: two copies of the loop would be too large.
 #[inline(never)]
 fn quick_steps<const PAGES: u32, const SPAN: u32>(
     core: &mut Core,
+    mut flow: Flow,
     memory: &mut FlatMemory<PAGES>,
     page: CodePage,
     most: u32,
     stop: u64,
     recorder: &mut Recorder<PAGES, SPAN>,
-) -> u32
-    requires quiet { IsQuietFor most core.old }
-    requires code { IsCodePage PAGES core.old page }
+) -> (u32, Flow)
+    requires quiet { IsQuietFor most (with_flow core.old flow) }
+    requires code { IsCodePage PAGES (with_flow core.old flow) page }
     requires page { IsPage PAGES page.page }
     requires opened { IsTrue (is_open PAGES memory.old.opened.items page.page) }
     requires room { recorder.old.steps + most ≤ SPAN }
     requires again { IsTrue (holds recorder.old.touched page.page) }
-    ensures bound { result ≤ most }
-    ensures steps { recorder.new.steps ≡ recorder.old.steps + result }
+    ensures bound { result.0 ≤ most }
+    ensures steps { recorder.new.steps ≡ recorder.old.steps + result.0 }
     ensures gone { (log : List LogEvent) (from : ℕ) (start : State) (made : ℕ) → IsFreeFor most log (from + made) →
-        HasGone PAGES log from start made (state_of core.old memory.old) recorder.old →
-        HasGone PAGES log from start (made + result) (state_elapsed result (state_of core.new memory.new)) recorder.new }
+        HasGone PAGES log from start made (state_of (with_flow core.old flow) memory.old) recorder.old →
+        HasGone PAGES log from start (made + result.0) (state_elapsed result.0 (state_of (with_flow core.new result.1) memory.new)) recorder.new }
     ensures before { (log : List LogEvent) (from : ℕ) (start : State) (made : ℕ) → IsFreeFor most log (from + made) →
-        HasGone PAGES log from start made (state_of core.old memory.old) recorder.old →
-        PassesBy PAGES log from start stop made (made + result) }
+        HasGone PAGES log from start made (state_of (with_flow core.old flow) memory.old) recorder.old →
+        PassesBy PAGES log from start stop made (made + result.0) }
     ensures inside { (log : List LogEvent) (from : ℕ) (start : State) (made : ℕ) → IsFreeFor most log (from + made) →
-        HasGone PAGES log from start made (state_of core.old memory.old) recorder.old →
-        BeginsIn PAGES log from start page.number made (made + result) }
+        HasGone PAGES log from start made (state_of (with_flow core.old flow) memory.old) recorder.old →
+        BeginsIn PAGES log from start page.number made (made + result.0) }
     ensures stood { recorder.new.stood ≡ recorder.old.stood }
-    ensures quiet { IsQuietFor most core.new }
-    ensures code { IsCodePage PAGES core.new page }
+    ensures quiet { IsQuietFor most (with_flow core.new result.1) }
+    ensures code { IsCodePage PAGES (with_flow core.new result.1) page }
     ensures opened { IsTrue (is_open PAGES memory.new.opened.items page.page) }
 {
     quiet_laws();
     let mut made = 0;
     while made < most {
-        let Some(done) = quick_step(core, memory, page) else {
-            return made;
+        let Some(done) = quick_step(core, &mut flow, memory, page) else {
+            return (made, flow);
         };
         recorder.note_again(done);
         made += 1;
-        if core.pc() as u64 == stop {
-            return made;
+        if flow.pc() as u64 == stop {
+            return (made, flow);
         }
     }
-    made
+    (made, flow)
 }
 
 // Whether one more step is wanted after some of at most `most` steps: there is room for it, and none of them came to the address where
@@ -141,7 +146,8 @@ fn run_in<const PAGES: u32, const SPAN: u32>(
         HasStood PAGES log from start (made + result) before recorder.new.stood }
 {
     quiet_laws();
-    let made = quick_steps(core, memory, page, most, stop, recorder);
+    let (made, flow) = quick_steps(core, core.flow(), memory, page, most, stop, recorder);
+    core.set_flow(flow);
     core.elapse(made);
     learn(memory, page, core.pc());
     let wanted = goes_on(made, most, core.pc(), stop);

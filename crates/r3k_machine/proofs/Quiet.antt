@@ -1,25 +1,33 @@
 -- Steps that are quiet and quick, before ticks and falls of Random and after them.
 use Rattle.std.proofs.Math.Path.{ap₂}
-use Rattle.std.proofs.Common.{Err, IfSome, ◌≡◌, ℕ, suc, ◌+◌, ◌*◌, ◌/◌, ◌%◌, ◌^◌, ◌<◌, ◌≤◌, Bool, true, false, not, ◌&&◌, ◌||◌, nat_le, nat_lt, List, [], IsFalse, Option, Some, None, Ok, slice_index, refl, sym, subst, ap, ◌∙◌, arith}
+use Rattle.std.proofs.Common.{Err, Result, IfSome, IsTrue, inl, inr, ◌≡◌, ℕ, suc, ◌+◌, ◌*◌, ◌/◌, ◌%◌, ◌^◌, ◌<◌, ◌≤◌, Bool, true, false, not, ◌&&◌, ◌||◌, nat_le, nat_lt, List, [], IsFalse, Option, Some, None, Ok, slice_index, refl, sym, subst, ap, ◌∙◌, arith}
 use Rattle.std.specs.Prelude.{◌==◌, if◌then◌else◌}
 use Rattle.std.specs.Prelude.{nat_eq, slice_index_or, position, count_by, bit_and, bit_or}
 use Rattle.std.specs.Option.{option_map}
 use Rattle.std.proofs.lemmas.Nat.{and_block, and_le_l, and_le_r, and_mask, or_disjoint}
 use Rattle.std.proofs.lemmas.Nat.Bits.{and_high}
-use Rattle.std.proofs.lemmas.Bool.{eq-eqb, true≢false}
+use Rattle.std.proofs.lemmas.Bool.{cases_Bool, eq-eqb, ne_eqb, true≢false}
 use Rattle.std.proofs.lemmas.Bool.Decides.{nat_tests}
-use Rattle.r3k_word.specs.Word.{has, merged}
+use Rattle.r3k_word.specs.Word.{field_of, has, merged}
 use Rattle.r3k_word.specs.Layout.{page_of_place, place_of_word}
 use Rattle.tlb64.specs.Entries.{empty_entry, page_of, process_of}
 use Rattle.tlb64.specs.declared.entry.Entry.{Entry}
 use Rattle.tlb64.specs.declared.entry.Found.{Found}
 use Rattle.tlb64.specs.declared.entry.TheConstants.{GLOBAL}
-use Rattle.cop0.specs.Registers.{Registers}
+use Rattle.cop0.specs.Registers.{Registers, register_of}
+use Rattle.cop0.specs.declared.number.TheConstants.{RANDOM}
 use Rattle.cop0.specs.Changes as control
-use Rattle.cop0.specs.Status.{in_user_mode}
+use Rattle.cop0.specs.Status.{in_user_mode, is_usable}
 use Rattle.kn02_bus.specs.declared.bus.Lines.{Lines}
 use Rattle.kn02_bus.specs.Lines.{lines_of}
-use Rattle.kn02_bus.specs.Quiet.{after, quiet_of}
+use Rattle.kn02_bus.specs.Access as access
+use Rattle.kn02_bus.specs.Quiet.{after, quiet_of, steady_word}
+use Rattle.kn02_bus.specs.Region.{region_of}
+use Rattle.kn02_bus.specs.State.{BusState}
+use Rattle.kn02_bus.specs.declared.region.Device.{Device}
+use Rattle.kn02_bus.specs.declared.region.Region.{Region}
+use Rattle.kn02_bus.specs.declared.region.Region.TheVariants.{Ram, Rom, Unassigned}
+use Rattle.kn02_bus.specs.declared.region.Region.TheVariants as region_is
 use Rattle.r3k_decode.specs.Operation.{Operation}
 use Rattle.r3k_exec.specs.Access.{stored}
 use Rattle.r3k_exec.specs.Effects.{effect_of}
@@ -37,16 +45,20 @@ use Rattle.r3k_machine.specs.declared.address.Use.{Use}
 use Rattle.r3k_machine.specs.declared.address.Use.TheVariants.{Fetch}
 use Rattle.r3k_machine.specs.declared.exception.Exception.{Exception}
 use Rattle.r3k_machine.specs.declared.exception.Exception.TheVariants.{AddressErrorLoad, BusErrorFetch, TlbLoad}
+use Rattle.r3k_machine.specs.declared.load_store.Loaded.{Loaded}
 use Rattle.r3k_machine.specs.declared.load_store.Word.{Word}
 use Rattle.r3k_machine.specs.declared.step.Done.{Done}
 use Rattle.r3k_machine.specs.Address.{Meaning, found_for, meaning, meaning_in, meaning_of_found, met, segment_of}
 use Rattle.r3k_machine.specs.Core.{Core}
 use Rattle.r3k_machine.specs.State.{State}
-use Rattle.r3k_machine.specs.LoadStore.{after_load, after_store, loaded_at, meaning_of_fetch, meaning_of_load, meaning_of_store, ram_word, stored_at, word_at, word_of_place, word_read, words_after, words_with}
+use Rattle.r3k_machine.specs.declared.flow.Flow.{Flow}
+use Rattle.r3k_machine.specs.Flow.{with_flow}
+use Rattle.r3k_machine.specs.Exceptions.{is_unusable}
+use Rattle.r3k_machine.specs.LoadStore.{after_load, after_load_over_bus, after_store, loaded_at, loaded_elsewhere, loaded_over_bus, meaning_of_fetch, meaning_of_load, meaning_of_store, ram_word, stored_at, word_at, word_of_place, word_read, words_after, words_with}
 use Rattle.r3k_machine.specs.Step.{Completion, Outcome, arrived, completion_of_effect, completion_of_load, completion_of_store, completion_of_word, operands_of, outcome_of_completion, outcome_of_fetch, outcome_of_instruction, outcome_of_interrupt_or_instruction, outcome_of_step, outcome_of_word, sampled, ticked, with_fall}
 use Rattle.r3k_machine.specs.declared.quick.CodePage.{CodePage}
-use Rattle.r3k_machine.specs.Known.{IsDecoded, IsKnown, IsStop}
-use Rattle.r3k_machine.specs.Quiet.{GoesOverBus, IsCodePage, IsFetchedFrom, IsIndexIn, IsPlain, IsQuick, IsQuickEffect, IsQuietFor, elapsed, outcome_elapsed, state_elapsed}
+use Rattle.r3k_machine.specs.Known.{IsDecoded, IsKnown, IsMove, IsStop}
+use Rattle.r3k_machine.specs.Quiet.{GoesOverBus, IsCodePage, IsFetchedFrom, IsIndexIn, IsPlain, IsQuick, IsQuickEffect, IsQuietFor, IsReached, elapsed, outcome_elapsed, state_elapsed, steady_elsewhere, steady_over_bus}
 
 -- after ticks and falls of Random
 abbrev pub aged : (ticks falls : ℕ) → Core → Core
@@ -61,23 +73,31 @@ outcome_aged ticks falls o = record { state = state_aged ticks falls o.state; do
 -- what an instruction leaves as it is
 pub record Keeps (old new : Core) : Type 0 where
   pub bus : new.bus ≡ old.bus
-  pub cop0 : new.cop0 ≡ old.cop0
+  pub status : new.cop0.status ≡ old.cop0.status
+  pub cause : new.cop0.cause ≡ old.cop0.cause
+  pub entry_hi : new.cop0.entry_hi ≡ old.cop0.entry_hi
   pub entries : new.entries ≡ old.entries
+
+-- sampling leaves the registers as they are where it leaves Cause so
+sampled_by : (c : Registers) (lines : Lines) → (control.sampled c lines.board lines.clock).cause ≡ c.cause
+    → control.sampled c lines.board lines.clock ≡ c
+sampled_by c lines same = ap (λ (cause : ℕ). record c { cause = cause }) same
 
 -- steps stay quiet, and the page that is run in what it is
 pub quiet_kept : (n : ℕ) (old new : Core) → Keeps old new → IsQuietFor n old → IsQuietFor n new
 quiet_kept n old new keeps quiet = record {
   counts = rw keeps.bus quiet.counts;
-  sampled = rw (keeps.bus, keeps.cop0) quiet.sampled;
-  unwanted = rw keeps.cop0 quiet.unwanted;
+  sampled = rw keeps.bus
+      (sampled_by new.cop0 (lines_of old.bus) (rw keeps.cause (ap (λ (c : Registers). c.cause) quiet.sampled)));
+  unwanted = rw (keeps.status, keeps.cause) quiet.unwanted;
 }
 
 pub code_kept : (pages : ℕ) (page : CodePage) (old new : Core) → Keeps old new → IsCodePage pages old page → IsCodePage pages new page
 unfolding meaning
 code_kept pages page old new keeps code = record {
   within = code.within;
-  fetched = λ address here aligned. rw (keeps.entries, keeps.cop0) (code.fetched address here aligned);
-  plain = λ on. record { kernel = rw keeps.cop0 (code.plain on).kernel; shared = rw keeps.cop0 (code.plain on).shared };
+  fetched = λ address here aligned. rw (keeps.entries, keeps.status, keeps.entry_hi) (code.fetched address here aligned);
+  plain = λ on. record { kernel = rw keeps.status (code.plain on).kernel; shared = rw keeps.status (code.plain on).shared };
 }
 
 -- after some of the steps
@@ -105,6 +125,16 @@ meaning_aged : (ticks falls : ℕ) (core : Core) (access : Use) (aligned : Bool)
 unfolding meaning
 meaning_aged ticks falls core access aligned address = refl
 
+-- so it does wherever the processor stands
+pub reached_in : (core : Core) (flow : Flow) (access : Use) (aligned : Bool) (address physical : ℕ)
+    → IsReached core (meaning core access aligned address) physical
+    → IsReached (with_flow core flow) (meaning (with_flow core flow) access aligned address) physical
+unfolding meaning
+reached_in core flow access aligned address physical reached = record {
+  cacheable = reached.cacheable;
+  plain = record { means = reached.plain.means; shared = reached.plain.shared };
+}
+
 -- a load and a store, by the meaning of the address
 abbrev load_by : ℕ → State → ℕ → LoadKind → (number address : ℕ) → Meaning → Completion
 load_by pages s page kind number address m =
@@ -117,11 +147,36 @@ store_by pages s page kind address value m =
     completion_of_store (record { core = after_store pages (met s.core m) kind address value m.answer; words = s.words }) page
     (words_after s.words told (stored kind (address % 4) value)) told
 
-pub plain_load : (pages : ℕ) (s : State) (page : ℕ) (kind : LoadKind) (number address : ℕ) (m : Meaning) (physical : Physical) (place : ℕ)
-    → IsPlain s.core m physical → place_of_word pages (physical.address / 4 * 4) ≡ Some place
-    → load_by pages s page kind number address m
-    ≡ completion_of_load s page kind number address (Ok (record { word = slice_index s.words place; page = Some (page_of_place place) }))
-plain_load pages s page kind number address m physical place plain stands = rw (plain.means, plain.shared, stands) refl
+-- a register that is steady on one bus is so on another one, which it is after ticks that only count
+abbrev pub StaySteady : (now later : BusState) → Type 0
+StaySteady now later = (word : ℕ) (device : Device) → steady_word now device ≡ Some word
+    → (access.loaded later device ≡ word) × (access.after_load later device ≡ later)
+
+steady_device : (bus : BusState) (core : Core) (device : Device) (word : Option ℕ) (loaded : Loaded) → StaySteady bus core.bus
+    → steady_word bus device ≡ word → steady_elsewhere word ≡ Some loaded
+    → (loaded_elsewhere (Some (access.loaded core.bus device)) ≡ Ok loaded) × (record core { bus = access.after_load core.bus device } ≡ core)
+steady_device bus core device None loaded steady word is = let no : ⊥ = cc is in absurd no
+steady_device bus core device (Some w) loaded steady word is = (
+  ap (λ (n : ℕ). loaded_elsewhere (Some n)) (steady w device word).0 ∙ ap (λ (l : Loaded). let r : Result Loaded Exception = Ok l in r) (cc is),
+  ap (λ (b : BusState). record core { bus = b }) (steady w device word).1,
+)
+
+steady_load : (bus : BusState) (core : Core) (words : List ℕ) (region : Region) (place : Option ℕ) (loaded : Loaded) → StaySteady bus core.bus
+    → steady_over_bus words bus region place ≡ Some loaded
+    → (loaded_over_bus words core region place ≡ Ok loaded) × (after_load_over_bus core region place ≡ core)
+steady_load bus core words region (Some place) loaded steady is = (ap (λ (l : Loaded). let r : Result Loaded Exception = Ok l in r) (cc is), refl)
+steady_load bus core words (region_is.Device device) None loaded steady is = steady_device bus core device (steady_word bus device) loaded steady refl is
+steady_load bus core words Ram None loaded steady is = let no : ⊥ = cc is in absurd no
+steady_load bus core words Rom None loaded steady is = let no : ⊥ = cc is in absurd no
+steady_load bus core words Unassigned None loaded steady is = let no : ⊥ = cc is in absurd no
+
+pub plain_load : (pages : ℕ) (bus : BusState) (s : State) (page : ℕ) (kind : LoadKind) (number address : ℕ) (m : Meaning) (physical : Physical)
+    (loaded : Loaded) → StaySteady bus s.core.bus → IsPlain s.core m physical
+    → steady_over_bus s.words bus (region_of pages physical.address) (place_of_word pages (physical.address / 4 * 4)) ≡ Some loaded
+    → load_by pages s page kind number address m ≡ completion_of_load s page kind number address (Ok loaded)
+plain_load pages bus s page kind number address m physical loaded steady plain is =
+    let there = steady_load bus s.core s.words (region_of pages physical.address) (place_of_word pages (physical.address / 4 * 4)) loaded steady is in
+    rw (plain.means, plain.shared, there.0, there.1) refl
 
 pub plain_store : (pages : ℕ) (s : State) (page : ℕ) (kind : StoreKind) (address value : ℕ) (m : Meaning) (physical : Physical) (word : ℕ)
     → IsPlain s.core m physical → ram_word pages physical.address ≡ Some word
@@ -136,38 +191,47 @@ pub record Ages (ticks falls : ℕ) (s : State) (now later : Completion) : Type 
   pub later_is : later ≡ Ok (outcome_aged ticks falls outcome)
   pub keeps : Keeps s.core outcome.state.core
 
-pub effect_ages : (pages ticks falls : ℕ) (s : State) (page : ℕ) (effect : Effect) → IsQuickEffect pages s.core effect
+-- a register but Random, after falls
+read_aged : (falls : ℕ) (c : Registers) (number : ℕ) → ¬ (number ≡ RANDOM) → register_of (control.fallen_by falls c) number ≡ register_of c number
+read_aged falls c number other = rw (ne_eqb number RANDOM other) refl
+
+pub effect_ages : (pages ticks falls : ℕ) (s : State) (page : ℕ) (effect : Effect) → StaySteady s.core.bus s.core.bus → StaySteady s.core.bus (after ticks s.core.bus)
+    → IsQuickEffect pages s effect
     → Ages ticks falls s (completion_of_effect pages s page effect) (completion_of_effect pages (state_aged ticks falls s) page effect)
-effect_ages pages ticks falls s page (Write number value) quick = record { outcome = _; is = refl; later_is = refl; keeps = record { bus = refl; cop0 = refl; entries = refl } }
-effect_ages pages ticks falls s page (WriteHi value) quick = record { outcome = _; is = refl; later_is = refl; keeps = record { bus = refl; cop0 = refl; entries = refl } }
-effect_ages pages ticks falls s page (WriteLo value) quick = record { outcome = _; is = refl; later_is = refl; keeps = record { bus = refl; cop0 = refl; entries = refl } }
-effect_ages pages ticks falls s page (WriteHiLo hi lo) quick = record { outcome = _; is = refl; later_is = refl; keeps = record { bus = refl; cop0 = refl; entries = refl } }
-effect_ages pages ticks falls s page (Jump target) quick = record { outcome = _; is = refl; later_is = refl; keeps = record { bus = refl; cop0 = refl; entries = refl } }
-effect_ages pages ticks falls s page (JumpAndLink target number value) quick = record { outcome = _; is = refl; later_is = refl; keeps = record { bus = refl; cop0 = refl; entries = refl } }
-effect_ages pages ticks falls s page (Trap trap) quick = absurd quick
-effect_ages pages ticks falls s page (Load kind number address) (physical, place, plain, stands) = record {
+effect_ages pages ticks falls s page (Write number value) now later quick = record { outcome = _; is = refl; later_is = refl; keeps = record { bus = refl; status = refl; cause = refl; entry_hi = refl; entries = refl } }
+effect_ages pages ticks falls s page (WriteHi value) now later quick = record { outcome = _; is = refl; later_is = refl; keeps = record { bus = refl; status = refl; cause = refl; entry_hi = refl; entries = refl } }
+effect_ages pages ticks falls s page (WriteLo value) now later quick = record { outcome = _; is = refl; later_is = refl; keeps = record { bus = refl; status = refl; cause = refl; entry_hi = refl; entries = refl } }
+effect_ages pages ticks falls s page (WriteHiLo hi lo) now later quick = record { outcome = _; is = refl; later_is = refl; keeps = record { bus = refl; status = refl; cause = refl; entry_hi = refl; entries = refl } }
+effect_ages pages ticks falls s page (Jump target) now later quick = record { outcome = _; is = refl; later_is = refl; keeps = record { bus = refl; status = refl; cause = refl; entry_hi = refl; entries = refl } }
+effect_ages pages ticks falls s page (JumpAndLink target number value) now later quick = record { outcome = _; is = refl; later_is = refl; keeps = record { bus = refl; status = refl; cause = refl; entry_hi = refl; entries = refl } }
+effect_ages pages ticks falls s page (Trap trap) now later quick = absurd quick
+effect_ages pages ticks falls s page (Load kind number address) now later (physical, loaded, plain, is) = record {
   outcome = _;
-  is = plain_load pages s page kind number address (meaning_of_load s.core kind address) physical place plain stands;
+  is = plain_load pages s.core.bus s page kind number address (meaning_of_load s.core kind address) physical loaded now plain is;
   later_is =
-      plain_load pages (state_aged ticks falls s) page kind number address (meaning_of_load (aged ticks falls s.core) kind address) physical place
-      (record { means = meaning_aged ticks falls s.core _ _ address ∙ plain.means; shared = plain.shared }) stands;
-  keeps = record { bus = refl; cop0 = refl; entries = refl };
+      plain_load pages s.core.bus (state_aged ticks falls s) page kind number address (meaning_of_load (aged ticks falls s.core) kind address) physical loaded
+      later (record { means = meaning_aged ticks falls s.core _ _ address ∙ plain.means; shared = plain.shared }) is;
+  keeps = record { bus = refl; status = refl; cause = refl; entry_hi = refl; entries = refl };
 }
-effect_ages pages ticks falls s page (Store kind address value) (physical, word, plain, stands) = record {
+effect_ages pages ticks falls s page (Store kind address value) now later (physical, word, plain, stands) = record {
   outcome = _;
   is = plain_store pages s page kind address value (meaning_of_store s.core kind address) physical word plain stands;
   later_is =
       plain_store pages (state_aged ticks falls s) page kind address value (meaning_of_store (aged ticks falls s.core) kind address) physical word
       (record { means = meaning_aged ticks falls s.core _ _ address ∙ plain.means; shared = plain.shared }) stands;
-  keeps = record { bus = refl; cop0 = refl; entries = refl };
+  keeps = record { bus = refl; status = refl; cause = refl; entry_hi = refl; entries = refl };
 }
-effect_ages pages ticks falls s page (MoveFromControl number control) quick = absurd quick
-effect_ages pages ticks falls s page (MoveToControl control value) quick = absurd quick
-effect_ages pages ticks falls s page ReturnFromException quick = absurd quick
-effect_ages pages ticks falls s page ReadEntry quick = absurd quick
-effect_ages pages ticks falls s page WriteIndexedEntry quick = absurd quick
-effect_ages pages ticks falls s page WriteRandomEntry quick = absurd quick
-effect_ages pages ticks falls s page ProbeEntry quick = absurd quick
+effect_ages pages ticks falls s page (MoveFromControl number control) now later (other, usable) =
+    record { outcome = _; is = refl; later_is = rw (read_aged falls s.core.cop0 control other) refl; keeps = record { bus = refl; status = refl; cause = refl; entry_hi = refl; entries = refl } }
+effect_ages pages ticks falls s page (MoveToControl control value) now later (is, usable) =
+    subst (λ (n : ℕ). Ages ticks falls s (completion_of_effect pages s page (MoveToControl n value)) (completion_of_effect pages (state_aged ticks falls s) page (MoveToControl n value)))
+    (sym is)
+    (record { outcome = _; is = refl; later_is = refl; keeps = record { bus = refl; status = refl; cause = refl; entry_hi = refl; entries = refl } })
+effect_ages pages ticks falls s page ReturnFromException now later quick = absurd quick
+effect_ages pages ticks falls s page ReadEntry now later quick = absurd quick
+effect_ages pages ticks falls s page WriteIndexedEntry now later quick = absurd quick
+effect_ages pages ticks falls s page WriteRandomEntry now later quick = absurd quick
+effect_ages pages ticks falls s page ProbeEntry now later quick = absurd quick
 
 -- the instruction at PC, by the meaning of its address
 abbrev instruction_by : ℕ → State → Meaning → Outcome
@@ -193,11 +257,12 @@ pub record InstructionAges (pages ticks falls : ℕ) (s : State) : Type 0 where
   pub later_is : outcome_of_instruction pages (state_aged ticks falls s) ≡ outcome_aged ticks falls (outcome_of_instruction pages s)
   pub keeps : Keeps s.core (outcome_of_instruction pages s).state.core
 
-pub instruction_ages : (pages ticks falls : ℕ) (s : State) → IsQuick pages s → InstructionAges pages ticks falls s
-instruction_ages pages ticks falls s quick =
+pub instruction_ages : (pages ticks falls : ℕ) (s : State) → StaySteady s.core.bus s.core.bus → StaySteady s.core.bus (after ticks s.core.bus)
+    → IsQuick pages s → InstructionAges pages ticks falls s
+instruction_ages pages ticks falls s is_steady stay_steady quick =
     let w = quick.fetched in
     let effect = effect_of quick.operation (operands_of s.core quick.operation) in
-    let ages = effect_ages pages ticks falls s w.page effect quick.effect in
+    let ages = effect_ages pages ticks falls s w.page effect is_steady stay_steady quick.effect in
     let now = plain_fetch pages s (meaning_of_fetch s.core) quick.physical w quick.means quick.stands
     ∙ ap (outcome_of_completion s w.page) (quick_word pages s quick ∙ ages.is) in
     let later = plain_fetch pages (state_aged ticks falls s) (meaning_of_fetch (aged ticks falls s.core)) quick.physical w
@@ -234,10 +299,11 @@ alone pages n s quiet same =
     ∙ ap with_fall (unwanted_runs pages (state_aged (suc n) n s) quiet.unwanted)
 
 pub at_once : (pages n : ℕ) (s : State) → IsQuietFor (suc n) s.core → lines_of (after (suc n) s.core.bus) ≡ lines_of s.core.bus
+    → StaySteady s.core.bus s.core.bus → StaySteady s.core.bus (after (suc n) s.core.bus)
     → IsQuick pages s → outcome_of_step pages [] (state_elapsed n s) ≡ outcome_elapsed (suc n) (outcome_of_instruction pages s)
-at_once pages n s quiet same quick =
+at_once pages n s quiet same is_steady stay_steady quick =
     alone pages n s quiet same
-    ∙ (ap with_fall (instruction_ages pages (suc n) n s quick).later_is ∙ falls n (outcome_of_instruction pages s))
+    ∙ (ap with_fall (instruction_ages pages (suc n) n s is_steady stay_steady quick).later_is ∙ falls n (outcome_of_instruction pages s))
 
 -- an address of kseg0 or kseg1 that is aligned and not forbidden: the mode is the kernel's
 kernel_alone : (user aligned : Bool) (at : ℕ) (physical : Physical)
@@ -408,10 +474,28 @@ aligned_fetch core aligned = ap (λ (b : Bool). meaning core Fetch b core.pc) (e
 pub stop_traps : (operation : Operation) (operands : Operands) → IsStop operation → effect_of operation operands ≡ Trap Breakpoint
 stop_traps operation operands is = subst (λ (o : Option Operation). IfSome o (λ operation. effect_of operation operands ≡ Trap Breakpoint)) is refl
 
+-- a known word with a quick effect is usable
+usable_then : (core : Core) (word : ℕ) → IsTrue (is_usable core.cop0) → IsFalse (is_unusable core word)
+usable_then core word usable = rw usable (and_false (field_of 31 26 word == 16))
+
+pub usable_by : (pages : ℕ) (s : State) (operation : Operation) (word : ℕ) → IsDecoded word operation
+    → IsQuickEffect pages s (effect_of operation (operands_of s.core operation)) → IsFalse (is_unusable s.core word)
+unfolding IsMove
+usable_by pages s operation word decoded effect =
+    elim (cases_Bool (is_usable s.core.cop0)) [
+      | inl usable ↦ usable_then s.core word usable
+      | inr unusable ↦ decoded.usable
+          (λ move. elim (move (operands_of s.core operation)) [
+            | inl from ↦ true≢false (sym (subst (IsQuickEffect pages s) from effect).1 ∙ unusable)
+            | inr to ↦ true≢false (sym (subst (IsQuickEffect pages s) to effect).1 ∙ unusable)
+          ])
+          s.core
+    ]
+
 -- a known instruction of the page that is quick
 abbrev pub quick_known : (pages : ℕ) (s : State) (page : CodePage) (index : ℕ) (operation : Operation) → IsCodePage pages s.core page
     → IsIndexIn page s.core.pc index → IsKnown (slice_index s.words (page.page * 1024 + index)) operation
-    → IsQuickEffect pages s.core (effect_of operation (operands_of s.core operation)) → IsQuick pages s
+    → IsQuickEffect pages s (effect_of operation (operands_of s.core operation)) → IsQuick pages s
 quick_known pages s page index operation code at known effect =
     let found = code.fetched s.core.pc at.here at.aligned in
     let decoded : IsDecoded (slice_index s.words (page.page * 1024 + index)) operation =
@@ -423,7 +507,7 @@ quick_known pages s page index operation code at known effect =
       stands =
           fetched_from pages s.words page.page (s.core.pc % 4096 / 4) found.0.address (omega arith) found.2
           ∙ ap (λ (n : ℕ). Some (record { word = slice_index s.words (page.page * 1024 + n); page = page.page })) (sym at.is);
-      usable = decoded.usable s.core;
+      usable = usable_by pages s operation (slice_index s.words (page.page * 1024 + index)) decoded effect;
       decoded = decoded.decoded;
       effect = effect;
     }

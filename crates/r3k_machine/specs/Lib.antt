@@ -19,9 +19,9 @@ pub use Rattle.r3k_image.specs.Boot
 pub use Rattle.input_log.specs.Event
 pub use Rattle.input_log.specs.Log
 pub mod LoadSlot
-pub mod Pending
 pub mod Core
 pub mod State
+pub mod Flow
 pub mod Address
 pub mod Translation
 pub mod Isolated

@@ -1,20 +1,26 @@
 -- Quiet steps (own): nothing comes before the instruction but ticks that only count, and the instruction touches registers, PC and
 -- memory alone. So all ticks and falls of Random of many such steps may come after the last of them.
-use Rattle.std.specs.Prelude.{◌≡◌, ℕ, ◌+◌, ◌*◌, ◌/◌, ◌%◌, ◌^◌, ◌<◌, ◌≤◌, Bool, false, true, IsFalse, IsTrue, Some, Ok}
-use Rattle.r3k_word.specs.Layout.{place_of_word}
+use Rattle.std.specs.Prelude.{◌≡◌, ℕ, ◌+◌, ◌*◌, ◌/◌, ◌%◌, ◌^◌, ◌<◌, ◌≤◌, Bool, false, true, IsFalse, IsTrue, List, Option, None, Some, Ok, slice_index}
+use Rattle.r3k_word.specs.Layout.{page_of_place, place_of_word}
 use Rattle.r3k_word.specs.declared.layout.TheConstants.{PAGE_BYTES, PAGE_WORDS}
 use Rattle.cop0.specs.Changes as control
 use Rattle.cop0.specs.Status as status
-use Rattle.cop0.specs.Status.{in_user_mode}
+use Rattle.cop0.specs.Status.{in_user_mode, is_usable}
+use Rattle.cop0.specs.declared.number.TheConstants.{ENTRY_LO, RANDOM}
+use Rattle.kn02_bus.specs.State.{BusState}
 use Rattle.kn02_bus.specs.Lines.{lines_of}
-use Rattle.kn02_bus.specs.Quiet.{after, quiet_of}
+use Rattle.kn02_bus.specs.Quiet.{after, quiet_of, steady_word}
+use Rattle.kn02_bus.specs.Region.{region_of}
+use Rattle.kn02_bus.specs.declared.region.Region.{Region}
+use Rattle.kn02_bus.specs.declared.region.Region.TheVariants.{Device}
 use Rattle.r3k_decode.specs.Operation.{Operation}
 use Rattle.r3k_decode.specs.Decoding.{operation_of}
 use Rattle.r3k_exec.specs.Effects.{effect_of}
 use Rattle.r3k_exec.specs.declared.operands.Effect.{Effect}
-use Rattle.r3k_exec.specs.declared.operands.Effect.TheVariants.{Write, WriteHi, WriteLo, WriteHiLo, Jump, JumpAndLink, Load, Store}
+use Rattle.r3k_exec.specs.declared.operands.Effect.TheVariants.{Write, WriteHi, WriteLo, WriteHiLo, Jump, JumpAndLink, Load, Store, MoveFromControl, MoveToControl}
 use Rattle.r3k_machine.specs.declared.address.Physical.{Physical}
 use Rattle.r3k_machine.specs.declared.address.Use.TheVariants.{Fetch}
+use Rattle.r3k_machine.specs.declared.load_store.Loaded.{Loaded}
 use Rattle.r3k_machine.specs.declared.load_store.Word.{Word}
 use Rattle.r3k_machine.specs.declared.quick.CodePage.{CodePage}
 use Rattle.r3k_machine.specs.Address.{Meaning, meaning}
@@ -37,10 +43,10 @@ abbrev pub elapsed : ℕ → Core → Core
 elapsed n core = record core { bus = after n core.bus; cop0 = control.fallen_by n core.cop0 }
 
 abbrev pub state_elapsed : ℕ → State → State
-state_elapsed n s = record { core = elapsed n s.core; words = s.words }
+state_elapsed n s = record s { core = elapsed n s.core }
 
 abbrev pub outcome_elapsed : ℕ → Outcome → Outcome
-outcome_elapsed n o = record { state = state_elapsed n o.state; done = o.done }
+outcome_elapsed n o = record o { state = state_elapsed n o.state }
 
 -- an address with one meaning, which is no slot of the isolated cache
 pub record IsPlain (core : Core) (m : Meaning) (physical : Physical) : Type 0 where
@@ -52,21 +58,38 @@ pub record IsReached (core : Core) (m : Meaning) (address : ℕ) : Type 0 where
   pub cacheable : Bool
   pub plain : IsPlain core m (record { address = address; cacheable = cacheable })
 
--- an effect on registers, PC and memory alone: loads are of a word of RAM or ROM, and stores of one of RAM
-abbrev pub IsQuickEffect : ℕ → Core → Effect → Type 0
-IsQuickEffect pages core (Write number value) = Unit {0}
-IsQuickEffect pages core (WriteHi value) = Unit {0}
-IsQuickEffect pages core (WriteLo value) = Unit {0}
-IsQuickEffect pages core (WriteHiLo hi lo) = Unit {0}
-IsQuickEffect pages core (Jump target) = Unit {0}
-IsQuickEffect pages core (JumpAndLink target number value) = Unit {0}
-IsQuickEffect pages core (Load kind number address) =
-    (physical : Physical) × (place : ℕ) × IsPlain core (meaning_of_load core kind address) physical
-    × (place_of_word pages (physical.address / 4 * 4) ≡ Some place)
-IsQuickEffect pages core (Store kind address value) =
-    (physical : Physical) × (word : ℕ) × IsPlain core (meaning_of_store core kind address) physical
+-- What a load over the bus gives, where it is the same before ticks that only count and after them: a word of RAM or ROM, or of a
+-- device's register that is steady.
+abbrev pub steady_of : BusState → Region → Option ℕ
+steady_of bus (Device device) = steady_word bus device
+steady_of bus region = None
+
+abbrev pub steady_elsewhere : Option ℕ → Option Loaded
+steady_elsewhere None = None
+steady_elsewhere (Some word) = Some (record { word = word; page = None })
+
+abbrev pub steady_over_bus : List ℕ → BusState → Region → Option ℕ → Option Loaded
+steady_over_bus words bus region (Some place) = Some (record { word = slice_index words place; page = Some (page_of_place place) })
+steady_over_bus words bus region None = steady_elsewhere (steady_of bus region)
+
+-- An effect on registers, EntryLo, PC and memory alone: loads are of such a word, and stores of one of RAM. Of coprocessor 0, Random
+-- is not read, and EntryLo alone is written.
+abbrev pub IsQuickEffect : ℕ → State → Effect → Type 0
+IsQuickEffect pages s (Write number value) = Unit {0}
+IsQuickEffect pages s (WriteHi value) = Unit {0}
+IsQuickEffect pages s (WriteLo value) = Unit {0}
+IsQuickEffect pages s (WriteHiLo hi lo) = Unit {0}
+IsQuickEffect pages s (Jump target) = Unit {0}
+IsQuickEffect pages s (JumpAndLink target number value) = Unit {0}
+IsQuickEffect pages s (Load kind number address) =
+    (physical : Physical) × (loaded : Loaded) × IsPlain s.core (meaning_of_load s.core kind address) physical
+    × (steady_over_bus s.words s.core.bus (region_of pages physical.address) (place_of_word pages (physical.address / 4 * 4)) ≡ Some loaded)
+IsQuickEffect pages s (Store kind address value) =
+    (physical : Physical) × (word : ℕ) × IsPlain s.core (meaning_of_store s.core kind address) physical
     × (ram_word pages physical.address ≡ Some word)
-IsQuickEffect pages core effect = ⊥
+IsQuickEffect pages s (MoveFromControl number control) = (¬ (control ≡ RANDOM)) × IsTrue (is_usable s.core.cop0)
+IsQuickEffect pages s (MoveToControl control value) = (control ≡ ENTRY_LO) × IsTrue (is_usable s.core.cop0)
+IsQuickEffect pages s effect = ⊥
 
 -- the instruction at PC has such an effect
 pub record IsQuick (pages : ℕ) (s : State) : Type 0 where
@@ -77,7 +100,7 @@ pub record IsQuick (pages : ℕ) (s : State) : Type 0 where
   pub stands : word_at pages s.words physical.address ≡ Some fetched
   pub usable : IsFalse (is_unusable s.core fetched.word)
   pub decoded : operation_of fetched.word ≡ Some operation
-  pub effect : IsQuickEffect pages s.core (effect_of operation (operands_of s.core operation))
+  pub effect : IsQuickEffect pages s (effect_of operation (operands_of s.core operation))
 
 -- all words of a virtual page are fetched from a page of memory
 abbrev pub IsFetchedFrom : ℕ → Core → (number page : ℕ) → Type 0

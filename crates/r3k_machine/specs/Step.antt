@@ -1,5 +1,5 @@
 -- One step, after Kane and Heinrich, chapters 1 to 3 and 6; the order of its parts is own.
-use Rattle.std.specs.Prelude.{◌≡◌, ℕ, ◌/◌, List, [], ◌∷◌, true, false, Option, Some, None, Result, Ok, Err, ◌==◌, ◌%◌, if◌then◌else◌}
+use Rattle.std.specs.Prelude.{◌≡◌, ℕ, ◌/◌, List, [], ◌∷◌, true, false, Option, Some, None, Result, Ok, Err, unwrap_or, ◌==◌, ◌%◌, if◌then◌else◌}
 use Rattle.r3k_word.specs.Word.{sum_of}
 use Rattle.r3k_word.specs.declared.layout.TheConstants.{PAGE_BYTES}
 use Rattle.cop0.specs.Changes as control
@@ -109,12 +109,8 @@ abbrev pub with_slot : Core → (number value : ℕ) → Core
 with_slot core number value = record core { load = slot_after_load number value }
 
 -- A branch marks the next instruction as one in a delay slot, taken or not; the target comes after it.
-abbrev pub next_pc_of : Core → Option ℕ → ℕ
-next_pc_of core None = core.next_pc
-next_pc_of core (Some target) = target
-
 abbrev pub branched : Core → Option ℕ → Core
-branched core target = record core { next_pc = next_pc_of core target; delay = true }
+branched core target = record core { next_pc = unwrap_or target core.next_pc; delay = true }
 
 -- what the instruction leaves and reports, or its exception, with the processor as its access left it
 pub record Raised : Type 0 where
@@ -129,13 +125,13 @@ Completion = Result Outcome Raised
 
 -- an instruction that touches no memory but the page that it was fetched from
 abbrev pub completion_without_access : State → ℕ → Core → Completion
-completion_without_access s page core = Ok (record { state = record { core = core; words = s.words }; done = fetching (Some page) })
+completion_without_access s page core = Ok (record { state = record s { core = core }; done = fetching (Some page) })
 
 -- A load. One that merges keeps bytes of the register once the pending load has landed.
 abbrev pub completion_of_load : State → ℕ → LoadKind → (number address : ℕ) → Result Loaded Exception → Completion
 completion_of_load s page kind number address (Err exception) = Err (raised s.core exception)
 completion_of_load s page kind number address (Ok w) = Ok (record {
-  state = record { core = with_slot (passed s.core) number (loaded kind (address % 4) w.word (register (passed s.core) number)); words = s.words };
+  state = record s { core = with_slot (passed s.core) number (loaded kind (address % 4) w.word (register (passed s.core) number)) };
   done = loading page w.page;
 })
 
@@ -158,9 +154,9 @@ completion_of_effect pages s page (JumpAndLink target number value) =
     completion_without_access s page (with_write (branched (passed s.core) target) number value)
 completion_of_effect pages s page (Trap trap) = Err (raised s.core (exception_of trap))
 completion_of_effect pages s page (Load kind number address) =
-    completion_of_load (record { core = core_after_load pages s.core kind address; words = s.words }) page kind number address (loaded_from pages s.words s.core kind address)
+    completion_of_load (record s { core = core_after_load pages s.core kind address }) page kind number address (loaded_from pages s.words s.core kind address)
 completion_of_effect pages s page (Store kind address value) =
-    completion_of_store (record { core = core_after_store pages s.core kind address value; words = s.words }) page (words_after s.words (stored_to pages s.core kind address value) (stored kind (address % 4) value)) (stored_to pages s.core kind address value)
+    completion_of_store (record s { core = core_after_store pages s.core kind address value }) page (words_after s.words (stored_to pages s.core kind address value) (stored kind (address % 4) value)) (stored_to pages s.core kind address value)
 completion_of_effect pages s page (MoveFromControl number control) =
     completion_without_access s page (with_slot (passed s.core) number (register_of s.core.cop0 control))
 completion_of_effect pages s page (MoveToControl control value) =
@@ -188,12 +184,12 @@ IsCompletion (Err exception) old new completion = (completion ≡ Err (raised ne
 
 -- an exception in place of the instruction
 abbrev pub outcome_of_exception : State → Option ℕ → Exception → Outcome
-outcome_of_exception s page exception = record { state = record { core = entered s.core exception; words = s.words }; done = fetching page }
+outcome_of_exception s page exception = record { state = record s { core = entered s.core exception }; done = fetching page }
 
 abbrev pub outcome_of_completion : State → ℕ → Completion → Outcome
 outcome_of_completion s page (Ok outcome) = outcome
 outcome_of_completion s page (Err fault) =
-    outcome_of_exception (record { core = fault.core; words = s.words }) (Some page) fault.exception
+    outcome_of_exception (record s { core = fault.core }) (Some page) fault.exception
 
 abbrev pub outcome_of_word : ℕ → State → Word → Outcome
 outcome_of_word pages s w = outcome_of_completion s w.page (completion_of_word pages s w)
@@ -204,7 +200,7 @@ outcome_of_fetch pages s (Ok w) = outcome_of_word pages s w
 
 -- the instruction at PC
 abbrev pub outcome_of_instruction : ℕ → State → Outcome
-outcome_of_instruction pages s = outcome_of_fetch pages (record { core = met s.core (meaning_of_fetch s.core); words = s.words }) (fetched pages s.words s.core)
+outcome_of_instruction pages s = outcome_of_fetch pages (record s { core = met s.core (meaning_of_fetch s.core) }) (fetched pages s.words s.core)
 
 -- 5. Random falls by one.
 abbrev pub fallen : Core → Core
@@ -214,17 +210,17 @@ fallen core = record core { cop0 = control.fallen core.cop0 }
 abbrev pub outcome_of_interrupt_or_instruction : ℕ → State → Outcome
 outcome_of_interrupt_or_instruction pages s =
     if control.is_wanted s.core.cop0
-    then record { state = record { core = interrupted s.core; words = s.words }; done = fetching None }
+    then record { state = record s { core = interrupted s.core }; done = fetching None }
     else outcome_of_instruction pages s
 
 -- and the fifth
 abbrev pub with_fall : Outcome → Outcome
-with_fall o = record { state = record { core = fallen o.state.core; words = o.state.words }; done = o.done }
+with_fall o = record o { state = record o.state { core = fallen o.state.core } }
 
 -- One step of a machine with n RAM pages, in which these events take effect: its five parts in their order.
 unfoldable pub outcome_of_step : ℕ → List LogEvent → State → Outcome
 outcome_of_step pages events s =
-    with_fall (outcome_of_interrupt_or_instruction pages (record { core = sampled (ticked (arrived events s.core)); words = s.words }))
+    with_fall (outcome_of_interrupt_or_instruction pages (record s { core = sampled (ticked (arrived events s.core)) }))
 
 -- the state after a step, and what the step reports
 abbrev pub next : ℕ → List LogEvent → State → State

@@ -3,6 +3,7 @@
 ghost use Rattle.std.specs.Prelude.{◌≡◌};
 ghost use Rattle.kn02_bus.specs.Region.{region_of};
 ghost use Rattle.r3k_machine.specs.Devices.{sent_by_device, with_device_load, with_device_store, word_of_device};
+ghost use Rattle.r3k_machine.specs.Quiet.{steady_of};
 
 use crate::state::Core;
 use dz_serial::Sent;
@@ -18,6 +19,17 @@ impl Core {
     {
         match Region::of(physical, pages) {
             Region::Device(device) => Some(self.bus.load(device)),
+            _ => None,
+        }
+    }
+
+    /// The word of a device's register, if there is one at a physical address and it is steady.
+    #[inline(never)]
+    pub(crate) fn steady(&self, physical: u32, pages: u32) -> Option<u32>
+        ensures { result ≡ steady_of self.now.bus (region_of pages physical) }
+    {
+        match Region::of(physical, pages) {
+            Region::Device(device) => self.bus.steady(device),
             _ => None,
         }
     }

@@ -1,13 +1,12 @@
 //! Exceptions: what each reports to the control registers, and what taking one does to the processor.
 
 ghost use Rattle.std.specs.Prelude.{◌≡◌};
-ghost use Rattle.r3k_machine.specs.State.{landed};
 ghost use Rattle.r3k_machine.specs.Exceptions.{bad_of, code_of, entered, exc_of, exception_of, is_mapped, is_refill, without_row};
 
-use crate::state::{Core, LoadSlot};
+use crate::flow::Flow;
+use crate::state::Core;
 use cop0::{Coprocessor, Exc, ExcCode};
 use r3k_exec::Trap;
-use r3k_word::arithmetic::add;
 use r3k_word::field::field;
 
 /// What keeps an instruction from completing.
@@ -126,25 +125,14 @@ impl Exception {
 }
 
 impl Core {
-    /// Lets the pending load land.
-    #[inline]
-    pub(crate) fn land(&mut self)
-        ensures { self.new ≡ record self.old { registers = landed self.old.registers self.old.load; load = None } }
-    {
-        if let Some(load) = self.processor.load.pending() {
-            self.processor.registers[load.register() as usize] = load.value();
-            self.processor.load = LoadSlot::empty();
-        }
-    }
-
     // What an exception of the instruction at the PC reports to the control registers.
     fn exc(&self, exception: Exception) -> Exc
         ensures { result ≡ exc_of self.now exception }
     {
         Exc {
             code: exception.code(),
-            pc: self.processor.pc,
-            delay: self.processor.delay,
+            pc: self.pc(),
+            delay: self.delay(),
             bad: exception.bad_address(),
             mapped: exception.is_mapped(),
             refill: exception.is_refill(),
@@ -157,9 +145,7 @@ impl Core {
     {
         let exc = self.exc(exception);
         let vector = self.processor.cop0.enter(exc);
-        self.land();
-        self.processor.pc = vector;
-        self.processor.next_pc = add(vector, 4);
-        self.processor.delay = false;
+        self.processor.flow.land(&mut self.processor.registers);
+        self.processor.flow = Flow::at(vector);
     }
 }

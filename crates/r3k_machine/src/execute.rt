@@ -4,35 +4,36 @@ ghost use Rattle.std.specs.Prelude.{◌≡◌, ◌<◌, IfOk};
 ghost use Rattle.cop0.specs.Changes as control;
 ghost use Rattle.cop0.specs.Registers.{written};
 ghost use Rattle.r3k_machine.specs.Exceptions.{is_unusable};
-ghost use Rattle.r3k_machine.specs.State.{with_register};
+ghost use Rattle.r3k_machine.specs.Flow.{moved};
+ghost use Rattle.r3k_machine.specs.State.{landed, with_register};
 ghost use Rattle.r3k_machine.specs.Step.{IsCompletion, branched, completion_of_word, operands_of, passed, completion_of_effect};
 ghost use Rattle.r3k_machine.specs.LoadSlot.{slot_after_load};
 ghost use Rattle.r3k_machine.specs.Told.{IsPage, IsTold};
 
 use crate::exception::Exception;
+use crate::flow::Flow;
 use crate::load_store::{Word, load, store};
 use crate::memory::Mem;
-use crate::state::{Core, LoadSlot};
+use crate::state::Core;
 use crate::step::Done;
 use cop0::Coprocessor;
 use cop0::number::{INDEX, RANDOM};
 use r3k_decode::{Insn, Register, decode};
 use r3k_exec::{Effect, Operands, effect};
-use r3k_word::arithmetic::add;
 use r3k_word::field::field;
 
 impl Core {
-    // The values that an instruction reads.
+    // The values that an instruction at an address reads.
     #[inline]
-    pub(crate) fn operands(&self, insn: &Insn) -> Operands
-        ensures { result ≡ operands_of self.now insn.now }
+    pub(crate) fn operands(&self, insn: &Insn, pc: u32) -> Operands
+        ensures { result ≡ record (operands_of self.now insn.now) { pc = pc } }
     {
         Operands {
             rs: self.processor.registers[insn.rs().index()],
             rt: self.processor.registers[insn.rt().index()],
             hi: self.processor.hi,
             lo: self.processor.lo,
-            pc: self.processor.pc,
+            pc,
         }
     }
 
@@ -49,10 +50,16 @@ impl Core {
     pub(crate) fn complete(&mut self)
         ensures { self.new ≡ passed self.old }
     {
-        self.land();
-        self.processor.pc = self.processor.next_pc;
-        self.processor.next_pc = add(self.processor.next_pc, 4);
-        self.processor.delay = false;
+        self.processor.flow.complete(&mut self.processor.registers);
+    }
+
+    // The same, where it stands in a flow that is kept apart from it.
+    #[inline(always)]
+    pub(crate) fn complete_in(&mut self, flow: &mut Flow)
+        ensures flow { flow.new ≡ moved flow.old }
+        ensures core { self.new ≡ record self.old { registers = landed self.old.registers flow.old.load } }
+    {
+        flow.complete(&mut self.processor.registers);
     }
 
     // Writes a register. r0 stays 0.
@@ -81,7 +88,7 @@ impl Core {
 
     // Writes a control register.
     #[inline]
-    fn write_control(&mut self, register: Register, value: u32)
+    pub(crate) fn write_control(&mut self, register: Register, value: u32)
         ensures { self.new ≡ record self.old { cop0 = written self.old.cop0 register value } }
     {
         self.processor.cop0.write(register.number(), value);
@@ -100,7 +107,7 @@ impl Core {
     pub(crate) fn set_slot(&mut self, register: Register, value: u32)
         ensures { self.new ≡ record self.old { load = slot_after_load register value } }
     {
-        self.processor.load = LoadSlot::of(register, value);
+        self.processor.flow.set_slot(register, value);
     }
 
     // Marks the next instruction as one in a delay slot, with the target after it.
@@ -108,10 +115,7 @@ impl Core {
     pub(crate) fn branch(&mut self, target: Option<u32>)
         ensures { self.new ≡ branched self.old target }
     {
-        self.processor.delay = true;
-        if let Some(target) = target {
-            self.processor.next_pc = target;
-        }
+        self.processor.flow.branch(target);
     }
 }
 
@@ -124,12 +128,11 @@ fn perform_effect<M: Mem>(
     page: u32,
     effect: Effect,
 ) -> Result<Done, Exception>
-    requires { IsPage (M.ram memory.old) page }
+    requires { IsPage M.ram page }
     ensures completes { IsCompletion result
         (record { core = core.old; words = M.words memory.old }) (record { core = core.new; words = M.words memory.new })
-        (completion_of_effect (M.ram memory.old) (record { core = core.old; words = M.words memory.old }) page effect) }
-    ensures told { IfOk result (IsTold (M.ram memory.old) (M.words memory.old) (M.words memory.new)) }
-    ensures same { M.ram memory.new ≡ M.ram memory.old }
+        (completion_of_effect M.ram (record { core = core.old; words = M.words memory.old }) page effect) }
+    ensures told { IfOk result (IsTold M.ram (M.words memory.old) (M.words memory.new)) }
 {
     match effect {
         Effect::Write { register, value } => {
@@ -223,12 +226,11 @@ pub(crate) fn execute_word<M: Mem>(
     memory: &mut M,
     fetched: Word,
 ) -> Result<Done, Exception>
-    requires { IsPage (M.ram memory.old) fetched.page }
+    requires { IsPage M.ram fetched.page }
     ensures completes { IsCompletion result
         (record { core = core.old; words = M.words memory.old }) (record { core = core.new; words = M.words memory.new })
-        (completion_of_word (M.ram memory.old) (record { core = core.old; words = M.words memory.old }) fetched) }
-    ensures told { IfOk result (IsTold (M.ram memory.old) (M.words memory.old) (M.words memory.new)) }
-    ensures same { M.ram memory.new ≡ M.ram memory.old }
+        (completion_of_word M.ram (record { core = core.old; words = M.words memory.old }) fetched) }
+    ensures told { IfOk result (IsTold M.ram (M.words memory.old) (M.words memory.new)) }
 {
     if core.is_unusable(fetched.word) {
         return Err(Exception::CoprocessorUnusable(Coprocessor::Cp0));
@@ -236,6 +238,6 @@ pub(crate) fn execute_word<M: Mem>(
     let Some(insn) = decode(fetched.word) else {
         return Err(Exception::without_row(fetched.word));
     };
-    let effect = effect(&insn, core.operands(&insn));
+    let effect = effect(&insn, core.operands(&insn, core.pc()));
     perform_effect(core, memory, fetched.page, effect)
 }

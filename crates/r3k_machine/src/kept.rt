@@ -21,7 +21,6 @@ pub struct KeptCore {
 
 impl Model for KeptCore {
     ghost use Rattle.r3k_machine.specs.Core.{Core, HoldsZero};
-    ghost use Rattle.r3k_machine.specs.Pending.{pending_of};
 
     ghost Value = { Core };
 
@@ -29,10 +28,10 @@ impl Model for KeptCore {
       registers = c.processor.registers;
       hi = c.processor.hi;
       lo = c.processor.lo;
-      pc = c.processor.pc;
-      next_pc = c.processor.next_pc;
-      delay = c.processor.delay;
-      load = pending_of c.processor.load;
+      pc = c.processor.flow.pc;
+      next_pc = c.processor.flow.next_pc;
+      delay = c.processor.flow.delay;
+      load = c.processor.flow.load;
       cop0 = c.processor.cop0;
       entries = c.tlb;
       caches = c.caches.value;

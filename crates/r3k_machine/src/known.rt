@@ -9,16 +9,21 @@ use r3k_word::field::field;
 // The word of `break`.
 const BREAK: u32 = 0xD;
 
-/// The instruction that a word is, unless it is none or one of coprocessor 0.
+// The rows of `mfc0` and `mtc0` in the table.
+const MFC0: u8 = 46;
+
+const MTC0: u8 = 47;
+
+/// The instruction that a word is, unless it is none, or one of coprocessor 0 that is no move.
 #[cold]
 #[inline(never)]
 pub fn decoded(word: u32) -> Option<Insn>
     ensures { IfSome result (λ insn. IsDecoded word insn) }
 {
-    if field::<31, 26>(word) == 16 {
+    let insn = decode(word)?;
+    if field::<31, 26>(word) == 16 && insn.row() != MFC0 && insn.row() != MTC0 {
         return None;
     }
-    let insn = decode(word)?;
     Some(insn)
 }
 

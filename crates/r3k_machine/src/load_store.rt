@@ -42,8 +42,8 @@ pub(crate) struct Stored {
 // The word of RAM or ROM that a physical address lies in.
 #[inline]
 fn word_at<M: Mem>(memory: &M, physical: u32) -> Option<Word>
-    ensures word { result ≡ word_at (M.ram memory.now) (M.words memory.now) physical }
-    ensures page { IfSome result (λ w. IsPage (M.ram memory.now) w.page) }
+    ensures word { result ≡ word_at M.ram (M.words memory.now) physical }
+    ensures page { IfSome result (λ w. IsPage M.ram w.page) }
 {
     let place = place_of(memory.ram_pages(), physical / 4 * 4)?;
     Some(Word {
@@ -78,11 +78,10 @@ fn with_bytes(old: u32, lanes: u8, new: u32) -> u32
 // Stores into the word of RAM that a physical address lies in, and gives the address of that word, if there is one.
 #[inline]
 pub(crate) fn put<M: Mem>(memory: &mut M, physical: u32, covered: Covered) -> Option<u32>
-    ensures address { result ≡ ram_word (M.ram memory.old) physical }
-    ensures words { M.words memory.new ≡ words_with (M.words memory.old) (ram_word (M.ram memory.old) physical) covered }
-    ensures within { IfSome result (IsRamWord (M.ram memory.old)) }
+    ensures address { result ≡ ram_word M.ram physical }
+    ensures words { M.words memory.new ≡ words_with (M.words memory.old) (ram_word M.ram physical) covered }
+    ensures within { IfSome result (IsRamWord M.ram) }
     ensures differ { DifferAt result (M.words memory.old) (M.words memory.new) }
-    ensures same { M.ram memory.new ≡ M.ram memory.old }
     ensures opened { (page : ℕ) → M.is_open memory.new page ≡ M.is_open memory.old page }
 {
     if physical / PAGE_BYTES >= memory.ram_pages() {
@@ -98,8 +97,8 @@ pub(crate) fn put<M: Mem>(memory: &mut M, physical: u32, covered: Covered) -> Op
 #[tactic(auto, unfolding(crate::specs::Address::meaning))]
 #[inline]
 pub(crate) fn fetch<M: Mem>(core: &mut Core, memory: &M) -> Result<Word, Exception>
-    ensures word { result ≡ fetched (M.ram memory.now) (M.words memory.now) core.old }
-    ensures page { IfOk result (λ w. IsPage (M.ram memory.now) w.page) }
+    ensures word { result ≡ fetched M.ram (M.words memory.now) core.old }
+    ensures page { IfOk result (λ w. IsPage M.ram w.page) }
     ensures core { core.new ≡ met core.old (meaning_of_fetch core.old) }
 {
     let address = core.pc();
@@ -114,11 +113,11 @@ pub(crate) fn fetch<M: Mem>(core: &mut Core, memory: &M) -> Result<Word, Excepti
 // Loads over the bus: the word of RAM or ROM that a physical address lies in, or else that of a device.
 #[inline]
 fn load_over_bus<M: Mem>(core: &mut Core, memory: &M, physical: u32) -> Result<Loaded, Exception>
-    ensures word { result ≡ loaded_over_bus (M.words memory.now) core.old (region_of (M.ram memory.now) physical)
-        (place_of_word (M.ram memory.now) (physical / 4 * 4)) }
-    ensures page { IfOk result (λ loaded. IfSome loaded.page (IsPage (M.ram memory.now))) }
-    ensures core { core.new ≡ after_load_over_bus core.old (region_of (M.ram memory.now) physical)
-        (place_of_word (M.ram memory.now) (physical / 4 * 4)) }
+    ensures word { result ≡ loaded_over_bus (M.words memory.now) core.old (region_of M.ram physical)
+        (place_of_word M.ram (physical / 4 * 4)) }
+    ensures page { IfOk result (λ loaded. IfSome loaded.page (IsPage M.ram)) }
+    ensures core { core.new ≡ after_load_over_bus core.old (region_of M.ram physical)
+        (place_of_word M.ram (physical / 4 * 4)) }
 {
     let pages = memory.ram_pages();
     if let Some(place) = place_of(pages, physical / 4 * 4) {
@@ -142,9 +141,9 @@ pub(crate) fn load<M: Mem>(
     kind: LoadKind,
     address: u32,
 ) -> Result<Loaded, Exception>
-    ensures word { result ≡ loaded_from (M.ram memory.now) (M.words memory.now) core.old kind address }
-    ensures page { IfOk result (λ loaded. IfSome loaded.page (IsPage (M.ram memory.now))) }
-    ensures core { core.new ≡ core_after_load (M.ram memory.now) core.old kind address }
+    ensures word { result ≡ loaded_from M.ram (M.words memory.now) core.old kind address }
+    ensures page { IfOk result (λ loaded. IfSome loaded.page (IsPage M.ram)) }
+    ensures core { core.new ≡ core_after_load M.ram core.old kind address }
 {
     let aligned = kind.is_aligned(address);
     let physical = match core.segment(aligned, address) {
@@ -168,14 +167,13 @@ fn store_over_bus<M: Mem>(
     physical: u32,
     covered: Covered,
 ) -> Stored
-    ensures stored { result ≡ stored_over_bus core.old (region_of (M.ram memory.old) physical) covered
-        (ram_word (M.ram memory.old) physical) }
-    ensures core { core.new ≡ after_store_over_bus core.old (region_of (M.ram memory.old) physical) covered
-        (ram_word (M.ram memory.old) physical) }
-    ensures words { M.words memory.new ≡ words_with (M.words memory.old) (ram_word (M.ram memory.old) physical) covered }
-    ensures within { IfSome result.address (IsRamWord (M.ram memory.old)) }
+    ensures stored { result ≡ stored_over_bus core.old (region_of M.ram physical) covered
+        (ram_word M.ram physical) }
+    ensures core { core.new ≡ after_store_over_bus core.old (region_of M.ram physical) covered
+        (ram_word M.ram physical) }
+    ensures words { M.words memory.new ≡ words_with (M.words memory.old) (ram_word M.ram physical) covered }
+    ensures within { IfSome result.address (IsRamWord M.ram) }
     ensures differ { DifferAt result.address (M.words memory.old) (M.words memory.new) }
-    ensures same { M.ram memory.new ≡ M.ram memory.old }
 {
     match put(memory, physical, covered) {
         Some(address) => Stored {
@@ -199,13 +197,12 @@ pub(crate) fn store<M: Mem>(
     address: u32,
     value: u32,
 ) -> Result<Stored, Exception>
-    ensures stored { result ≡ stored_to (M.ram memory.old) core.old kind address value }
-    ensures core { core.new ≡ core_after_store (M.ram memory.old) core.old kind address value }
+    ensures stored { result ≡ stored_to M.ram core.old kind address value }
+    ensures core { core.new ≡ core_after_store M.ram core.old kind address value }
     ensures words { M.words memory.new ≡ words_after (M.words memory.old)
-        (stored_to (M.ram memory.old) core.old kind address value) (stored kind (address % 4) value) }
-    ensures within { IfOk result (λ stored. IfSome stored.address (IsRamWord (M.ram memory.old))) }
+        (stored_to M.ram core.old kind address value) (stored kind (address % 4) value) }
+    ensures within { IfOk result (λ stored. IfSome stored.address (IsRamWord M.ram)) }
     ensures differ { IfOk result (λ stored. DifferAt stored.address (M.words memory.old) (M.words memory.new)) }
-    ensures same { M.ram memory.new ≡ M.ram memory.old }
 {
     let aligned = kind.is_aligned(address);
     let physical = match core.segment(aligned, address) {

@@ -15,11 +15,11 @@ pub trait Mem {
     ghost words: { Self → List ℕ };
 
     /// The number of RAM pages.
-    ghost ram: { Self → ℕ };
+    ghost ram: { ℕ };
 
     /// The number of RAM pages.
     fn ram_pages(&self) -> u32
-        ensures { result ≡ ram self.now };
+        ensures { result ≡ ram };
 
     /// The word at a place.
     fn word(&self, place: usize) -> u32
@@ -30,7 +30,6 @@ pub trait Mem {
     fn set_word(&mut self, place: usize, value: u32)
         requires { place < length (words self.old) }
         ensures set { words self.new ≡ slice_set (words self.old) place value }
-        ensures same { ram self.new ≡ ram self.old }
         ensures opened { (page : ℕ) → is_open self.new page ≡ is_open self.old page };
 
     /// Whether a page is open: what is known of its words can be asked.
@@ -38,14 +37,13 @@ pub trait Mem {
 
     /// Opens a page. Another page may be closed, and what was known of its words is lost.
     fn open_page(&mut self, page: u32)
-        requires { IsPage (ram self.old) page }
+        requires { IsPage ram page }
         ensures opened { IsTrue (is_open self.new page) }
-        ensures words { words self.new ≡ words self.old }
-        ensures same { ram self.new ≡ ram self.old };
+        ensures words { words self.new ≡ words self.old };
 
     /// What is known of a word of an open page, by its number in the page: its instruction, or one that traps.
     fn insn(&self, page: u32, index: usize) -> &Insn
-        requires page { IsPage (ram self.now) page }
+        requires page { IsPage ram page }
         requires opened { IsTrue (is_open self.now page) }
         requires index { index < PAGE_WORDS }
         ensures { IsKnown (slice_index (words self.now) (page * PAGE_WORDS + index)) result.now };
@@ -53,16 +51,15 @@ pub trait Mem {
     /// Decodes a word of an open page, so that its instruction is known until the word is stored into. Says whether it was not
     /// known, and can be.
     fn learn(&mut self, page: u32, index: usize) -> bool
-        requires page { IsPage (ram self.old) page }
+        requires page { IsPage ram page }
         requires opened { IsTrue (is_open self.old page) }
         requires index { index < PAGE_WORDS }
         ensures words { words self.new ≡ words self.old }
-        ensures same { ram self.new ≡ ram self.old }
         ensures opened { (other : ℕ) → is_open self.new other ≡ is_open self.old other };
 
     /// There are as many words as the pages hold.
-    ghost whole: { (memory : Self) → length (words memory) ≡ word_count_of (ram memory) };
+    ghost whole: { (memory : Self) → length (words memory) ≡ word_count_of ram };
 
     /// There are not more pages of RAM than a machine may have.
-    ghost range: { (memory : Self) → ram memory ≤ MAX_RAM_PAGES };
+    ghost range: { Self → ram ≤ MAX_RAM_PAGES };
 }

@@ -1,20 +1,25 @@
 //! Quick steps: those before which nothing happens but counting, and whose instruction touches registers, PC and memory alone.
 
-ghost use Rattle.std.specs.Prelude.{◌≡◌, ◌/◌, ◌^◌, ◌<◌, ℕ, [], IfSome, IsTrue, None, Ok, Some};
+ghost use Rattle.std.specs.Prelude.{◌≡◌, ◌*◌, ◌/◌, ◌^◌, ◌<◌, ℕ, [], IfSome, IsTrue, None, Ok, Some};
 ghost use Rattle.r3k_exec.specs.declared.operands.Effect.TheVariants.{Load, Store};
+ghost use Rattle.r3k_word.specs.Layout.{place_of_word};
 ghost use Rattle.r3k_word.specs.declared.layout.TheConstants.{PAGE_BYTES, PAGE_WORDS};
-ghost use Rattle.r3k_machine.specs.Quiet.{GoesOverBus, IsCodePage, IsIndexIn, IsQuick, IsQuickEffect, IsQuietFor, IsReached, elapsed};
+ghost use Rattle.kn02_bus.specs.Region.{region_of};
+ghost use Rattle.r3k_machine.specs.Quiet.{GoesOverBus, IsCodePage, IsIndexIn, IsQuick, IsQuickEffect, IsQuietFor, IsReached, elapsed, steady_over_bus};
 ghost use Rattle.r3k_machine.specs.Address.{meaning};
+ghost use Rattle.r3k_machine.specs.Flow.{with_flow};
 ghost use Rattle.r3k_machine.specs.Locality.{fetched_page};
 ghost use Rattle.r3k_machine.specs.Step.{completion_of_effect, outcome_of_instruction, outcome_of_step};
 ghost use Rattle.r3k_machine.specs.Told.{IsPage, IsTold};
 
 use crate::address::{KSEG0, KSEG2, Use};
+use crate::flow::Flow;
 use crate::laws::quiet_laws;
-use crate::load_store::{Stored, Word, put};
+use crate::load_store::{Loaded, Stored, Word, put};
 use crate::memory::Mem;
 use crate::state::Core;
 use crate::step::{Done, run_fetched};
+use cop0::number::{ENTRY_LO, RANDOM};
 use r3k_decode::Register;
 use r3k_exec::{Effect, LoadKind, StoreKind, effect};
 use r3k_word::arithmetic::subtract;
@@ -95,8 +100,8 @@ impl CodePage {
 
 /// The page of the PC, where its words are fetched without an exception and without a search.
 pub fn code_page<M: Mem>(core: &Core, memory: &M) -> Option<CodePage>
-    ensures code { IfSome result (λ page. IsCodePage (M.ram memory.now) core.now page) }
-    ensures page { IfSome result (λ page. IsPage (M.ram memory.now) page.page) }
+    ensures code { IfSome result (λ page. IsCodePage M.ram core.now page) }
+    ensures page { IfSome result (λ page. IsPage M.ram page.page) }
 {
     let address = core.pc();
     let physical = core.known(Use::Fetch, address % 4 == 0, address)?;
@@ -108,11 +113,30 @@ pub fn code_page<M: Mem>(core: &Core, memory: &M) -> Option<CodePage>
     })
 }
 
-// Makes a load of the instruction at the PC, which was fetched from a page, if it is of a word of RAM or ROM that is known without a
-// search. Else it changes nothing.
+// What a load over the bus gives, where it is the same before ticks that only count and after them.
+#[inline(always)]
+fn steady_over_bus<M: Mem>(core: &Core, memory: &M, physical: u32) -> Option<Loaded>
+    ensures loaded { result ≡ steady_over_bus (M.words memory.now) core.now.bus (region_of M.ram physical)
+        (place_of_word M.ram (physical / 4 * 4)) }
+    ensures page { IfSome result (λ loaded. IfSome loaded.page (IsPage M.ram)) }
+{
+    let pages = memory.ram_pages();
+    if let Some(place) = place_of(pages, physical / 4 * 4) {
+        return Some(Loaded {
+            word: memory.word(place),
+            page: Some(page_of(place) as u32),
+        });
+    }
+    let word = core.steady(physical, pages)?;
+    Some(Loaded { word, page: None })
+}
+
+// Makes a load of the instruction at the PC, which was fetched from a page, if it is of such a word, and its address is known without
+// a search. Else it changes nothing.
 #[inline(always)]
 fn load_quick<M: Mem>(
     core: &mut Core,
+    flow: &mut Flow,
     memory: &M,
     page: u32,
     plain: bool,
@@ -120,29 +144,31 @@ fn load_quick<M: Mem>(
     register: Register,
     address: u32,
 ) -> Option<Done>
-    requires page { IsPage (M.ram memory.now) page }
+    requires page { IsPage M.ram page }
     requires plain { IsTrue plain → GoesOverBus core.old }
-    ensures quick { IfSome result (λ done. IsQuickEffect (M.ram memory.now) core.old (Load kind register address)) }
+    ensures quick { IfSome result (λ done. IsQuickEffect M.ram (record { core = with_flow core.old flow.old; words = M.words memory.now }) (Load kind register address)) }
     ensures ran { IfSome result (λ done.
-        completion_of_effect (M.ram memory.now) (record { core = core.old; words = M.words memory.now }) page (Load kind register address)
-        ≡ Ok (record { state = record { core = core.new; words = M.words memory.now }; done = done })) }
-    ensures within { IfSome result (IsTold (M.ram memory.now) (M.words memory.now) (M.words memory.now)) }
+        completion_of_effect M.ram (record { core = with_flow core.old flow.old; words = M.words memory.now }) page (Load kind register address)
+        ≡ Ok (record { state = record { core = with_flow core.new flow.new; words = M.words memory.now }; done = done })) }
+    ensures within { IfSome result (IsTold M.ram (M.words memory.now) (M.words memory.now)) }
     ensures fetched { IfSome result (λ done. fetched_page done ≡ Some page) }
     ensures core { result ≡ None → core.new ≡ core.old }
+    ensures flow { result ≡ None → flow.new ≡ flow.old }
 {
     let physical = core.reached(Use::Load, kind.is_aligned(address), address, plain)?;
-    let place = place_of(memory.ram_pages(), physical / 4 * 4)?;
-    let word = memory.word(place);
-    core.complete();
+    kn02_bus::laws::quiet_laws();
+    let loaded = steady_over_bus(core, memory, physical)?;
+    core.complete_in(flow);
     let kept = core.registers()[register.index()];
-    core.set_slot(register, kind.loaded(address, word, kept));
-    Some(Done::loading(page, Some(page_of(place) as u32)))
+    flow.set_slot(register, kind.loaded(address, loaded.word, kept));
+    Some(Done::loading(page, loaded.page))
 }
 
 // The same. Each kind has code of its own.
 #[inline(always)]
 fn load_by_kind<M: Mem>(
     core: &mut Core,
+    flow: &mut Flow,
     memory: &M,
     page: u32,
     plain: bool,
@@ -150,21 +176,41 @@ fn load_by_kind<M: Mem>(
     register: Register,
     address: u32,
 ) -> Option<Done>
-    requires page { IsPage (M.ram memory.now) page }
+    requires page { IsPage M.ram page }
     requires plain { IsTrue plain → GoesOverBus core.old }
-    ensures quick { IfSome result (λ done. IsQuickEffect (M.ram memory.now) core.old (Load kind register address)) }
+    ensures quick { IfSome result (λ done. IsQuickEffect M.ram (record { core = with_flow core.old flow.old; words = M.words memory.now }) (Load kind register address)) }
     ensures ran { IfSome result (λ done.
-        completion_of_effect (M.ram memory.now) (record { core = core.old; words = M.words memory.now }) page (Load kind register address)
-        ≡ Ok (record { state = record { core = core.new; words = M.words memory.now }; done = done })) }
-    ensures within { IfSome result (IsTold (M.ram memory.now) (M.words memory.now) (M.words memory.now)) }
+        completion_of_effect M.ram (record { core = with_flow core.old flow.old; words = M.words memory.now }) page (Load kind register address)
+        ≡ Ok (record { state = record { core = with_flow core.new flow.new; words = M.words memory.now }; done = done })) }
+    ensures within { IfSome result (IsTold M.ram (M.words memory.now) (M.words memory.now)) }
     ensures fetched { IfSome result (λ done. fetched_page done ≡ Some page) }
     ensures core { result ≡ None → core.new ≡ core.old }
+    ensures flow { result ≡ None → flow.new ≡ flow.old }
 {
     match kind {
-        LoadKind::Word => load_quick(core, memory, page, plain, LoadKind::Word, register, address),
-        LoadKind::Byte => load_quick(core, memory, page, plain, LoadKind::Byte, register, address),
+        LoadKind::Word => load_quick(
+            core,
+            flow,
+            memory,
+            page,
+            plain,
+            LoadKind::Word,
+            register,
+            address,
+        ),
+        LoadKind::Byte => load_quick(
+            core,
+            flow,
+            memory,
+            page,
+            plain,
+            LoadKind::Byte,
+            register,
+            address,
+        ),
         LoadKind::ByteUnsigned => load_quick(
             core,
+            flow,
             memory,
             page,
             plain,
@@ -172,9 +218,19 @@ fn load_by_kind<M: Mem>(
             register,
             address,
         ),
-        LoadKind::Half => load_quick(core, memory, page, plain, LoadKind::Half, register, address),
+        LoadKind::Half => load_quick(
+            core,
+            flow,
+            memory,
+            page,
+            plain,
+            LoadKind::Half,
+            register,
+            address,
+        ),
         LoadKind::HalfUnsigned => load_quick(
             core,
+            flow,
             memory,
             page,
             plain,
@@ -182,9 +238,19 @@ fn load_by_kind<M: Mem>(
             register,
             address,
         ),
-        LoadKind::Left => load_quick(core, memory, page, plain, LoadKind::Left, register, address),
+        LoadKind::Left => load_quick(
+            core,
+            flow,
+            memory,
+            page,
+            plain,
+            LoadKind::Left,
+            register,
+            address,
+        ),
         LoadKind::Right => load_quick(
             core,
+            flow,
             memory,
             page,
             plain,
@@ -200,6 +266,7 @@ fn load_by_kind<M: Mem>(
 #[inline(always)]
 fn store_quick<M: Mem>(
     core: &mut Core,
+    flow: &mut Flow,
     memory: &mut M,
     page: u32,
     plain: bool,
@@ -207,22 +274,22 @@ fn store_quick<M: Mem>(
     address: u32,
     value: u32,
 ) -> Option<Done>
-    requires page { IsPage (M.ram memory.old) page }
+    requires page { IsPage M.ram page }
     requires plain { IsTrue plain → GoesOverBus core.old }
-    ensures quick { IfSome result (λ done. IsQuickEffect (M.ram memory.old) core.old (Store kind address value)) }
+    ensures quick { IfSome result (λ done. IsQuickEffect M.ram (record { core = with_flow core.old flow.old; words = M.words memory.old }) (Store kind address value)) }
     ensures ran { IfSome result (λ done.
-        completion_of_effect (M.ram memory.old) (record { core = core.old; words = M.words memory.old }) page (Store kind address value)
-        ≡ Ok (record { state = record { core = core.new; words = M.words memory.new }; done = done })) }
-    ensures within { IfSome result (IsTold (M.ram memory.old) (M.words memory.old) (M.words memory.new)) }
+        completion_of_effect M.ram (record { core = with_flow core.old flow.old; words = M.words memory.old }) page (Store kind address value)
+        ≡ Ok (record { state = record { core = with_flow core.new flow.new; words = M.words memory.new }; done = done })) }
+    ensures within { IfSome result (IsTold M.ram (M.words memory.old) (M.words memory.new)) }
     ensures fetched { IfSome result (λ done. fetched_page done ≡ Some page) }
     ensures core { result ≡ None → core.new ≡ core.old }
+    ensures flow { result ≡ None → flow.new ≡ flow.old }
     ensures words { result ≡ None → M.words memory.new ≡ M.words memory.old }
-    ensures same { M.ram memory.new ≡ M.ram memory.old }
     ensures opened { (other : ℕ) → M.is_open memory.new other ≡ M.is_open memory.old other }
 {
     let physical = core.reached(Use::Store, kind.is_aligned(address), address, plain)?;
     let address = put(memory, physical, kind.stored(address, value))?;
-    core.complete();
+    core.complete_in(flow);
     let stored = Stored {
         address: Some(address),
         sent: None,
@@ -234,6 +301,7 @@ fn store_quick<M: Mem>(
 #[inline(always)]
 fn store_by_kind<M: Mem>(
     core: &mut Core,
+    flow: &mut Flow,
     memory: &mut M,
     page: u32,
     plain: bool,
@@ -241,26 +309,63 @@ fn store_by_kind<M: Mem>(
     address: u32,
     value: u32,
 ) -> Option<Done>
-    requires page { IsPage (M.ram memory.old) page }
+    requires page { IsPage M.ram page }
     requires plain { IsTrue plain → GoesOverBus core.old }
-    ensures quick { IfSome result (λ done. IsQuickEffect (M.ram memory.old) core.old (Store kind address value)) }
+    ensures quick { IfSome result (λ done. IsQuickEffect M.ram (record { core = with_flow core.old flow.old; words = M.words memory.old }) (Store kind address value)) }
     ensures ran { IfSome result (λ done.
-        completion_of_effect (M.ram memory.old) (record { core = core.old; words = M.words memory.old }) page (Store kind address value)
-        ≡ Ok (record { state = record { core = core.new; words = M.words memory.new }; done = done })) }
-    ensures within { IfSome result (IsTold (M.ram memory.old) (M.words memory.old) (M.words memory.new)) }
+        completion_of_effect M.ram (record { core = with_flow core.old flow.old; words = M.words memory.old }) page (Store kind address value)
+        ≡ Ok (record { state = record { core = with_flow core.new flow.new; words = M.words memory.new }; done = done })) }
+    ensures within { IfSome result (IsTold M.ram (M.words memory.old) (M.words memory.new)) }
     ensures fetched { IfSome result (λ done. fetched_page done ≡ Some page) }
     ensures core { result ≡ None → core.new ≡ core.old }
+    ensures flow { result ≡ None → flow.new ≡ flow.old }
     ensures words { result ≡ None → M.words memory.new ≡ M.words memory.old }
-    ensures same { M.ram memory.new ≡ M.ram memory.old }
     ensures opened { (other : ℕ) → M.is_open memory.new other ≡ M.is_open memory.old other }
 {
     match kind {
-        StoreKind::Word => store_quick(core, memory, page, plain, StoreKind::Word, address, value),
-        StoreKind::Byte => store_quick(core, memory, page, plain, StoreKind::Byte, address, value),
-        StoreKind::Half => store_quick(core, memory, page, plain, StoreKind::Half, address, value),
-        StoreKind::Left => store_quick(core, memory, page, plain, StoreKind::Left, address, value),
+        StoreKind::Word => store_quick(
+            core,
+            flow,
+            memory,
+            page,
+            plain,
+            StoreKind::Word,
+            address,
+            value,
+        ),
+        StoreKind::Byte => store_quick(
+            core,
+            flow,
+            memory,
+            page,
+            plain,
+            StoreKind::Byte,
+            address,
+            value,
+        ),
+        StoreKind::Half => store_quick(
+            core,
+            flow,
+            memory,
+            page,
+            plain,
+            StoreKind::Half,
+            address,
+            value,
+        ),
+        StoreKind::Left => store_quick(
+            core,
+            flow,
+            memory,
+            page,
+            plain,
+            StoreKind::Left,
+            address,
+            value,
+        ),
         StoreKind::Right => store_quick(
             core,
+            flow,
             memory,
             page,
             plain,
@@ -271,97 +376,118 @@ fn store_by_kind<M: Mem>(
     }
 }
 
-// Performs the effect of the instruction at the PC, which was fetched from a page, if it is on registers, PC and memory alone and
-// that is known without a search. Else it changes nothing.
+// Performs the effect of the instruction at the PC, which was fetched from a page, if it is quick, and that is known without a
+// search. Else it changes nothing.
 #[inline(always)]
 fn perform_quick<M: Mem>(
     core: &mut Core,
+    flow: &mut Flow,
     memory: &mut M,
     page: u32,
     plain: bool,
     effect: Effect,
 ) -> Option<Done>
-    requires page { IsPage (M.ram memory.old) page }
+    requires page { IsPage M.ram page }
     requires plain { IsTrue plain → GoesOverBus core.old }
-    ensures quick { IfSome result (λ done. IsQuickEffect (M.ram memory.old) core.old effect) }
+    ensures quick { IfSome result (λ done. IsQuickEffect M.ram (record { core = with_flow core.old flow.old; words = M.words memory.old }) effect) }
     ensures ran { IfSome result (λ done.
-        completion_of_effect (M.ram memory.old) (record { core = core.old; words = M.words memory.old }) page effect
-        ≡ Ok (record { state = record { core = core.new; words = M.words memory.new }; done = done })) }
-    ensures within { IfSome result (IsTold (M.ram memory.old) (M.words memory.old) (M.words memory.new)) }
+        completion_of_effect M.ram (record { core = with_flow core.old flow.old; words = M.words memory.old }) page effect
+        ≡ Ok (record { state = record { core = with_flow core.new flow.new; words = M.words memory.new }; done = done })) }
+    ensures within { IfSome result (IsTold M.ram (M.words memory.old) (M.words memory.new)) }
     ensures fetched { IfSome result (λ done. fetched_page done ≡ Some page) }
     ensures core { result ≡ None → core.new ≡ core.old }
+    ensures flow { result ≡ None → flow.new ≡ flow.old }
     ensures words { result ≡ None → M.words memory.new ≡ M.words memory.old }
-    ensures same { M.ram memory.new ≡ M.ram memory.old }
     ensures opened { (other : ℕ) → M.is_open memory.new other ≡ M.is_open memory.old other }
 {
     match effect {
         Effect::Write { register, value } => {
-            core.complete();
+            core.complete_in(flow);
             core.set_register(register, value);
         }
         Effect::WriteHi { value } => {
-            core.complete();
+            core.complete_in(flow);
             core.set_hi(value);
         }
         Effect::WriteLo { value } => {
-            core.complete();
+            core.complete_in(flow);
             core.set_lo(value);
         }
         Effect::WriteHiLo { hi, lo } => {
-            core.complete();
+            core.complete_in(flow);
             core.set_hi(hi);
             core.set_lo(lo);
         }
         Effect::Jump { target } => {
-            core.complete();
-            core.branch(target);
+            core.complete_in(flow);
+            flow.branch(target);
         }
         Effect::JumpAndLink {
             target,
             register,
             value,
         } => {
-            core.complete();
-            core.branch(target);
+            core.complete_in(flow);
+            flow.branch(target);
             core.set_register(register, value);
         }
         Effect::Load {
             kind,
             register,
             address,
-        } => return load_by_kind(core, memory, page, plain, kind, register, address),
+        } => return load_by_kind(core, flow, memory, page, plain, kind, register, address),
         Effect::Store {
             kind,
             address,
             value,
-        } => return store_by_kind(core, memory, page, plain, kind, address, value),
+        } => return store_by_kind(core, flow, memory, page, plain, kind, address, value),
+        Effect::MoveFromControl { register, control } => {
+            if !plain || control.number() == RANDOM {
+                return None;
+            }
+            let value = core.cop0().read(control.number());
+            core.complete_in(flow);
+            flow.set_slot(register, value);
+        }
+        Effect::MoveToControl { control, value } => {
+            if !plain || control.number() != ENTRY_LO {
+                return None;
+            }
+            core.complete_in(flow);
+            core.write_control(control, value);
+        }
         _ => return None,
     }
     Some(Done::fetching(Some(page)))
 }
 
 /// Runs the instruction at the PC if that lies in this page, which is open, and the instruction is known and quick. Else it changes
-/// nothing.
+/// nothing. The core stands where the flow does, which is kept apart from it.
 #[inline(always)]
-pub fn quick_step<M: Mem>(core: &mut Core, memory: &mut M, page: CodePage) -> Option<Done>
-    requires code { IsCodePage (M.ram memory.old) core.old page }
-    requires page { IsPage (M.ram memory.old) page.page }
+pub fn quick_step<M: Mem>(
+    core: &mut Core,
+    flow: &mut Flow,
+    memory: &mut M,
+    page: CodePage,
+) -> Option<Done>
+    requires code { IsCodePage M.ram (with_flow core.old flow.old) page }
+    requires page { IsPage M.ram page.page }
     requires opened { IsTrue (M.is_open memory.old page.page) }
-    ensures quick { IfSome result (λ done. IsQuick (M.ram memory.old) (record { core = core.old; words = M.words memory.old })) }
-    ensures ran { IfSome result (λ done. outcome_of_instruction (M.ram memory.old) (record { core = core.old; words = M.words memory.old })
-        ≡ record { state = record { core = core.new; words = M.words memory.new }; done = done }) }
-    ensures within { IfSome result (IsTold (M.ram memory.old) (M.words memory.old) (M.words memory.new)) }
-    ensures here { IfSome result (λ done. core.old.pc / PAGE_BYTES ≡ page.number) }
+    ensures quick { IfSome result (λ done. IsQuick M.ram (record { core = with_flow core.old flow.old; words = M.words memory.old })) }
+    ensures ran { IfSome result (λ done. outcome_of_instruction M.ram (record { core = with_flow core.old flow.old; words = M.words memory.old })
+        ≡ record { state = record { core = with_flow core.new flow.new; words = M.words memory.new }; done = done }) }
+    ensures within { IfSome result (IsTold M.ram (M.words memory.old) (M.words memory.new)) }
+    ensures here { IfSome result (λ done. flow.old.pc / PAGE_BYTES ≡ page.number) }
     ensures fetched { IfSome result (λ done. fetched_page done ≡ Some page.page) }
     ensures core { result ≡ None → core.new ≡ core.old }
+    ensures flow { result ≡ None → flow.new ≡ flow.old }
     ensures words { result ≡ None → M.words memory.new ≡ M.words memory.old }
-    ensures same { M.ram memory.new ≡ M.ram memory.old }
     ensures opened { (other : ℕ) → M.is_open memory.new other ≡ M.is_open memory.old other }
 {
-    let index = page.index(core.pc())?;
+    let index = page.index(flow.pc())?;
     let insn = memory.insn(page.page, index);
-    let effect = effect(insn, core.operands(insn));
-    perform_quick(core, memory, page.page, page.plain, effect)
+    let effect = effect(insn, core.operands(insn, flow.pc()));
+    perform_quick(core, flow, memory, page.page, page.plain, effect)
 }
 
 /// Makes the step of the instruction at the PC if that lies in this page, at a time at which the step is quiet. Else it changes
@@ -369,15 +495,14 @@ pub fn quick_step<M: Mem>(core: &mut Core, memory: &mut M, page: CodePage) -> Op
 #[inline]
 pub fn quiet_step<M: Mem>(core: &mut Core, memory: &mut M, page: CodePage) -> Option<Done>
     requires quiet { IsQuietFor 1 core.old }
-    requires code { IsCodePage (M.ram memory.old) core.old page }
-    requires page { IsPage (M.ram memory.old) page.page }
-    ensures ran { IfSome result (λ done. outcome_of_step (M.ram memory.old) [] (record { core = core.old; words = M.words memory.old })
+    requires code { IsCodePage M.ram core.old page }
+    requires page { IsPage M.ram page.page }
+    ensures ran { IfSome result (λ done. outcome_of_step M.ram [] (record { core = core.old; words = M.words memory.old })
         ≡ record { state = record { core = core.new; words = M.words memory.new }; done = done }) }
     ensures here { IfSome result (λ done. core.old.pc / PAGE_BYTES ≡ page.number) }
-    ensures within { IfSome result (IsTold (M.ram memory.old) (M.words memory.old) (M.words memory.new)) }
+    ensures within { IfSome result (IsTold M.ram (M.words memory.old) (M.words memory.new)) }
     ensures core { result ≡ None → core.new ≡ core.old }
     ensures words { result ≡ None → M.words memory.new ≡ M.words memory.old }
-    ensures same { M.ram memory.new ≡ M.ram memory.old }
 {
     quiet_laws();
     let index = page.index(core.pc())?;
@@ -395,10 +520,9 @@ pub fn quiet_step<M: Mem>(core: &mut Core, memory: &mut M, page: CodePage) -> Op
 #[inline(always)]
 pub fn learn<M: Mem>(memory: &mut M, page: CodePage, address: u32)
     requires number { page.number < 2 ^ 20 }
-    requires page { IsPage (M.ram memory.old) page.page }
+    requires page { IsPage M.ram page.page }
     requires opened { IsTrue (M.is_open memory.old page.page) }
     ensures words { M.words memory.new ≡ M.words memory.old }
-    ensures same { M.ram memory.new ≡ M.ram memory.old }
     ensures opened { (other : ℕ) → M.is_open memory.new other ≡ M.is_open memory.old other }
 {
     let Some(index) = page.index(address) else {
@@ -416,11 +540,10 @@ const AHEAD: usize = 15;
 #[cold]
 #[inline(never)]
 fn learn_ahead<M: Mem>(memory: &mut M, page: u32, first: usize)
-    requires page { IsPage (M.ram memory.old) page }
+    requires page { IsPage M.ram page }
     requires opened { IsTrue (M.is_open memory.old page) }
     requires first { first < PAGE_WORDS }
     ensures words { M.words memory.new ≡ M.words memory.old }
-    ensures same { M.ram memory.new ≡ M.ram memory.old }
     ensures opened { (other : ℕ) → M.is_open memory.new other ≡ M.is_open memory.old other }
 {
     for index in first + 1..(first + 1 + AHEAD).min(PAGE_WORDS as usize) {

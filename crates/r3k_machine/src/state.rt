@@ -3,112 +3,18 @@
 ghost use Rattle.std.specs.Prelude.{◌≡◌, ◌<◌, IfOk, slice_index_or};
 ghost use Rattle.tlb64.specs.Entries.{empty_entry};
 ghost use Rattle.r3k_machine.specs.Core.{HoldsZero};
+ghost use Rattle.r3k_machine.specs.Flow.{flow_of, with_flow};
 ghost use Rattle.r3k_machine.specs.Reset.{reset_core};
 ghost use Rattle.r3k_machine.specs.SameProcessor.{is_same_processor};
 
+use crate::flow::{DelayedLoad, Flow};
 use cop0::Cop0;
 use dcache::Caches;
 use kn02_bus::Bus;
-use r3k_decode::Register;
 use r3k_image::Image;
 use std::alloc::{AllocError, Global};
 use std::marker::Model;
 use tlb64::{Entry, Tlb};
-
-/// A load whose value has not landed yet: its register, 1 to 31, and the value.
-#[derive(Clone, Copy, Debug, PartialEq, Eq)]
-pub struct DelayedLoad {
-    register: u32,
-    value: u32,
-}
-
-impl Model for DelayedLoad {
-    ghost use Rattle.std.specs.Prelude.{◌<◌};
-    ghost use Rattle.r3k_machine.specs.LoadSlot.{DelayedLoad};
-
-    ghost Value = { DelayedLoad };
-
-    ghost view = { λ a. record { register = a.register; value = a.value } };
-
-    ghost invariant = { λ a. (0 < a.register) × (a.register < 32) };
-
-    ghost inverse = { λ p. record { register = p.register; value = p.value } };
-}
-
-impl DelayedLoad {
-    /// A load into a register that is not r0.
-    #[inline]
-    pub fn new(register: Register, value: u32) -> DelayedLoad
-        requires { 0 < register }
-        ensures { result ≡ record { register = register; value = value } }
-    {
-        DelayedLoad {
-            register: u32::from(register.number()),
-            value,
-        }
-    }
-
-    /// The register that the value is for, 1 to 31.
-    #[inline]
-    pub fn register(&self) -> u8
-        ensures value { result ≡ self.now.register }
-        ensures above { 0 < result }
-        ensures within { result < 32 }
-    {
-        self.register as u8
-    }
-
-    /// The value.
-    #[inline]
-    pub fn value(&self) -> u32
-        ensures { result ≡ self.now.value }
-    {
-        self.value
-    }
-}
-
-/// The load slot: a register and the value that has not landed in it yet, or r0 where it is empty.
-#[derive(Clone, Copy, Debug)]
-pub(crate) struct LoadSlot {
-    register: Register,
-    value: u32,
-}
-
-impl LoadSlot {
-    ghost use Rattle.std.specs.Prelude.{None};
-    ghost use Rattle.r3k_machine.specs.LoadSlot.{slot_after_load};
-    ghost use Rattle.r3k_machine.specs.Pending.{pending_of};
-
-    /// No load is pending.
-    #[inline]
-    pub(crate) fn empty() -> LoadSlot
-        ensures { pending_of result ≡ None }
-    {
-        LoadSlot {
-            register: Register::new(0),
-            value: 0,
-        }
-    }
-
-    /// A load into a register. One into r0 leaves the slot empty.
-    #[inline]
-    pub(crate) fn of(register: Register, value: u32) -> LoadSlot
-        ensures { pending_of result ≡ slot_after_load register value }
-    {
-        LoadSlot { register, value }
-    }
-
-    /// The load that is pending.
-    #[inline]
-    pub(crate) fn pending(self) -> Option<DelayedLoad>
-        ensures { result ≡ pending_of self }
-    {
-        if self.register.number() == 0 {
-            return None;
-        }
-        Some(DelayedLoad::new(self.register, self.value))
-    }
-}
 
 /// The small part of the processor, which is copied freely.
 #[derive(Clone, Copy, Debug)]
@@ -116,10 +22,7 @@ pub(crate) struct Processor {
     pub(crate) registers: [u32; 32],
     pub(crate) hi: u32,
     pub(crate) lo: u32,
-    pub(crate) pc: u32,
-    pub(crate) next_pc: u32,
-    pub(crate) delay: bool,
-    pub(crate) load: LoadSlot,
+    pub(crate) flow: Flow,
     pub(crate) cop0: Cop0,
 }
 
@@ -136,7 +39,6 @@ pub struct Core {
 
 impl Model for Core {
     ghost use Rattle.r3k_machine.specs.Core.{Core, HoldsZero};
-    ghost use Rattle.r3k_machine.specs.Pending.{pending_of};
 
     ghost Value = { Core };
 
@@ -144,10 +46,10 @@ impl Model for Core {
       registers = c.processor.registers;
       hi = c.processor.hi;
       lo = c.processor.lo;
-      pc = c.processor.pc;
-      next_pc = c.processor.next_pc;
-      delay = c.processor.delay;
-      load = pending_of c.processor.load;
+      pc = c.processor.flow.pc;
+      next_pc = c.processor.flow.next_pc;
+      delay = c.processor.flow.delay;
+      load = c.processor.flow.load;
       cop0 = c.processor.cop0;
       entries = c.tlb;
       caches = c.caches;
@@ -164,10 +66,10 @@ pub(crate) fn is_same_processor(a: &Processor, b: &Processor) -> bool
     a.registers == b.registers
         && a.hi == b.hi
         && a.lo == b.lo
-        && a.pc == b.pc
-        && a.next_pc == b.next_pc
-        && a.delay == b.delay
-        && a.load.pending() == b.load.pending()
+        && a.flow.pc() == b.flow.pc()
+        && a.flow.next_pc() == b.flow.next_pc()
+        && a.flow.delay() == b.flow.delay()
+        && a.flow.load() == b.flow.load()
         && a.cop0 == b.cop0
 }
 
@@ -185,10 +87,7 @@ impl Core {
                 registers: [0; 32],
                 hi: 0,
                 lo: 0,
-                pc: RESET_PC,
-                next_pc: RESET_PC + 4,
-                delay: false,
-                load: LoadSlot::empty(),
+                flow: Flow::at(RESET_PC),
                 cop0: Cop0::new(),
             },
             tlb: Tlb::new(),
@@ -254,28 +153,44 @@ impl Core {
     pub fn pc(&self) -> u32
         ensures { result ≡ self.now.pc }
     {
-        self.processor.pc
+        self.processor.flow.pc()
     }
 
     /// The address of the one after it.
     pub fn next_pc(&self) -> u32
         ensures { result ≡ self.now.next_pc }
     {
-        self.processor.next_pc
+        self.processor.flow.next_pc()
     }
 
     /// Whether the next instruction stands in a delay slot.
     pub fn delay(&self) -> bool
         ensures { result ≡ self.now.delay }
     {
-        self.processor.delay
+        self.processor.flow.delay()
     }
 
     /// The load that has not landed yet.
     pub fn load(&self) -> Option<DelayedLoad>
         ensures { result ≡ self.now.load }
     {
-        self.processor.load.pending()
+        self.processor.flow.load()
+    }
+
+    /// Where it stands in its instructions.
+    #[inline]
+    pub fn flow(&self) -> Flow
+        ensures { result ≡ flow_of self.now }
+    {
+        self.processor.flow
+    }
+
+    /// Makes it stand there.
+    #[inline]
+    pub fn set_flow(&mut self, flow: Flow)
+        ensures { self.new ≡ with_flow self.old flow }
+    {
+        self.processor.flow = flow;
     }
 
     /// The control registers.

@@ -138,12 +138,11 @@ impl Core {
 // Runs the instruction that was fetched, or takes its exception.
 #[inline]
 pub(crate) fn run_fetched<M: Mem>(core: &mut Core, memory: &mut M, fetched: Word) -> Done
-    requires { IsPage (M.ram memory.old) fetched.page }
+    requires { IsPage M.ram fetched.page }
     ensures state { record { core = core.new; words = M.words memory.new }
-        ≡ (outcome_of_word (M.ram memory.old) (record { core = core.old; words = M.words memory.old }) fetched).state }
-    ensures told { result ≡ (outcome_of_word (M.ram memory.old) (record { core = core.old; words = M.words memory.old }) fetched).done }
-    ensures within { IsTold (M.ram memory.old) (M.words memory.old) (M.words memory.new) result }
-    ensures same { M.ram memory.new ≡ M.ram memory.old }
+        ≡ (outcome_of_word M.ram (record { core = core.old; words = M.words memory.old }) fetched).state }
+    ensures told { result ≡ (outcome_of_word M.ram (record { core = core.old; words = M.words memory.old }) fetched).done }
+    ensures within { IsTold M.ram (M.words memory.old) (M.words memory.new) result }
 {
     match execute_word(core, memory, fetched) {
         Ok(done) => done,
@@ -158,10 +157,9 @@ pub(crate) fn run_fetched<M: Mem>(core: &mut Core, memory: &mut M, fetched: Word
 #[inline]
 fn run_instruction<M: Mem>(core: &mut Core, memory: &mut M) -> Done
     ensures state { record { core = core.new; words = M.words memory.new }
-        ≡ (outcome_of_instruction (M.ram memory.old) (record { core = core.old; words = M.words memory.old })).state }
-    ensures told { result ≡ (outcome_of_instruction (M.ram memory.old) (record { core = core.old; words = M.words memory.old })).done }
-    ensures within { IsTold (M.ram memory.old) (M.words memory.old) (M.words memory.new) result }
-    ensures same { M.ram memory.new ≡ M.ram memory.old }
+        ≡ (outcome_of_instruction M.ram (record { core = core.old; words = M.words memory.old })).state }
+    ensures told { result ≡ (outcome_of_instruction M.ram (record { core = core.old; words = M.words memory.old })).done }
+    ensures within { IsTold M.ram (M.words memory.old) (M.words memory.new) result }
 {
     match fetch(core, memory) {
         Ok(fetched) => run_fetched(core, memory, fetched),
@@ -176,11 +174,10 @@ fn run_instruction<M: Mem>(core: &mut Core, memory: &mut M) -> Done
 #[inline]
 fn interrupt_or_run<M: Mem>(core: &mut Core, memory: &mut M) -> Done
     ensures state { record { core = core.new; words = M.words memory.new }
-        ≡ (outcome_of_interrupt_or_instruction (M.ram memory.old) (record { core = core.old; words = M.words memory.old })).state }
+        ≡ (outcome_of_interrupt_or_instruction M.ram (record { core = core.old; words = M.words memory.old })).state }
     ensures told { result
-        ≡ (outcome_of_interrupt_or_instruction (M.ram memory.old) (record { core = core.old; words = M.words memory.old })).done }
-    ensures within { IsTold (M.ram memory.old) (M.words memory.old) (M.words memory.new) result }
-    ensures same { M.ram memory.new ≡ M.ram memory.old }
+        ≡ (outcome_of_interrupt_or_instruction M.ram (record { core = core.old; words = M.words memory.old })).done }
+    ensures within { IsTold M.ram (M.words memory.old) (M.words memory.new) result }
 {
     if core.cop0().wanted() {
         core.interrupt()
@@ -195,11 +192,10 @@ fn interrupt_or_run<M: Mem>(core: &mut Core, memory: &mut M) -> Done
 #[inline]
 pub fn step<M: Mem>(core: &mut Core, memory: &mut M, events: &[Event]) -> Done
     ensures state { record { core = core.new; words = M.words memory.new }
-        ≡ next (M.ram memory.old) events.now (record { core = core.old; words = M.words memory.old }) }
-    ensures told { result ≡ told (M.ram memory.old) events.now (record { core = core.old; words = M.words memory.old }) }
+        ≡ next M.ram events.now (record { core = core.old; words = M.words memory.old }) }
+    ensures told { result ≡ told M.ram events.now (record { core = core.old; words = M.words memory.old }) }
     // Pages and words are those of the machine, and no word but the one that it stored into differs.
-    ensures within { IsTold (M.ram memory.old) (M.words memory.old) (M.words memory.new) result }
-    ensures same { M.ram memory.new ≡ M.ram memory.old }
+    ensures within { IsTold M.ram (M.words memory.old) (M.words memory.new) result }
 {
     core.arrive(events);
     core.tick();

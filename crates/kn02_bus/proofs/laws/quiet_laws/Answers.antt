@@ -1,5 +1,5 @@
 -- What holds for both parts holds for the bus.
-use Rattle.std.proofs.Common.{◌≡◌, ℕ, ◌+◌, ◌*◌, ◌≤◌, sym, ap, arith, subst, ◌∙◌}
+use Rattle.std.proofs.Common.{◌≡◌, ℕ, ◌+◌, ◌*◌, ◌≤◌, Some, sym, ap, arith, subst, ◌∙◌}
 use Rattle.std.specs.Prelude.{min}
 use Rattle.r3k_word.specs.Word.{has}
 use Rattle.dz_serial.specs.Serial.{Serial}
@@ -9,14 +9,15 @@ use Rattle.dz_serial.specs.Reads.{word_read}
 use Rattle.mc146818.specs.Quiet as clock_quiet
 use Rattle.mc146818.specs.Second as clock_second
 use Rattle.kn02_bus.specs.declared.csr.TheConstants.{SERIAL_LINE, ENABLE}
+use Rattle.kn02_bus.specs.declared.region.Device.{Device}
 use Rattle.kn02_bus.specs.declared.region.Device.TheVariants as device
 use Rattle.kn02_bus.specs.State.{BusState}
 use Rattle.kn02_bus.specs.Lines.{external_lines, lines_of}
-use Rattle.kn02_bus.specs.Access.{after_load, csr_of}
+use Rattle.kn02_bus.specs.Access.{after_load, csr_of, loaded}
 use Rattle.kn02_bus.specs.Tick.{arrived, arrived_framing, wired}
-use Rattle.kn02_bus.specs.Quiet.{after, passed, quiet_of}
+use Rattle.kn02_bus.specs.Quiet.{after, passed, quiet_of, steady_word}
 use Rattle.kn02_bus.proofs.Quiet.{after_parts}
-use Rattle.kn02_bus.proofs.Unseen.{arrived_is_quiet, passed_arrived, framing_is_quiet, passed_framing, read_is_quiet, passed_read, word_of_passed}
+use Rattle.kn02_bus.proofs.Unseen.{arrived_is_quiet, passed_arrived, framing_is_quiet, passed_framing, read_is_quiet, passed_read, steady_left, steady_now, word_of_passed}
 use Rattle.kn02_bus.proofs.laws.quiet_laws.Goals as goal
 
 pub returns-clause-passes : goal.returns-clause-passes
@@ -109,3 +110,17 @@ returns-clause-read c = λ bus n offset h.
     returns-clause-passes c (after_load bus read) n within
     ∙ (ap with_serial (passed_read n bus.serial offset)
     ∙ ap (λ (b : BusState). after_load b read) (sym (returns-clause-passes c bus n h)))
+
+-- by the device
+steady_later : (bus : BusState) (n : ℕ) (register : Device) (word : ℕ) → ((offset : ℕ) → loaded (after n bus) (device.Serial offset) ≡ loaded bus (device.Serial offset))
+    → csr_of (after n bus) ≡ csr_of bus → steady_word bus register ≡ Some word → loaded (after n bus) register ≡ loaded bus register
+steady_later bus n (device.Serial offset) word serial csr is = serial offset
+steady_later bus n (device.Clock number) word serial csr is = cc is
+steady_later bus n device.Csr word serial csr is = csr
+
+pub returns-clause-steady : goal.returns-clause-steady
+returns-clause-steady c = λ bus n word register h is. (
+  steady_later bus n register word (λ offset. returns-clause-word c bus n offset h) (returns-clause-csr c bus n h) is
+      ∙ steady_now bus register word is,
+  steady_left bus (after n bus) register word is,
+)

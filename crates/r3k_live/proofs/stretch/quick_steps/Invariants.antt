@@ -1,5 +1,6 @@
 use Rattle.std.proofs.Common.{◌≡◌, ℕ, ◌+◌, ◌-◌, ◌≤◌, IsTrue, List}
 use Rattle.input_log.specs.Event.{LogEvent}
+use Rattle.r3k_machine.specs.Flow.{with_flow}
 use Rattle.r3k_machine.specs.Quiet.{IsCodePage, IsQuietFor, state_elapsed}
 use Rattle.r3k_machine.specs.State.{State}
 use Rattle.r3k_pages.specs.Pages.{holds}
@@ -13,17 +14,17 @@ use Rattle.r3k_live.proofs.stretch.quick_steps.Given as goal
 abbrev pub invariant-loop-made : goal.invariant-loop-made
 invariant-loop-made g l = record {
   gone : (log : List LogEvent) (from : ℕ) (start : State) (before : ℕ) → IsFreeFor l.most log (from + before) →
-      HasGone g.row.PAGES log from start before (state_of l.fn.core l.fn.memory) l.fn.recorder →
-      HasGone g.row.PAGES log from start (before + l.made) (state_elapsed l.made (state_of l.core l.memory)) l.recorder;
+      HasGone g.row.PAGES log from start before (state_of (with_flow l.fn.core l.fn.flow) l.fn.memory) l.fn.recorder →
+      HasGone g.row.PAGES log from start (before + l.made) (state_elapsed l.made (state_of (with_flow l.core l.flow) l.memory)) l.recorder;
   passed : (log : List LogEvent) (from : ℕ) (start : State) (before : ℕ) → IsFreeFor l.most log (from + before) →
-      HasGone g.row.PAGES log from start before (state_of l.fn.core l.fn.memory) l.fn.recorder →
+      HasGone g.row.PAGES log from start before (state_of (with_flow l.fn.core l.fn.flow) l.fn.memory) l.fn.recorder →
       PassesBy g.row.PAGES log from start l.stop before (before + l.made + 1);
   begins : (log : List LogEvent) (from : ℕ) (start : State) (before : ℕ) → IsFreeFor l.most log (from + before) →
-      HasGone g.row.PAGES log from start before (state_of l.fn.core l.fn.memory) l.fn.recorder →
+      HasGone g.row.PAGES log from start before (state_of (with_flow l.fn.core l.fn.flow) l.fn.memory) l.fn.recorder →
       BeginsIn g.row.PAGES log from start l.page.number before (before + l.made);
   stood : l.recorder.stood ≡ l.fn.recorder.stood;
-  quiet : IsQuietFor l.most l.core;
-  code : IsCodePage g.row.PAGES l.core l.page;
+  quiet : IsQuietFor l.most (with_flow l.core l.flow);
+  code : IsCodePage g.row.PAGES (with_flow l.core l.flow) l.page;
   again : IsTrue (holds l.recorder.touched l.page.page);
   opened : IsTrue (is_open g.row.PAGES l.memory.opened.items l.page.page);
   steps : l.recorder.steps ≡ l.fn.recorder.steps + l.made;

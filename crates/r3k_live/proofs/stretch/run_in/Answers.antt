@@ -1,6 +1,7 @@
 use Rattle.std.proofs.Common.{◌≡◌, ℕ, ◌+◌, ◌/◌, ◌<◌, ◌||◌, List, nat_eq, sym, ap, subst, ◌∙◌, arith}
 use Rattle.std.proofs.Math.Path.{ap₂}
 use Rattle.r3k_word.specs.declared.layout.TheConstants.{PAGE_BYTES}
+use Rattle.r3k_machine.specs.Flow.{with_flow}
 use Rattle.r3k_machine.specs.Quiet.{IsQuietFor}
 use Rattle.r3k_machine.specs.Run.{arriving}
 use Rattle.r3k_machine.specs.State.{State}
@@ -11,10 +12,17 @@ use Rattle.r3k_live.proofs.Gone.{passes_on, recorded_too}
 use Rattle.r3k_live.proofs.Stood.{begins_on, stood_more}
 use Rattle.r3k_live.proofs.stretch.run_in.Goals as goal
 
+pub quick_steps-made-requires : goal.quick_steps-made-requires
+quick_steps-made-requires g c =
+    rw c.flow.ensures (
+      omega arith,
+      (omega arith, (c.requires.quiet, (c.requires.code, (c.requires.page, (c.requires.opened, (c.requires.room, c.requires.again)))))),
+    )
+
 pub quiet_on-more-requires : goal.quiet_on-more-requires
 quiet_on-more-requires g c =
-    let made = c.quick_steps-made.result in
-    let core = c.quick_steps-made.new.core in
+    let made = c.quick_steps-made.result.0 in
+    let core = with_flow c.quick_steps-made.new.core c.quick_steps-made.result.1 in
     let quiet = c.quick_steps-made.ensures.quiet in
     let left = λ (room : made < c.args.most). let at_least : IsQuietFor (made + 1) core = record {
       counts = omega (arith, quiet.counts, room);
@@ -25,9 +33,9 @@ quiet_on-more-requires g c =
       (
         omega arith,
         (
-          λ wanted. rw c.elapse.ensures (c.quiet_laws.ensures.quiet_later made 1 core (left (c.goes_on-wanted.ensures.room wanted))),
+          λ wanted. rw (c.elapse.ensures, c.set_flow.ensures) (c.quiet_laws.ensures.quiet_later made 1 core (left (c.goes_on-wanted.ensures.room wanted))),
           (
-            rw c.elapse.ensures (c.quiet_laws.ensures.code_later g.row.PAGES made core c.args.page c.quick_steps-made.ensures.code),
+            rw (c.elapse.ensures, c.set_flow.ensures) (c.quiet_laws.ensures.code_later g.row.PAGES made core c.args.page c.quick_steps-made.ensures.code),
             (
               c.requires.page,
               λ wanted. omega (arith, c.quick_steps-made.ensures.steps, c.requires.room, c.goes_on-wanted.ensures.room wanted),
@@ -39,9 +47,9 @@ quiet_on-more-requires g c =
 
 pub returns-clause-gone : goal.returns-clause-gone
 returns-clause-gone g c = λ log from start made free gone.
-    let quick = c.quick_steps-made.result in
+    let quick = c.quick_steps-made.result.0 in
     let there : HasGone g.row.PAGES log from start (made + quick) (state_of c.elapse.new.self c.quick_steps-made.new.memory) c.quick_steps-made.new.recorder =
-    rw c.elapse.ensures (c.quick_steps-made.ensures.gone log from start made free gone) in
+    rw (c.elapse.ensures, c.set_flow.ensures) (c.quick_steps-made.ensures.gone log from start made free (rw c.flow.ensures gone)) in
     let on = c.quiet_on-more.ensures.gone log from start (made + quick)
     (λ wanted. ap (arriving log) (let e : from + (made + quick) ≡ from + made + quick = omega arith in e) ∙ free quick (c.goes_on-wanted.ensures.room wanted)) (subst (λ (words : List ℕ). HasGone g.row.PAGES log from start (made + quick) (record { core = c.elapse.new.self; words = words }) c.quick_steps-made.new.recorder) (sym c.learn.ensures.words) there) in
     recorded_too g.row.PAGES log from start _ _ c.quiet_on-more.new.recorder c.stand.new.self c.stand.ensures.records
@@ -50,22 +58,22 @@ returns-clause-gone g c = λ log from start made free gone.
 
 pub returns-clause-before : goal.returns-clause-before
 returns-clause-before g c = λ log from start made free gone.
-    let quick = c.quick_steps-made.result in
+    let quick = c.quick_steps-made.result.0 in
     let there : HasGone g.row.PAGES log from start (made + quick) (state_of c.elapse.new.self c.quick_steps-made.new.memory) c.quick_steps-made.new.recorder =
-    rw c.elapse.ensures (c.quick_steps-made.ensures.gone log from start made free gone) in
+    rw (c.elapse.ensures, c.set_flow.ensures) (c.quick_steps-made.ensures.gone log from start made free (rw c.flow.ensures gone)) in
     passes_on g.row.PAGES log from start c.args.stop made quick c.quiet_on-more.result
-    (c.quick_steps-made.ensures.before log from start made free gone) c.quiet_on-more.ensures.bound
+    (c.quick_steps-made.ensures.before log from start made free (rw c.flow.ensures gone)) c.quiet_on-more.ensures.bound
     (λ some made_some here.
     c.goes_on-wanted.ensures.past (c.quiet_on-more.ensures.wanted some) made_some (c.pc-2.ensures ∙ (ap (λ (s : State). s.core.pc) there.state ∙ here)))
 
 pub returns-clause-stood : goal.returns-clause-stood
 returns-clause-stood g c = λ log from start made before free gone so_far.
-    let quick = c.quick_steps-made.result in
+    let quick = c.quick_steps-made.result.0 in
     let more = c.quiet_on-more.result in
     let there : HasGone g.row.PAGES log from start (made + quick) (state_of c.elapse.new.self c.quick_steps-made.new.memory) c.quick_steps-made.new.recorder =
-    rw c.elapse.ensures (c.quick_steps-made.ensures.gone log from start made free gone) in
+    rw (c.elapse.ensures, c.set_flow.ensures) (c.quick_steps-made.ensures.gone log from start made free (rw c.flow.ensures gone)) in
     let begins = begins_on g.row.PAGES log from start c.args.page.number made quick more
-    (c.quick_steps-made.ensures.inside log from start made free gone) c.quiet_on-more.ensures.bound
+    (c.quick_steps-made.ensures.inside log from start made free (rw c.flow.ensures gone)) c.quiet_on-more.ensures.bound
     (λ some. ap (λ (s : State). s.core.pc / PAGE_BYTES) (sym there.state) ∙ c.quiet_on-more.ensures.here some) in
     let here = ap (λ (s : State). s.core.pc) (returns-clause-gone g c log from start made free gone).state in
     stood_more g.row.PAGES log from start made (quick + more) c.args.page.number before c.args.recorder.now.stood c.stand.new.self.stood so_far begins

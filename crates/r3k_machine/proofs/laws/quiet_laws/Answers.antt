@@ -18,19 +18,23 @@ returns-clause-alone c = λ pages n s quiet.
     alone pages n s now (c.quiet_laws.ensures.lines s.core.bus (suc n) now.counts)
 
 pub returns-clause-at_once : goal.returns-clause-at_once
+unfolding after
 returns-clause-at_once c = λ pages n s quiet quick.
     let steps : n + 1 ≡ suc n = omega arith in
     let now = subst (λ (m : ℕ). IsQuietFor m s.core) steps quiet in
-    at_once pages n s now (c.quiet_laws.ensures.lines s.core.bus (suc n) now.counts) quick
+    at_once pages n s now (c.quiet_laws.ensures.lines s.core.bus (suc n) now.counts) (λ word device is. c.quiet_laws.ensures.steady s.core.bus 0 word device (omega arith) is)
+    (λ word device is. c.quiet_laws.ensures.steady s.core.bus (suc n) word device now.counts is) quick
     ∙ ap (λ (m : ℕ). outcome_elapsed m (outcome_of_instruction pages s)) (sym steps)
 
 pub returns-clause-stays_quiet : goal.returns-clause-stays_quiet
+unfolding after
 returns-clause-stays_quiet c = λ pages n s quick quiet.
-    quiet_kept n s.core (outcome_of_instruction pages s).state.core (instruction_ages pages 0 0 s quick).keeps quiet
+    quiet_kept n s.core (outcome_of_instruction pages s).state.core (instruction_ages pages 0 0 s (λ word device is. c.quiet_laws.ensures.steady s.core.bus 0 word device (omega arith) is) (λ word device is. c.quiet_laws.ensures.steady s.core.bus 0 word device (omega arith) is) quick).keeps quiet
 
 pub returns-clause-stays_code : goal.returns-clause-stays_code
+unfolding after
 returns-clause-stays_code c = λ pages s page quick code.
-    code_kept pages page s.core (outcome_of_instruction pages s).state.core (instruction_ages pages 0 0 s quick).keeps code
+    code_kept pages page s.core (outcome_of_instruction pages s).state.core (instruction_ages pages 0 0 s (λ word device is. c.quiet_laws.ensures.steady s.core.bus 0 word device (omega arith) is) (λ word device is. c.quiet_laws.ensures.steady s.core.bus 0 word device (omega arith) is) quick).keeps code
 
 pub returns-clause-quiet_later : goal.returns-clause-quiet_later
 returns-clause-quiet_later c = λ n more core quiet.

@@ -5,13 +5,13 @@ use Rattle.r3k_machine.proofs.load_store.put.Goals as goal
 
 pub returns-clause-address : goal.returns-clause-address
 returns-clause-address g c =
-    let ram = g.M.Mem.ram c.args.memory.now in
+    let ram = g.M.Mem.ram in
     let below : c.args.physical < ram * PAGE_BYTES = omega (arith, c.ram_pages.ensures) in
     rw (lt-ltb c.args.physical (ram * PAGE_BYTES) below) refl
 
 pub returns-clause-words : goal.returns-clause-words
 returns-clause-words g c =
-    let ram = g.M.Mem.ram c.args.memory.now in
+    let ram = g.M.Mem.ram in
     let below : c.args.physical < ram * PAGE_BYTES = omega (arith, c.ram_pages.ensures) in
     let place : c.args.physical / 4 * 4 / 4 ≡ c.args.physical / 4 = omega arith in
     rw (

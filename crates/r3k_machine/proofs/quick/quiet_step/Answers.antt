@@ -9,7 +9,7 @@ use Rattle.r3k_machine.proofs.quick.quiet_step.Goals as goal
 
 pub returns-clause-ran : goal.returns-clause-ran
 returns-clause-ran g c =
-    let pages = g.M.Mem.ram c.args.memory.now in
+    let pages = g.M.Mem.ram in
     let s : State = record { core = c.args.core.now; words = g.M.Mem.words c.args.memory.now } in
     let t : State = record { core = ticked s.core; words = s.words } in
     let there : IsIndexIn c.args.page s.core.pc c.in_ok-index.index = rw c.pc.ensures at c.in_ok-index.ensures.index in

@@ -1,5 +1,4 @@
-use Rattle.std.proofs.Common.{refl}
 use Rattle.r3k_machine.proofs.state.Core.next_pc.Goals as goal
 
 pub returns : goal.returns
-returns c = rw (← c.self.view_is) refl
+returns c = rw (← c.self.view_is) c.next_pc.ensures

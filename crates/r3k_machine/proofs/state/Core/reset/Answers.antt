@@ -4,8 +4,8 @@ use Rattle.r3k_machine.proofs.state.Core.reset.Goals as goal
 
 pub returns : goal.returns
 returns c = rw (
+  c.at.ensures,
   c.new.ensures,
-  c.empty.ensures,
   c.new-2.ensures,
   c.in_ok-new.ensures,
   c.new-4.ensures,
