@@ -16,8 +16,11 @@ use Rattle.present_run.specs.Reuse.{span_from, span_of}
 use Rattle.r3k_pages.specs.Pages.{SameOutside}
 use Rattle.checkpoints.specs.Kept.{Kept, span_at}
 use Rattle.present_run.specs.Index.{Agrees, Index}
+use Rattle.present_run.specs.declared.frontier.Frontier.{Frontier}
 use Rattle.present_run.specs.declared.runs.Runs.{Runs}
-use Rattle.present_run.specs.Runs.{AreOf, AreSameOutside}
+use Rattle.present_run.specs.Runs.{AreOf, AreSameOutside, IsAlike, IsKnown}
+use Rattle.present_run.proofs.Known.{known_by}
+use Rattle.present_run.proofs.Next.{and_last}
 use Rattle.present_run.proofs.Spans.{ends, next_start, some_is}
 
 -- ---- a list of ends
@@ -188,6 +191,28 @@ all_joined pages span image log spans all valid index some are joined goes insid
           (omega (arith, past, some)) inside
     ]
 
+-- once one more end is put: its span is joined, and all others if they go on from it
+pub joined_by : (pages span : ℕ) (image : Boot) (log : List LogEvent) (spans : List (Option Span)) (old new : List State) (end : State) (valid index count again : ℕ)
+    → index ≡ valid → AreEnds pages span image log valid old → IsPut index end old new → end ≡ state_at pages image log ((valid + 1) * span)
+    → ((i : ℕ) → i < valid → IsJoined pages span i (slice_index_or spans i None) (span_of pages span image log i))
+    → IsJoined pages span valid (slice_index_or spans valid None) (span_of pages span image log valid)
+    → (count ≡ index + 1) ⊎ ((again ≤ index) × (count ≡ length old) × (slice_get old index ≡ Some end)) → ((i : ℕ) → again ≤ i → valid ≤ i → GoesOn pages span log spans old i)
+    → AreEnds pages span image log count new × ((i : ℕ) → i < count → IsJoined pages span i (slice_index_or spans i None) (span_of pages span image log i))
+joined_by pages span image log spans old new end valid index count again is were put end_is before there met goes =
+    let are = more_ends pages span image log valid old new end were (subst (λ (n : ℕ). IsPut n end old new) is put) end_is in
+    let joined = and_last (λ i. IsJoined pages span i (slice_index_or spans i None) (span_of pages span image log i)) valid before there in
+    elim met [
+      | inl one ↦ (subst (λ (n : ℕ). AreEnds pages span image log n new) (sym (one ∙ ap (λ (n : ℕ). n + 1) is)) are, λ i below. joined i (omega (arith, below, one, is)))
+      | inr all ↦
+          let same = put.same all.2 in
+          let on : (i : ℕ) → valid + 1 ≤ i + 1 → GoesOn pages span log spans new i = λ i past.
+          subst (λ (ends : List State). GoesOn pages span log spans ends i) (sym same) (goes i (omega (arith, all.0, past, is)) (omega (arith, past))) in
+          let many : count ≡ length new = all.1 ∙ ap (λ (ends : List State). length ends) (sym same) in (
+            subst (λ (n : ℕ). AreEnds pages span image log n new) (sym many) (all_ends pages span image log spans new (valid + 1) (omega arith) are on),
+            λ i below. all_joined pages span image log spans new (valid + 1) i (omega arith) are joined on (omega (arith, below, many)),
+          )
+    ]
+
 -- ---- logs that are the same outside some times
 
 pub same_before : (pages : ℕ) (image : Boot) (log changed : List LogEvent) (from to time : ℕ) → AreSameOutside from to log changed → time ≤ from
@@ -281,11 +306,12 @@ pub there_is : (pages span index : ℕ) (o : Option Span) (s : Span) → IsJoine
 there_is pages span index None s joined = absurd joined.near
 there_is pages span index (Some r) s joined = refl
 
--- the same where room was reserved, and the index agrees with the records
-pub over_kept : {pages span : ℕ} (image : Boot) (log : List LogEvent) (runs : Runs pages span) (kept : Kept) (told : Index)
+-- the same with other kept values, of the same records
+pub over_joined : {pages span : ℕ} (image : Boot) (log : List LogEvent) (runs : Runs pages span) (kept : Kept) (told : Index) (f : Frontier pages)
     → ((i : ℕ) → span_at kept i ≡ span_at runs.kept i) → kept.valid ≡ runs.kept.valid → Agrees pages span told kept.spans
-    → AreOf image log runs → AreOf image log (record runs { kept = kept; told = told })
-over_kept {pages} {span} image log runs kept told same valid_is agrees of = record {
+    → IsKnown span kept.spans (λ n. state_at pages image log (n * span)) f → IsAlike kept.spans 0 f.patched (reset pages image)
+    → AreOf image log runs → AreOf image log (record runs { kept = kept; told = told; frontier = f })
+over_joined {pages} {span} image log runs kept told f same valid_is agrees known patches of = record {
   sizes = of.sizes;
   start = of.start;
   stands = of.stands;
@@ -295,10 +321,14 @@ over_kept {pages} {span} image log runs kept told same valid_is agrees of = reco
   ends = subst (λ (n : ℕ). AreEnds pages span image log n (map (λ end. end.value) runs.ends.items)) (sym valid_is) of.ends;
   again = λ index first past.
       goes_on_kept pages span log runs.kept.spans kept.spans (map (λ end. end.value) runs.ends.items) index (same (index + 1)) (of.again index first (omega (arith, valid_is, past)));
-  exact = λ last is yes. same last ∙ of.exact last (is ∙ valid_is) yes;
-  differ =
-      subst (λ (n : ℕ). IfSome (span_at kept n) (λ s. SameOutside runs.differing s.start.words (state_at pages image log (n * span)).words)) (sym valid_is)
-      (subst (λ (o : Option Span). IfSome o (λ s. SameOutside runs.differing s.start.words (state_at pages image log (runs.kept.valid * span)).words)) (sym (same runs.kept.valid)) of.differ);
-  patches = subst (λ (o : Option Span). IfSome o (λ s. SameOutside runs.patched s.start.words (reset pages image).words)) (sym (same 0)) of.patches;
+  known = known;
+  patches = patches;
   agrees = agrees;
 }
+
+pub over_kept : {pages span : ℕ} (image : Boot) (log : List LogEvent) (runs : Runs pages span) (kept : Kept) (told : Index)
+    → ((i : ℕ) → span_at kept i ≡ span_at runs.kept i) → kept.valid ≡ runs.kept.valid → Agrees pages span told kept.spans
+    → AreOf image log runs → AreOf image log (record runs { kept = kept; told = told })
+over_kept {pages} {span} image log runs kept told same valid_is agrees of =
+    over_joined image log runs kept told runs.frontier same valid_is agrees (known_by span runs.kept.spans kept.spans _ runs.frontier same of.known)
+    (subst (λ (o : Option Span). IfSome o (λ s. SameOutside runs.frontier.patched s.start.words (reset pages image).words)) (sym (same 0)) of.patches) of

@@ -31,6 +31,9 @@ none_lost old lost new loses page held =
 all_others : (old lost new : List ℕ) → Loses old lost new → (page : ℕ) → IsTrue (holds old page) → IsFalse (holds lost page) → IsTrue (holds new page)
 all_others old lost new loses page held free = loses page ∙ ap₂ (λ (a b : Bool). a && not b) held free
 
+pub loses_by : (old lost touched new : List ℕ) → lost ≡ touched → Loses old lost new → Loses old touched new
+loses_by old lost touched new is loses page = loses page ∙ ap (λ (set : List ℕ). holds old page && not (holds set page)) is
+
 -- the start still differs on these pages alone
 pub start_carried : (pages span : ℕ) (s : Span) (start : State) (events : List LogEvent) (old new : List ℕ) → NearlyApplies pages span s start events
     → Loses old (touched_pages pages (steps_of pages span s)) new → SameOutside old s.start.words start.words

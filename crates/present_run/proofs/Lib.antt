@@ -10,6 +10,7 @@ mod Entries
 mod Held
 mod Indexed
 mod Joined
+mod Known
 mod Lacking
 pub mod Near
 mod Nearest

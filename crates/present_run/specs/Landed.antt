@@ -1,5 +1,5 @@
 -- What a timeline holds, and what its queries and edits do with that (own).
-use Rattle.std.specs.Prelude.{◌≡◌, ◌⊎◌, ℕ, ◌+◌, ◌/◌, ◌%◌, ◌<◌, List, [], ◌∷◌, take, Contains, Option, Result, Ok, Err, IfOk, OnErr, nat_eq}
+use Rattle.std.specs.Prelude.{◌≡◌, ◌⊎◌, ℕ, ◌+◌, ◌/◌, ◌%◌, List, [], ◌∷◌, take, Contains, Option, Result, Ok, Err, IfOk, OnErr, nat_eq}
 use Rattle.std.specs.Set.{remove_key}
 use Rattle.input_log.specs.Event.{LogEvent}
 use Rattle.r3k_image.specs.Boot.{Boot}

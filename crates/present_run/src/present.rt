@@ -6,8 +6,8 @@
 //! carried over to its end. Else the span is run, and its record takes the place of the old one. For the rest of the way the
 //! machine goes on: from the last end, from where it stands, or from a state that is kept inside the span.
 //!
-//! So for the next span it must be known in which pages its start may differ from that of its record (`differing`). After a span
-//! that was run, pages that either run stored into are added. After one that was joined, pages that it touches are removed.
+//! So for the next span it must be known in which pages its start may differ from that of its record (`Frontier`). After a span that
+//! was run, pages that either run stored into are added. After one that was joined, pages that it touches are removed.
 //!
 //! An edit of the log forgets the spans from its time on, and their ends stay. Once a span ends where it ended before, all that go
 //! on from there are joined again at once. `again` is the first end from which that is known, as each edit breaks the chain at its

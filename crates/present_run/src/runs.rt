@@ -1,22 +1,20 @@
 //! What is kept of runs, and what an edit of the history makes of it.
 
-ghost use Rattle.std.specs.Prelude.{◌≡◌, ◌⊎◌, [], ◌∷◌, ◌<◌, ◌≤◌, IfOk, IfSome, List, slice_set};
+ghost use Rattle.std.specs.Prelude.{◌≡◌, ◌⊎◌, [], ◌∷◌, ◌<◌, ◌≤◌, IfOk, List, slice_set};
 ghost use Rattle.input_log.specs.Event.{LogEvent};
 ghost use Rattle.r3k_image.specs.Boot.{Boot};
 ghost use Rattle.r3k_word.specs.Layout.{word_count_of};
 ghost use Rattle.r3k_machine.specs.Reset.{reset};
 ghost use Rattle.r3k_pages.specs.Pages.{SameOutside, page_count_of};
-ghost use Rattle.checkpoints.specs.Kept.{span_at};
-ghost use Rattle.present_run.specs.Index.{Agrees};
 ghost use Rattle.present_run.specs.Runs.{AreOf, AreSameOutside};
 ghost use Rattle.present_run.specs.Sizes.{AreSizes};
 
+use crate::frontier::Frontier;
 use crate::index::SpanIndex;
 use crate::inputs::Inputs;
-use crate::joining::{compare, share, start_in};
+use crate::joining::share;
 use checkpoints::Kept;
 use r3k_live::{Boundary, Live, Recorder};
-use r3k_pages::PageMarks;
 use std::alloc::{AllocError, Global};
 use std::rc::Rc;
 
@@ -38,12 +36,8 @@ pub(crate) struct Runs<const PAGES: u32, const SPAN: u32> {
     pub(crate) ends: Vec<Rc<Boundary<PAGES>>>,
     // The first of the later spans from which on each goes on from where the one before it ended, with the events of the log.
     pub(crate) again: u64,
-    // Whether the last record that is joined starts where its span does.
-    pub(crate) exact: bool,
-    // Pages in which the next span may start otherwise than the record of its number.
-    pub(crate) differing: PageMarks<PAGES>,
-    // Pages that were patched since the first record was made.
-    pub(crate) patched: PageMarks<PAGES>,
+    // What is known of the records where the next span starts.
+    pub(crate) frontier: Frontier<PAGES>,
 }
 
 impl<const PAGES: u32, const SPAN: u32> Runs<PAGES, SPAN> {
@@ -66,9 +60,7 @@ impl<const PAGES: u32, const SPAN: u32> Runs<PAGES, SPAN> {
             recorded: None,
             ends: Vec::new(alloc),
             again: 0,
-            exact: false,
-            differing: PageMarks::new(alloc)?,
-            patched: PageMarks::new(alloc)?,
+            frontier: Frontier::new(alloc)?,
         })
     }
 
@@ -87,29 +79,8 @@ impl<const PAGES: u32, const SPAN: u32> Runs<PAGES, SPAN> {
         self.again = again_from(self.again, last, joined, self.ends.len() as u64);
         self.at = None;
         self.recorded = None;
-        if joined <= index {
-            return;
-        }
         self.kept.truncate_valid(index);
-        self.exact = false;
-        let start = start_in(&self.reset, &self.ends, index);
-        compare(&self.kept, index, start, &mut self.differing);
-    }
-
-    // No record is joined any more, and the machine stands nowhere in the run. The records stay.
-    fn forget_all(&mut self)
-        ensures of { (image : Boot) (log : List LogEvent) → AreSizes PAGES SPAN → self.old.reset.value ≡ reset PAGES image →
-            IfSome (span_at self.old.kept 0) (λ s. SameOutside self.old.patched s.start.words (reset PAGES image).words) →
-            Agrees PAGES SPAN self.old.told self.old.kept.spans → AreOf {pages = PAGES} {span = SPAN} image log self.new }
-        ensures spans { self.new.kept.spans ≡ self.old.kept.spans }
-        ensures steps { self.new.live.steps ≡ self.old.live.steps }
-    {
-        self.kept.truncate_valid(0);
-        self.ends.clear();
-        self.at = None;
-        self.recorded = None;
-        self.differing.clear();
-        self.differing.add(self.patched.pages());
+        self.frontier.edit(index);
     }
 
     /// Where the run starts once the image sets a word to this.
@@ -125,7 +96,8 @@ impl<const PAGES: u32, const SPAN: u32> Runs<PAGES, SPAN> {
         share(alloc, self.reset.with_word(alloc, place, word)?)
     }
 
-    /// Starts the run anew, from a reset that differs in a page. The records stay.
+    /// Starts the run anew, from a reset that differs in a page. No record is joined any more, and the machine stands nowhere in the
+    /// run. The records stay.
     pub(crate) fn restart(&mut self, start: Rc<Boundary<PAGES>>, page: u32)
         requires { page < page_count_of PAGES }
         ensures of { (image changed : Boot) (log : List LogEvent) → AreOf {pages = PAGES} {span = SPAN} image log self.old →
@@ -135,8 +107,11 @@ impl<const PAGES: u32, const SPAN: u32> Runs<PAGES, SPAN> {
         ensures steps { self.new.live.steps ≡ self.old.live.steps }
     {
         self.reset = start;
-        self.patched.add(&[page]);
-        self.forget_all();
+        self.frontier.patch(page);
+        self.kept.truncate_valid(0);
+        self.ends.clear();
+        self.at = None;
+        self.recorded = None;
     }
 }
 

@@ -1,4 +1,4 @@
-use Rattle.std.proofs.Common.{arith, refl, sym, ◌/◌, ◌%◌, ◌∷◌, inl, inr, take, Contains, ap, ◌∙◌, subst, List, ℕ}
+use Rattle.std.proofs.Common.{arith, refl, sym, ◌/◌, ◌%◌, inl, inr, Contains, ap, ◌∙◌, subst}
 use Rattle.present_run.specs.Landings.{positions_of}
 use Rattle.r3k_machine.specs.Run.{state_at}
 use Rattle.r3k_machine.specs.State.{State}

@@ -28,8 +28,7 @@ invariant_of-self g c =
         joined = c.args.self.now.of.joined;
         ends = c.args.self.now.of.ends;
         again = c.args.self.now.of.again;
-        exact = c.args.self.now.of.exact;
-        differ = c.args.self.now.of.differ;
+        known = c.args.self.now.of.known;
         patches = c.args.self.now.of.patches;
         agrees = c.args.self.now.of.agrees;
       };

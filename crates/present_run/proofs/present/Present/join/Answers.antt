@@ -1,35 +1,94 @@
-use Rattle.std.proofs.Common.{◌≡◌, ◌+◌, map, slice_get, slice_index_or, List, None, Option, Some, sym, ap, subst, ◌∙◌, arith}
+use Rattle.std.proofs.Common.{◌≡◌, ◌⊎◌, ℕ, ◌+◌, ◌*◌, ◌<◌, ◌≤◌, List, Option, None, Some, length, map, slice_get, slice_index_or, sym, ap, subst, arith}
 use Rattle.r3k_machine.specs.State.{State}
+use Rattle.r3k_machine.specs.Run.{state_at}
+use Rattle.r3k_machine.specs.Reset.{reset}
 use Rattle.span_fact.specs.Span.{Span}
-use Rattle.present_run.specs.Ends.{GoesOn}
-use Rattle.present_run.specs.History.{History}
-use Rattle.present_run.proofs.Stays.{stays_on}
-use Rattle.present_run.proofs.Again.{goes_on_kept}
+use Rattle.checkpoints.specs.Kept.{Kept, span_at}
+use Rattle.present_run.specs.Index.{Agrees}
+use Rattle.present_run.specs.Reuse.{span_of}
+use Rattle.present_run.specs.Runs.{AreLandings, IsAlike, IsKnown}
+use Rattle.present_run.specs.Ends.{AreEnds, GoesOn, IsJoined}
+use Rattle.present_run.proofs.Again.{goes_on_put, joined_by, there_is}
 use Rattle.present_run.proofs.present.Present.join.Goals as goal
 
-pub join_again-requires : goal.join_again-requires
-join_again-requires g c =
+pub join_up_to-requires : goal.join_up_to-requires
+join_up_to-requires g c =
     let pages = g.row.PAGES in
     let span = g.row.SPAN in
+    let image = c.args.self.now.inputs.image in
     let log = c.args.self.now.inputs.log in
+    let of = c.args.self.now.of in
     let kept = c.args.self.now.runs.kept in
-    let all = map (λ end. end.value) c.args.self.now.runs.ends.items in
-    let joined = c.in_ok-join_one.ensures {u = tt} in
-    let met = c.meets-met.ensures c.if-met.true in
-    let same = joined.met
-    (subst (λ ends. slice_get (map (λ end. end.value) ends) kept.valid ≡ Some c.args.end.value) c.deref.ensures.value
-    (ap (slice_get (map (λ end. end.value) c.deref.result.now)) (sym c.valid.ensures) ∙ met.2)) in (
-      omega arith,
-      (
-        omega (arith, joined.joined),
-        λ index after.
-            subst (λ (h : History). GoesOn pages span h.log c.join_one.new.self.runs.kept.spans (map (λ end. end.value) c.join_one.new.self.runs.ends.items) index) (sym c.join_one.ensures.stays.history)
-            (subst (λ (all : List State). GoesOn pages span log c.join_one.new.self.runs.kept.spans all index) (sym same)
-            (goes_on_kept pages span log kept.spans c.join_one.new.self.runs.kept.spans all index
-            (ap (λ (spans : List (Option Span)). slice_index_or spans (index + 1) None) c.join_one.ensures.spans)
-            (c.args.self.now.of.again index (omega (arith, met.0, c.valid.ensures, joined.joined, after)) (omega (arith, joined.joined, after))))),
-      ),
-    )
+    let put = (c.in_ok-put_end.ensures {u = tt}).put in
+    let all = joined_by pages span image log kept.spans (map (λ end. end.value) c.args.self.now.runs.ends.items) (map (λ end. end.value) c.put_end.new.ends.items) c.args.end.value
+    kept.valid c.valid-index.result c.joined_by-count.result c.args.self.now.runs.again c.valid-index.ensures
+    of.ends put c.requires.end of.joined c.requires.there
+    (subst (λ ends. (c.joined_by-count.result ≡ c.valid-index.result + 1) ⊎ ((c.args.self.now.runs.again ≤ c.valid-index.result) × (c.joined_by-count.result ≡ length (map (λ end. end.value) ends))
+    × (slice_get (map (λ end. end.value) ends) c.valid-index.result ≡ Some c.args.end.value))) c.deref.ensures.value c.joined_by-count.ensures.met) of.again in
+    (omega arith, (λ i below. there_is pages span i (span_at kept i) _ (all.1 i below), omega (arith, c.joined_by-count.ensures.more, c.valid-index.ensures)))
 
-pub returns-then-met-clause-stays : goal.returns-then-met-clause-stays
-returns-then-met-clause-stays g c = let stays = stays_on c.join_one.ensures.stays c.join_again.ensures.stays in record { history = stays.history; landings = stays.landings }
+pub invariant_of-self-2 : goal.invariant_of-self-2
+invariant_of-self-2 g c =
+    let pages = g.row.PAGES in
+    let span = g.row.SPAN in
+    let image = c.args.self.now.inputs.image in
+    let log = c.args.self.now.inputs.log in
+    let of = c.args.self.now.of in
+    let kept = c.args.self.now.runs.kept in
+    let f = c.args.self.now.runs.frontier in
+    let now = c.join_up_to.new.kept in
+    let count : now.valid ≡ c.joined_by-count.result = ap (λ (k : Kept). k.valid) c.join_up_to.ensures in
+    let spans : now.spans ≡ kept.spans = ap (λ (k : Kept). k.spans) c.join_up_to.ensures in
+    let old = map (λ end. end.value) c.args.self.now.runs.ends.items in
+    let new = map (λ end. end.value) c.put_end.new.ends.items in
+    let put = (c.in_ok-put_end.ensures {u = tt}).put in
+    let all = joined_by pages span image log kept.spans (map (λ end. end.value) c.args.self.now.runs.ends.items) (map (λ end. end.value) c.put_end.new.ends.items) c.args.end.value
+    kept.valid c.valid-index.result c.joined_by-count.result c.args.self.now.runs.again c.valid-index.ensures
+    of.ends put c.requires.end of.joined c.requires.there
+    (subst (λ ends. (c.joined_by-count.result ≡ c.valid-index.result + 1) ⊎ ((c.args.self.now.runs.again ≤ c.valid-index.result) × (c.joined_by-count.result ≡ length (map (λ end. end.value) ends))
+    × (slice_get (map (λ end. end.value) ends) c.valid-index.result ≡ Some c.args.end.value))) c.deref.ensures.value c.joined_by-count.ensures.met) of.again in record {
+      fits = c.args.self.now.fits;
+      of = record {
+        sizes = of.sizes;
+        start = of.start;
+        stands = of.stands;
+        recorded = of.recorded;
+        joined = λ i below.
+            subst (λ (o : Option Span). IsJoined pages span i o (span_of pages span image log i)) (sym (ap (λ (s : List (Option Span)). slice_index_or s i None) spans))
+            (all.1 i (subst (λ (n : ℕ). i < n) count below));
+        ends = subst (λ (n : ℕ). AreEnds pages span image log n new) (sym count) all.0;
+        again = λ index first past.
+            goes_on_put pages span log kept.spans now.spans old new c.args.end.value c.valid-index.result index spans put
+            (omega (arith, count, c.joined_by-count.ensures.more, past))
+            (of.again index first (omega (arith, count, c.joined_by-count.ensures.more, c.valid-index.ensures, past)));
+        known = subst (λ (s : List (Option Span)). IsKnown span s (λ n. state_at pages image log (n * span)) f) (sym spans) of.known;
+        patches = subst (λ (s : List (Option Span)). IsAlike s 0 f.patched (reset pages image)) (sym spans) of.patches;
+        agrees = subst (λ (s : List (Option Span)). Agrees pages span c.args.self.now.runs.told s) (sym spans) of.agrees;
+      };
+      landed = subst (λ (s : List (Option Span)). AreLandings pages span (record { image = image; log = log }) s c.args.self.now.landings) (sym spans) c.args.self.now.landed;
+    }
+
+pub invariant_of-self : goal.invariant_of-self
+invariant_of-self g c =
+    let pages = g.row.PAGES in
+    let span = g.row.SPAN in
+    let image = c.args.self.now.inputs.image in
+    let log = c.args.self.now.inputs.log in
+    let of = c.args.self.now.of in
+    let kept = c.args.self.now.runs.kept in
+    let same = (c.in_err-put_end.ensures {u = tt}).same in record {
+      fits = c.args.self.now.fits;
+      of = record {
+        sizes = of.sizes;
+        start = of.start;
+        stands = of.stands;
+        recorded = of.recorded;
+        joined = of.joined;
+        ends = subst (λ (all : List State). AreEnds pages span image log kept.valid all) (sym same) of.ends;
+        again = λ index first past. subst (λ (all : List State). GoesOn pages span log kept.spans all index) (sym same) (of.again index first past);
+        known = of.known;
+        patches = of.patches;
+        agrees = of.agrees;
+      };
+      landed = c.args.self.now.landed;
+    }

@@ -1,41 +1,66 @@
-use Rattle.std.proofs.Common.{◌≡◌, ℕ, ◌+◌, ◌*◌, length, Some, sym, ap, subst, ◌∙◌, arith}
-use Rattle.std.proofs.lemmas.Bool.{eqb-true}
+use Rattle.std.proofs.Common.{◌≡◌, ℕ, ◌+◌, ◌*◌, IfSome, List, None, Option, length, slice_index_or, sym, ap, subst, ◌∙◌, arith}
 use Rattle.r3k_machine.specs.State.{State}
 use Rattle.r3k_machine.specs.Run.{state_at}
-use Rattle.r3k_pages.specs.Pages.{SameOutside}
+use Rattle.r3k_machine.specs.Reset.{reset}
 use Rattle.span_fact.specs.Span.{Span, end_of}
-use Rattle.checkpoints.specs.Kept.{Follows, span_at}
+use Rattle.checkpoints.specs.Kept.{NearlyApplies, span_at}
+use Rattle.present_run.specs.Index.{Agrees}
 use Rattle.present_run.specs.Reuse.{span_of}
-use Rattle.present_run.proofs.Carry.{empty}
-use Rattle.present_run.proofs.Near.{end_from, nearly, same_span}
-use Rattle.present_run.proofs.Next.{behind_kept, into_some}
-use Rattle.present_run.proofs.Spans.{ends}
+use Rattle.present_run.specs.Ends.{IsJoined}
+use Rattle.present_run.specs.Runs.{AreLandings, IsKnownAt}
+use Rattle.present_run.proofs.Again.{over_joined}
+use Rattle.present_run.proofs.Known.{at_first, end_known, own_events}
+use Rattle.present_run.proofs.Spans.{if_some, map_ok}
 use Rattle.present_run.proofs.present.Present.join_kept.Goals as goal
 
-pub invariant_of-self-2 : goal.invariant_of-self-2
-invariant_of-self-2 g c =
+pub carry_over-requires : goal.carry_over-requires
+carry_over-requires g c =
     let pages = g.row.PAGES in
+    let span = g.row.SPAN in
+    let kept = c.args.self.now.runs.kept in
+    let start = sym c.requires.start in (
+      omega arith,
+      (
+        omega arith,
+        (
+          omega arith,
+          (
+            subst (λ (s : State). IfSome (span_at kept kept.valid) (λ r. NearlyApplies pages span r s r.events)) start
+                (own_events pages span (span_at kept kept.valid) _ _ c.requires.serves),
+            (
+              omega (arith, c.requires.few),
+              λ at. subst (λ (s : State). IsKnownAt span kept.spans kept.valid s c.args.self.now.runs.frontier) start (if_some _ c.args.self.now.runs.frontier.at kept.valid at c.args.self.now.of.known),
+            ),
+          ),
+        ),
+      ),
+    )
+
+pub invariant_of-self : goal.invariant_of-self
+invariant_of-self g c =
+    let pages = g.row.PAGES in
+    let span = g.row.SPAN in
+    let image = c.args.self.now.inputs.image in
+    let log = c.args.self.now.inputs.log in
     let of = c.args.self.now.of in
     let kept = c.args.self.now.runs.kept in
-    let valid = kept.valid in
-    let r = c.in-Some.fact.now in
-    let is : span_at kept valid ≡ Some r = ap (span_at kept) (sym c.valid-index.ensures) ∙ (c.in-Some.ensures {u = tt}).fact in
-    let new = c.carry.new.differing in record {
+    let o = span_at kept kept.valid in
+    let there : IsJoined pages span kept.valid o (span_of pages span image log kept.valid) = record {
+      near = c.requires.serves;
+      number = c.carry_over.ensures.number;
+      long = subst (λ (s : State). IfSome o (λ r. length s.words ≡ length r.start.words)) c.requires.start c.carry_over.ensures.long;
+    } in record {
       fits = c.args.self.now.fits;
-      of = record {
-        sizes = of.sizes;
-        start = of.start;
-        stands = of.stands;
-        recorded = of.recorded;
-        joined = of.joined;
-        ends = of.ends;
-        again = of.again;
-        exact = of.exact;
-        differ = into_some _ (span_at kept valid) r is (subst (λ (start : State). SameOutside new r.start.words start.words) c.requires.start c.carry.ensures.start);
-        patches = of.patches;
-        agrees = of.agrees;
-      };
-      landed = c.args.self.now.landed;
+      of = over_joined image log c.args.self.now.runs c.carry_over.new.kept c.args.self.now.runs.told c.carry_over.new.self
+          (λ i. ap (λ (s : List (Option Span)). slice_index_or s i None) c.carry_over.ensures.spans) c.carry_over.ensures.valid
+          (subst (λ (s : List (Option Span)). Agrees pages span c.args.self.now.runs.told s) (sym c.carry_over.ensures.spans) of.agrees)
+          (c.carry_over.ensures.known (λ n. state_at pages image log (n * span)) (sym c.requires.start)
+          (map_ok _ _ c.carry_over.result
+          (λ end is. sym (end_known pages span image log kept.valid end.value o there
+          (subst (λ (s : State). IfSome o (λ r. end.value ≡ end_of pages span (record r { start = s }))) c.requires.start is)))
+          c.carry_over.ensures.end))
+          (c.carry_over.ensures.patches (reset pages image) (λ first. c.requires.start ∙ at_first pages span image log kept.valid first) of.patches) of;
+      landed = subst (λ (s : List (Option Span)). AreLandings pages span (record { image = image; log = log }) s c.args.self.now.landings) (sym c.carry_over.ensures.spans) c.args.self.now.landed;
     }
 
 pub join-requires : goal.join-requires
@@ -44,42 +69,29 @@ join-requires g c =
     let span = g.row.SPAN in
     let image = c.args.self.now.inputs.image in
     let log = c.args.self.now.inputs.log in
-    let of = c.args.self.now.of in
     let kept = c.args.self.now.runs.kept in
     let valid = kept.valid in
-    let s : Span = span_of pages span image log valid in
-    let r = c.in-Some.fact.now in
-    let is : span_at kept valid ≡ Some r = ap (span_at kept) (sym c.valid-index.ensures) ∙ (c.in-Some.ensures {u = tt}).fact in
-    let number : r.index ≡ valid = (c.in-Some.ensures {u = tt}).index ∙ c.valid-index.ensures in
-    let near = nearly pages span (span_at kept valid) r s.start s.events is c.requires.serves in
-    let new = c.carry.new.differing in
-    let start = c.requires.start in
-    let end : end_of pages span (record r { start = c.args.start.now }) ≡ state_at pages image log ((valid + 1) * span) =
-    end_from pages span r s c.args.start.now start number near.same_events ∙ ends pages span image log valid in (
+    let o = span_at kept valid in
+    let same = c.carry_over.ensures.valid in
+    let at : span_at c.carry_over.new.kept c.carry_over.new.kept.valid ≡ o =
+    ap (λ (s : List (Option Span)). slice_index_or s c.carry_over.new.kept.valid None) c.carry_over.ensures.spans ∙ ap (span_at kept) same in
+    let there : IsJoined pages span valid o (span_of pages span image log valid) = record {
+      near = c.requires.serves;
+      number = c.carry_over.ensures.number;
+      long = subst (λ (s : State). IfSome o (λ r. length s.words ≡ length r.start.words)) c.requires.start c.carry_over.ensures.long;
+    } in (
       omega arith,
       (
         omega arith,
         (
-          record {
-            near = c.requires.serves;
-            number = into_some _ (span_at kept valid) r is number;
-            long = into_some _ (span_at kept valid) r is (subst (λ (start : State). length start.words ≡ length r.start.words) start c.carry.ensures.long);
-          },
+          subst (λ (n : ℕ). IsJoined pages span n (span_at c.carry_over.new.kept c.carry_over.new.kept.valid) (span_of pages span image log n)) (sym same)
+              (subst (λ (o : Option Span). IsJoined pages span valid o (span_of pages span image log valid)) (sym at) there),
           (
-            (c.in_ok-end.ensures {u = tt}).end ∙ end,
-            (
-              λ none.
-                  let exactly : r.start ≡ s.start =
-                  c.carry.ensures.exact (sym c.pages.ensures.pages ∙ empty c.pages.result.now (eqb-true (length c.pages.result.now) 0 (sym c.is_empty-exact.ensures ∙ none))) ∙ start in
-                  is ∙ ap (λ (s : Span). Some s) (same_span r s number exactly near.same_events),
-              (
-                λ follows.
-                    behind_kept pages span new (state_at pages image log ((valid + 1) * span)).words r (span_at kept valid) (span_at kept (valid + 1)) is
-                    (subst (λ (n : ℕ). Follows pages span (span_at kept n) (span_at kept (n + 1))) c.valid-index.ensures (c.continues-follows.ensures.follows follows))
-                    (subst (λ (end : State). SameOutside new (end_of pages span r).words end.words) end c.carry.ensures.behind),
-                c.requires.few,
-              ),
-            ),
+            end_known pages span image log valid _ o there
+                (subst (λ (s : State). IfSome o (λ r. c.in_ok-end.end.value ≡ end_of pages span (record r { start = s }))) c.requires.start
+                (c.in_ok-end.ensures {u = tt}).end)
+                ∙ ap (λ (n : ℕ). state_at pages image log ((n + 1) * span)) (sym same),
+            omega (arith, c.requires.few, same),
           ),
         ),
       ),

@@ -1,5 +1,4 @@
 use Rattle.std.proofs.Common.{inl, inr, ap, subst, ◌∙◌, Contains}
-use Rattle.r3k_live.specs.Living.{Living}
 use Rattle.r3k_machine.specs.State.{State}
 use Rattle.present_run.specs.Shown.{holding_of}
 use Rattle.present_run.proofs.Held.{new_landing, on}

@@ -43,8 +43,7 @@ invariant_of-self-2 g c =
         joined = of.joined;
         ends = of.ends;
         again = of.again;
-        exact = of.exact;
-        differ = of.differ;
+        known = of.known;
         patches = of.patches;
         agrees = of.agrees;
       };

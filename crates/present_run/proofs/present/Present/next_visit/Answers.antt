@@ -1,4 +1,4 @@
-use Rattle.std.proofs.Common.{◌≡◌, ℕ, ◌+◌, ◌-◌, ◌/◌, ◌%◌, Option, IfOk, ap, ◌∙◌}
+use Rattle.std.proofs.Common.{◌≡◌, ◌+◌, ◌-◌, ◌/◌, ◌%◌, ap, ◌∙◌}
 use Rattle.r3k_machine.specs.Run.{next_visit}
 use Rattle.present_run.specs.History.{History}
 use Rattle.present_run.specs.Reuse.{Reaches}

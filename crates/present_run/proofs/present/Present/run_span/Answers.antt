@@ -1,8 +1,7 @@
-use Rattle.std.proofs.Common.{◌≡◌, inr, ℕ, ◌+◌, ◌*◌, IfSome, List, Option, None, Some, slice_index_or, sym, ap, subst, ◌∙◌, arith}
+use Rattle.std.proofs.Common.{◌≡◌, inr, ℕ, ◌+◌, ◌*◌, List, Option, None, Some, slice_index_or, sym, ap, subst, ◌∙◌, arith}
 use Rattle.r3k_machine.specs.Run.{state_at}
-use Rattle.r3k_pages.specs.Pages.{SameOutside}
 use Rattle.span_fact.specs.Span.{Span, end_of}
-use Rattle.checkpoints.specs.Kept.{Follows, Kept, span_at}
+use Rattle.checkpoints.specs.Kept.{Kept, span_at}
 use Rattle.present_run.specs.History.{History}
 use Rattle.present_run.specs.Reuse.{span_of}
 use Rattle.present_run.proofs.Stays.{stays_on}
@@ -35,18 +34,7 @@ join-requires g c =
                 ∙ (ends pages span made.inputs.image made.inputs.log old.valid
                 ∙ (ap (λ (n : ℕ). state_at pages made.inputs.image made.inputs.log ((n + 1) * span)) (sym valid_is)
                 ∙ ap (λ (h : History). state_at pages h.image h.log ((kept.valid + 1) * span)) (sym c.keep.ensures.stays.history))))),
-            (
-              λ _. there,
-              (
-                λ follows.
-                    subst (λ (n : ℕ). IfSome (span_at kept (n + 1)) (λ s. SameOutside now.runs.differing s.start.words (state_at pages now.inputs.image now.inputs.log ((n + 1) * span)).words))
-                    (sym c.keep.ensures.valid)
-                    ((c.in_ok-keep.ensures {u = tt}).next
-                    (subst (λ (n : ℕ). Follows pages span (span_at made.runs.kept n) (span_at made.runs.kept (n + 1))) (c.index.ensures ∙ (ap (λ (s : Span). s.index) fact_is ∙ sym made_at))
-                    (c.continues-follows.ensures.follows follows))),
-                omega (arith, valid_is, c.requires.few),
-              ),
-            ),
+            omega (arith, valid_is, c.requires.few),
           ),
         ),
       ),

@@ -1,4 +1,4 @@
-use Rattle.std.proofs.Common.{◌≤◌, ◌+◌, ap, ◌∙◌, arith}
+use Rattle.std.proofs.Common.{ap, ◌∙◌, arith}
 use Rattle.present_run.specs.Reuse.{Holding}
 use Rattle.present_run.proofs.Stays.{stays_on}
 use Rattle.present_run.proofs.present.Present.stand_at.Goals as goal

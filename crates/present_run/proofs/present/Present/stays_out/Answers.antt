@@ -1,8 +1,5 @@
-use Rattle.std.proofs.Common.{◌≡◌, ◌↔◌, ◌*◌, ◌<◌, Bool, true, false, not, IsTrue, refl, arith}
+use Rattle.std.proofs.Common.{◌<◌, Bool, true, false, not, IsTrue, refl, arith}
 use Rattle.std.proofs.lemmas.Bool.{false≢true}
-use Rattle.r3k_machine.specs.Run.{state_at}
-use Rattle.r3k_live.specs.Standing.{StandsIn}
-use Rattle.span_fact.specs.Span.{StoodIn}
 use Rattle.checkpoints.specs.Kept.{span_at}
 use Rattle.present_run.proofs.StaysOut.{stands_too}
 use Rattle.present_run.proofs.present.Present.stays_out.Goals as goal

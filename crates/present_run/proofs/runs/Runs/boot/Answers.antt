@@ -1,10 +1,10 @@
-use Rattle.std.proofs.Common.{◌*◌, IfSome, map, slice_get, ap, sym, ◌∙◌, arith, subst}
+use Rattle.std.proofs.Common.{ℕ, ◌*◌, IfSome, Option, map, slice_get, ap, sym, ◌∙◌, arith, subst}
 use Rattle.r3k_machine.specs.Reset.{reset}
 use Rattle.r3k_machine.specs.Run.{state_at}
-use Rattle.r3k_pages.specs.Pages.{SameOutside}
 use Rattle.r3k_live.specs.Living.{Living}
-use Rattle.checkpoints.specs.Kept.{Kept, span_at}
+use Rattle.checkpoints.specs.Kept.{Kept}
 use Rattle.present_run.specs.Index.{Agrees}
+use Rattle.present_run.specs.Runs.{IsAlike, IsKnownAt}
 use Rattle.present_run.proofs.Again.{no_some}
 use Rattle.present_run.proofs.Next.{no_ends}
 use Rattle.present_run.proofs.Spans.{at_reset}
@@ -19,8 +19,7 @@ returns-clause-of g c = record {
   joined = λ index within. absurd (let e : ⊥ = omega (arith, ap (λ (k : Kept). k.valid) c.new-3.ensures, within) in e);
   ends = no_ends g.row.PAGES g.row.SPAN c.args.inputs.now.image c.args.inputs.now.log _ _ (ap (λ (k : Kept). k.valid) c.new-3.ensures) (ap (map (λ end. end.value)) c.new-5.ensures.items);
   again = λ index first past start end is. absurd (no_some start (sym (ap (λ ends. slice_get (map (λ end. end.value) ends) index) c.new-5.ensures.items) ∙ is));
-  exact = λ last is yes. absurd (let e : ⊥ = omega (arith, ap (λ (k : Kept). k.valid) c.new-3.ensures, is) in e);
-  differ = subst (λ (k : Kept). IfSome (span_at k k.valid) (λ s. SameOutside c.in_ok-new-2.field-0 s.start.words (state_at g.row.PAGES c.args.inputs.now.image c.args.inputs.now.log (k.valid * g.row.SPAN)).words)) (sym c.new-3.ensures) tt;
-  patches = subst (λ (k : Kept). IfSome (span_at k 0) (λ s. SameOutside c.in_ok-new-3.field-0 s.start.words (reset g.row.PAGES c.args.inputs.now.image).words)) (sym c.new-3.ensures) tt;
+  known = subst (λ (o : Option ℕ). IfSome o (λ n. IsKnownAt g.row.SPAN c.new-3.result.spans n (state_at g.row.PAGES c.args.inputs.now.image c.args.inputs.now.log (n * g.row.SPAN)) c.in_ok-new-2.field-0)) (sym (c.in_ok-new-2.ensures {u = tt})) tt;
+  patches = subst (λ (k : Kept). IsAlike k.spans 0 c.in_ok-new-2.field-0.patched (reset g.row.PAGES c.args.inputs.now.image)) (sym c.new-3.ensures) tt;
   agrees = subst (λ (k : Kept). Agrees g.row.PAGES g.row.SPAN c.new-4.result k.spans) (sym c.new-3.ensures) (c.new-4.ensures.agrees g.row.PAGES g.row.SPAN);
 }

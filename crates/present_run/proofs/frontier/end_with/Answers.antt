@@ -4,7 +4,7 @@ use Rattle.r3k_machine.specs.State.{State}
 use Rattle.span_fact.specs.Span.{end_of}
 use Rattle.present_run.proofs.Carry.{empty, overlaid_none}
 use Rattle.present_run.proofs.Spans.{copied}
-use Rattle.present_run.proofs.joining.end_with.Goals as goal
+use Rattle.present_run.proofs.frontier.end_with.Goals as goal
 
 pub returns-then-is_empty : goal.returns-then-is_empty
 returns-then-is_empty g c =

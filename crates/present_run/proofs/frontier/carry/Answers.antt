@@ -1,0 +1,28 @@
+use Rattle.std.proofs.Common.{ℕ, List, length, sym, ap, ◌∙◌}
+use Rattle.present_run.proofs.Carry.{behind_carried, end_carried, exactly, loses_by, start_carried}
+use Rattle.present_run.proofs.Spans.{map_ok}
+use Rattle.present_run.proofs.frontier.carry.Goals as goal
+
+pub returns-clause-long : goal.returns-clause-long
+returns-clause-long g c =
+    ap (λ (words : List ℕ). length words) (sym c.memory-memory.ensures.words) ∙ (c.memory-memory.ensures.whole ∙ sym c.start-kept.ensures.whole)
+
+pub returns-clause-end : goal.returns-clause-end
+returns-clause-end g c =
+    let is = end_carried g.row.PAGES g.row.SPAN c.args.fact.now c.args.start.now c.args.differing.now c.remove.new.self c.requires.near
+    (loses_by c.args.differing.now _ _ _ c.touched.ensures.pages c.remove.ensures) c.requires.same (returns-clause-long g c) in
+    map_ok _ _ c.end_with.result (λ end at. at ∙ sym is) c.end_with.ensures
+
+pub returns-clause-start : goal.returns-clause-start
+returns-clause-start g c =
+    start_carried g.row.PAGES g.row.SPAN c.args.fact.now c.args.start.now c.args.fact.now.events c.args.differing.now c.remove.new.self c.requires.near
+    (loses_by c.args.differing.now _ _ _ c.touched.ensures.pages c.remove.ensures) c.requires.same
+
+pub returns-clause-behind : goal.returns-clause-behind
+returns-clause-behind g c =
+    behind_carried g.row.PAGES g.row.SPAN c.args.fact.now c.args.start.now c.args.differing.now c.remove.new.self c.requires.near
+    (loses_by c.args.differing.now _ _ _ c.touched.ensures.pages c.remove.ensures) c.requires.same (returns-clause-long g c)
+
+pub returns-clause-exact : goal.returns-clause-exact
+returns-clause-exact g c = λ none.
+    exactly c.args.fact.now.start c.args.start.now c.remove.new.self (returns-clause-start g c) none (returns-clause-long g c) c.requires.near.same_core
