@@ -129,7 +129,7 @@ impl<const PAGES: u32> Frontier<PAGES> {
         Ok(end)
     }
 
-    /// The run stays the same up to where the span of a number starts, and is another one behind.
+    /// The run stays the same up to where the span of a number starts, and may differ after it.
     pub(crate) fn edit(&mut self, index: u64)
         ensures known { (span : ℕ) (spans : List (Option Span)) (old new : ℕ → State) → ((n : ℕ) → n ≤ index → new n ≡ old n) →
             IsKnown span spans old self.old → IsKnown span spans new self.new }
