@@ -24,8 +24,8 @@ use r3k_machine::{
 use r3k_word::layout::PAGE_BYTES;
 
 // Makes quick steps in an open page that was touched before, at most `most`, and ends after one that comes to an address. Their ticks
-// and falls of Random are still to come. The core stands where the flow does, which comes and goes by value, so that it is kept in
-// registers. It has one caller, so that all of a step is in line: two copies of the loop would be too large.
+// and falls of Random are still to come. The core stands where the flow does, which comes and goes by value, so that the loop has it in
+// variables. It has one caller, so that all of a step is in line: two copies of the loop would be too large.
 #[inline(never)]
 fn quick_steps<const PAGES: u32, const SPAN: u32>(
     core: &mut Core,

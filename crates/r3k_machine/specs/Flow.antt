@@ -1,24 +1,22 @@
--- Where a processor stands in its instructions, after Kane and Heinrich, chapters 1 and 2: PC, next PC, the delay mark and the load slot.
-use Rattle.std.specs.Prelude.{ℕ, false, true, Option, None, unwrap_or}
+-- Where a processor stands in its instructions, after Kane and Heinrich, chapters 1 and 2: PC, next PC, the delay mark and the load slot,
+-- which is empty where its register is r0.
+use Rattle.std.specs.Prelude.{ℕ, false, true, Option, unwrap_or}
 use Rattle.r3k_word.specs.Word.{sum_of}
 use Rattle.r3k_machine.specs.Core.{Core}
+use Rattle.r3k_machine.specs.LoadSlot.{slot_after_load}
 use Rattle.r3k_machine.specs.declared.flow.Flow.{Flow}
-
--- where a core stands
-abbrev pub flow_of : Core → Flow
-flow_of core = record { pc = core.pc; next_pc = core.next_pc; delay = core.delay; load = core.load }
 
 -- the core once it stands elsewhere
 abbrev pub with_flow : Core → Flow → Core
-with_flow core flow = record core { pc = flow.pc; next_pc = flow.next_pc; delay = flow.delay; load = flow.load }
+with_flow core flow = record core { pc = flow.pc; next_pc = flow.next_pc; delay = flow.delay; load = slot_after_load flow.slot flow.value }
 
 -- at an address
 abbrev pub at : ℕ → Flow
-at address = record { pc = address; next_pc = sum_of address 4; delay = false; load = None }
+at address = record { pc = address; next_pc = sum_of address 4; delay = false; slot = 0; value = 0 }
 
 -- after an instruction that completes, but for what it writes
 abbrev pub moved : Flow → Flow
-moved flow = at flow.next_pc
+moved flow = record flow { pc = flow.next_pc; next_pc = sum_of flow.next_pc 4; delay = false; slot = 0 }
 
 -- with the next instruction in a delay slot, and the target after it
 abbrev pub targeted : Flow → Option ℕ → Flow

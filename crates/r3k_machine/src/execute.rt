@@ -57,7 +57,7 @@ impl Core {
     #[inline(always)]
     pub(crate) fn complete_in(&mut self, flow: &mut Flow)
         ensures flow { flow.new ≡ moved flow.old }
-        ensures core { self.new ≡ record self.old { registers = landed self.old.registers flow.old.load } }
+        ensures core { self.new ≡ record self.old { registers = landed self.old.registers (slot_after_load flow.old.slot flow.old.value) } }
     {
         flow.complete(&mut self.processor.registers);
     }
@@ -119,8 +119,8 @@ impl Core {
     }
 }
 
-// Performs the effect of the instruction at the PC, which was fetched from a page. An exception leaves the words as they were, and the processor as
-// the access left it.
+// Performs the effect of the instruction at the PC, which was fetched from a page. An exception leaves the words as they were, and the
+// processor as the access left it.
 #[inline]
 fn perform_effect<M: Mem>(
     core: &mut Core,

@@ -62,14 +62,15 @@ impl DelayedLoad {
     }
 }
 
-/// Where a processor stands: PC, next PC, the delay mark and the load slot. It is small, so that a loop of steps can keep it in
-/// variables of its own.
-#[derive(Clone, Copy, Debug, PartialEq, Eq)]
+/// Where a processor stands: PC, next PC, the delay mark and the load slot, which is empty where its register is r0. It is small, so
+/// that a loop of steps can keep it in variables of its own.
+#[derive(Clone, Copy, Debug)]
 pub struct Flow {
     pc: u32,
     next_pc: u32,
     delay: bool,
-    load: Option<DelayedLoad>,
+    slot: Register,
+    value: u32,
 }
 
 impl Flow {
@@ -82,7 +83,8 @@ impl Flow {
             pc: address,
             next_pc: add(address, 4),
             delay: false,
-            load: None,
+            slot: Register::new(0),
+            value: 0,
         }
     }
 
@@ -113,16 +115,19 @@ impl Flow {
     /// The load that has not landed yet.
     #[inline]
     pub(crate) fn load(self) -> Option<DelayedLoad>
-        ensures { result ≡ self.load }
+        ensures { result ≡ slot_after_load self.slot self.value }
     {
-        self.load
+        if self.slot.number() == 0 {
+            return None;
+        }
+        Some(DelayedLoad::new(self.slot, self.value))
     }
 
     /// An instruction completes, but for what it writes: the pending load lands, and the next instruction follows.
     #[inline(always)]
     pub(crate) fn complete(&mut self, registers: &mut [u32; 32])
         ensures flow { self.new ≡ moved self.old }
-        ensures registers { registers.new ≡ landed registers.old self.old.load }
+        ensures registers { registers.new ≡ landed registers.old (slot_after_load self.old.slot self.old.value) }
         ensures zero { HoldsZero registers.old → HoldsZero registers.new }
     {
         self.land(registers);
@@ -134,26 +139,23 @@ impl Flow {
     /// The pending load lands.
     #[inline(always)]
     pub(crate) fn land(&mut self, registers: &mut [u32; 32])
-        ensures flow { self.new ≡ record self.old { load = None } }
-        ensures registers { registers.new ≡ landed registers.old self.old.load }
+        ensures flow { self.new ≡ record self.old { slot = 0 } }
+        ensures registers { registers.new ≡ landed registers.old (slot_after_load self.old.slot self.old.value) }
         ensures zero { HoldsZero registers.old → HoldsZero registers.new }
     {
-        if let Some(load) = self.load {
-            registers[load.register() as usize] = load.value();
-            self.load = None;
+        if self.slot.number() != 0 {
+            registers[self.slot.index()] = self.value;
+            self.slot = Register::new(0);
         }
     }
 
     /// Fills the load slot. A load into r0 leaves it empty.
     #[inline]
     pub(crate) fn set_slot(&mut self, register: Register, value: u32)
-        ensures { self.new ≡ record self.old { load = slot_after_load register value } }
+        ensures { self.new ≡ record self.old { slot = register; value = value } }
     {
-        self.load = if register.number() == 0 {
-            None
-        } else {
-            Some(DelayedLoad::new(register, value))
-        };
+        self.slot = register;
+        self.value = value;
     }
 
     /// Marks the next instruction as one in a delay slot, with the target after it.

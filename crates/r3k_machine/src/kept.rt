@@ -21,6 +21,7 @@ pub struct KeptCore {
 
 impl Model for KeptCore {
     ghost use Rattle.r3k_machine.specs.Core.{Core, HoldsZero};
+    ghost use Rattle.r3k_machine.specs.LoadSlot.{slot_after_load};
 
     ghost Value = { Core };
 
@@ -31,7 +32,7 @@ impl Model for KeptCore {
       pc = c.processor.flow.pc;
       next_pc = c.processor.flow.next_pc;
       delay = c.processor.flow.delay;
-      load = c.processor.flow.load;
+      load = slot_after_load c.processor.flow.slot c.processor.flow.value;
       cop0 = c.processor.cop0;
       entries = c.tlb;
       caches = c.caches.value;

@@ -76,7 +76,7 @@ fn with_bytes(old: u32, lanes: u8, new: u32) -> u32
 }
 
 // Stores into the word of RAM that a physical address lies in, and gives the address of that word, if there is one.
-#[inline]
+#[inline(always)]
 pub(crate) fn put<M: Mem>(memory: &mut M, physical: u32, covered: Covered) -> Option<u32>
     ensures address { result ≡ ram_word M.ram physical }
     ensures words { M.words memory.new ≡ words_with (M.words memory.old) (ram_word M.ram physical) covered }

@@ -3,7 +3,7 @@
 ghost use Rattle.std.specs.Prelude.{◌≡◌, ◌<◌, IfOk, slice_index_or};
 ghost use Rattle.tlb64.specs.Entries.{empty_entry};
 ghost use Rattle.r3k_machine.specs.Core.{HoldsZero};
-ghost use Rattle.r3k_machine.specs.Flow.{flow_of, with_flow};
+ghost use Rattle.r3k_machine.specs.Flow.{with_flow};
 ghost use Rattle.r3k_machine.specs.Reset.{reset_core};
 ghost use Rattle.r3k_machine.specs.SameProcessor.{is_same_processor};
 
@@ -39,6 +39,7 @@ pub struct Core {
 
 impl Model for Core {
     ghost use Rattle.r3k_machine.specs.Core.{Core, HoldsZero};
+    ghost use Rattle.r3k_machine.specs.LoadSlot.{slot_after_load};
 
     ghost Value = { Core };
 
@@ -49,7 +50,7 @@ impl Model for Core {
       pc = c.processor.flow.pc;
       next_pc = c.processor.flow.next_pc;
       delay = c.processor.flow.delay;
-      load = c.processor.flow.load;
+      load = slot_after_load c.processor.flow.slot c.processor.flow.value;
       cop0 = c.processor.cop0;
       entries = c.tlb;
       caches = c.caches;
@@ -180,7 +181,7 @@ impl Core {
     /// Where it stands in its instructions.
     #[inline]
     pub fn flow(&self) -> Flow
-        ensures { result ≡ flow_of self.now }
+        ensures { with_flow self.now result ≡ self.now }
     {
         self.processor.flow
     }
