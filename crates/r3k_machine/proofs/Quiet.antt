@@ -97,7 +97,10 @@ unfolding meaning
 code_kept pages page old new keeps code = record {
   within = code.within;
   fetched = λ address here aligned. rw (keeps.entries, keeps.status, keeps.entry_hi) (code.fetched address here aligned);
-  plain = λ on. record { kernel = rw keeps.status (code.plain on).kernel; shared = rw keeps.status (code.plain on).shared };
+  plain = record {
+    within = code.plain.within;
+    over = λ some. record { kernel = rw keeps.status (code.plain.over some).kernel; shared = rw keeps.status (code.plain.over some).shared };
+  };
 }
 
 -- after some of the steps
@@ -116,7 +119,10 @@ unfolding meaning
 code_later pages n core page code = record {
   within = code.within;
   fetched = λ address here aligned. code.fetched address here aligned;
-  plain = λ on. record { kernel = (code.plain on).kernel; shared = (code.plain on).shared };
+  plain = record {
+    within = code.plain.within;
+    over = λ some. record { kernel = (code.plain.over some).kernel; shared = (code.plain.over some).shared };
+  };
 }
 
 -- an address means the same

@@ -1,6 +1,6 @@
 -- Quiet steps (own): nothing comes before the instruction but ticks that only count, and the instruction touches registers, PC and
 -- memory alone. So all ticks and falls of Random of many such steps may come after the last of them.
-use Rattle.std.specs.Prelude.{◌≡◌, ℕ, ◌+◌, ◌*◌, ◌/◌, ◌%◌, ◌^◌, ◌<◌, ◌≤◌, Bool, false, true, IsFalse, IsTrue, List, Option, None, Some, Ok, slice_index}
+use Rattle.std.specs.Prelude.{◌≡◌, ℕ, ◌+◌, ◌-◌, ◌*◌, ◌/◌, ◌%◌, ◌^◌, ◌<◌, ◌≤◌, Bool, false, true, IsFalse, IsTrue, List, Option, None, Some, Ok, slice_index}
 use Rattle.r3k_word.specs.Layout.{page_of_place, place_of_word}
 use Rattle.r3k_word.specs.declared.layout.TheConstants.{PAGE_BYTES, PAGE_WORDS}
 use Rattle.cop0.specs.Changes as control
@@ -19,6 +19,7 @@ use Rattle.r3k_exec.specs.Effects.{effect_of}
 use Rattle.r3k_exec.specs.declared.operands.Effect.{Effect}
 use Rattle.r3k_exec.specs.declared.operands.Effect.TheVariants.{Write, WriteHi, WriteLo, WriteHiLo, Jump, JumpAndLink, Load, Store, MoveFromControl, MoveToControl}
 use Rattle.r3k_machine.specs.declared.address.Physical.{Physical}
+use Rattle.r3k_machine.specs.declared.address.TheConstants.{KSEG0, KSEG2}
 use Rattle.r3k_machine.specs.declared.address.Use.TheVariants.{Fetch}
 use Rattle.r3k_machine.specs.declared.load_store.Loaded.{Loaded}
 use Rattle.r3k_machine.specs.declared.load_store.Word.{Word}
@@ -113,11 +114,16 @@ pub record GoesOverBus (core : Core) : Type 0 where
   pub kernel : IsFalse (in_user_mode core.cop0)
   pub shared : IsFalse (status.is_isolated core.cop0)
 
+-- so do those of the first n bytes from kseg0 on
+pub record IsPlainFor (n : ℕ) (core : Core) : Type 0 where
+  pub within : n ≤ KSEG2 - KSEG0
+  pub over : 0 < n → GoesOverBus core
+
 -- a page that is run in
 pub record IsCodePage (pages : ℕ) (core : Core) (page : CodePage) : Type 0 where
   pub within : page.number < 2 ^ 20
   pub fetched : IsFetchedFrom pages core page.number page.page
-  pub plain : IsTrue page.plain → GoesOverBus core
+  pub plain : IsPlainFor page.plain core
 
 -- the number in the page of the word at an aligned address
 pub record IsIndexIn (page : CodePage) (address index : ℕ) : Type 0 where

@@ -5,7 +5,7 @@ ghost use Rattle.r3k_exec.specs.declared.operands.Effect.TheVariants.{Load, Stor
 ghost use Rattle.r3k_word.specs.Layout.{place_of_word};
 ghost use Rattle.r3k_word.specs.declared.layout.TheConstants.{PAGE_BYTES, PAGE_WORDS};
 ghost use Rattle.kn02_bus.specs.Region.{region_of};
-ghost use Rattle.r3k_machine.specs.Quiet.{GoesOverBus, IsCodePage, IsIndexIn, IsQuick, IsQuickEffect, IsQuietFor, IsReached, elapsed, steady_over_bus};
+ghost use Rattle.r3k_machine.specs.Quiet.{IsCodePage, IsIndexIn, IsPlainFor, IsQuick, IsQuickEffect, IsQuietFor, IsReached, elapsed, steady_over_bus};
 ghost use Rattle.r3k_machine.specs.Address.{meaning};
 ghost use Rattle.r3k_machine.specs.Flow.{with_flow};
 ghost use Rattle.r3k_machine.specs.Locality.{fetched_page};
@@ -25,13 +25,14 @@ use r3k_exec::{Effect, LoadKind, StoreKind, effect};
 use r3k_word::arithmetic::subtract;
 use r3k_word::layout::{PAGE_BYTES, PAGE_WORDS, page_of, place_of};
 
-/// A page that is run in: the number of the virtual page, the page of RAM or ROM that its words are fetched from, and whether loads
-/// and stores of kseg0 and kseg1 go over the bus, as the mode is the kernel's and the cache is not isolated.
+/// A page that is run in: the number of the virtual page, the page of RAM or ROM that its words are fetched from, and how many bytes
+/// from kseg0 on loads and stores reach over the bus. That is all of kseg0 and kseg1 where the mode is the kernel's and the cache is
+/// not isolated, or else none.
 #[derive(Clone, Copy, Debug)]
 pub struct CodePage {
     pub number: u32,
     pub page: u32,
-    pub plain: bool,
+    pub plain: u32,
 }
 
 impl Core {
@@ -56,20 +57,23 @@ impl Core {
         self.processor.cop0.fall_by(steps);
     }
 
-    // Whether loads and stores of kseg0 and kseg1 go over the bus.
-    fn goes_over_bus(&self) -> bool
-        ensures { IsTrue result → GoesOverBus self.now }
+    // How many bytes from kseg0 on loads and stores reach over the bus.
+    fn plain(&self) -> u32
+        ensures { IsPlainFor result self.now }
     {
-        !self.cop0().in_user_mode() && !self.cop0().is_isolated()
+        if self.cop0().in_user_mode() || self.cop0().is_isolated() {
+            return 0;
+        }
+        KSEG2 - KSEG0
     }
 
     // The physical address of a load or store that goes over the bus, where that takes no search and is no exception.
     #[inline(always)]
-    fn reached(&self, access: Use, aligned: bool, address: u32, plain: bool) -> Option<u32>
-        requires { IsTrue plain → GoesOverBus self.now }
+    fn reached(&self, access: Use, aligned: bool, address: u32, plain: u32) -> Option<u32>
+        requires { IsPlainFor plain self.now }
         ensures { IfSome result (IsReached self.now (meaning self.now access aligned address)) }
     {
-        if plain && aligned && address >= KSEG0 && address < KSEG2 {
+        if aligned && subtract(address, KSEG0) < plain {
             return Some(address & 0x1FFF_FFFF);
         }
         let physical = self.known(access, aligned, address)?;
@@ -109,7 +113,7 @@ pub fn code_page<M: Mem>(core: &Core, memory: &M) -> Option<CodePage>
     Some(CodePage {
         number: address / PAGE_BYTES,
         page: page_of(place) as u32,
-        plain: core.goes_over_bus(),
+        plain: core.plain(),
     })
 }
 
@@ -139,13 +143,13 @@ fn load_quick<M: Mem>(
     flow: &mut Flow,
     memory: &M,
     page: u32,
-    plain: bool,
+    plain: u32,
     kind: LoadKind,
     register: Register,
     address: u32,
 ) -> Option<Done>
     requires page { IsPage M.ram page }
-    requires plain { IsTrue plain → GoesOverBus core.old }
+    requires plain { IsPlainFor plain core.old }
     ensures quick { IfSome result (λ done. IsQuickEffect M.ram (record { core = with_flow core.old flow.old; words = M.words memory.now }) (Load kind register address)) }
     ensures ran { IfSome result (λ done.
         completion_of_effect M.ram (record { core = with_flow core.old flow.old; words = M.words memory.now }) page (Load kind register address)
@@ -171,13 +175,13 @@ fn load_by_kind<M: Mem>(
     flow: &mut Flow,
     memory: &M,
     page: u32,
-    plain: bool,
+    plain: u32,
     kind: LoadKind,
     register: Register,
     address: u32,
 ) -> Option<Done>
     requires page { IsPage M.ram page }
-    requires plain { IsTrue plain → GoesOverBus core.old }
+    requires plain { IsPlainFor plain core.old }
     ensures quick { IfSome result (λ done. IsQuickEffect M.ram (record { core = with_flow core.old flow.old; words = M.words memory.now }) (Load kind register address)) }
     ensures ran { IfSome result (λ done.
         completion_of_effect M.ram (record { core = with_flow core.old flow.old; words = M.words memory.now }) page (Load kind register address)
@@ -269,13 +273,13 @@ fn store_quick<M: Mem>(
     flow: &mut Flow,
     memory: &mut M,
     page: u32,
-    plain: bool,
+    plain: u32,
     kind: StoreKind,
     address: u32,
     value: u32,
 ) -> Option<Done>
     requires page { IsPage M.ram page }
-    requires plain { IsTrue plain → GoesOverBus core.old }
+    requires plain { IsPlainFor plain core.old }
     ensures quick { IfSome result (λ done. IsQuickEffect M.ram (record { core = with_flow core.old flow.old; words = M.words memory.old }) (Store kind address value)) }
     ensures ran { IfSome result (λ done.
         completion_of_effect M.ram (record { core = with_flow core.old flow.old; words = M.words memory.old }) page (Store kind address value)
@@ -304,13 +308,13 @@ fn store_by_kind<M: Mem>(
     flow: &mut Flow,
     memory: &mut M,
     page: u32,
-    plain: bool,
+    plain: u32,
     kind: StoreKind,
     address: u32,
     value: u32,
 ) -> Option<Done>
     requires page { IsPage M.ram page }
-    requires plain { IsTrue plain → GoesOverBus core.old }
+    requires plain { IsPlainFor plain core.old }
     ensures quick { IfSome result (λ done. IsQuickEffect M.ram (record { core = with_flow core.old flow.old; words = M.words memory.old }) (Store kind address value)) }
     ensures ran { IfSome result (λ done.
         completion_of_effect M.ram (record { core = with_flow core.old flow.old; words = M.words memory.old }) page (Store kind address value)
@@ -384,11 +388,11 @@ fn perform_quick<M: Mem>(
     flow: &mut Flow,
     memory: &mut M,
     page: u32,
-    plain: bool,
+    plain: u32,
     effect: Effect,
 ) -> Option<Done>
     requires page { IsPage M.ram page }
-    requires plain { IsTrue plain → GoesOverBus core.old }
+    requires plain { IsPlainFor plain core.old }
     ensures quick { IfSome result (λ done. IsQuickEffect M.ram (record { core = with_flow core.old flow.old; words = M.words memory.old }) effect) }
     ensures ran { IfSome result (λ done.
         completion_of_effect M.ram (record { core = with_flow core.old flow.old; words = M.words memory.old }) page effect
@@ -442,7 +446,7 @@ fn perform_quick<M: Mem>(
             value,
         } => return store_by_kind(core, flow, memory, page, plain, kind, address, value),
         Effect::MoveFromControl { register, control } => {
-            if !plain || control.number() == RANDOM {
+            if plain == 0 || control.number() == RANDOM {
                 return None;
             }
             let value = core.cop0().read(control.number());
@@ -450,7 +454,7 @@ fn perform_quick<M: Mem>(
             flow.set_slot(register, value);
         }
         Effect::MoveToControl { control, value } => {
-            if !plain || control.number() != ENTRY_LO {
+            if plain == 0 || control.number() != ENTRY_LO {
                 return None;
             }
             core.complete_in(flow);

@@ -8,5 +8,5 @@ returns-clause-code g c =
       within = omega arith;
       fetched = rw c.page_of.ensures
           (code_at c.args.core.now g.M.Mem.ram c.pc-address.result c.in_ok-place.place c.in_ok-physical.physical c.in_ok-physical.ensures (sym stands));
-      plain = c.goes_over_bus.ensures;
+      plain = c.plain.ensures;
     }

@@ -1,18 +1,20 @@
-use Rattle.std.proofs.Common.{ℕ, sym, subst}
+use Rattle.std.proofs.Common.{ℕ, ◌<◌, ◌≤◌, sym, subst, arith}
 use Rattle.std.specs.Prelude.{nat_lt}
 use Rattle.std.proofs.lemmas.Nat.{and_mask}
-use Rattle.r3k_machine.specs.declared.address.TheConstants.{KSEG1}
+use Rattle.r3k_machine.specs.declared.address.TheConstants.{KSEG0, KSEG1, KSEG2}
 use Rattle.r3k_machine.specs.Address.{meaning}
 use Rattle.r3k_machine.specs.Quiet.{IsPlain}
 use Rattle.r3k_machine.proofs.Quiet.{over_bus}
 use Rattle.r3k_machine.proofs.state.Core.reached.Goals as goal
 
-pub returns-then-address-lt-KSEG2 : goal.returns-then-address-lt-KSEG2
-returns-then-address-lt-KSEG2 c = record {
-  cacheable = nat_lt c.args.address KSEG1;
-  plain =
-      subst (λ (n : ℕ). IsPlain c.args.self.now (meaning c.args.self.now c.args.access c.args.aligned c.args.address) (record { address = n; cacheable = nat_lt c.args.address KSEG1 }))
-      (sym (and_mask c.args.address 29))
-      (rw c.if-aligned.true
-      (over_bus c.args.self.now c.args.access c.args.address (c.requires c.if-plain.true) c.if-address-ge-KSEG0.true c.if-address-lt-KSEG2.true));
-}
+pub returns-then-subtract-plain : goal.returns-then-subtract-plain
+returns-then-subtract-plain c =
+    let least : KSEG0 ≤ c.args.address = omega (arith, c.if-subtract-plain.true, c.subtract.ensures, c.requires.within) in
+    let most : c.args.address < KSEG2 = omega (arith, c.if-subtract-plain.true, c.subtract.ensures, c.requires.within) in
+    let some : 0 < c.args.plain = omega (arith, c.if-subtract-plain.true) in record {
+      cacheable = nat_lt c.args.address KSEG1;
+      plain =
+          subst (λ (n : ℕ). IsPlain c.args.self.now (meaning c.args.self.now c.args.access c.args.aligned c.args.address) (record { address = n; cacheable = nat_lt c.args.address KSEG1 }))
+          (sym (and_mask c.args.address 29))
+          (rw c.if-aligned.true (over_bus c.args.self.now c.args.access c.args.address (c.requires.over some) least most));
+    }
