@@ -10,8 +10,8 @@ ghost use Rattle.r3k_live.specs.Record.{touched_pages};
 ghost use Rattle.span_fact.specs.Span.{Span, end_of, steps_of};
 ghost use Rattle.checkpoints.specs.Kept.{NearlyApplies};
 
-/// Where a span nearly applies, the steps from that start report the same, and the core is the same after each of them. They end where the span ends, with the pages that differ
-/// and that it does not touch carried over from the start.
+/// Where a span nearly applies, the steps from that start report the same, and the core is the same after each of them. They end where the
+/// span ends, with the pages that differ and that it does not touch carried over from the start.
 pub fn near_laws()
     ensures steps { (pages span : ℕ) (s : Span) (start : State) (events : List LogEvent) →
         NearlyApplies pages span s start events → length start.words ≡ length s.start.words →

@@ -1,5 +1,5 @@
 -- What is known where a span starts.
-use Rattle.std.proofs.Common.{◌≡◌, ℕ, zero, suc, ◌+◌, ◌-◌, ◌*◌, ◌<◌, Bool, true, false, IsTrue, IfSome, List, Option, Some, None, slice_index_or, refl, sym, ap, subst, ◌∙◌, arith}
+use Rattle.std.proofs.Common.{◌≡◌, ℕ, zero, suc, ◌+◌, ◌-◌, ◌*◌, ◌<◌, Bool, true, false, IsTrue, IfSome, IsSomeAnd, List, Option, Some, None, slice_index_or, refl, sym, ap, subst, ◌∙◌, arith}
 use Rattle.std.proofs.lemmas.Bool.{true≢false}
 use Rattle.input_log.specs.Event.{LogEvent}
 use Rattle.r3k_image.specs.Boot.{Boot}
@@ -51,8 +51,8 @@ end_known pages span image log index end (Some r) joined is =
 
 -- a record serves with its own events
 pub own_events : (pages span : ℕ) (o : Option Span) (start : State) (events : List LogEvent) → IsNear pages span o start events
-    → IfSome o (λ s. NearlyApplies pages span s start s.events)
-own_events pages span None start events near = tt
+    → IsSomeAnd o (λ s. NearlyApplies pages span s start s.events)
+own_events pages span None start events near = near
 own_events pages span (Some s) start events near = record { same_events = refl; same_core = near.same_core; same_touched = near.same_touched }
 
 -- what is known goes by the records and by the states

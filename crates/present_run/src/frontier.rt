@@ -1,6 +1,6 @@
 //! What is known where the next span starts, the first that is not joined.
 
-ghost use Rattle.std.specs.Prelude.{◌≡◌, ◌∷◌, ◌+◌, ◌-◌, ◌^◌, ◌<◌, ◌≤◌, [], ℕ, IfOk, IfSome, IsTrue, List, None, Option, Some, length};
+ghost use Rattle.std.specs.Prelude.{◌≡◌, ◌∷◌, ◌+◌, ◌-◌, ◌^◌, ◌<◌, ◌≤◌, [], ℕ, IfOk, IfSome, IsSomeAnd, IsTrue, List, None, Option, Some, length};
 ghost use Rattle.r3k_machine.specs.State.{State};
 ghost use Rattle.r3k_pages.specs.Pages.{SameOutside, overlaid, page_count_of};
 ghost use Rattle.r3k_word.specs.declared.layout.TheConstants.{MAX_RAM_PAGES};
@@ -60,7 +60,7 @@ impl<const PAGES: u32> Frontier<PAGES> {
         }
         self.at = Some(index);
         self.exact = false;
-        compare_unless(false, kept, index, start, &mut self.differing);
+        compare(kept, index, start, &mut self.differing);
     }
 
     /// Over the next span, which was run. Its record takes the place of the old one, for which there is room.
@@ -96,7 +96,7 @@ impl<const PAGES: u32> Frontier<PAGES> {
         kept: &mut Kept<PAGES, SPAN>,
         start: &Boundary<PAGES>,
     ) -> Result<Rc<Boundary<PAGES>>, AllocError>
-        requires near { IfSome (span_at kept.old kept.old.valid) (λ s. NearlyApplies PAGES SPAN s start.now s.events) }
+        requires near { IsSomeAnd (span_at kept.old kept.old.valid) (λ s. NearlyApplies PAGES SPAN s start.now s.events) }
         requires few { kept.old.valid + 1 < 2 ^ 64 }
         requires known { self.old.at ≡ Some kept.old.valid → IsKnownAt SPAN kept.old.spans kept.old.valid start.now self.old }
         ensures end { IfOk result (λ end. IfSome (span_at kept.old kept.old.valid) (λ s. end.value ≡ end_of PAGES SPAN (record s { start = start.now }))) }
@@ -112,17 +112,11 @@ impl<const PAGES: u32> Frontier<PAGES> {
         let index = kept.valid();
         self.stand(kept, start);
         let Some(fact) = kept.fact(index) else {
-            return Err(AllocError);
+            unreachable!();
         };
         let end = carry(alloc, fact, start, &mut self.differing)?;
         let exact = self.differing.pages().is_empty();
-        compare_unless(
-            kept.continues(index),
-            kept,
-            index + 1,
-            &end,
-            &mut self.differing,
-        );
+        lead(kept, index, &end, &mut self.differing);
         begin(kept, &mut self.patched, index, exact, self.exact);
         self.exact = exact;
         self.at = Some(index + 1);
@@ -171,7 +165,7 @@ fn pass<const PAGES: u32, const SPAN: u32>(
             differing.add(old.dirty());
             differing.add(fact.dirty());
         }
-        _ => compare_unless(false, kept, index + 1, fact.end(), differing),
+        _ => compare(kept, index + 1, fact.end(), differing),
     }
 }
 
@@ -215,20 +209,32 @@ fn end_with<const PAGES: u32, const SPAN: u32>(
     share(alloc, end)
 }
 
-// From here on, the differing pages are those in which the record of a number starts otherwise than the run stands. They are computed
-// unless they are known.
-fn compare_unless<const PAGES: u32, const SPAN: u32>(
-    known: bool,
+// From a record to the next one, where the run ends after the first: the differing pages stay if the one leads to the other, or else
+// they are compared.
+fn lead<const PAGES: u32, const SPAN: u32>(
+    kept: &Kept<PAGES, SPAN>,
+    index: u64,
+    end: &Boundary<PAGES>,
+    differing: &mut PageMarks<PAGES>,
+)
+    requires { index + 1 < 2 ^ 64 }
+    ensures { (Follows PAGES SPAN (span_at kept.now index) (span_at kept.now (index + 1)) → IsAlike kept.now.spans (index + 1) differing.old end.now) →
+        IsAlike kept.now.spans (index + 1) differing.new end.now }
+{
+    if !kept.continues(index) {
+        compare(kept, index + 1, end, differing);
+    }
+}
+
+// The differing pages are those in which the record of a number starts otherwise than the run stands.
+fn compare<const PAGES: u32, const SPAN: u32>(
     kept: &Kept<PAGES, SPAN>,
     index: u64,
     here: &Boundary<PAGES>,
     differing: &mut PageMarks<PAGES>,
 )
-    ensures { (IsTrue known → IsAlike kept.now.spans index differing.old here.now) → IsAlike kept.now.spans index differing.new here.now }
+    ensures { IsAlike kept.now.spans index differing.new here.now }
 {
-    if known {
-        return;
-    }
     differing.clear();
     if let Some(fact) = kept.fact(index) {
         differing.add_differing(fact.start().memory(), here.memory());

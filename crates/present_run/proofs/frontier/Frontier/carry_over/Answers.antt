@@ -1,9 +1,9 @@
-use Rattle.std.proofs.Common.{◌≡◌, ℕ, ◌+◌, ◌-◌, List, Option, Some, length, sym, ap, subst, ◌∙◌, arith}
+use Rattle.std.proofs.Common.{◌≡◌, ℕ, ◌+◌, ◌-◌, List, IsSomeAnd, Option, Some, length, sym, ap, subst, ◌∙◌, arith}
 use Rattle.std.proofs.lemmas.Bool.{eqb-true}
 use Rattle.r3k_machine.specs.State.{State}
 use Rattle.r3k_pages.specs.Pages.{SameOutside}
 use Rattle.span_fact.specs.Span.{Span, end_of}
-use Rattle.checkpoints.specs.Kept.{span_at}
+use Rattle.checkpoints.specs.Kept.{NearlyApplies, span_at}
 use Rattle.present_run.specs.Runs.{EndsAt, IsAlike, IsKnownAt}
 use Rattle.present_run.specs.declared.frontier.Frontier.{Frontier}
 use Rattle.present_run.proofs.Carry.{empty}
@@ -16,7 +16,7 @@ use Rattle.present_run.proofs.frontier.Frontier.carry_over.Goals as goal
 pub carry-requires : goal.carry-requires
 carry-requires g c =
     let is = ap (span_at c.args.kept.now) (sym c.valid-index.ensures) ∙ (c.in-Some.ensures {u = tt}).fact in
-    (omega arith, (omega arith, (omega arith, (if_some _ _ _ is c.requires.near, if_some _ _ _ is c.stand.ensures.known.differ))))
+    (omega arith, (omega arith, (omega arith, (subst (λ (o : Option Span). IsSomeAnd o (λ s. NearlyApplies g.row.PAGES g.row.SPAN s c.args.start.now s.events)) is c.requires.near, if_some _ _ _ is c.stand.ensures.known.differ))))
 
 pub begin-requires : goal.begin-requires
 begin-requires g c =
@@ -55,14 +55,14 @@ returns-clause-known g c = λ starts here end.
     let start = c.args.start.now in
     let n = c.valid-index.result in
     let r = c.in-Some.fact.now in
-    let set = c.compare_unless.new.differing in
+    let set = c.lead.new.differing in
     let is : span_at kept n ≡ Some r = (c.in-Some.ensures {u = tt}).fact in
     let there : c.deref.result.now ≡ end_of pages span (record r { start = start }) = c.deref.ensures ∙ (c.in_ok-end.ensures {u = tt}).end in
     let f : Frontier pages = record { at = Some (n + 1); differing = set; exact = c.is_empty-exact.result; patched = c.begin.new.patched } in
     let next : c.deref.result.now ≡ starts (n + 1) = c.deref.ensures ∙ (sym end ∙ ap (λ (i : ℕ). starts (i + 1)) (sym c.valid-index.ensures)) in
-    let alike : IsAlike kept.spans (n + 1) set c.deref.result.now = c.compare_unless.ensures (λ follows.
+    let alike : IsAlike kept.spans (n + 1) set c.deref.result.now = c.lead.ensures (λ follows.
     subst (λ (s : State). IsAlike kept.spans (n + 1) c.carry.new.differing s) (sym there)
-    (behind_kept pages span c.carry.new.differing (end_of pages span (record r { start = start })).words r (span_at kept n) (span_at kept (n + 1)) is (c.continues.ensures.follows follows) c.carry.ensures.behind)) in
+    (behind_kept pages span c.carry.new.differing (end_of pages span (record r { start = start })).words r (span_at kept n) (span_at kept (n + 1)) is follows c.carry.ensures.behind)) in
     subst (λ (spans : List (Option Span)). IsKnownAt span spans (n + 1) (starts (n + 1)) f) (sym c.begin.ensures.spans)
     (record {
       differ = subst (λ (s : State). IsAlike kept.spans (n + 1) set s) next alike;

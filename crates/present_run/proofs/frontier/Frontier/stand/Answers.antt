@@ -9,6 +9,6 @@ returns-then-eq-clause-known g c = c.requires (same_some c.args.self.now.at c.va
 
 pub returns-clause-known : goal.returns-clause-known
 returns-clause-known g c = record {
-  differ = subst (λ (n : ℕ). IsAlike c.args.kept.now.spans n c.compare_unless.new.differing c.args.start.now) c.valid-index.ensures (c.compare_unless.ensures (λ yes. absurd (false≢true yes)));
+  differ = subst (λ (n : ℕ). IsAlike c.args.kept.now.spans n c.compare.new.differing c.args.start.now) c.valid-index.ensures c.compare.ensures;
   exact = λ yes. absurd (false≢true yes);
 }

@@ -1,4 +1,4 @@
-use Rattle.std.proofs.Common.{◌≡◌, ℕ, ◌+◌, ◌*◌, IfSome, List, None, Option, length, slice_index_or, sym, ap, subst, ◌∙◌, arith}
+use Rattle.std.proofs.Common.{◌≡◌, ℕ, ◌+◌, ◌*◌, IfSome, IsSomeAnd, List, None, Option, length, slice_index_or, sym, ap, subst, ◌∙◌, arith}
 use Rattle.r3k_machine.specs.State.{State}
 use Rattle.r3k_machine.specs.Run.{state_at}
 use Rattle.r3k_machine.specs.Reset.{reset}
@@ -25,7 +25,7 @@ carry_over-requires g c =
         (
           omega arith,
           (
-            subst (λ (s : State). IfSome (span_at kept kept.valid) (λ r. NearlyApplies pages span r s r.events)) start
+            subst (λ (s : State). IsSomeAnd (span_at kept kept.valid) (λ r. NearlyApplies pages span r s r.events)) start
                 (own_events pages span (span_at kept kept.valid) _ _ c.requires.serves),
             (
               omega (arith, c.requires.few),
