@@ -147,7 +147,7 @@ fn main() {
     for (what, command) in [
         ("what happened before, asked first: console", "console 0 0 16"),
         ("console in the middle of what was sent", "console 0 50000 16"),
-        ("find of the last byte of so many", "find 0 99999"),
+        ("find of the last byte of many", "find 0 99999"),
         ("writer of a word that is stored often", "writer 0x1000"),
         ("writer of one that is stored once, at the start", "writer 0x2000"),
         ("writer of one that is not stored", "writer 0x8000"),
