@@ -7,3 +7,4 @@ pub mod Gone
 mod Slots
 mod Noted
 mod Stood
+mod Quick

@@ -1,11 +1,16 @@
 -- How far a run has gone (own).
-use Rattle.std.specs.Prelude.{◌≡◌, ℕ, ◌+◌, ◌<◌, List, [], IsFalse, slice_index}
+use Rattle.std.specs.Prelude.{◌≡◌, ℕ, ◌+◌, ◌<◌, ◌≤◌, List, [], IsFalse, IsTrue, slice_index}
 use Rattle.input_log.specs.Event.{LogEvent}
 use Rattle.r3k_word.specs.Layout.{page_of_place}
+use Rattle.r3k_machine.specs.declared.quick.CodePage.{CodePage}
+use Rattle.r3k_machine.specs.Core.{Core}
+use Rattle.r3k_machine.specs.Quiet.{IsCodePage, IsIndexIn, IsQuietFor, state_elapsed}
 use Rattle.r3k_machine.specs.Run.{arriving, run, trace}
 use Rattle.r3k_machine.specs.State.{State}
+use Rattle.r3k_pages.specs.Pages.{holds}
 use Rattle.r3k_live.specs.Record.{is_dirty}
 use Rattle.r3k_live.specs.Recording.{Recording, Records}
+use Rattle.r3k_live.specs.Standing.{BeginsIn}
 
 -- `made` steps of the run from a state are made and recorded, and words of pages that they did not store into stayed
 pub record HasGone (pages : ℕ) (log : List LogEvent) (from : ℕ) (start : State) (made : ℕ) (s : State) (r : Recording) : Type 0 where
@@ -21,3 +26,30 @@ PassesBy pages log from start address above below = (k : ℕ) → above < k → 
 -- n times from one on have no event
 abbrev pub IsFreeFor : ℕ → List LogEvent → ℕ → Type 0
 IsFreeFor n log time = (k : ℕ) → k < n → arriving log (time + k) ≡ []
+
+-- Quick steps of a page may go on, as long as they are fewer than `most`: the times are quiet, and the page was touched before.
+pub record MayGoOn (pages most : ℕ) (page : CodePage) (core : Core) (r : Recording) : Type 0 where
+  pub quiet : IsQuietFor most core
+  pub code : IsCodePage pages core page
+  pub again : IsTrue (holds r.touched page.page)
+
+-- A run has gone from one number of steps on to another one: all of these steps began in a page, and none at an address.
+pub record HasGoneOn (pages : ℕ) (log : List LogEvent) (from : ℕ) (start : State) (address number low high : ℕ) (s : State) (r : Recording) : Type 0 where
+  pub gone : HasGone pages log from start high s r
+  pub passed : (k : ℕ) → low ≤ k → k < high → ¬ ((run pages log from start k).core.pc ≡ address)
+  pub begins : BeginsIn pages log from start number low high
+
+-- Quick steps of a page go on from `made` of them to n. Their ticks and falls of Random are still to come. So goes any run that no event
+-- reaches in these times.
+pub record GoesOn (pages most address : ℕ) (page : CodePage) (made n : ℕ) (s t : State) (r later : Recording) : Type 0 where
+  pub bound : n ≤ most
+  pub count : later.steps + made ≡ r.steps + n
+  pub stood : later.stood ≡ r.stood
+  pub may : MayGoOn pages most page t.core later
+  pub runs : (log : List LogEvent) (from : ℕ) (start : State) (before : ℕ) → IsFreeFor most log (from + before)
+      → HasGone pages log from start (before + made) (state_elapsed made s) r
+      → HasGoneOn pages log from start address page.number (before + made) (before + n) (state_elapsed n t) later
+
+-- where an address is in a page, if it is in it
+abbrev pub IsWordAt : (page : CodePage) → (address index : ℕ) → Type 0
+IsWordAt page address index = (other : ℕ) → IsIndexIn page address other → other ≡ index

@@ -72,7 +72,6 @@ fn closed(alloc: Global) -> Result<Vec<u32>, AllocError>
 }
 
 // Nothing is known of the words of a slot any more.
-#[inline(never)]
 fn forget(known: &mut Vec<Insn>, slot: usize, stop: Insn)
     requires room { length known.old.items ≡ 131072 }
     requires slot { slot < 128 }

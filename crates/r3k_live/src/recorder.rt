@@ -108,6 +108,15 @@ impl<const PAGES: u32, const SPAN: u32> Recorder<PAGES, SPAN> {
         self.steps = 0;
     }
 
+    /// How many steps it holds.
+    #[inline(always)]
+    pub(crate) fn steps(&self) -> u32
+        ensures steps { result ≡ self.now.steps }
+        ensures bound { result ≤ SPAN }
+    {
+        self.steps
+    }
+
     /// The last step that stored into the word at a physical address, if one did.
     pub fn writer(&self, address: u32) -> Option<u32>
         ensures { (steps : List Done) → Records PAGES steps self.now → result ≡ last_writer address steps }

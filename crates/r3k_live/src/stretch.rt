@@ -1,18 +1,18 @@
 //! Stretches of quick steps.
 
-ghost use Rattle.std.specs.Prelude.{◌≡◌, ◌+◌, ◌-◌, ◌*◌, ◌/◌, ◌^◌, ◌<◌, ◌≤◌, IsTrue, ℕ, [], List};
+ghost use Rattle.std.specs.Prelude.{◌≡◌, ◌+◌, ◌-◌, ◌*◌, ◌/◌, ◌^◌, ◌<◌, ◌≤◌, IsFalse, IsTrue, ℕ, [], List};
 ghost use Rattle.input_log.specs.Event.{LogEvent};
-ghost use Rattle.r3k_word.specs.declared.layout.TheConstants.{PAGE_BYTES};
-ghost use Rattle.r3k_machine.specs.Flow.{with_flow};
-ghost use Rattle.r3k_machine.specs.Quiet.{IsCodePage, IsQuietFor, state_elapsed};
+ghost use Rattle.r3k_word.specs.declared.layout.TheConstants.{PAGE_BYTES, PAGE_WORDS};
+ghost use Rattle.r3k_machine.specs.Flow.{IsStraight, with_flow};
+ghost use Rattle.r3k_machine.specs.Quiet.{IsCodePage, IsIndexIn, IsQuietFor, LeadsOn};
 ghost use Rattle.r3k_machine.specs.Run.{arriving};
 ghost use Rattle.r3k_machine.specs.State.{State};
 ghost use Rattle.r3k_machine.specs.Told.{IsPage};
 ghost use Rattle.r3k_pages.specs.Pages.{holds};
-ghost use Rattle.r3k_live.specs.Going.{HasGone, IsFreeFor, PassesBy};
+ghost use Rattle.r3k_live.specs.Going.{GoesOn, HasGone, IsFreeFor, IsWordAt, MayGoOn, PassesBy};
 ghost use Rattle.r3k_live.specs.Living.{state_of};
 ghost use Rattle.r3k_live.specs.Slots.{is_open};
-ghost use Rattle.r3k_live.specs.Standing.{BeginsIn, HasStood};
+ghost use Rattle.r3k_live.specs.Standing.{HasStood};
 
 use crate::flat::FlatMemory;
 use crate::recorder::Recorder;
@@ -21,11 +21,133 @@ use r3k_machine::step::step;
 use r3k_machine::{
     CodePage, Core, Flow, Mem, code_page, learn, quick_step, quiet_laws, quiet_step,
 };
-use r3k_word::layout::PAGE_BYTES;
+use r3k_word::layout::{PAGE_BYTES, PAGE_WORDS};
+
+// The number of the word at an address, if that is one of the page.
+fn halt_in(page: CodePage, address: u64) -> usize
+    requires { page.number < 2 ^ 20 }
+    ensures word { IsWordAt page address result }
+    ensures within { result ≤ PAGE_WORDS }
+{
+    let start = u64::from(page.number * PAGE_BYTES);
+    if address < start {
+        return PAGE_WORDS as usize;
+    }
+    ((address - start) / 4).min(u64::from(PAGE_WORDS)) as usize
+}
+
+// Makes the quick step of a word of the page, at which the PC stands, and records it. Says whether it did. Else it changes nothing.
+#[inline(always)]
+fn step_quickly<const PAGES: u32, const SPAN: u32>(
+    core: &mut Core,
+    flow: &mut Flow,
+    memory: &mut FlatMemory<PAGES>,
+    page: CodePage,
+    index: usize,
+    recorder: &mut Recorder<PAGES, SPAN>,
+) -> bool
+    requires code { IsCodePage PAGES (with_flow core.old flow.old) page }
+    requires page { IsPage PAGES page.page }
+    requires opened { IsTrue (is_open PAGES memory.old.opened.items page.page) }
+    requires again { IsTrue (holds recorder.old.touched page.page) }
+    requires here { IsIndexIn page flow.old.pc index }
+    requires room { recorder.old.steps < SPAN }
+    ensures goes { IsTrue result → (most address made : ℕ) → made < most → ¬ (flow.old.pc ≡ address) →
+        MayGoOn PAGES most page (with_flow core.old flow.old) recorder.old →
+        GoesOn PAGES most address page made (made + 1) (state_of (with_flow core.old flow.old) memory.old) (state_of (with_flow core.new flow.new) memory.new)
+        recorder.old recorder.new }
+    ensures count { IsTrue result → recorder.new.steps ≡ recorder.old.steps + 1 }
+    ensures leads { IsTrue result → LeadsOn (with_flow core.old flow.old) (with_flow core.new flow.new) }
+    ensures core { IsFalse result → core.new ≡ core.old }
+    ensures flow { IsFalse result → flow.new ≡ flow.old }
+    ensures words { IsFalse result → memory.new.words.items ≡ memory.old.words.items }
+    ensures recorder { IsFalse result → recorder.new ≡ recorder.old }
+    ensures opened { IsTrue (is_open PAGES memory.new.opened.items page.page) }
+{
+    quiet_laws();
+    let Some(done) = quick_step(core, flow, memory, page, index) else {
+        return false;
+    };
+    recorder.note_again(done);
+    true
+}
+
+// The number of the word before which straight steps from a word end: within the page, not past where all steps end, and after at
+// most `most` of them.
+#[inline(always)]
+fn end_of(first: usize, most: u32, halt: usize) -> usize
+    requires first { first < PAGE_WORDS }
+    requires halt { halt ≤ PAGE_WORDS }
+    ensures first { first ≤ result }
+    ensures within { result ≤ PAGE_WORDS }
+    ensures most { result ≤ first + most }
+    ensures halt { first ≤ halt → result ≤ halt }
+{
+    let end = if first <= halt {
+        halt
+    } else {
+        PAGE_WORDS as usize
+    };
+    end.min(first + most as usize)
+}
+
+// Makes quick steps from word to word, up to a jump, and the step in the jump's delay slot. Says whether more may follow. `begun` steps
+// were recorded before the first one of the page, and `most` may be made in all. From step to step the compiler keeps no more than the
+// number of the word and the load slot.
+#[inline(always)]
+fn step_straight<const PAGES: u32, const SPAN: u32>(
+    core: &mut Core,
+    flow: &mut Flow,
+    memory: &mut FlatMemory<PAGES>,
+    page: CodePage,
+    first: usize,
+    halt: usize,
+    begun: u32,
+    most: u32,
+    recorder: &mut Recorder<PAGES, SPAN>,
+) -> bool
+    requires may { MayGoOn PAGES most page (with_flow core.old flow.old) recorder.old }
+    requires page { IsPage PAGES page.page }
+    requires opened { IsTrue (is_open PAGES memory.old.opened.items page.page) }
+    requires straight { IsStraight flow.old }
+    requires here { IsIndexIn page flow.old.pc first }
+    requires within { first < PAGE_WORDS }
+    requires halt { halt ≤ PAGE_WORDS }
+    requires begun { begun ≤ recorder.old.steps }
+    requires made { recorder.old.steps < begun + most }
+    requires room { begun + most ≤ SPAN }
+    ensures goes { (address : ℕ) → IsWordAt page address halt → GoesOn PAGES most address page (recorder.old.steps - begun) (recorder.new.steps - begun)
+        (state_of (with_flow core.old flow.old) memory.old) (state_of (with_flow core.new flow.new) memory.new) recorder.old recorder.new }
+    ensures least { recorder.old.steps ≤ recorder.new.steps }
+    ensures more { IsTrue result → recorder.old.steps < recorder.new.steps }
+    ensures straight { IsTrue result → IsStraight flow.new }
+    ensures opened { IsTrue (is_open PAGES memory.new.opened.items page.page) }
+{
+    let end = end_of(first, begun + most - recorder.steps(), halt);
+    let mut index = first;
+    while index < end {
+        flow.stand_straight(page.address(index));
+        if !step_quickly(core, flow, memory, page, index, recorder) {
+            return false;
+        }
+        index += 1;
+        if flow.delay() {
+            if index >= end {
+                return false;
+            }
+            if !step_quickly(core, flow, memory, page, index, recorder) {
+                return false;
+            }
+            return !flow.delay();
+        }
+    }
+    flow.stand_straight(page.address(end));
+    false
+}
 
 // Makes quick steps in an open page that was touched before, at most `most`, and ends after one that comes to an address. Their ticks
-// and falls of Random are still to come. The core stands where the flow does, which comes and goes by value, so that the loop has it in
-// variables. It has one caller, so that all of a step is in line: two copies of the loop would be too large.
+// and falls of Random are still to come. It makes none where the core does not stand straight. It has one caller, so that all of a step
+// is in line.
 #[inline(never)]
 fn quick_steps<const PAGES: u32, const SPAN: u32>(
     core: &mut Core,
@@ -36,41 +158,30 @@ fn quick_steps<const PAGES: u32, const SPAN: u32>(
     stop: u64,
     recorder: &mut Recorder<PAGES, SPAN>,
 ) -> (u32, Flow)
-    requires quiet { IsQuietFor most (with_flow core.old flow) }
-    requires code { IsCodePage PAGES (with_flow core.old flow) page }
+    requires may { MayGoOn PAGES most page (with_flow core.old flow) recorder.old }
     requires page { IsPage PAGES page.page }
     requires opened { IsTrue (is_open PAGES memory.old.opened.items page.page) }
     requires room { recorder.old.steps + most ≤ SPAN }
-    requires again { IsTrue (holds recorder.old.touched page.page) }
-    ensures bound { result.0 ≤ most }
-    ensures steps { recorder.new.steps ≡ recorder.old.steps + result.0 }
-    ensures gone { (log : List LogEvent) (from : ℕ) (start : State) (made : ℕ) → IsFreeFor most log (from + made) →
-        HasGone PAGES log from start made (state_of (with_flow core.old flow) memory.old) recorder.old →
-        HasGone PAGES log from start (made + result.0) (state_elapsed result.0 (state_of (with_flow core.new result.1) memory.new)) recorder.new }
-    ensures before { (log : List LogEvent) (from : ℕ) (start : State) (made : ℕ) → IsFreeFor most log (from + made) →
-        HasGone PAGES log from start made (state_of (with_flow core.old flow) memory.old) recorder.old →
-        PassesBy PAGES log from start stop made (made + result.0) }
-    ensures inside { (log : List LogEvent) (from : ℕ) (start : State) (made : ℕ) → IsFreeFor most log (from + made) →
-        HasGone PAGES log from start made (state_of (with_flow core.old flow) memory.old) recorder.old →
-        BeginsIn PAGES log from start page.number made (made + result.0) }
-    ensures stood { recorder.new.stood ≡ recorder.old.stood }
-    ensures quiet { IsQuietFor most (with_flow core.new result.1) }
-    ensures code { IsCodePage PAGES (with_flow core.new result.1) page }
+    ensures goes { GoesOn PAGES most stop page 0 result.0
+        (state_of (with_flow core.old flow) memory.old) (state_of (with_flow core.new result.1) memory.new) recorder.old recorder.new }
     ensures opened { IsTrue (is_open PAGES memory.new.opened.items page.page) }
 {
-    quiet_laws();
-    let mut made = 0;
-    while made < most {
-        let Some(done) = quick_step(core, &mut flow, memory, page) else {
-            return (made, flow);
+    let begun = recorder.steps();
+    if !flow.is_straight() {
+        return (0, flow);
+    }
+    let halt = halt_in(page, stop);
+    while recorder.steps() < begun + most {
+        let Some(index) = page.index(flow.pc()) else {
+            return (recorder.steps() - begun, flow);
         };
-        recorder.note_again(done);
-        made += 1;
-        if flow.pc() as u64 == stop {
-            return (made, flow);
+        if !step_straight(
+            core, &mut flow, memory, page, index, halt, begun, most, recorder,
+        ) {
+            return (recorder.steps() - begun, flow);
         }
     }
-    (made, flow)
+    (recorder.steps() - begun, flow)
 }
 
 // Whether one more step is wanted after some of at most `most` steps: there is room for it, and none of them came to the address where
@@ -126,12 +237,10 @@ fn run_in<const PAGES: u32, const SPAN: u32>(
     stop: u64,
     recorder: &mut Recorder<PAGES, SPAN>,
 ) -> u32
-    requires quiet { IsQuietFor most core.old }
-    requires code { IsCodePage PAGES core.old page }
+    requires may { MayGoOn PAGES most page core.old recorder.old }
     requires page { IsPage PAGES page.page }
     requires opened { IsTrue (is_open PAGES memory.old.opened.items page.page) }
     requires room { recorder.old.steps + most ≤ SPAN }
-    requires again { IsTrue (holds recorder.old.touched page.page) }
     ensures bound { result ≤ most }
     ensures steps { recorder.new.steps ≡ recorder.old.steps + result }
     ensures gone { (log : List LogEvent) (from : ℕ) (start : State) (made : ℕ) → IsFreeFor most log (from + made) →

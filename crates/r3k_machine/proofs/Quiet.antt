@@ -58,7 +58,7 @@ use Rattle.r3k_machine.specs.LoadStore.{after_load, after_load_over_bus, after_s
 use Rattle.r3k_machine.specs.Step.{Completion, Outcome, arrived, completion_of_effect, completion_of_load, completion_of_store, completion_of_word, operands_of, outcome_of_completion, outcome_of_fetch, outcome_of_instruction, outcome_of_interrupt_or_instruction, outcome_of_step, outcome_of_word, sampled, ticked, with_fall}
 use Rattle.r3k_machine.specs.declared.quick.CodePage.{CodePage}
 use Rattle.r3k_machine.specs.Known.{IsDecoded, IsKnown, IsMove, IsStop}
-use Rattle.r3k_machine.specs.Quiet.{GoesOverBus, IsCodePage, IsFetchedFrom, IsIndexIn, IsPlain, IsQuick, IsQuickEffect, IsQuietFor, IsReached, elapsed, outcome_elapsed, state_elapsed, steady_elsewhere, steady_over_bus}
+use Rattle.r3k_machine.specs.Quiet.{GoesOverBus, IsCodePage, IsFetchedFrom, IsIndexIn, IsPlain, IsQuick, IsQuickEffect, IsQuietFor, IsReached, LeadsOn, elapsed, outcome_elapsed, state_elapsed, steady_elsewhere, steady_over_bus}
 
 -- after ticks and falls of Random
 abbrev pub aged : (ticks falls : ℕ) → Core → Core
@@ -70,13 +70,14 @@ state_aged ticks falls s = record { core = aged ticks falls s.core; words = s.wo
 abbrev pub outcome_aged : (ticks falls : ℕ) → Outcome → Outcome
 outcome_aged ticks falls o = record { state = state_aged ticks falls o.state; done = o.done }
 
--- what an instruction leaves as it is
+-- what an instruction leaves as it is, and where it leads
 pub record Keeps (old new : Core) : Type 0 where
   pub bus : new.bus ≡ old.bus
   pub status : new.cop0.status ≡ old.cop0.status
   pub cause : new.cop0.cause ≡ old.cop0.cause
   pub entry_hi : new.cop0.entry_hi ≡ old.cop0.entry_hi
   pub entries : new.entries ≡ old.entries
+  pub leads : LeadsOn old new
 
 -- sampling leaves the registers as they are where it leaves Cause so
 sampled_by : (c : Registers) (lines : Lines) → (control.sampled c lines.board lines.clock).cause ≡ c.cause
@@ -97,9 +98,9 @@ unfolding meaning
 code_kept pages page old new keeps code = record {
   within = code.within;
   fetched = λ address here aligned. rw (keeps.entries, keeps.status, keeps.entry_hi) (code.fetched address here aligned);
-  plain = record {
-    within = code.plain.within;
-    over = λ some. record { kernel = rw keeps.status (code.plain.over some).kernel; shared = rw keeps.status (code.plain.over some).shared };
+  over_bus = record {
+    within = code.over_bus.within;
+    over = λ some. record { kernel = rw keeps.status (code.over_bus.over some).kernel; shared = rw keeps.status (code.over_bus.over some).shared };
   };
 }
 
@@ -119,9 +120,9 @@ unfolding meaning
 code_later pages n core page code = record {
   within = code.within;
   fetched = λ address here aligned. code.fetched address here aligned;
-  plain = record {
-    within = code.plain.within;
-    over = λ some. record { kernel = (code.plain.over some).kernel; shared = (code.plain.over some).shared };
+  over_bus = record {
+    within = code.over_bus.within;
+    over = λ some. record { kernel = (code.over_bus.over some).kernel; shared = (code.over_bus.over some).shared };
   };
 }
 
@@ -204,12 +205,12 @@ read_aged falls c number other = rw (ne_eqb number RANDOM other) refl
 pub effect_ages : (pages ticks falls : ℕ) (s : State) (page : ℕ) (effect : Effect) → StaySteady s.core.bus s.core.bus → StaySteady s.core.bus (after ticks s.core.bus)
     → IsQuickEffect pages s effect
     → Ages ticks falls s (completion_of_effect pages s page effect) (completion_of_effect pages (state_aged ticks falls s) page effect)
-effect_ages pages ticks falls s page (Write number value) now later quick = record { outcome = _; is = refl; later_is = refl; keeps = record { bus = refl; status = refl; cause = refl; entry_hi = refl; entries = refl } }
-effect_ages pages ticks falls s page (WriteHi value) now later quick = record { outcome = _; is = refl; later_is = refl; keeps = record { bus = refl; status = refl; cause = refl; entry_hi = refl; entries = refl } }
-effect_ages pages ticks falls s page (WriteLo value) now later quick = record { outcome = _; is = refl; later_is = refl; keeps = record { bus = refl; status = refl; cause = refl; entry_hi = refl; entries = refl } }
-effect_ages pages ticks falls s page (WriteHiLo hi lo) now later quick = record { outcome = _; is = refl; later_is = refl; keeps = record { bus = refl; status = refl; cause = refl; entry_hi = refl; entries = refl } }
-effect_ages pages ticks falls s page (Jump target) now later quick = record { outcome = _; is = refl; later_is = refl; keeps = record { bus = refl; status = refl; cause = refl; entry_hi = refl; entries = refl } }
-effect_ages pages ticks falls s page (JumpAndLink target number value) now later quick = record { outcome = _; is = refl; later_is = refl; keeps = record { bus = refl; status = refl; cause = refl; entry_hi = refl; entries = refl } }
+effect_ages pages ticks falls s page (Write number value) now later quick = record { outcome = _; is = refl; later_is = refl; keeps = record { bus = refl; status = refl; cause = refl; entry_hi = refl; entries = refl; leads = record { here = refl; next = λ free. refl } } }
+effect_ages pages ticks falls s page (WriteHi value) now later quick = record { outcome = _; is = refl; later_is = refl; keeps = record { bus = refl; status = refl; cause = refl; entry_hi = refl; entries = refl; leads = record { here = refl; next = λ free. refl } } }
+effect_ages pages ticks falls s page (WriteLo value) now later quick = record { outcome = _; is = refl; later_is = refl; keeps = record { bus = refl; status = refl; cause = refl; entry_hi = refl; entries = refl; leads = record { here = refl; next = λ free. refl } } }
+effect_ages pages ticks falls s page (WriteHiLo hi lo) now later quick = record { outcome = _; is = refl; later_is = refl; keeps = record { bus = refl; status = refl; cause = refl; entry_hi = refl; entries = refl; leads = record { here = refl; next = λ free. refl } } }
+effect_ages pages ticks falls s page (Jump target) now later quick = record { outcome = _; is = refl; later_is = refl; keeps = record { bus = refl; status = refl; cause = refl; entry_hi = refl; entries = refl; leads = record { here = refl; next = λ taken. absurd (true≢false taken) } } }
+effect_ages pages ticks falls s page (JumpAndLink target number value) now later quick = record { outcome = _; is = refl; later_is = refl; keeps = record { bus = refl; status = refl; cause = refl; entry_hi = refl; entries = refl; leads = record { here = refl; next = λ taken. absurd (true≢false taken) } } }
 effect_ages pages ticks falls s page (Trap trap) now later quick = absurd quick
 effect_ages pages ticks falls s page (Load kind number address) now later (physical, loaded, plain, is) = record {
   outcome = _;
@@ -217,7 +218,7 @@ effect_ages pages ticks falls s page (Load kind number address) now later (physi
   later_is =
       plain_load pages s.core.bus (state_aged ticks falls s) page kind number address (meaning_of_load (aged ticks falls s.core) kind address) physical loaded
       later (record { means = meaning_aged ticks falls s.core _ _ address ∙ plain.means; shared = plain.shared }) is;
-  keeps = record { bus = refl; status = refl; cause = refl; entry_hi = refl; entries = refl };
+  keeps = record { bus = refl; status = refl; cause = refl; entry_hi = refl; entries = refl; leads = record { here = refl; next = λ free. refl } };
 }
 effect_ages pages ticks falls s page (Store kind address value) now later (physical, word, plain, stands) = record {
   outcome = _;
@@ -225,14 +226,14 @@ effect_ages pages ticks falls s page (Store kind address value) now later (physi
   later_is =
       plain_store pages (state_aged ticks falls s) page kind address value (meaning_of_store (aged ticks falls s.core) kind address) physical word
       (record { means = meaning_aged ticks falls s.core _ _ address ∙ plain.means; shared = plain.shared }) stands;
-  keeps = record { bus = refl; status = refl; cause = refl; entry_hi = refl; entries = refl };
+  keeps = record { bus = refl; status = refl; cause = refl; entry_hi = refl; entries = refl; leads = record { here = refl; next = λ free. refl } };
 }
 effect_ages pages ticks falls s page (MoveFromControl number control) now later (other, usable) =
-    record { outcome = _; is = refl; later_is = rw (read_aged falls s.core.cop0 control other) refl; keeps = record { bus = refl; status = refl; cause = refl; entry_hi = refl; entries = refl } }
+    record { outcome = _; is = refl; later_is = rw (read_aged falls s.core.cop0 control other) refl; keeps = record { bus = refl; status = refl; cause = refl; entry_hi = refl; entries = refl; leads = record { here = refl; next = λ free. refl } } }
 effect_ages pages ticks falls s page (MoveToControl control value) now later (is, usable) =
     subst (λ (n : ℕ). Ages ticks falls s (completion_of_effect pages s page (MoveToControl n value)) (completion_of_effect pages (state_aged ticks falls s) page (MoveToControl n value)))
     (sym is)
-    (record { outcome = _; is = refl; later_is = refl; keeps = record { bus = refl; status = refl; cause = refl; entry_hi = refl; entries = refl } })
+    (record { outcome = _; is = refl; later_is = refl; keeps = record { bus = refl; status = refl; cause = refl; entry_hi = refl; entries = refl; leads = record { here = refl; next = λ free. refl } } })
 effect_ages pages ticks falls s page ReturnFromException now later quick = absurd quick
 effect_ages pages ticks falls s page ReadEntry now later quick = absurd quick
 effect_ages pages ticks falls s page WriteIndexedEntry now later quick = absurd quick

@@ -1,6 +1,6 @@
 -- Where a processor stands in its instructions, after Kane and Heinrich, chapters 1 and 2: PC, next PC, the delay mark and the load slot,
 -- which is empty where its register is r0.
-use Rattle.std.specs.Prelude.{ℕ, false, true, Option, unwrap_or}
+use Rattle.std.specs.Prelude.{◌≡◌, ℕ, false, true, IsFalse, Option, unwrap_or}
 use Rattle.r3k_word.specs.Word.{sum_of}
 use Rattle.r3k_machine.specs.Core.{Core}
 use Rattle.r3k_machine.specs.LoadSlot.{slot_after_load}
@@ -21,3 +21,8 @@ moved flow = record flow { pc = flow.next_pc; next_pc = sum_of flow.next_pc 4; d
 -- with the next instruction in a delay slot, and the target after it
 abbrev pub targeted : Flow → Option ℕ → Flow
 targeted flow target = record flow { next_pc = unwrap_or target flow.next_pc; delay = true }
+
+-- the next instruction stands in no delay slot, and the one after it follows it
+pub record IsStraight (flow : Flow) : Type 0 where
+  pub free : IsFalse flow.delay
+  pub next : flow.next_pc ≡ sum_of flow.pc 4

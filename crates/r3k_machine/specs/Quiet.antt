@@ -2,6 +2,7 @@
 -- memory alone. So all ticks and falls of Random of many such steps may come after the last of them.
 use Rattle.std.specs.Prelude.{◌≡◌, ℕ, ◌+◌, ◌-◌, ◌*◌, ◌/◌, ◌%◌, ◌^◌, ◌<◌, ◌≤◌, Bool, false, true, IsFalse, IsTrue, List, Option, None, Some, Ok, slice_index}
 use Rattle.r3k_word.specs.Layout.{page_of_place, place_of_word}
+use Rattle.r3k_word.specs.Word.{sum_of}
 use Rattle.r3k_word.specs.declared.layout.TheConstants.{PAGE_BYTES, PAGE_WORDS}
 use Rattle.cop0.specs.Changes as control
 use Rattle.cop0.specs.Status as status
@@ -115,7 +116,7 @@ pub record GoesOverBus (core : Core) : Type 0 where
   pub shared : IsFalse (status.is_isolated core.cop0)
 
 -- so do those of the first n bytes from kseg0 on
-pub record IsPlainFor (n : ℕ) (core : Core) : Type 0 where
+pub record IsOverBusFor (n : ℕ) (core : Core) : Type 0 where
   pub within : n ≤ KSEG2 - KSEG0
   pub over : 0 < n → GoesOverBus core
 
@@ -123,10 +124,15 @@ pub record IsPlainFor (n : ℕ) (core : Core) : Type 0 where
 pub record IsCodePage (pages : ℕ) (core : Core) (page : CodePage) : Type 0 where
   pub within : page.number < 2 ^ 20
   pub fetched : IsFetchedFrom pages core page.number page.page
-  pub plain : IsPlainFor page.plain core
+  pub over_bus : IsOverBusFor page.over_bus core
 
 -- the number in the page of the word at an aligned address
 pub record IsIndexIn (page : CodePage) (address index : ℕ) : Type 0 where
   pub here : address / PAGE_BYTES ≡ page.number
   pub aligned : address % 4 ≡ 0
   pub is : index ≡ address % PAGE_BYTES / 4
+
+-- a step comes to the next instruction, and if that stands in no delay slot, the one after it follows it
+pub record LeadsOn (old new : Core) : Type 0 where
+  pub here : new.pc ≡ old.next_pc
+  pub next : IsFalse new.delay → new.next_pc ≡ sum_of new.pc 4

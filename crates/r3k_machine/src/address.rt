@@ -1,6 +1,7 @@
 //! The meaning of an address.
 
 ghost use Rattle.std.specs.Prelude.{◌≡◌, false, true, IfSome, Ok};
+ghost use Rattle.tlb64.specs.Kept.{IsSole};
 ghost use Rattle.r3k_machine.specs.Address.{address_error, answer_of_entry, answer_of_low, found_for, lets_through, low_of, meaning, met, miss, segment_of, several_of, where_at, with_several};
 
 use crate::exception::Exception;
@@ -209,18 +210,33 @@ impl Core {
         }
     }
 
-    /// The physical address that an address means, where that takes no search and is no exception. It changes nothing.
+    // EntryLo of the one entry of a mapped address. It is searched for where the page was not looked up before.
+    fn sole_low(&mut self, access: Use, address: u32) -> Option<u32>
+        ensures low { IfSome result (IsSole self.old.entries address self.old.cop0.entry_hi) }
+        ensures core { self.new ≡ self.old }
+    {
+        let hi = self.processor.cop0.read(ENTRY_HI);
+        if let Some(lo) = self.tlb.kept(access == Use::Fetch, address, hi) {
+            return Some(lo);
+        }
+        let found = self.tlb.translate(access == Use::Fetch, address, hi)?;
+        if found.several {
+            return None;
+        }
+        Some(found.entry.lo)
+    }
+
+    /// The physical address that an address means, where that is no exception and sets no TS. It changes nothing.
     #[tactic(auto, unfolding(crate::specs::Address::meaning))]
-    #[inline(always)]
-    pub(crate) fn known(&self, access: Use, aligned: bool, address: u32) -> Option<Physical>
-        ensures { IfSome result (λ physical. meaning self.now access aligned address ≡ record { several = false; answer = Ok physical }) }
+    pub(crate) fn found(&mut self, access: Use, aligned: bool, address: u32) -> Option<Physical>
+        ensures answer { IfSome result (λ physical. meaning self.old access aligned address ≡ record { several = false; answer = Ok physical }) }
+        ensures core { self.new ≡ self.old }
     {
         match self.segment(aligned, address) {
             Segment::Forbidden => None,
             Segment::Unmapped(physical) => Some(physical),
             Segment::Mapped => {
-                let hi = self.processor.cop0.read(ENTRY_HI);
-                let lo = self.tlb.kept(access == Use::Fetch, address, hi)?;
+                let lo = self.sole_low(access, address)?;
                 by_entry(access, address, lo).ok()
             }
         }

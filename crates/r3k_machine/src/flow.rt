@@ -1,8 +1,9 @@
 //! Where a processor stands in its instructions.
 
-ghost use Rattle.std.specs.Prelude.{◌≡◌, ◌<◌, ℕ, false, None, Option};
+ghost use Rattle.std.specs.Prelude.{◌≡◌, ◌↔◌, ◌<◌, ℕ, false, IsFalse, IsTrue, None, Option};
+ghost use Rattle.r3k_word.specs.Word.{sum_of};
 ghost use Rattle.r3k_machine.specs.Core.{HoldsZero};
-ghost use Rattle.r3k_machine.specs.Flow.{at, moved, targeted};
+ghost use Rattle.r3k_machine.specs.Flow.{IsStraight, at, moved, targeted};
 ghost use Rattle.r3k_machine.specs.LoadSlot.{DelayedLoad, slot_after_load};
 ghost use Rattle.r3k_machine.specs.State.{landed};
 
@@ -106,10 +107,30 @@ impl Flow {
 
     /// Whether the next instruction stands in a delay slot.
     #[inline]
-    pub(crate) fn delay(self) -> bool
+    pub fn delay(self) -> bool
         ensures { result ≡ self.delay }
     {
         self.delay
+    }
+
+    /// Whether the next instruction stands in no delay slot, and the one after it follows it.
+    #[inline(always)]
+    pub fn is_straight(self) -> bool
+        ensures { IsTrue result ↔ IsStraight self }
+    {
+        !self.delay && self.next_pc == add(self.pc, 4)
+    }
+
+    /// Where it is straight at this address, that changes nothing. But then the compiler has only the load slot to keep.
+    #[inline(always)]
+    pub fn stand_straight(&mut self, address: u32)
+        requires straight { IsStraight self.old }
+        requires here { self.old.pc ≡ address }
+        ensures { self.new ≡ self.old }
+    {
+        self.pc = address;
+        self.next_pc = add(address, 4);
+        self.delay = false;
     }
 
     /// The load that has not landed yet.

@@ -1,11 +1,12 @@
 //! Quick steps: those before which nothing happens but counting, and whose instruction touches registers, PC and memory alone.
 
-ghost use Rattle.std.specs.Prelude.{◌≡◌, ◌*◌, ◌/◌, ◌^◌, ◌<◌, ℕ, [], IfSome, IsTrue, None, Ok, Some};
+ghost use Rattle.std.specs.Prelude.{◌≡◌, ◌*◌, ◌/◌, ◌^◌, ◌<◌, ◌≤◌, ℕ, [], IfSome, IsTrue, None, Ok, Some};
 ghost use Rattle.r3k_exec.specs.declared.operands.Effect.TheVariants.{Load, Store};
 ghost use Rattle.r3k_word.specs.Layout.{place_of_word};
+ghost use Rattle.r3k_word.specs.Word.{sum_of};
 ghost use Rattle.r3k_word.specs.declared.layout.TheConstants.{PAGE_BYTES, PAGE_WORDS};
 ghost use Rattle.kn02_bus.specs.Region.{region_of};
-ghost use Rattle.r3k_machine.specs.Quiet.{IsCodePage, IsIndexIn, IsPlainFor, IsQuick, IsQuickEffect, IsQuietFor, IsReached, elapsed, steady_over_bus};
+ghost use Rattle.r3k_machine.specs.Quiet.{IsCodePage, IsIndexIn, IsOverBusFor, IsQuick, IsQuickEffect, IsQuietFor, IsReached, elapsed, steady_over_bus};
 ghost use Rattle.r3k_machine.specs.Address.{meaning};
 ghost use Rattle.r3k_machine.specs.Flow.{with_flow};
 ghost use Rattle.r3k_machine.specs.Locality.{fetched_page};
@@ -22,7 +23,7 @@ use crate::step::{Done, run_fetched};
 use cop0::number::{ENTRY_LO, RANDOM};
 use r3k_decode::Register;
 use r3k_exec::{Effect, LoadKind, StoreKind, effect};
-use r3k_word::arithmetic::subtract;
+use r3k_word::arithmetic::{add, subtract};
 use r3k_word::layout::{PAGE_BYTES, PAGE_WORDS, page_of, place_of};
 
 /// A page that is run in: the number of the virtual page, the page of RAM or ROM that its words are fetched from, and how many bytes
@@ -32,7 +33,7 @@ use r3k_word::layout::{PAGE_BYTES, PAGE_WORDS, page_of, place_of};
 pub struct CodePage {
     pub number: u32,
     pub page: u32,
-    pub plain: u32,
+    pub over_bus: u32,
 }
 
 impl Core {
@@ -58,8 +59,8 @@ impl Core {
     }
 
     // How many bytes from kseg0 on loads and stores reach over the bus.
-    fn plain(&self) -> u32
-        ensures { IsPlainFor result self.now }
+    fn over_bus(&self) -> u32
+        ensures { IsOverBusFor result self.now }
     {
         if self.cop0().in_user_mode() || self.cop0().is_isolated() {
             return 0;
@@ -67,16 +68,26 @@ impl Core {
         KSEG2 - KSEG0
     }
 
-    // The physical address of a load or store that goes over the bus, where that takes no search and is no exception.
+    // The physical address of a load or store that goes over the bus, where that is no exception and sets no TS. It changes nothing.
     #[inline(always)]
-    fn reached(&self, access: Use, aligned: bool, address: u32, plain: u32) -> Option<u32>
-        requires { IsPlainFor plain self.now }
-        ensures { IfSome result (IsReached self.now (meaning self.now access aligned address)) }
+    fn reached(&mut self, access: Use, aligned: bool, address: u32, over_bus: u32) -> Option<u32>
+        requires { IsOverBusFor over_bus self.old }
+        ensures reached { IfSome result (IsReached self.old (meaning self.old access aligned address)) }
+        ensures core { self.new ≡ self.old }
     {
-        if aligned && subtract(address, KSEG0) < plain {
+        if aligned && subtract(address, KSEG0) < over_bus {
             return Some(address & 0x1FFF_FFFF);
         }
-        let physical = self.known(access, aligned, address)?;
+        self.reached_elsewhere(access, aligned, address)
+    }
+
+    // The same for any address. It stands outside the line of a step that does not need it.
+    #[inline(never)]
+    fn reached_elsewhere(&mut self, access: Use, aligned: bool, address: u32) -> Option<u32>
+        ensures reached { IfSome result (IsReached self.old (meaning self.old access aligned address)) }
+        ensures core { self.new ≡ self.old }
+    {
+        let physical = self.found(access, aligned, address)?;
         if self.is_isolated(physical) {
             return None;
         }
@@ -85,9 +96,9 @@ impl Core {
 }
 
 impl CodePage {
-    // The number in the page of the word at an address, if that is aligned and lies in the page.
+    /// The number in the page of the word at an address, if that is aligned and lies in the page.
     #[inline(always)]
-    fn index(self, address: u32) -> Option<usize>
+    pub fn index(self, address: u32) -> Option<usize>
         requires { self.number < 2 ^ 20 }
         ensures index { IfSome result (IsIndexIn self address) }
         ensures within { IfSome result (λ index. index < PAGE_WORDS) }
@@ -100,20 +111,31 @@ impl CodePage {
         }
         Some(index as usize)
     }
+
+    /// The address of a word of the page, or of the one after the last.
+    #[inline(always)]
+    pub fn address(self, index: usize) -> u32
+        requires number { self.number < 2 ^ 20 }
+        requires index { index ≤ PAGE_WORDS }
+        ensures { result ≡ sum_of (self.number * PAGE_BYTES) (4 * index) }
+    {
+        add(self.number * PAGE_BYTES, index as u32 * 4)
+    }
 }
 
-/// The page of the PC, where its words are fetched without an exception and without a search.
-pub fn code_page<M: Mem>(core: &Core, memory: &M) -> Option<CodePage>
-    ensures code { IfSome result (λ page. IsCodePage M.ram core.now page) }
+/// The page of the PC, where its words are fetched without an exception. It changes nothing.
+pub fn code_page<M: Mem>(core: &mut Core, memory: &M) -> Option<CodePage>
+    ensures code { IfSome result (λ page. IsCodePage M.ram core.old page) }
     ensures page { IfSome result (λ page. IsPage M.ram page.page) }
+    ensures core { core.new ≡ core.old }
 {
     let address = core.pc();
-    let physical = core.known(Use::Fetch, address % 4 == 0, address)?;
+    let physical = core.found(Use::Fetch, address % 4 == 0, address)?;
     let place = place_of(memory.ram_pages(), physical.address / 4 * 4)?;
     Some(CodePage {
         number: address / PAGE_BYTES,
         page: page_of(place) as u32,
-        plain: core.plain(),
+        over_bus: core.over_bus(),
     })
 }
 
@@ -143,13 +165,13 @@ fn load_quick<M: Mem>(
     flow: &mut Flow,
     memory: &M,
     page: u32,
-    plain: u32,
+    over_bus: u32,
     kind: LoadKind,
     register: Register,
     address: u32,
 ) -> Option<Done>
     requires page { IsPage M.ram page }
-    requires plain { IsPlainFor plain core.old }
+    requires over_bus { IsOverBusFor over_bus core.old }
     ensures quick { IfSome result (λ done. IsQuickEffect M.ram (record { core = with_flow core.old flow.old; words = M.words memory.now }) (Load kind register address)) }
     ensures ran { IfSome result (λ done.
         completion_of_effect M.ram (record { core = with_flow core.old flow.old; words = M.words memory.now }) page (Load kind register address)
@@ -159,7 +181,7 @@ fn load_quick<M: Mem>(
     ensures core { result ≡ None → core.new ≡ core.old }
     ensures flow { result ≡ None → flow.new ≡ flow.old }
 {
-    let physical = core.reached(Use::Load, kind.is_aligned(address), address, plain)?;
+    let physical = core.reached(Use::Load, kind.is_aligned(address), address, over_bus)?;
     kn02_bus::laws::quiet_laws();
     let loaded = steady_over_bus(core, memory, physical)?;
     core.complete_in(flow);
@@ -168,20 +190,20 @@ fn load_quick<M: Mem>(
     Some(Done::loading(page, loaded.page))
 }
 
-// The same. Each kind has code of its own.
+// The same. Whole words have code of their own.
 #[inline(always)]
 fn load_by_kind<M: Mem>(
     core: &mut Core,
     flow: &mut Flow,
     memory: &M,
     page: u32,
-    plain: u32,
+    over_bus: u32,
     kind: LoadKind,
     register: Register,
     address: u32,
 ) -> Option<Done>
     requires page { IsPage M.ram page }
-    requires plain { IsPlainFor plain core.old }
+    requires over_bus { IsOverBusFor over_bus core.old }
     ensures quick { IfSome result (λ done. IsQuickEffect M.ram (record { core = with_flow core.old flow.old; words = M.words memory.now }) (Load kind register address)) }
     ensures ran { IfSome result (λ done.
         completion_of_effect M.ram (record { core = with_flow core.old flow.old; words = M.words memory.now }) page (Load kind register address)
@@ -197,71 +219,12 @@ fn load_by_kind<M: Mem>(
             flow,
             memory,
             page,
-            plain,
+            over_bus,
             LoadKind::Word,
             register,
             address,
         ),
-        LoadKind::Byte => load_quick(
-            core,
-            flow,
-            memory,
-            page,
-            plain,
-            LoadKind::Byte,
-            register,
-            address,
-        ),
-        LoadKind::ByteUnsigned => load_quick(
-            core,
-            flow,
-            memory,
-            page,
-            plain,
-            LoadKind::ByteUnsigned,
-            register,
-            address,
-        ),
-        LoadKind::Half => load_quick(
-            core,
-            flow,
-            memory,
-            page,
-            plain,
-            LoadKind::Half,
-            register,
-            address,
-        ),
-        LoadKind::HalfUnsigned => load_quick(
-            core,
-            flow,
-            memory,
-            page,
-            plain,
-            LoadKind::HalfUnsigned,
-            register,
-            address,
-        ),
-        LoadKind::Left => load_quick(
-            core,
-            flow,
-            memory,
-            page,
-            plain,
-            LoadKind::Left,
-            register,
-            address,
-        ),
-        LoadKind::Right => load_quick(
-            core,
-            flow,
-            memory,
-            page,
-            plain,
-            LoadKind::Right,
-            register,
-            address,
-        ),
+        kind => load_quick(core, flow, memory, page, over_bus, kind, register, address),
     }
 }
 
@@ -273,13 +236,13 @@ fn store_quick<M: Mem>(
     flow: &mut Flow,
     memory: &mut M,
     page: u32,
-    plain: u32,
+    over_bus: u32,
     kind: StoreKind,
     address: u32,
     value: u32,
 ) -> Option<Done>
     requires page { IsPage M.ram page }
-    requires plain { IsPlainFor plain core.old }
+    requires over_bus { IsOverBusFor over_bus core.old }
     ensures quick { IfSome result (λ done. IsQuickEffect M.ram (record { core = with_flow core.old flow.old; words = M.words memory.old }) (Store kind address value)) }
     ensures ran { IfSome result (λ done.
         completion_of_effect M.ram (record { core = with_flow core.old flow.old; words = M.words memory.old }) page (Store kind address value)
@@ -291,7 +254,7 @@ fn store_quick<M: Mem>(
     ensures words { result ≡ None → M.words memory.new ≡ M.words memory.old }
     ensures opened { (other : ℕ) → M.is_open memory.new other ≡ M.is_open memory.old other }
 {
-    let physical = core.reached(Use::Store, kind.is_aligned(address), address, plain)?;
+    let physical = core.reached(Use::Store, kind.is_aligned(address), address, over_bus)?;
     let address = put(memory, physical, kind.stored(address, value))?;
     core.complete_in(flow);
     let stored = Stored {
@@ -301,20 +264,20 @@ fn store_quick<M: Mem>(
     Some(Done::storing(page, stored))
 }
 
-// The same. Each kind has code of its own.
+// The same. Whole words have code of their own.
 #[inline(always)]
 fn store_by_kind<M: Mem>(
     core: &mut Core,
     flow: &mut Flow,
     memory: &mut M,
     page: u32,
-    plain: u32,
+    over_bus: u32,
     kind: StoreKind,
     address: u32,
     value: u32,
 ) -> Option<Done>
     requires page { IsPage M.ram page }
-    requires plain { IsPlainFor plain core.old }
+    requires over_bus { IsOverBusFor over_bus core.old }
     ensures quick { IfSome result (λ done. IsQuickEffect M.ram (record { core = with_flow core.old flow.old; words = M.words memory.old }) (Store kind address value)) }
     ensures ran { IfSome result (λ done.
         completion_of_effect M.ram (record { core = with_flow core.old flow.old; words = M.words memory.old }) page (Store kind address value)
@@ -332,51 +295,12 @@ fn store_by_kind<M: Mem>(
             flow,
             memory,
             page,
-            plain,
+            over_bus,
             StoreKind::Word,
             address,
             value,
         ),
-        StoreKind::Byte => store_quick(
-            core,
-            flow,
-            memory,
-            page,
-            plain,
-            StoreKind::Byte,
-            address,
-            value,
-        ),
-        StoreKind::Half => store_quick(
-            core,
-            flow,
-            memory,
-            page,
-            plain,
-            StoreKind::Half,
-            address,
-            value,
-        ),
-        StoreKind::Left => store_quick(
-            core,
-            flow,
-            memory,
-            page,
-            plain,
-            StoreKind::Left,
-            address,
-            value,
-        ),
-        StoreKind::Right => store_quick(
-            core,
-            flow,
-            memory,
-            page,
-            plain,
-            StoreKind::Right,
-            address,
-            value,
-        ),
+        kind => store_quick(core, flow, memory, page, over_bus, kind, address, value),
     }
 }
 
@@ -388,11 +312,11 @@ fn perform_quick<M: Mem>(
     flow: &mut Flow,
     memory: &mut M,
     page: u32,
-    plain: u32,
+    over_bus: u32,
     effect: Effect,
 ) -> Option<Done>
     requires page { IsPage M.ram page }
-    requires plain { IsPlainFor plain core.old }
+    requires over_bus { IsOverBusFor over_bus core.old }
     ensures quick { IfSome result (λ done. IsQuickEffect M.ram (record { core = with_flow core.old flow.old; words = M.words memory.old }) effect) }
     ensures ran { IfSome result (λ done.
         completion_of_effect M.ram (record { core = with_flow core.old flow.old; words = M.words memory.old }) page effect
@@ -439,14 +363,14 @@ fn perform_quick<M: Mem>(
             kind,
             register,
             address,
-        } => return load_by_kind(core, flow, memory, page, plain, kind, register, address),
+        } => return load_by_kind(core, flow, memory, page, over_bus, kind, register, address),
         Effect::Store {
             kind,
             address,
             value,
-        } => return store_by_kind(core, flow, memory, page, plain, kind, address, value),
+        } => return store_by_kind(core, flow, memory, page, over_bus, kind, address, value),
         Effect::MoveFromControl { register, control } => {
-            if plain == 0 || control.number() == RANDOM {
+            if over_bus == 0 || control.number() == RANDOM {
                 return None;
             }
             let value = core.cop0().read(control.number());
@@ -454,7 +378,7 @@ fn perform_quick<M: Mem>(
             flow.set_slot(register, value);
         }
         Effect::MoveToControl { control, value } => {
-            if plain == 0 || control.number() != ENTRY_LO {
+            if over_bus == 0 || control.number() != ENTRY_LO {
                 return None;
             }
             core.complete_in(flow);
@@ -465,33 +389,33 @@ fn perform_quick<M: Mem>(
     Some(Done::fetching(Some(page)))
 }
 
-/// Runs the instruction at the PC if that lies in this page, which is open, and the instruction is known and quick. Else it changes
-/// nothing. The core stands where the flow does, which is kept apart from it.
+/// Runs the instruction at the PC, which is a word of this open page, if it is known and quick. Else it changes nothing. The core
+/// stands where the flow does, which is kept apart from it.
 #[inline(always)]
 pub fn quick_step<M: Mem>(
     core: &mut Core,
     flow: &mut Flow,
     memory: &mut M,
     page: CodePage,
+    index: usize,
 ) -> Option<Done>
     requires code { IsCodePage M.ram (with_flow core.old flow.old) page }
     requires page { IsPage M.ram page.page }
     requires opened { IsTrue (M.is_open memory.old page.page) }
+    requires here { IsIndexIn page flow.old.pc index }
     ensures quick { IfSome result (λ done. IsQuick M.ram (record { core = with_flow core.old flow.old; words = M.words memory.old })) }
     ensures ran { IfSome result (λ done. outcome_of_instruction M.ram (record { core = with_flow core.old flow.old; words = M.words memory.old })
         ≡ record { state = record { core = with_flow core.new flow.new; words = M.words memory.new }; done = done }) }
     ensures within { IfSome result (IsTold M.ram (M.words memory.old) (M.words memory.new)) }
-    ensures here { IfSome result (λ done. flow.old.pc / PAGE_BYTES ≡ page.number) }
     ensures fetched { IfSome result (λ done. fetched_page done ≡ Some page.page) }
     ensures core { result ≡ None → core.new ≡ core.old }
     ensures flow { result ≡ None → flow.new ≡ flow.old }
     ensures words { result ≡ None → M.words memory.new ≡ M.words memory.old }
     ensures opened { (other : ℕ) → M.is_open memory.new other ≡ M.is_open memory.old other }
 {
-    let index = page.index(flow.pc())?;
     let insn = memory.insn(page.page, index);
     let effect = effect(insn, core.operands(insn, flow.pc()));
-    perform_quick(core, flow, memory, page.page, page.plain, effect)
+    perform_quick(core, flow, memory, page.page, page.over_bus, effect)
 }
 
 /// Makes the step of the instruction at the PC if that lies in this page, at a time at which the step is quiet. Else it changes

@@ -1,4 +1,4 @@
-use Rattle.std.proofs.Common.{◌≡◌, ℕ, ◌+◌, ◌/◌, ◌<◌, ◌||◌, List, nat_eq, sym, ap, subst, ◌∙◌, arith}
+use Rattle.std.proofs.Common.{◌≡◌, ℕ, ◌+◌, ◌/◌, ◌<◌, ◌||◌, List, nat_eq, refl, sym, ap, subst, ◌∙◌, arith}
 use Rattle.std.proofs.Math.Path.{ap₂}
 use Rattle.r3k_word.specs.declared.layout.TheConstants.{PAGE_BYTES}
 use Rattle.r3k_machine.specs.Flow.{with_flow}
@@ -9,21 +9,20 @@ use Rattle.r3k_pages.specs.Pages.{holds}
 use Rattle.r3k_live.specs.Going.{HasGone}
 use Rattle.r3k_live.specs.Living.{state_of}
 use Rattle.r3k_live.proofs.Gone.{passes_on, recorded_too}
+use Rattle.r3k_live.proofs.Quick.{from_none}
 use Rattle.r3k_live.proofs.Stood.{begins_on, stood_more}
 use Rattle.r3k_live.proofs.stretch.run_in.Goals as goal
 
 pub quick_steps-made-requires : goal.quick_steps-made-requires
 quick_steps-made-requires g c =
-    rw c.flow.ensures (
-      omega arith,
-      (omega arith, (c.requires.quiet, (c.requires.code, (c.requires.page, (c.requires.opened, (c.requires.room, c.requires.again)))))),
-    )
+    rw c.flow.ensures (omega arith, (omega arith, (c.requires.may, (c.requires.page, (c.requires.opened, c.requires.room)))))
 
 pub quiet_on-more-requires : goal.quiet_on-more-requires
 quiet_on-more-requires g c =
     let made = c.quick_steps-made.result.0 in
     let core = with_flow c.quick_steps-made.new.core c.quick_steps-made.result.1 in
-    let quiet = c.quick_steps-made.ensures.quiet in
+    let goes = c.quick_steps-made.ensures.goes in
+    let quiet = goes.may.quiet in
     let left = λ (room : made < c.args.most). let at_least : IsQuietFor (made + 1) core = record {
       counts = omega (arith, quiet.counts, room);
       sampled = quiet.sampled;
@@ -35,10 +34,10 @@ quiet_on-more-requires g c =
         (
           λ wanted. rw (c.elapse.ensures, c.set_flow.ensures) (c.quiet_laws.ensures.quiet_later made 1 core (left (c.goes_on-wanted.ensures.room wanted))),
           (
-            rw (c.elapse.ensures, c.set_flow.ensures) (c.quiet_laws.ensures.code_later g.row.PAGES made core c.args.page c.quick_steps-made.ensures.code),
+            rw (c.elapse.ensures, c.set_flow.ensures) (c.quiet_laws.ensures.code_later g.row.PAGES made core c.args.page goes.may.code),
             (
               c.requires.page,
-              λ wanted. omega (arith, c.quick_steps-made.ensures.steps, c.requires.room, c.goes_on-wanted.ensures.room wanted),
+              λ wanted. omega (arith, goes.count, c.requires.room, c.goes_on-wanted.ensures.room wanted),
             ),
           ),
         ),
@@ -49,7 +48,10 @@ pub returns-clause-gone : goal.returns-clause-gone
 returns-clause-gone g c = λ log from start made free gone.
     let quick = c.quick_steps-made.result.0 in
     let there : HasGone g.row.PAGES log from start (made + quick) (state_of c.elapse.new.self c.quick_steps-made.new.memory) c.quick_steps-made.new.recorder =
-    rw (c.elapse.ensures, c.set_flow.ensures) (c.quick_steps-made.ensures.gone log from start made free (rw c.flow.ensures gone)) in
+    rw (c.elapse.ensures, c.set_flow.ensures)
+    (from_none g.row.PAGES c.args.most c.args.stop c.args.page quick (state_of c.args.core.now c.args.memory.now)
+    (state_of (with_flow c.quick_steps-made.new.core c.quick_steps-made.result.1) c.quick_steps-made.new.memory) c.args.recorder.now c.quick_steps-made.new.recorder
+    c.quiet_laws.ensures.none (rw c.flow.ensures at c.quick_steps-made.ensures.goes) log from start made free gone).gone in
     let on = c.quiet_on-more.ensures.gone log from start (made + quick)
     (λ wanted. ap (arriving log) (let e : from + (made + quick) ≡ from + made + quick = omega arith in e) ∙ free quick (c.goes_on-wanted.ensures.room wanted)) (subst (λ (words : List ℕ). HasGone g.row.PAGES log from start (made + quick) (record { core = c.elapse.new.self; words = words }) c.quick_steps-made.new.recorder) (sym c.learn.ensures.words) there) in
     recorded_too g.row.PAGES log from start _ _ c.quiet_on-more.new.recorder c.stand.new.self c.stand.ensures.records
@@ -59,25 +61,27 @@ returns-clause-gone g c = λ log from start made free gone.
 pub returns-clause-before : goal.returns-clause-before
 returns-clause-before g c = λ log from start made free gone.
     let quick = c.quick_steps-made.result.0 in
-    let there : HasGone g.row.PAGES log from start (made + quick) (state_of c.elapse.new.self c.quick_steps-made.new.memory) c.quick_steps-made.new.recorder =
-    rw (c.elapse.ensures, c.set_flow.ensures) (c.quick_steps-made.ensures.gone log from start made free (rw c.flow.ensures gone)) in
-    passes_on g.row.PAGES log from start c.args.stop made quick c.quiet_on-more.result
-    (c.quick_steps-made.ensures.before log from start made free (rw c.flow.ensures gone)) c.quiet_on-more.ensures.bound
+    let there = from_none g.row.PAGES c.args.most c.args.stop c.args.page quick (state_of c.args.core.now c.args.memory.now)
+    (state_of (with_flow c.quick_steps-made.new.core c.quick_steps-made.result.1) c.quick_steps-made.new.memory) c.args.recorder.now c.quick_steps-made.new.recorder
+    c.quiet_laws.ensures.none (rw c.flow.ensures at c.quick_steps-made.ensures.goes) log from start made free gone in
+    let pc : c.elapse.new.self.pc ≡ c.quick_steps-made.result.1.pc = rw (c.elapse.ensures, c.set_flow.ensures) refl in
+    passes_on g.row.PAGES log from start c.args.stop made quick c.quiet_on-more.result (λ k after below. there.passed k (omega (arith, after)) below) c.quiet_on-more.ensures.bound
     (λ some made_some here.
-    c.goes_on-wanted.ensures.past (c.quiet_on-more.ensures.wanted some) made_some (c.pc-2.ensures ∙ (ap (λ (s : State). s.core.pc) there.state ∙ here)))
+    c.goes_on-wanted.ensures.past (c.quiet_on-more.ensures.wanted some) made_some (c.pc-2.ensures ∙ (pc ∙ (ap (λ (s : State). s.core.pc) there.gone.state ∙ here))))
 
 pub returns-clause-stood : goal.returns-clause-stood
 returns-clause-stood g c = λ log from start made before free gone so_far.
     let quick = c.quick_steps-made.result.0 in
     let more = c.quiet_on-more.result in
-    let there : HasGone g.row.PAGES log from start (made + quick) (state_of c.elapse.new.self c.quick_steps-made.new.memory) c.quick_steps-made.new.recorder =
-    rw (c.elapse.ensures, c.set_flow.ensures) (c.quick_steps-made.ensures.gone log from start made free (rw c.flow.ensures gone)) in
-    let begins = begins_on g.row.PAGES log from start c.args.page.number made quick more
-    (c.quick_steps-made.ensures.inside log from start made free (rw c.flow.ensures gone)) c.quiet_on-more.ensures.bound
-    (λ some. ap (λ (s : State). s.core.pc / PAGE_BYTES) (sym there.state) ∙ c.quiet_on-more.ensures.here some) in
+    let there = from_none g.row.PAGES c.args.most c.args.stop c.args.page quick (state_of c.args.core.now c.args.memory.now)
+    (state_of (with_flow c.quick_steps-made.new.core c.quick_steps-made.result.1) c.quick_steps-made.new.memory) c.args.recorder.now c.quick_steps-made.new.recorder
+    c.quiet_laws.ensures.none (rw c.flow.ensures at c.quick_steps-made.ensures.goes) log from start made free gone in
+    let pc : c.elapse.new.self.pc ≡ c.quick_steps-made.result.1.pc = rw (c.elapse.ensures, c.set_flow.ensures) refl in
+    let begins = begins_on g.row.PAGES log from start c.args.page.number made quick more there.begins c.quiet_on-more.ensures.bound
+    (λ some. ap (λ (s : State). s.core.pc / PAGE_BYTES) (sym there.gone.state) ∙ (ap (λ (a : ℕ). a / PAGE_BYTES) (sym pc) ∙ c.quiet_on-more.ensures.here some)) in
     let here = ap (λ (s : State). s.core.pc) (returns-clause-gone g c log from start made free gone).state in
     stood_more g.row.PAGES log from start made (quick + more) c.args.page.number before c.args.recorder.now.stood c.stand.new.self.stood so_far begins
     (λ page.
     c.stand.ensures.stood page
     ∙ ap₂ (λ (set : List ℕ) (pc : ℕ). holds set page || nat_eq (pc / PAGE_BYTES) page)
-    (c.quiet_on-more.ensures.stood ∙ c.quick_steps-made.ensures.stood) (c.pc-3.ensures ∙ here))
+    (c.quiet_on-more.ensures.stood ∙ c.quick_steps-made.ensures.goes.stood) (c.pc-3.ensures ∙ here))

@@ -36,6 +36,11 @@ unfolding after
 returns-clause-stays_code c = λ pages s page quick code.
     code_kept pages page s.core (outcome_of_instruction pages s).state.core (instruction_ages pages 0 0 s (λ word device is. c.quiet_laws.ensures.steady s.core.bus 0 word device (omega arith) is) (λ word device is. c.quiet_laws.ensures.steady s.core.bus 0 word device (omega arith) is) quick).keeps code
 
+pub returns-clause-leads_on : goal.returns-clause-leads_on
+unfolding after
+returns-clause-leads_on c = λ pages s quick.
+    (instruction_ages pages 0 0 s (λ word device is. c.quiet_laws.ensures.steady s.core.bus 0 word device (omega arith) is) (λ word device is. c.quiet_laws.ensures.steady s.core.bus 0 word device (omega arith) is) quick).keeps.leads
+
 pub returns-clause-quiet_later : goal.returns-clause-quiet_later
 returns-clause-quiet_later c = λ n more core quiet.
     quiet_later n more core (c.quiet_laws.ensures.stays_quiet core.bus more n (omega (arith, quiet.counts)))

@@ -7,6 +7,6 @@ returns-clause-code g c =
     let stands = rw c.ram_pages.ensures at c.in_ok-place.ensures in record {
       within = omega arith;
       fetched = rw c.page_of.ensures
-          (code_at c.args.core.now g.M.Mem.ram c.pc-address.result c.in_ok-place.place c.in_ok-physical.physical c.in_ok-physical.ensures (sym stands));
-      plain = c.plain.ensures;
+          (code_at c.args.core.now g.M.Mem.ram c.pc-address.result c.in_ok-place.place c.in_ok-physical.physical c.in_ok-physical.ensures.answer (sym stands));
+      over_bus = rw c.found.ensures.core at c.over_bus.ensures;
     }

@@ -7,11 +7,11 @@ use Rattle.r3k_machine.specs.Quiet.{IsPlain}
 use Rattle.r3k_machine.proofs.Quiet.{over_bus}
 use Rattle.r3k_machine.proofs.state.Core.reached.Goals as goal
 
-pub returns-then-subtract-plain : goal.returns-then-subtract-plain
-returns-then-subtract-plain c =
-    let least : KSEG0 ≤ c.args.address = omega (arith, c.if-subtract-plain.true, c.subtract.ensures, c.requires.within) in
-    let most : c.args.address < KSEG2 = omega (arith, c.if-subtract-plain.true, c.subtract.ensures, c.requires.within) in
-    let some : 0 < c.args.plain = omega (arith, c.if-subtract-plain.true) in record {
+pub returns-then-subtract-over_bus-clause-reached : goal.returns-then-subtract-over_bus-clause-reached
+returns-then-subtract-over_bus-clause-reached c =
+    let least : KSEG0 ≤ c.args.address = omega (arith, c.if-subtract-over_bus.true, c.subtract.ensures, c.requires.within) in
+    let most : c.args.address < KSEG2 = omega (arith, c.if-subtract-over_bus.true, c.subtract.ensures, c.requires.within) in
+    let some : 0 < c.args.over_bus = omega (arith, c.if-subtract-over_bus.true) in record {
       cacheable = nat_lt c.args.address KSEG1;
       plain =
           subst (λ (n : ℕ). IsPlain c.args.self.now (meaning c.args.self.now c.args.access c.args.aligned c.args.address) (record { address = n; cacheable = nat_lt c.args.address KSEG1 }))

@@ -1,0 +1,124 @@
+-- Quick steps of a page, one after another.
+use Rattle.std.proofs.Common.{◌≡◌, ℕ, ◌+◌, ◌-◌, ◌*◌, ◌/◌, ◌^◌, ◌<◌, ◌≤◌, List, [], ◌∷◌, ◌++◌, refl, sym, subst, ap, ◌∙◌, arith, inl, inr}
+use Rattle.std.proofs.lemmas.Bool.{cases_lt}
+use Rattle.input_log.specs.Event.{LogEvent}
+use Rattle.r3k_word.specs.Word.{sum_of}
+use Rattle.r3k_word.specs.declared.layout.TheConstants.{PAGE_BYTES, PAGE_WORDS}
+use Rattle.r3k_machine.specs.declared.quick.CodePage.{CodePage}
+use Rattle.r3k_machine.specs.declared.step.Done.{Done}
+use Rattle.r3k_machine.specs.Run.{run}
+use Rattle.r3k_machine.specs.State.{State}
+use Rattle.r3k_machine.specs.Step.{outcome_of_instruction, outcome_of_step}
+use Rattle.r3k_machine.specs.Told.{DifferAt}
+use Rattle.r3k_machine.specs.Quiet.{IsIndexIn, outcome_elapsed, state_elapsed}
+use Rattle.r3k_live.specs.Going.{GoesOn, HasGone, HasGoneOn, IsFreeFor, IsWordAt, MayGoOn}
+use Rattle.r3k_live.specs.Recording.{Recording, Records}
+use Rattle.r3k_live.proofs.Gone.{quick_more}
+
+-- by none
+pub goes_nowhere : (pages most address : ℕ) (page : CodePage) (made : ℕ) (s : State) (r : Recording) → made ≤ most → MayGoOn pages most page s.core r
+    → GoesOn pages most address page made made s s r r
+goes_nowhere pages most address page made s r within may = record {
+  bound = within;
+  count = omega arith;
+  stood = refl;
+  may = may;
+  runs = λ log from start before free gone. record {
+    gone = gone;
+    passed = λ k after below there. omega (arith, after, below);
+    begins = λ k low high. absurd (let e : ⊥ = omega (arith, low, high) in e);
+  };
+}
+
+-- by one
+pub goes_once : (pages most address : ℕ) (page : CodePage) (made : ℕ) (s t : State) (done : Done) (r later : Recording) → made < most
+    → s.core.pc / PAGE_BYTES ≡ page.number → ¬ (s.core.pc ≡ address) → MayGoOn pages most page t.core later → later.steps ≡ r.steps + 1 → later.stood ≡ r.stood
+    → outcome_of_step pages [] (state_elapsed made s) ≡ outcome_elapsed (made + 1) (outcome_of_instruction pages s)
+    → outcome_of_instruction pages s ≡ record { state = t; done = done }
+    → ((steps : List Done) → Records pages steps r → Records pages (steps ++ done ∷ []) later) → DifferAt done.stored s.words t.words
+    → GoesOn pages most address page made (made + 1) s t r later
+goes_once pages most address page made s t done r later within here elsewhere may count stood at_once ran records differ = record {
+  bound = omega (arith, within);
+  count = omega (arith, count);
+  stood = stood;
+  may = may;
+  runs = λ log from start before free gone. record {
+    gone = quick_more pages log from start before made s t done r later (free made within) gone at_once ran records differ;
+    passed = λ k low high at.
+        elsewhere (ap (λ (u : State). u.core.pc) gone.state ∙ (ap (λ (n : ℕ). (run pages log from start n).core.pc) (let e : before + made ≡ k = omega (arith, low, high) in e) ∙ at));
+    begins = λ k low high.
+        ap (λ (n : ℕ). (run pages log from start n).core.pc / PAGE_BYTES) (let e : k ≡ before + made = omega (arith, low, high) in e)
+        ∙ (ap (λ (u : State). u.core.pc / PAGE_BYTES) (sym gone.state) ∙ here);
+  };
+}
+
+-- by some, and then by more
+pub goes_further : (pages most address : ℕ) (page : CodePage) (a b c : ℕ) (s t u : State) (r mid later : Recording)
+    → GoesOn pages most address page a b s t r mid → GoesOn pages most address page b c t u mid later → GoesOn pages most address page a c s u r later
+goes_further pages most address page a b c s t u r mid later first more = record {
+  bound = more.bound;
+  count = omega (arith, first.count, more.count);
+  stood = more.stood ∙ first.stood;
+  may = more.may;
+  runs = λ log from start before free gone.
+      let there = first.runs log from start before free gone in
+      let on = more.runs log from start before free there.gone in record {
+        gone = on.gone;
+        passed = λ k low high.
+            elim (cases_lt k (before + b)) [
+              | inl early ↦ there.passed k low early
+              | inr late ↦ on.passed k late high
+            ];
+        begins = λ k low high.
+            elim (cases_lt k (before + b)) [
+              | inl early ↦ there.begins k low early
+              | inr late ↦ on.begins k late high
+            ];
+      };
+}
+
+-- the word at the address of one
+pub word_of : (page : CodePage) (address index : ℕ) → page.number < 2 ^ 20 → index < PAGE_WORDS → address ≡ sum_of (page.number * PAGE_BYTES) (4 * index)
+    → IsIndexIn page address index
+word_of page address index low within is = record {
+  here = omega (arith, low, within, is);
+  aligned = omega (arith, low, within, is);
+  is = omega (arith, low, within, is);
+}
+
+-- and the address of a word
+pub address_of : (page : CodePage) (address index : ℕ) → page.number < 2 ^ 20 → IsIndexIn page address index → address ≡ sum_of (page.number * PAGE_BYTES) (4 * index)
+address_of page address index low at = omega (arith, low, at.here, at.aligned, at.is)
+
+pub next_address : (start index : ℕ) → sum_of (sum_of start (4 * index)) 4 ≡ sum_of start (4 * (index + 1))
+next_address start index = omega arith
+
+-- a word from the first one on and before the end is not the one at the address
+pub not_at : (page : CodePage) (address first index end halt pc : ℕ) → first ≤ index → index < end → (first ≤ halt → end ≤ halt) → IsWordAt page address halt
+    → IsIndexIn page pc index → ¬ (pc ≡ address)
+not_at page address first index end halt pc low high not_past word here at =
+    let same : index ≡ halt = word index (subst (λ (a : ℕ). IsIndexIn page a index) at here) in
+    omega (arith, high, same, not_past (omega (arith, low, same)))
+
+-- one more of the steps from word to word
+pub goes_straight : (pages most address : ℕ) (page : CodePage) (begun : ℕ) (s t u : State) (r mid later : Recording)
+    → begun ≤ mid.steps → mid.steps < begun + most → later.steps ≡ mid.steps + 1 → ¬ (t.core.pc ≡ address)
+    → GoesOn pages most address page (r.steps - begun) (mid.steps - begun) s t r mid
+    → ((n : ℕ) → n < most → ¬ (t.core.pc ≡ address) → MayGoOn pages most page t.core mid → GoesOn pages most address page n (n + 1) t u mid later)
+    → GoesOn pages most address page (r.steps - begun) (later.steps - begun) s u r later
+goes_straight pages most address page begun s t u r mid later low high count elsewhere so_far step =
+    subst (λ (n : ℕ). GoesOn pages most address page (r.steps - begun) n s u r later)
+    (let e : mid.steps - begun + 1 ≡ later.steps - begun = omega (arith, low, count) in e)
+    (goes_further pages most address page (r.steps - begun) (mid.steps - begun) (mid.steps - begun + 1) s t u r mid later so_far
+    (step (mid.steps - begun) (omega (arith, low, high)) elsewhere so_far.may))
+
+-- steps from none on, of a run that has come here
+pub from_none : (pages most address : ℕ) (page : CodePage) (n : ℕ) (s t : State) (r later : Recording) → ((s : State) → state_elapsed 0 s ≡ s)
+    → GoesOn pages most address page 0 n s t r later
+    → (log : List LogEvent) (from : ℕ) (start : State) (before : ℕ) → IsFreeFor most log (from + before) → HasGone pages log from start before s r
+    → HasGoneOn pages log from start address page.number before (before + n) (state_elapsed n t) later
+from_none pages most address page n s t r later none goes log from start before free gone =
+    let so_far = subst (λ (u : State). HasGone pages log from start (before + 0) u r) (sym (none s))
+    (subst (λ (n : ℕ). HasGone pages log from start n s r) (let e : before ≡ before + 0 = omega arith in e) gone) in
+    subst (λ (low : ℕ). HasGoneOn pages log from start address page.number low (before + n) (state_elapsed n t) later)
+    (let e : before + 0 ≡ before = omega arith in e) (goes.runs log from start before free so_far)
