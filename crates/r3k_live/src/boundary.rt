@@ -30,13 +30,14 @@ impl<const PAGES: u32> Boundary<PAGES> {
     // A core and words. It shares nothing, and the set says nothing.
     pub(crate) fn new(
         alloc: Global,
-        core: &Core,
+        core: &mut Core,
         words: &[u32],
         none: &PageMarks<PAGES>,
     ) -> Result<Rc<Boundary<PAGES>>, AllocError>
         requires pages { PAGES ≤ MAX_RAM_PAGES }
         requires whole { length words.now ≡ word_count_of PAGES }
-        ensures { IfOk result (λ boundary. boundary.value ≡ record { core = core.now; words = words.now }) }
+        ensures boundary { IfOk result (λ boundary. boundary.value ≡ record { core = core.old; words = words.now }) }
+        ensures core { core.new ≡ core.old }
     {
         let boundary = Boundary {
             core: core.keep(alloc, None)?,
@@ -50,14 +51,15 @@ impl<const PAGES: u32> Boundary<PAGES> {
     pub(crate) fn after(
         &self,
         alloc: Global,
-        core: &Core,
+        core: &mut Core,
         words: &[u32],
         changed: &PageMarks<PAGES>,
     ) -> Result<Rc<Boundary<PAGES>>, AllocError>
         requires pages { PAGES ≤ MAX_RAM_PAGES }
         requires whole { length words.now ≡ word_count_of PAGES }
         requires same { SameOutside changed.now self.now.words words.now }
-        ensures { IfOk result (λ boundary. boundary.value ≡ record { core = core.now; words = words.now }) }
+        ensures boundary { IfOk result (λ boundary. boundary.value ≡ record { core = core.old; words = words.now }) }
+        ensures core { core.new ≡ core.old }
     {
         let boundary = Boundary {
             core: core.keep(alloc, Some(&self.core))?,

@@ -65,10 +65,10 @@ impl<const PAGES: u32> Live<PAGES> {
         requires { PAGES ≤ MAX_RAM_PAGES }
         ensures { IfOk result (λ live. live ≡ record { state = reset PAGES image.now; steps = 0 }) }
     {
-        let core = Core::reset(alloc, image)?;
+        let mut core = Core::reset(alloc, image)?;
         let memory = FlatMemory::<PAGES>::boot(alloc, image)?;
         let changed = PageMarks::new(alloc)?;
-        let base = Boundary::new(alloc, &core, memory.words(), &changed)?;
+        let base = Boundary::new(alloc, &mut core, memory.words(), &changed)?;
         Ok(Live {
             core,
             memory,
@@ -183,7 +183,9 @@ impl<const PAGES: u32> Live<PAGES> {
         ensures same { self.new ≡ self.old }
     {
         let words = self.memory.words();
-        let kept = self.base.after(alloc, &self.core, words, &self.changed)?;
+        let kept = self
+            .base
+            .after(alloc, &mut self.core, words, &self.changed)?;
         self.base = kept.clone()?;
         self.changed.clear();
         Ok(kept)

@@ -44,13 +44,21 @@ impl Model for KeptCore {
 
 impl Core {
     /// What the core holds, to be kept. Its arrays of the isolated cache are those of an earlier kept core where they equal them.
-    pub fn keep(&self, alloc: Global, previous: Option<&KeptCore>) -> Result<KeptCore, AllocError>
-        ensures { IfOk result (λ kept. kept ≡ self.now) }
+    pub fn keep(
+        &mut self,
+        alloc: Global,
+        earlier: Option<&KeptCore>,
+    ) -> Result<KeptCore, AllocError>
+        ensures kept { IfOk result (λ kept. kept ≡ self.old) }
+        ensures same { self.new ≡ self.old }
     {
+        let caches = self
+            .caches
+            .keep(alloc, earlier.map(|earlier| &earlier.caches))?;
         Ok(KeptCore {
             processor: self.processor,
             tlb: copied_tlb(&self.tlb),
-            caches: keep_caches(alloc, &self.caches, previous)?,
+            caches,
             bus: copied_bus(&self.bus),
         })
     }
@@ -61,7 +69,7 @@ impl Core {
     {
         self.processor = kept.processor;
         self.tlb.assign(&kept.tlb);
-        self.caches.assign(&kept.caches);
+        self.caches.restore(&kept.caches);
         self.bus.assign(&kept.bus);
     }
 }
@@ -96,22 +104,6 @@ fn copied_bus(same: &Bus) -> Bus
     let mut bus = Bus::new(1, [0; 12], 1);
     bus.assign(same);
     bus
-}
-
-// The arrays of the earlier kept core where they are equal to these, or else a copy.
-fn keep_caches(
-    alloc: Global,
-    caches: &Caches,
-    previous: Option<&KeptCore>,
-) -> Result<Rc<Caches>, AllocError>
-    ensures { IfOk result (λ kept. kept.value ≡ caches.now) }
-{
-    if let Some(previous) = previous {
-        if *previous.caches == *caches {
-            return previous.caches.clone();
-        }
-    }
-    Rc::new(alloc, caches.copy(alloc)?).map_err(|_| AllocError)
 }
 
 impl PartialEq for KeptCore {

@@ -2,6 +2,7 @@
 #![tactic(auto)]
 
 mod address;
+mod caches;
 mod devices;
 mod exception;
 mod execute;

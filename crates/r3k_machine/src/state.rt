@@ -7,9 +7,9 @@ ghost use Rattle.r3k_machine.specs.Flow.{with_flow};
 ghost use Rattle.r3k_machine.specs.Reset.{reset_core};
 ghost use Rattle.r3k_machine.specs.SameProcessor.{is_same_processor};
 
+use crate::caches::RunningCaches;
 use crate::flow::{DelayedLoad, Flow};
 use cop0::Cop0;
-use dcache::Caches;
 use kn02_bus::Bus;
 use r3k_image::Image;
 use std::alloc::{AllocError, Global};
@@ -33,7 +33,7 @@ pub struct Core {
     pub(crate) processor: Processor,
     pub(crate) tlb: Tlb,
     // On the heap, and never copied but by `copy`.
-    pub(crate) caches: Caches,
+    pub(crate) caches: RunningCaches,
     pub(crate) bus: Bus,
 }
 
@@ -92,7 +92,7 @@ impl Core {
                 cop0: Cop0::new(),
             },
             tlb: Tlb::new(),
-            caches: Caches::new(alloc)?,
+            caches: RunningCaches::new(alloc)?,
             bus: Bus::new(
                 u32::from(image.byte_time()),
                 image.clock_start(),
