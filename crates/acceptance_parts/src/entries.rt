@@ -84,17 +84,16 @@ fn reset(rt: HostRuntime) {
 }
 
 #[test]
-fn assign(rt: HostRuntime) {
+fn of(rt: HostRuntime) {
     let mut tlb = Tlb::new();
-    let mut other = Tlb::new();
-    assert!(rt; tlb == other);
     let entry = Entry {
         hi: 0x3040,
         lo: 0x7200,
     };
-    other.write(63, entry);
-    assert!(rt; tlb != other);
-    tlb.assign(&other);
+    tlb.write(63, entry);
+    assert!(rt; tlb != Tlb::new());
+    let other = Tlb::of(tlb.entries());
     assert!(rt; tlb == other);
-    same(&rt, &tlb.read(63), &entry);
+    same(&rt, &other.read(63), &entry);
+    same(&rt, &other.lookup(0x3000, 1), &tlb.lookup(0x3000, 1));
 }

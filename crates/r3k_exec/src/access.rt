@@ -2,7 +2,6 @@
 //! little-endian order.
 
 ghost use Rattle.std.specs.Prelude.{◌≡◌, ◌<◌, ◌%◌};
-ghost use Rattle.r3k_exec.specs.declared.access.StoreKind.TheVariants as store;
 ghost use Rattle.r3k_exec.specs.Access.{covering, loaded, is_aligned_load, is_aligned_store, merged_left, merged_right, stored};
 
 use r3k_word::field::sign;
@@ -153,11 +152,11 @@ impl StoreKind {
     {
         let byte = address % 4;
         match self {
-            StoreKind::Byte => byte_at(byte, value),
-            StoreKind::Half => half_at(byte, value),
+            StoreKind::Byte => covering((value % 0x100) << (8 * byte), 1 << byte),
+            StoreKind::Half => covering((value % 0x1_0000) << (8 * byte), (3 << byte) % 16),
             StoreKind::Word => covering(value, 15),
-            StoreKind::Left => high_bytes(byte, value),
-            StoreKind::Right => low_bytes(byte, value),
+            StoreKind::Left => covering(value >> (24 - 8 * byte), (2 << byte) - 1),
+            StoreKind::Right => covering(value << (8 * byte), 16 - (1 << byte)),
         }
     }
 }
@@ -167,58 +166,4 @@ fn covering(word: u32, lanes: u8) -> Covered
     ensures { result ≡ covering word lanes }
 {
     Covered { word, lanes }
-}
-
-#[inline]
-fn byte_at(byte: u32, value: u32) -> Covered
-    requires { byte < 4 }
-    ensures { result ≡ stored store.Byte byte value }
-{
-    match byte {
-        0 => covering(value % 0x100, 1),
-        1 => covering((value % 0x100) << 8, 2),
-        2 => covering((value % 0x100) << 16, 4),
-        _ => covering((value % 0x100) << 24, 8),
-    }
-}
-
-#[inline]
-fn half_at(byte: u32, value: u32) -> Covered
-    requires { byte < 4 }
-    ensures { result ≡ stored store.Half byte value }
-{
-    match byte {
-        0 => covering(value % 0x1_0000, 3),
-        1 => covering((value % 0x1_0000) << 8, 6),
-        2 => covering((value % 0x1_0000) << 16, 12),
-        _ => covering((value % 0x1_0000) << 24, 8),
-    }
-}
-
-// The register's high bytes, up to this place in the word.
-#[inline]
-fn high_bytes(byte: u32, value: u32) -> Covered
-    requires { byte < 4 }
-    ensures { result ≡ stored store.Left byte value }
-{
-    match byte {
-        0 => covering(value >> 24, 1),
-        1 => covering(value >> 16, 3),
-        2 => covering(value >> 8, 7),
-        _ => covering(value, 15),
-    }
-}
-
-// The register's low bytes, from this place in the word on.
-#[inline]
-fn low_bytes(byte: u32, value: u32) -> Covered
-    requires { byte < 4 }
-    ensures { result ≡ stored store.Right byte value }
-{
-    match byte {
-        0 => covering(value, 15),
-        1 => covering(value << 8, 14),
-        2 => covering(value << 16, 12),
-        _ => covering(value << 24, 8),
-    }
 }

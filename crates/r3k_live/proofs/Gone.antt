@@ -8,7 +8,8 @@ use Rattle.r3k_machine.specs.State.{State}
 use Rattle.r3k_machine.specs.Step.{Outcome, outcome_of_instruction, outcome_of_step}
 use Rattle.r3k_machine.specs.Told.{DifferAt}
 use Rattle.r3k_machine.specs.Quiet.{outcome_elapsed, state_elapsed}
-use Rattle.r3k_live.specs.Going.{HasGone, IsFreeFor, PassesBy}
+use Rattle.r3k_live.specs.Going.{HasGone, HasGoneFor, IsFreeFor, PassesBy}
+use Rattle.r3k_live.specs.Standing.{HasStood}
 use Rattle.r3k_live.specs.Record.{is_dirty}
 use Rattle.r3k_live.specs.Recording.{Recording, Records}
 use Rattle.r3k_live.proofs.Going.{run_more, trace_more}
@@ -84,3 +85,13 @@ passes_on pages log from start address made quick more passed bound here = λ k 
   where
     earlier_or : (k below more : ℕ) → k < below + more → more ≤ 1 → (k < below) ⊎ ((k ≡ below) × (0 < more))
     earlier_or k below more within bound = grind arith
+
+-- no step more
+pub no_more : (pages : ℕ) (log : List LogEvent) (from : ℕ) (start : State) (address made : ℕ) (s : State) (r : Recording)
+    → HasGone pages log from start made s r → HasGoneFor pages log from start address made 0 r s r
+no_more pages log from start address made s r gone =
+    let same : made ≡ made + 0 = omega arith in record {
+      gone = subst (λ (n : ℕ). HasGone pages log from start n s r) same gone;
+      passed = λ k after below there. omega (arith, after, below);
+      stood = λ before stood. subst (λ (n : ℕ). HasStood pages log from start n before r.stood) same stood;
+    }

@@ -10,7 +10,7 @@ use Rattle.r3k_machine.specs.State.{State}
 use Rattle.r3k_pages.specs.Pages.{holds}
 use Rattle.r3k_live.specs.Record.{is_dirty}
 use Rattle.r3k_live.specs.Recording.{Recording, Records}
-use Rattle.r3k_live.specs.Standing.{BeginsIn}
+use Rattle.r3k_live.specs.Standing.{BeginsIn, HasStood}
 
 -- `made` steps of the run from a state are made and recorded, and words of pages that they did not store into stayed
 pub record HasGone (pages : ℕ) (log : List LogEvent) (from : ℕ) (start : State) (made : ℕ) (s : State) (r : Recording) : Type 0 where
@@ -22,6 +22,17 @@ pub record HasGone (pages : ℕ) (log : List LogEvent) (from : ℕ) (start : Sta
 -- none after one number of steps and before another one holds an address in PC
 abbrev pub PassesBy : (pages : ℕ) → List LogEvent → (from : ℕ) → State → (address above below : ℕ) → Type 0
 PassesBy pages log from start address above below = (k : ℕ) → above < k → k < below → ¬ ((run pages log from start k).core.pc ≡ address)
+
+-- the steps of a run that follow `made` of them: n are made and recorded, none but the last comes to an address, and the pages in which
+-- the PC stands are noted
+pub record HasGoneFor (pages : ℕ) (log : List LogEvent) (from : ℕ) (start : State) (address made n : ℕ) (r : Recording) (t : State) (later : Recording) : Type 0 where
+  pub gone : HasGone pages log from start (made + n) t later
+  pub passed : PassesBy pages log from start address made (made + n)
+  pub stood : (before : List ℕ) → HasStood pages log from start made before r.stood → HasStood pages log from start (made + n) before later.stood
+
+-- the events that are left have all of a log from a time on
+abbrev pub AreLeft : (time : ℕ) → (left log : List LogEvent) → Type 0
+AreLeft time left log = (later : ℕ) → time ≤ later → arriving left later ≡ arriving log later
 
 -- n times from one on have no event
 abbrev pub IsFreeFor : ℕ → List LogEvent → ℕ → Type 0

@@ -9,10 +9,9 @@ ghost use Rattle.r3k_machine.specs.Run.{arriving};
 ghost use Rattle.r3k_machine.specs.State.{State};
 ghost use Rattle.r3k_machine.specs.Told.{IsPage};
 ghost use Rattle.r3k_pages.specs.Pages.{holds};
-ghost use Rattle.r3k_live.specs.Going.{GoesOn, HasGone, IsFreeFor, IsWordAt, MayGoOn, PassesBy};
+ghost use Rattle.r3k_live.specs.Going.{AreLeft, GoesOn, HasGone, HasGoneFor, IsFreeFor, IsWordAt, MayGoOn};
 ghost use Rattle.r3k_live.specs.Living.{state_of};
 ghost use Rattle.r3k_live.specs.Slots.{is_open};
-ghost use Rattle.r3k_live.specs.Standing.{HasStood};
 
 use crate::flat::FlatMemory;
 use crate::recorder::Recorder;
@@ -243,16 +242,9 @@ fn run_in<const PAGES: u32, const SPAN: u32>(
     requires room { recorder.old.steps + most ≤ SPAN }
     ensures bound { result ≤ most }
     ensures steps { recorder.new.steps ≡ recorder.old.steps + result }
-    ensures gone { (log : List LogEvent) (from : ℕ) (start : State) (made : ℕ) → IsFreeFor most log (from + made) →
+    ensures goes { (log : List LogEvent) (from : ℕ) (start : State) (made : ℕ) → IsFreeFor most log (from + made) →
         HasGone PAGES log from start made (state_of core.old memory.old) recorder.old →
-        HasGone PAGES log from start (made + result) (state_of core.new memory.new) recorder.new }
-    ensures before { (log : List LogEvent) (from : ℕ) (start : State) (made : ℕ) → IsFreeFor most log (from + made) →
-        HasGone PAGES log from start made (state_of core.old memory.old) recorder.old →
-        PassesBy PAGES log from start stop made (made + result) }
-    ensures stood { (log : List LogEvent) (from : ℕ) (start : State) (made : ℕ) (before : List ℕ) → IsFreeFor most log (from + made) →
-        HasGone PAGES log from start made (state_of core.old memory.old) recorder.old →
-        HasStood PAGES log from start made before recorder.old.stood →
-        HasStood PAGES log from start (made + result) before recorder.new.stood }
+        HasGoneFor PAGES log from start stop made result recorder.old (state_of core.new memory.new) recorder.new }
 {
     quiet_laws();
     let (made, flow) = quick_steps(core, core.flow(), memory, page, most, stop, recorder);
@@ -280,19 +272,9 @@ fn stretch<const PAGES: u32, const SPAN: u32>(
     requires room { recorder.old.steps + most ≤ SPAN }
     ensures bound { result ≤ most }
     ensures steps { recorder.new.steps ≡ recorder.old.steps + result }
-    ensures gone { (log : List LogEvent) (from : ℕ) (start : State) (made : ℕ) → time ≡ from + made →
-        ((later : ℕ) → time ≤ later → arriving events.now later ≡ arriving log later) →
+    ensures goes { (log : List LogEvent) (from : ℕ) (start : State) (made : ℕ) → time ≡ from + made → AreLeft time events.now log →
         HasGone PAGES log from start made (state_of core.old memory.old) recorder.old →
-        HasGone PAGES log from start (made + result) (state_of core.new memory.new) recorder.new }
-    ensures before { (log : List LogEvent) (from : ℕ) (start : State) (made : ℕ) → time ≡ from + made →
-        ((later : ℕ) → time ≤ later → arriving events.now later ≡ arriving log later) →
-        HasGone PAGES log from start made (state_of core.old memory.old) recorder.old →
-        PassesBy PAGES log from start stop made (made + result) }
-    ensures stood { (log : List LogEvent) (from : ℕ) (start : State) (made : ℕ) (before : List ℕ) → time ≡ from + made →
-        ((later : ℕ) → time ≤ later → arriving events.now later ≡ arriving log later) →
-        HasGone PAGES log from start made (state_of core.old memory.old) recorder.old →
-        HasStood PAGES log from start made before recorder.old.stood →
-        HasStood PAGES log from start (made + result) before recorder.new.stood }
+        HasGoneFor PAGES log from start stop made result recorder.old (state_of core.new memory.new) recorder.new }
 {
     let Some(quiet) = core.quiet() else {
         return 0;
@@ -324,20 +306,10 @@ pub(crate) fn advance<const PAGES: u32, const SPAN: u32>(
     requires time { time + most < 2 ^ 64 }
     ensures some { 0 < result }
     ensures bound { result ≤ most }
-    ensures gone { (log : List LogEvent) (from : ℕ) (start : State) (made : ℕ) → time ≡ from + made →
-        ((later : ℕ) → time ≤ later → arriving events.old later ≡ arriving log later) →
+    ensures goes { (log : List LogEvent) (from : ℕ) (start : State) (made : ℕ) → time ≡ from + made → AreLeft time events.old log →
         HasGone PAGES log from start made (state_of core.old memory.old) recorder.old →
-        HasGone PAGES log from start (made + result) (state_of core.new memory.new) recorder.new }
-    ensures before { (log : List LogEvent) (from : ℕ) (start : State) (made : ℕ) → time ≡ from + made →
-        ((later : ℕ) → time ≤ later → arriving events.old later ≡ arriving log later) →
-        HasGone PAGES log from start made (state_of core.old memory.old) recorder.old →
-        PassesBy PAGES log from start stop made (made + result) }
-    ensures stood { (log : List LogEvent) (from : ℕ) (start : State) (made : ℕ) (before : List ℕ) → time ≡ from + made →
-        ((later : ℕ) → time ≤ later → arriving events.old later ≡ arriving log later) →
-        HasGone PAGES log from start made (state_of core.old memory.old) recorder.old →
-        HasStood PAGES log from start made before recorder.old.stood →
-        HasStood PAGES log from start (made + result) before recorder.new.stood }
-    ensures left { (later : ℕ) → time + result ≤ later → arriving events.new later ≡ arriving events.old later }
+        HasGoneFor PAGES log from start stop made result recorder.old (state_of core.new memory.new) recorder.new }
+    ensures left { AreLeft (time + result) events.new events.old }
 {
     let made = stretch(core, memory, time, events, most, stop, recorder);
     if made > 0 {

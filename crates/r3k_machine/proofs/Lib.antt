@@ -1,7 +1,8 @@
-pub mod Splits
-pub mod Carried
 mod Fetched
 mod Untouched
+mod Zero
+pub mod Carried
 pub mod Elsewhere
-pub mod Within
 pub mod Quiet
+pub mod Splits
+pub mod Within

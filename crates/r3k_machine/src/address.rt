@@ -211,14 +211,25 @@ impl Core {
     }
 
     // EntryLo of the one entry of a mapped address. It is searched for where the page was not looked up before.
+    #[inline(always)]
     fn sole_low(&mut self, access: Use, address: u32) -> Option<u32>
         ensures low { IfSome result (IsSole self.old.entries address self.old.cop0.entry_hi) }
         ensures core { self.new ≡ self.old }
     {
         let hi = self.processor.cop0.read(ENTRY_HI);
-        if let Some(lo) = self.tlb.kept(access == Use::Fetch, address, hi) {
-            return Some(lo);
+        match self.tlb.kept(access == Use::Fetch, address, hi) {
+            Some(lo) => Some(lo),
+            None => self.searched_low(access, address),
         }
+    }
+
+    // The same, by a search.
+    #[inline(never)]
+    fn searched_low(&mut self, access: Use, address: u32) -> Option<u32>
+        ensures low { IfSome result (IsSole self.old.entries address self.old.cop0.entry_hi) }
+        ensures core { self.new ≡ self.old }
+    {
+        let hi = self.processor.cop0.read(ENTRY_HI);
         let found = self.tlb.translate(access == Use::Fetch, address, hi)?;
         if found.several {
             return None;
@@ -228,6 +239,7 @@ impl Core {
 
     /// The physical address that an address means, where that is no exception and sets no TS. It changes nothing.
     #[tactic(auto, unfolding(crate::specs::Address::meaning))]
+    #[inline(always)]
     pub(crate) fn found(&mut self, access: Use, aligned: bool, address: u32) -> Option<Physical>
         ensures answer { IfSome result (λ physical. meaning self.old access aligned address ≡ record { several = false; answer = Ok physical }) }
         ensures core { self.new ≡ self.old }

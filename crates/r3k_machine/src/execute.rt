@@ -11,7 +11,7 @@ ghost use Rattle.r3k_machine.specs.LoadSlot.{slot_after_load};
 ghost use Rattle.r3k_machine.specs.Told.{IsPage, IsTold};
 
 use crate::exception::Exception;
-use crate::flow::Flow;
+use crate::flow::{Flow, write_register};
 use crate::load_store::{Word, load, store};
 use crate::memory::Mem;
 use crate::state::Core;
@@ -67,9 +67,7 @@ impl Core {
     pub(crate) fn set_register(&mut self, register: Register, value: u32)
         ensures { self.new ≡ record self.old { registers = with_register self.old.registers register value } }
     {
-        if register.number() != 0 {
-            self.processor.registers[register.index()] = value;
-        }
+        write_register(&mut self.processor.registers, register, value);
     }
 
     #[inline]

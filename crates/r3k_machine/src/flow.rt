@@ -5,7 +5,7 @@ ghost use Rattle.r3k_word.specs.Word.{sum_of};
 ghost use Rattle.r3k_machine.specs.Core.{HoldsZero};
 ghost use Rattle.r3k_machine.specs.Flow.{IsStraight, at, moved, targeted};
 ghost use Rattle.r3k_machine.specs.LoadSlot.{DelayedLoad, slot_after_load};
-ghost use Rattle.r3k_machine.specs.State.{landed};
+ghost use Rattle.r3k_machine.specs.State.{landed, with_register};
 
 use r3k_decode::Register;
 use r3k_word::arithmetic::add;
@@ -61,6 +61,18 @@ impl DelayedLoad {
     {
         self.value
     }
+}
+
+/// Writes a register. r0 stays 0, without a test.
+#[inline(always)]
+#[tactic(auto, using(crate::proofs::Zero::zeroed))]
+pub(crate) fn write_register(registers: &mut [u32; 32], register: Register, value: u32)
+    requires zero { HoldsZero registers.old }
+    ensures written { registers.new ≡ with_register registers.old register value }
+    ensures zero { HoldsZero registers.new }
+{
+    registers[register.index()] = value;
+    registers[0] = 0;
 }
 
 /// Where a processor stands: PC, next PC, the delay mark and the load slot, which is empty where its register is r0. It is small, so
@@ -147,9 +159,10 @@ impl Flow {
     /// An instruction completes, but for what it writes: the pending load lands, and the next instruction follows.
     #[inline(always)]
     pub(crate) fn complete(&mut self, registers: &mut [u32; 32])
+        requires zero { HoldsZero registers.old }
         ensures flow { self.new ≡ moved self.old }
         ensures registers { registers.new ≡ landed registers.old (slot_after_load self.old.slot self.old.value) }
-        ensures zero { HoldsZero registers.old → HoldsZero registers.new }
+        ensures zero { HoldsZero registers.new }
     {
         self.land(registers);
         self.pc = self.next_pc;
@@ -160,14 +173,13 @@ impl Flow {
     /// The pending load lands.
     #[inline(always)]
     pub(crate) fn land(&mut self, registers: &mut [u32; 32])
+        requires zero { HoldsZero registers.old }
         ensures flow { self.new ≡ record self.old { slot = 0 } }
         ensures registers { registers.new ≡ landed registers.old (slot_after_load self.old.slot self.old.value) }
-        ensures zero { HoldsZero registers.old → HoldsZero registers.new }
+        ensures zero { HoldsZero registers.new }
     {
-        if self.slot.number() != 0 {
-            registers[self.slot.index()] = self.value;
-            self.slot = Register::new(0);
-        }
+        write_register(registers, self.slot, self.value);
+        self.slot = Register::new(0);
     }
 
     /// Fills the load slot. A load into r0 leaves it empty.

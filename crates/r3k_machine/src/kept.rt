@@ -8,13 +8,13 @@ use kn02_bus::Bus;
 use std::alloc::{AllocError, Global};
 use std::marker::Model;
 use std::rc::Rc;
-use tlb64::Tlb;
+use tlb64::{Entry, Tlb};
 
 /// All that a core holds, kept apart from the core that runs. The arrays of its isolated cache may be those of another one.
 #[derive(Drop)]
 pub struct KeptCore {
     processor: Processor,
-    tlb: Tlb,
+    entries: [Entry; 64],
     caches: Rc<Caches>,
     bus: Bus,
 }
@@ -34,7 +34,7 @@ impl Model for KeptCore {
       delay = c.processor.flow.delay;
       load = slot_after_load c.processor.flow.slot c.processor.flow.value;
       cop0 = c.processor.cop0;
-      entries = c.tlb;
+      entries = c.entries;
       caches = c.caches.value;
       bus = c.bus;
     } };
@@ -57,7 +57,7 @@ impl Core {
             .keep(alloc, earlier.map(|earlier| &earlier.caches))?;
         Ok(KeptCore {
             processor: self.processor,
-            tlb: copied_tlb(&self.tlb),
+            entries: *self.tlb.entries(),
             caches,
             bus: copied_bus(&self.bus),
         })
@@ -68,7 +68,7 @@ impl Core {
         ensures { self.new ≡ kept.now }
     {
         self.processor = kept.processor;
-        self.tlb.assign(&kept.tlb);
+        self.tlb = Tlb::of(&kept.entries);
         self.caches.restore(&kept.caches);
         self.bus.assign(&kept.bus);
     }
@@ -81,20 +81,11 @@ impl KeptCore {
     {
         Ok(KeptCore {
             processor: self.processor,
-            tlb: copied_tlb(&self.tlb),
+            entries: self.entries,
             caches: self.caches.clone()?,
             bus: copied_bus(&self.bus),
         })
     }
-}
-
-// The translation entries once more.
-fn copied_tlb(entries: &Tlb) -> Tlb
-    ensures { result ≡ entries.now }
-{
-    let mut tlb = Tlb::new();
-    tlb.assign(entries);
-    tlb
 }
 
 // The bus once more.
@@ -121,7 +112,7 @@ impl PartialEq for KeptCore {
         ensures equal { IsTrue result ↔ (self.now ≡ other.now) }
     {
         is_same_processor(&self.processor, &other.processor)
-            && self.tlb == other.tlb
+            && self.entries == other.entries
             && self.bus == other.bus
             && *self.caches == *other.caches
     }

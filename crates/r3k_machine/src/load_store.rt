@@ -57,10 +57,24 @@ fn word_at<M: Mem>(memory: &M, physical: u32) -> Option<Word>
 fn lane_mask(lanes: u8) -> u32
     ensures { result ≡ lane_mask lanes }
 {
-    u32::from(lanes % 2) * 0xFF
-        + u32::from(lanes / 2 % 2) * 0xFF00
-        + u32::from(lanes / 4 % 2) * 0xFF_0000
-        + u32::from(lanes / 8 % 2) * 0xFF00_0000
+    match lanes % 16 {
+        0 => 0,
+        1 => 0xFF,
+        2 => 0xFF00,
+        3 => 0xFFFF,
+        4 => 0x00FF_0000,
+        5 => 0x00FF_00FF,
+        6 => 0x00FF_FF00,
+        7 => 0x00FF_FFFF,
+        8 => 0xFF00_0000,
+        9 => 0xFF00_00FF,
+        10 => 0xFF00_FF00,
+        11 => 0xFF00_FFFF,
+        12 => 0xFFFF_0000,
+        13 => 0xFFFF_00FF,
+        14 => 0xFFFF_FF00,
+        _ => 0xFFFF_FFFF,
+    }
 }
 
 // A word after a store into those of its bytes that these lanes cover.

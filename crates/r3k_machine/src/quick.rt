@@ -78,12 +78,36 @@ impl Core {
         if aligned && subtract(address, KSEG0) < over_bus {
             return Some(address & 0x1FFF_FFFF);
         }
-        self.reached_elsewhere(access, aligned, address)
+        // Taken apart, so that the compiler knows on each way whether there is one.
+        let physical = match access {
+            Use::Fetch => return None,
+            Use::Load => self.load_reached(aligned, address)?,
+            Use::Store => self.store_reached(aligned, address)?,
+        };
+        Some(physical)
     }
 
-    // The same for any address. It stands outside the line of a step that does not need it.
+    // The same for a load of any address. It stands outside the line of a step that does not need it.
     #[inline(never)]
-    fn reached_elsewhere(&mut self, access: Use, aligned: bool, address: u32) -> Option<u32>
+    fn load_reached(&mut self, aligned: bool, address: u32) -> Option<u32>
+        ensures reached { IfSome result (IsReached self.old (meaning self.old Use.Load aligned address)) }
+        ensures core { self.new ≡ self.old }
+    {
+        self.reached_by(Use::Load, aligned, address)
+    }
+
+    // The same for a store.
+    #[inline(never)]
+    fn store_reached(&mut self, aligned: bool, address: u32) -> Option<u32>
+        ensures reached { IfSome result (IsReached self.old (meaning self.old Use.Store aligned address)) }
+        ensures core { self.new ≡ self.old }
+    {
+        self.reached_by(Use::Store, aligned, address)
+    }
+
+    // The same for any access.
+    #[inline(always)]
+    fn reached_by(&mut self, access: Use, aligned: bool, address: u32) -> Option<u32>
         ensures reached { IfSome result (IsReached self.old (meaning self.old access aligned address)) }
         ensures core { self.new ≡ self.old }
     {
@@ -224,6 +248,26 @@ fn load_by_kind<M: Mem>(
             register,
             address,
         ),
+        LoadKind::Byte => load_quick(
+            core,
+            flow,
+            memory,
+            page,
+            over_bus,
+            LoadKind::Byte,
+            register,
+            address,
+        ),
+        LoadKind::ByteUnsigned => load_quick(
+            core,
+            flow,
+            memory,
+            page,
+            over_bus,
+            LoadKind::ByteUnsigned,
+            register,
+            address,
+        ),
         kind => load_quick(core, flow, memory, page, over_bus, kind, register, address),
     }
 }
@@ -297,6 +341,16 @@ fn store_by_kind<M: Mem>(
             page,
             over_bus,
             StoreKind::Word,
+            address,
+            value,
+        ),
+        StoreKind::Byte => store_quick(
+            core,
+            flow,
+            memory,
+            page,
+            over_bus,
+            StoreKind::Byte,
             address,
             value,
         ),

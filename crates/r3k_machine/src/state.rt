@@ -105,13 +105,11 @@ impl Core {
     pub fn copy(&self, alloc: Global) -> Result<Core, AllocError>
         ensures { IfOk result (λ copy. copy ≡ self.now) }
     {
-        let mut tlb = Tlb::new();
-        tlb.assign(&self.tlb);
         let mut bus = Bus::new(1, [0; 12], 1);
         bus.assign(&self.bus);
         Ok(Core {
             processor: self.processor,
-            tlb,
+            tlb: Tlb::of(self.tlb.entries()),
             caches: self.caches.copy(alloc)?,
             bus,
         })
@@ -122,7 +120,7 @@ impl Core {
         ensures { self.new ≡ other.now }
     {
         self.processor = other.processor;
-        self.tlb.assign(&other.tlb);
+        self.tlb = Tlb::of(other.tlb.entries());
         self.caches.assign(&other.caches);
         self.bus.assign(&other.bus);
     }

@@ -2,6 +2,7 @@
 use Rattle.std.proofs.Common.{◌≡◌, ℕ, zero, suc, ◌+◌, ◌<◌, ◌≤◌, Bool, false, List, [], ◌∷◌, ◌++◌, filter, length, slice_index, Result, Ok, Err, IfOk, MatchResult, IsFalse, nat_eq, inl, inr, cond, refl, sym, ap, subst, ◌∙◌, arith}
 use Rattle.std.proofs.Math.Path.{ap₂}
 use Rattle.std.specs.List.{range_with_len}
+use Rattle.std.proofs.lemmas.List.{append-nil}
 use Rattle.std.proofs.lemmas.List.FromFn.{get_or-range_with_len, length-range_with_len}
 use Rattle.std.proofs.lemmas.List.Elements.{All-filter, filter-append}
 use Rattle.std.proofs.lemmas.List.Kept.{IsStrictlyIncreasing-filter}
@@ -38,6 +39,17 @@ kept_more test n =
     ap (λ (k : ℕ). filter test (range_with_len 0 k)) (let e : n + 1 ≡ suc n = omega arith in e)
     ∙ (ap (filter test) (range_more 0 n ∙ ap (λ (k : ℕ). range_with_len 0 n ++ k ∷ []) (let e : 0 + n ≡ n = omega arith in e))
     ∙ filter-append test (range_with_len 0 n) (n ∷ []))
+
+-- a range with more numbers, which fail the test
+pub none_more : (test : ℕ → Bool) (n more : ℕ) → ((k : ℕ) → n ≤ k → k < n + more → test k ≡ false)
+    → filter test (range_with_len 0 (n + more)) ≡ filter test (range_with_len 0 n)
+none_more test n zero none = ap (λ (k : ℕ). filter test (range_with_len 0 k)) (omega arith)
+none_more test n (suc more) none =
+    let so_far = filter test (range_with_len 0 (n + more)) in
+    ap (λ (k : ℕ). filter test (range_with_len 0 k)) (let e : n + suc more ≡ n + more + 1 = omega arith in e)
+    ∙ (kept_more test (n + more)
+    ∙ (ap (λ (b : Bool). so_far ++ cond b ((n + more) ∷ []) []) (none (n + more) (omega arith) (omega arith))
+    ∙ (append-nil so_far ∙ none_more test n more (λ k least below. none k least (omega (arith, below))))))
 
 pub pages_set : (pages : ℕ) (test : ℕ → Bool) → IsPageSet pages (pages_where pages test)
 pages_set pages test =

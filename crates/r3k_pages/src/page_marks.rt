@@ -6,6 +6,7 @@ ghost use Rattle.r3k_word.specs.declared.layout.TheConstants.{MAX_RAM_PAGES};
 ghost use Rattle.r3k_pages.specs.Marking.{AreMarked};
 ghost use Rattle.r3k_pages.specs.Pages.{IsPageSet, SameOutside, SamePage, holds, page_count_of, pages_where};
 
+use crate::group::{GROUP_PAGES, touches};
 use crate::snapshot::{Snapshot, page_count};
 use r3k_word::layout::ROM_PAGES;
 use std::alloc::{AllocError, Global};
@@ -100,11 +101,19 @@ impl<const PAGES: u32> PageMarks<PAGES> {
         // The marks are read, so that the number of pages is known here.
         let _marks = &self.marks;
         let mut pages = Vec::new(alloc);
-        for page in 0..PAGES + ROM_PAGES {
-            if !self.holds(page) {
+        let mut page = 0;
+        while page < PAGES + ROM_PAGES {
+            // Most groups have no page of the set.
+            if page as usize % GROUP_PAGES == 0 && !touches(self, page as usize / GROUP_PAGES) {
+                page += GROUP_PAGES as u32;
                 continue;
             }
-            pages.push(page)?;
+            let here = page;
+            page += 1;
+            if !self.holds(here) {
+                continue;
+            }
+            pages.push(here)?;
         }
         Ok(pages)
     }

@@ -1,11 +1,11 @@
 -- What is kept of lookups, after a lookup and after a write.
-use Rattle.std.proofs.Common.{◌≡◌, ℕ, zero, suc, ◌+◌, ◌*◌, ◌/◌, ◌%◌, ◌<◌, List, length, replicate, get_or, sym, ap, arith, false, refl, ◌∙◌}
+use Rattle.std.proofs.Common.{◌≡◌, ℕ, zero, suc, ◌+◌, ◌*◌, ◌/◌, ◌%◌, ◌<◌, List, replicate, sym, ap, arith, false, refl, ◌∙◌}
 use Rattle.std.proofs.lemmas.Nat.{div-mul-add, mod-mul-add, mod_below}
 use Rattle.std.specs.Prelude.{Bool, nat_eq, nat_lt, ◌&&◌, ◌||◌, position, count_by, slice_index_or, Option, Some, slice_set}
 use Rattle.std.specs.Option.{option_map}
 use Rattle.r3k_word.specs.Word.{has}
 use Rattle.std.proofs.lemmas.List.{length-set, length-replicate}
-use Rattle.std.proofs.lemmas.List.Elements.{All-set, All-replicate, All-get_or}
+use Rattle.std.proofs.lemmas.List.Elements.{All-set, All-replicate}
 use Rattle.tlb64.specs.declared.entry.Entry.{Entry}
 use Rattle.tlb64.specs.declared.entry.Found.{Found}
 use Rattle.tlb64.specs.declared.entry.TheConstants.{GLOBAL}

@@ -48,6 +48,17 @@ impl Tlb {
         }
     }
 
+    /// These entries.
+    pub fn of(entries: &[Entry; 64]) -> Tlb
+        ensures { result ≡ entries.now }
+    {
+        let mut tlb = Tlb::new();
+        for place in 0..64 {
+            tlb.write(place, entries[place as usize]);
+        }
+        tlb
+    }
+
     /// The lowest entry that is for the page of a virtual address, and global or of the process
     /// `pid`, and whether more than one is. No entry is of a process above 63.
     #[inline(never)]
@@ -128,13 +139,12 @@ impl Tlb {
         self.kept = [NOTHING; KEPT];
     }
 
-    /// Makes the entries those of another.
-    pub fn assign(&mut self, other: &Tlb)
-        ensures { self.new ≡ other.now }
+    /// All entries.
+    #[inline]
+    pub fn entries(&self) -> &[Entry; 64]
+        ensures { result.now ≡ self.now }
     {
-        self.entries = other.entries;
-        self.sets = other.sets;
-        self.kept = other.kept;
+        &self.entries
     }
 }
 

@@ -38,28 +38,28 @@ returns-then-pc-stop-clause-found g c =
     let start = state_of c.args.core.now c.args.memory.now in
     let made = c.loop-made.made in
     let more = c.advance-more.result in
-    let gone = c.advance-more.ensures.gone log c.args.from start made refl c.loop-made.invariant.left c.loop-made.invariant.gone in
+    let goes = c.advance-more.ensures.goes log c.args.from start made refl c.loop-made.invariant.left c.loop-made.invariant.gone in
     sym (c.loop-made.invariant.found
     ∙ visits_here g.row.PAGES log c.args.from start c.args.stop made more c.args.steps c.advance-more.ensures.some
     (omega (arith, c.advance-more.ensures.bound, c.loop-made-test.true))
-    (c.advance-more.ensures.before log c.args.from start made refl c.loop-made.invariant.left c.loop-made.invariant.gone)
-    (sym (ap (λ (s : State). s.core.pc) gone.state) ∙ (sym c.pc-in-loop-made.ensures ∙ c.if-pc-stop.true)))
+    goes.passed
+    (sym (ap (λ (s : State). s.core.pc) goes.gone.state) ∙ (sym c.pc-in-loop-made.ensures ∙ c.if-pc-stop.true)))
 
 pub returns-then-pc-stop-clause-never : goal.returns-then-pc-stop-clause-never
 returns-then-pc-stop-clause-never g c = λ high. absurd (let e : ⊥ = omega (arith, high, c.pc-in-loop-made.type_inv, c.if-pc-stop.true) in e)
 
 pub returns-then-pc-stop-clause-state : goal.returns-then-pc-stop-clause-state
 returns-then-pc-stop-clause-state g c =
-    (c.advance-more.ensures.gone c.args.events c.args.from (state_of c.args.core.now c.args.memory.now) c.loop-made.made refl c.loop-made.invariant.left c.loop-made.invariant.gone).state
+    (c.advance-more.ensures.goes c.args.events c.args.from (state_of c.args.core.now c.args.memory.now) c.loop-made.made refl c.loop-made.invariant.left c.loop-made.invariant.gone).gone.state
 
 pub returns-then-pc-stop-clause-recorded : goal.returns-then-pc-stop-clause-recorded
 returns-then-pc-stop-clause-recorded g c =
-    (c.advance-more.ensures.gone c.args.events c.args.from (state_of c.args.core.now c.args.memory.now) c.loop-made.made refl c.loop-made.invariant.left c.loop-made.invariant.gone).recorded
+    (c.advance-more.ensures.goes c.args.events c.args.from (state_of c.args.core.now c.args.memory.now) c.loop-made.made refl c.loop-made.invariant.left c.loop-made.invariant.gone).gone.recorded
 
 pub returns-then-pc-stop-clause-stood : goal.returns-then-pc-stop-clause-stood
 returns-then-pc-stop-clause-stood g c =
-    c.advance-more.ensures.stood c.args.events c.args.from (state_of c.args.core.now c.args.memory.now) c.loop-made.made c.args.recorder.now.stood refl
-    c.loop-made.invariant.left c.loop-made.invariant.gone c.loop-made.invariant.stood
+    (c.advance-more.ensures.goes c.args.events c.args.from (state_of c.args.core.now c.args.memory.now) c.loop-made.made refl c.loop-made.invariant.left c.loop-made.invariant.gone).stood
+    c.args.recorder.now.stood c.loop-made.invariant.stood
 
 pub returns-then-pc-stop-clause-dirty : goal.returns-then-pc-stop-clause-dirty
 returns-then-pc-stop-clause-dirty g c =
@@ -67,7 +67,7 @@ returns-then-pc-stop-clause-dirty g c =
     let made = c.loop-made.made in
     outside_pages g.row.PAGES (is_dirty (trace g.row.PAGES c.args.events c.args.from start (made + c.advance-more.result)))
     c.args.memory.now.words.items c.advance-more.new.memory.words.items c.args.memory.now.whole c.advance-more.new.memory.whole
-    (c.advance-more.ensures.gone c.args.events c.args.from start made refl c.loop-made.invariant.left c.loop-made.invariant.gone).stayed
+    (c.advance-more.ensures.goes c.args.events c.args.from start made refl c.loop-made.invariant.left c.loop-made.invariant.gone).gone.stayed
 
 pub loop-made-preserved : goal.loop-made-preserved
 loop-made-preserved g c =
@@ -75,17 +75,16 @@ loop-made-preserved g c =
     let start = state_of c.args.core.now c.args.memory.now in
     let made = c.loop-made.made in
     let more = c.advance-more.result in
-    let gone = c.advance-more.ensures.gone log c.args.from start made refl c.loop-made.invariant.left c.loop-made.invariant.gone in record {
-      gone = gone;
+    let goes = c.advance-more.ensures.goes log c.args.from start made refl c.loop-made.invariant.left c.loop-made.invariant.gone in record {
+      gone = goes.gone;
       found =
           c.loop-made.invariant.found
           ∙ visits_on g.row.PAGES log c.args.from start c.args.stop made more c.args.steps c.advance-more.ensures.some
           (omega (arith, c.advance-more.ensures.bound, c.loop-made-test.true))
-          (c.advance-more.ensures.before log c.args.from start made refl c.loop-made.invariant.left c.loop-made.invariant.gone)
-          (λ here. c.if-pc-stop.false (c.pc-in-loop-made.ensures ∙ (ap (λ (s : State). s.core.pc) gone.state ∙ here)));
+          goes.passed (λ here. c.if-pc-stop.false (c.pc-in-loop-made.ensures ∙ (ap (λ (s : State). s.core.pc) goes.gone.state ∙ here)));
       left = λ time later.
           c.advance-more.ensures.left time (omega (arith, later)) ∙ c.loop-made.invariant.left time (omega (arith, later));
-      stood = c.advance-more.ensures.stood log c.args.from start made c.args.recorder.now.stood refl c.loop-made.invariant.left c.loop-made.invariant.gone c.loop-made.invariant.stood;
+      stood = goes.stood c.args.recorder.now.stood c.loop-made.invariant.stood;
       bound = omega (arith, c.advance-more.ensures.bound, c.loop-made-test.true);
     }
 

@@ -1,6 +1,5 @@
-use Rattle.std.proofs.Common.{◌≡◌, ℕ, ◌+◌, ◌-◌, ◌≤◌}
-use Rattle.r3k_machine.specs.Run.{arriving}
-use Rattle.r3k_live.specs.Going.{HasGone}
+use Rattle.std.proofs.Common.{◌≡◌, ◌+◌, ◌-◌, ◌≤◌}
+use Rattle.r3k_live.specs.Going.{AreLeft, HasGone}
 use Rattle.r3k_live.specs.Living.{state_of}
 use Rattle.r3k_live.specs.Standing.{HasStood}
 use Rattle.r3k_live.specs.Visits.{first_visit}
@@ -12,7 +11,7 @@ invariant-loop-made g l = record {
   gone : HasGone g.row.PAGES l.fn.events l.from (state_of l.fn.core l.fn.memory) l.made (state_of l.core l.memory) l.recorder;
   found : first_visit g.row.PAGES l.fn.events l.from (state_of l.fn.core l.fn.memory) l.stop 0 l.steps
       ≡ first_visit g.row.PAGES l.fn.events l.from (state_of l.fn.core l.fn.memory) l.stop l.made (l.steps - l.made);
-  left : (time : ℕ) → l.from + l.made ≤ time → arriving l.events time ≡ arriving l.fn.events time;
+  left : AreLeft (l.from + l.made) l.events l.fn.events;
   stood : HasStood g.row.PAGES l.fn.events l.from (state_of l.fn.core l.fn.memory) l.made l.fn.recorder.stood l.recorder.stood;
   bound : l.made ≤ l.steps;
 }

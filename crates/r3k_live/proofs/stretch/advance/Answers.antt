@@ -15,34 +15,29 @@ use Rattle.r3k_live.proofs.Gone.{one_more}
 use Rattle.r3k_live.proofs.Stood.{begins_once, stood_more}
 use Rattle.r3k_live.proofs.stretch.advance.Goals as goal
 
-pub returns-clause-gone : goal.returns-clause-gone
-returns-clause-gone g c = λ log from start made now same gone.
+pub returns-clause-goes : goal.returns-clause-goes
+returns-clause-goes g c = λ log from start made now left so_far.
     let s = state_of c.stretch-made.new.core c.stretch-made.new.memory in
     let t = state_of c.step-done.new.core c.step-done.new.memory in
-    let here = subst (λ (n : ℕ). HasGone g.row.PAGES log from start n s c.stretch-made.new.recorder)
-    (let e : made + c.stretch-made.result ≡ made = omega (arith, c.if-made-gt0.false) in e)
-    (c.stretch-made.ensures.gone log from start made now same gone) in
-    let events = ap (arriving log) (sym now) ∙ (sym (same c.args.time (omega arith)) ∙ sym c.next.ensures.events) in
+    let none : made + c.stretch-made.result ≡ made = omega (arith, c.if-made-gt0.false) in
+    let stretch = c.stretch-made.ensures.goes log from start made now left so_far in
+    let here = subst (λ (n : ℕ). HasGone g.row.PAGES log from start n s c.stretch-made.new.recorder) none stretch.gone in
+    let events = ap (arriving log) (sym now) ∙ (sym (left c.args.time (omega arith)) ∙ sym c.next.ensures.events) in
     let outcome : outcome_of_step g.row.PAGES c.next.result.now s ≡ record { state = t; done = c.step-done.result } =
     λ i. record { state = sym c.step-done.ensures.state i; done = sym c.step-done.ensures.told i } in
-    one_more g.row.PAGES log from start made s t c.step-done.result c.stretch-made.new.recorder c.stand.new.self here
+    let gone = one_more g.row.PAGES log from start made s t c.step-done.result c.stretch-made.new.recorder c.stand.new.self here
     (ap (λ (e : List LogEvent). outcome_of_step g.row.PAGES e s) events ∙ outcome)
-    (λ steps so_far. c.stand.ensures.records (steps ++ c.step-done.result ∷ []) (c.note.ensures.records steps so_far)) c.step-done.ensures.within.words
-
-pub returns-clause-before : goal.returns-clause-before
-returns-clause-before g c = λ log from start made now same gone k after below there. omega (arith, after, below)
-
-pub returns-clause-stood : goal.returns-clause-stood
-returns-clause-stood g c = λ log from start made before now same gone so_far.
-    let stood = subst (λ (n : ℕ). HasStood g.row.PAGES log from start n before c.stretch-made.new.recorder.stood)
-    (let e : made + c.stretch-made.result ≡ made = omega (arith, c.if-made-gt0.false) in e)
-    (c.stretch-made.ensures.stood log from start made before now same gone so_far) in
-    let here = ap (λ (s : State). s.core.pc) (returns-clause-gone g c log from start made now same gone).state in
-    stood_more g.row.PAGES log from start made 1 _ before c.stretch-made.new.recorder.stood c.stand.new.self.stood stood
-    (begins_once g.row.PAGES log from start made)
-    (λ page.
-    c.stand.ensures.stood page
-    ∙ ap₂ (λ (set : List ℕ) (pc : ℕ). holds set page || nat_eq (pc / PAGE_BYTES) page) c.note.ensures.stood (c.pc.ensures ∙ here))
+    (λ steps so_far. c.stand.ensures.records (steps ++ c.step-done.result ∷ []) (c.note.ensures.records steps so_far)) c.step-done.ensures.within.words in record {
+      gone = gone;
+      passed = λ k after below there. omega (arith, after, below);
+      stood = λ before stood.
+          stood_more g.row.PAGES log from start made 1 _ before c.stretch-made.new.recorder.stood c.stand.new.self.stood
+          (subst (λ (n : ℕ). HasStood g.row.PAGES log from start n before c.stretch-made.new.recorder.stood) none (stretch.stood before stood))
+          (begins_once g.row.PAGES log from start made)
+          (λ page.
+          c.stand.ensures.stood page
+          ∙ ap₂ (λ (set : List ℕ) (pc : ℕ). holds set page || nat_eq (pc / PAGE_BYTES) page) c.note.ensures.stood (c.pc.ensures ∙ ap (λ (s : State). s.core.pc) gone.state));
+    }
 
 pub returns-clause-left : goal.returns-clause-left
 returns-clause-left g c = λ later after.

@@ -44,44 +44,33 @@ quiet_on-more-requires g c =
       ),
     )
 
-pub returns-clause-gone : goal.returns-clause-gone
-returns-clause-gone g c = λ log from start made free gone.
-    let quick = c.quick_steps-made.result.0 in
-    let there : HasGone g.row.PAGES log from start (made + quick) (state_of c.elapse.new.self c.quick_steps-made.new.memory) c.quick_steps-made.new.recorder =
-    rw (c.elapse.ensures, c.set_flow.ensures)
-    (from_none g.row.PAGES c.args.most c.args.stop c.args.page quick (state_of c.args.core.now c.args.memory.now)
-    (state_of (with_flow c.quick_steps-made.new.core c.quick_steps-made.result.1) c.quick_steps-made.new.memory) c.args.recorder.now c.quick_steps-made.new.recorder
-    c.quiet_laws.ensures.none (rw c.flow.ensures at c.quick_steps-made.ensures.goes) log from start made free gone).gone in
-    let on = c.quiet_on-more.ensures.gone log from start (made + quick)
-    (λ wanted. ap (arriving log) (let e : from + (made + quick) ≡ from + made + quick = omega arith in e) ∙ free quick (c.goes_on-wanted.ensures.room wanted)) (subst (λ (words : List ℕ). HasGone g.row.PAGES log from start (made + quick) (record { core = c.elapse.new.self; words = words }) c.quick_steps-made.new.recorder) (sym c.learn.ensures.words) there) in
-    recorded_too g.row.PAGES log from start _ _ c.quiet_on-more.new.recorder c.stand.new.self c.stand.ensures.records
-    (subst (λ (n : ℕ). HasGone g.row.PAGES log from start n (state_of c.quiet_on-more.new.core c.quiet_on-more.new.memory) c.quiet_on-more.new.recorder)
-    (let e : made + quick + c.quiet_on-more.result ≡ made + (quick + c.quiet_on-more.result) = omega arith in e) on)
-
-pub returns-clause-before : goal.returns-clause-before
-returns-clause-before g c = λ log from start made free gone.
-    let quick = c.quick_steps-made.result.0 in
-    let there = from_none g.row.PAGES c.args.most c.args.stop c.args.page quick (state_of c.args.core.now c.args.memory.now)
-    (state_of (with_flow c.quick_steps-made.new.core c.quick_steps-made.result.1) c.quick_steps-made.new.memory) c.args.recorder.now c.quick_steps-made.new.recorder
-    c.quiet_laws.ensures.none (rw c.flow.ensures at c.quick_steps-made.ensures.goes) log from start made free gone in
-    let pc : c.elapse.new.self.pc ≡ c.quick_steps-made.result.1.pc = rw (c.elapse.ensures, c.set_flow.ensures) refl in
-    passes_on g.row.PAGES log from start c.args.stop made quick c.quiet_on-more.result (λ k after below. there.passed k (omega (arith, after)) below) c.quiet_on-more.ensures.bound
-    (λ some made_some here.
-    c.goes_on-wanted.ensures.past (c.quiet_on-more.ensures.wanted some) made_some (c.pc-2.ensures ∙ (pc ∙ (ap (λ (s : State). s.core.pc) there.gone.state ∙ here))))
-
-pub returns-clause-stood : goal.returns-clause-stood
-returns-clause-stood g c = λ log from start made before free gone so_far.
+pub returns-clause-goes : goal.returns-clause-goes
+returns-clause-goes g c = λ log from start made free so_far.
     let quick = c.quick_steps-made.result.0 in
     let more = c.quiet_on-more.result in
     let there = from_none g.row.PAGES c.args.most c.args.stop c.args.page quick (state_of c.args.core.now c.args.memory.now)
     (state_of (with_flow c.quick_steps-made.new.core c.quick_steps-made.result.1) c.quick_steps-made.new.memory) c.args.recorder.now c.quick_steps-made.new.recorder
-    c.quiet_laws.ensures.none (rw c.flow.ensures at c.quick_steps-made.ensures.goes) log from start made free gone in
+    c.quiet_laws.ensures.none (rw c.flow.ensures at c.quick_steps-made.ensures.goes) log from start made free so_far in
+    let elapsed : HasGone g.row.PAGES log from start (made + quick) (state_of c.elapse.new.self c.quick_steps-made.new.memory) c.quick_steps-made.new.recorder =
+    rw (c.elapse.ensures, c.set_flow.ensures) there.gone in
+    let on = c.quiet_on-more.ensures.gone log from start (made + quick)
+    (λ wanted. ap (arriving log) (let e : from + (made + quick) ≡ from + made + quick = omega arith in e) ∙ free quick (c.goes_on-wanted.ensures.room wanted)) (subst (λ (words : List ℕ). HasGone g.row.PAGES log from start (made + quick) (record { core = c.elapse.new.self; words = words }) c.quick_steps-made.new.recorder) (sym c.learn.ensures.words) elapsed) in
+    let gone : HasGone g.row.PAGES log from start (made + (quick + more)) (state_of c.quiet_on-more.new.core c.quiet_on-more.new.memory) c.stand.new.self =
+    recorded_too g.row.PAGES log from start _ _ c.quiet_on-more.new.recorder c.stand.new.self c.stand.ensures.records
+    (subst (λ (n : ℕ). HasGone g.row.PAGES log from start n (state_of c.quiet_on-more.new.core c.quiet_on-more.new.memory) c.quiet_on-more.new.recorder)
+    (let e : made + quick + more ≡ made + (quick + more) = omega arith in e) on) in
     let pc : c.elapse.new.self.pc ≡ c.quick_steps-made.result.1.pc = rw (c.elapse.ensures, c.set_flow.ensures) refl in
     let begins = begins_on g.row.PAGES log from start c.args.page.number made quick more there.begins c.quiet_on-more.ensures.bound
-    (λ some. ap (λ (s : State). s.core.pc / PAGE_BYTES) (sym there.gone.state) ∙ (ap (λ (a : ℕ). a / PAGE_BYTES) (sym pc) ∙ c.quiet_on-more.ensures.here some)) in
-    let here = ap (λ (s : State). s.core.pc) (returns-clause-gone g c log from start made free gone).state in
-    stood_more g.row.PAGES log from start made (quick + more) c.args.page.number before c.args.recorder.now.stood c.stand.new.self.stood so_far begins
-    (λ page.
-    c.stand.ensures.stood page
-    ∙ ap₂ (λ (set : List ℕ) (pc : ℕ). holds set page || nat_eq (pc / PAGE_BYTES) page)
-    (c.quiet_on-more.ensures.stood ∙ c.quick_steps-made.ensures.goes.stood) (c.pc-3.ensures ∙ here))
+    (λ some. ap (λ (s : State). s.core.pc / PAGE_BYTES) (sym there.gone.state) ∙ (ap (λ (a : ℕ). a / PAGE_BYTES) (sym pc) ∙ c.quiet_on-more.ensures.here some)) in record {
+      gone = gone;
+      passed =
+          passes_on g.row.PAGES log from start c.args.stop made quick more (λ k after below. there.passed k (omega (arith, after)) below) c.quiet_on-more.ensures.bound
+          (λ some made_some here.
+          c.goes_on-wanted.ensures.past (c.quiet_on-more.ensures.wanted some) made_some (c.pc-2.ensures ∙ (pc ∙ (ap (λ (s : State). s.core.pc) there.gone.state ∙ here))));
+      stood = λ before stood.
+          stood_more g.row.PAGES log from start made (quick + more) c.args.page.number before c.args.recorder.now.stood c.stand.new.self.stood stood begins
+          (λ page.
+          c.stand.ensures.stood page
+          ∙ ap₂ (λ (set : List ℕ) (pc : ℕ). holds set page || nat_eq (pc / PAGE_BYTES) page)
+          (c.quiet_on-more.ensures.stood ∙ c.quick_steps-made.ensures.goes.stood) (c.pc-3.ensures ∙ ap (λ (s : State). s.core.pc) gone.state));
+    }
