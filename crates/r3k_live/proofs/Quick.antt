@@ -1,5 +1,5 @@
 -- Quick steps of a page, one after another.
-use Rattle.std.proofs.Common.{◌≡◌, ℕ, ◌+◌, ◌-◌, ◌*◌, ◌/◌, ◌^◌, ◌<◌, ◌≤◌, List, [], ◌∷◌, ◌++◌, refl, sym, subst, ap, ◌∙◌, arith, inl, inr}
+use Rattle.std.proofs.Common.{◌≡◌, ℕ, ◌+◌, ◌-◌, ◌*◌, ◌/◌, ◌^◌, ◌<◌, ◌≤◌, List, [], ◌∷◌, ◌++◌, IsFalse, refl, sym, subst, ap, ◌∙◌, arith, inl, inr}
 use Rattle.std.proofs.lemmas.Bool.{cases_lt}
 use Rattle.input_log.specs.Event.{LogEvent}
 use Rattle.r3k_word.specs.Word.{sum_of}
@@ -10,8 +10,11 @@ use Rattle.r3k_machine.specs.Run.{run}
 use Rattle.r3k_machine.specs.State.{State}
 use Rattle.r3k_machine.specs.Step.{outcome_of_instruction, outcome_of_step}
 use Rattle.r3k_machine.specs.Told.{DifferAt}
-use Rattle.r3k_machine.specs.Quiet.{IsIndexIn, outcome_elapsed, state_elapsed}
-use Rattle.r3k_live.specs.Going.{GoesOn, HasGone, HasGoneOn, IsFreeFor, IsWordAt, MayGoOn}
+use Rattle.r3k_machine.specs.Core.{Core}
+use Rattle.r3k_machine.specs.Flow.{with_flow}
+use Rattle.r3k_machine.specs.Quiet.{IsIndexIn, LeadsOn, outcome_elapsed, state_elapsed}
+use Rattle.r3k_machine.specs.declared.flow.Flow.{Flow}
+use Rattle.r3k_live.specs.Going.{Ends, GoesOn, HasGone, HasGoneOn, IsFreeFor, IsWordAt, MayGoOn}
 use Rattle.r3k_live.specs.Recording.{Recording, Records}
 use Rattle.r3k_live.proofs.Gone.{quick_more}
 
@@ -111,6 +114,60 @@ goes_straight pages most address page begun s t u r mid later low high count els
     (let e : mid.steps - begun + 1 ≡ later.steps - begun = omega (arith, low, count) in e)
     (goes_further pages most address page (r.steps - begun) (mid.steps - begun) (mid.steps - begun + 1) s t u r mid later so_far
     (step (mid.steps - begun) (omega (arith, low, high)) elsewhere so_far.may))
+
+-- steps from word to word have come to one, and stand at it
+pub record AreAt (pages most begun first halt end index : ℕ) (page : CodePage) (s : State) (r : Recording) (core : Core) (flow : Flow) (words : List ℕ) (later : Recording) : Type 0 where
+  pub goes : (address : ℕ) → IsWordAt page address halt
+      → GoesOn pages most address page (r.steps - begun) (later.steps - begun) s (record { core = with_flow core flow; words = words }) r later
+  pub may : MayGoOn pages most page (with_flow core flow) later
+  pub here : flow.pc ≡ sum_of (page.number * PAGE_BYTES) (4 * index)
+  pub next : IsFalse flow.delay → flow.next_pc ≡ sum_of flow.pc 4
+  pub count : later.steps ≡ r.steps + (index - first)
+  pub low : first ≤ index
+  pub high : index ≤ end
+
+-- so one more may be made
+pub fewer_than : (pages most begun first halt end index : ℕ) (page : CodePage) (s : State) (r : Recording) (core : Core) (flow : Flow) (words : List ℕ) (later : Recording)
+    → Ends most begun first halt end r.steps → AreAt pages most begun first halt end index page s r core flow words later → index < end → later.steps < begun + most
+fewer_than pages most begun first halt end index page s r core flow words later ends at more =
+    omega (arith, ends.bound, ends.since, ends.made, at.count, at.low, more)
+
+pub word_here : (pages most begun first halt end index : ℕ) (page : CodePage) (s : State) (r : Recording) (core : Core) (flow : Flow) (words : List ℕ) (later : Recording)
+    → Ends most begun first halt end r.steps → AreAt pages most begun first halt end index page s r core flow words later → index < end → IsIndexIn page flow.pc index
+word_here pages most begun first halt end index page s r core flow words later ends at more =
+    word_of page flow.pc index at.may.code.within (omega (arith, more, ends.within)) at.here
+
+-- the step of the word
+abbrev pub StepOf : (pages most : ℕ) (page : CodePage) (s t : State) (r later : Recording) → Type 0
+StepOf pages most page s t r later = (address n : ℕ) → n < most → ¬ (s.core.pc ≡ address) → MayGoOn pages most page s.core r → GoesOn pages most address page n (n + 1) s t r later
+
+pub goes_one : (pages most begun first halt end index : ℕ) (page : CodePage) (s : State) (r : Recording) (core : Core) (flow : Flow) (words : List ℕ) (later : Recording) (t : State) (last : Recording)
+    → Ends most begun first halt end r.steps → AreAt pages most begun first halt end index page s r core flow words later → index < end → last.steps ≡ later.steps + 1
+    → StepOf pages most page (record { core = with_flow core flow; words = words }) t later last
+    → (address : ℕ) → IsWordAt page address halt → GoesOn pages most address page (r.steps - begun) (last.steps - begun) s t r last
+goes_one pages most begun first halt end index page s r core flow words later t last ends at more count step address word =
+    goes_straight pages most address page begun s (record { core = with_flow core flow; words = words }) t r later last
+    (omega (arith, at.count, ends.since))
+    (fewer_than pages most begun first halt end index page s r core flow words later ends at more)
+    count
+    (not_at page address first index end halt flow.pc at.low more ends.stops word (word_here pages most begun first halt end index page s r core flow words later ends at more))
+    (at.goes address word) (step address)
+
+-- after it they are at the next word, unless it stood in a delay slot
+pub at_next : (pages most begun first halt end index : ℕ) (page : CodePage) (s : State) (r : Recording) (core new : Core) (flow after : Flow) (words left : List ℕ) (later last : Recording)
+    → Ends most begun first halt end r.steps → AreAt pages most begun first halt end index page s r core flow words later → index < end → IsFalse flow.delay
+    → last.steps ≡ later.steps + 1 → LeadsOn (with_flow core flow) (with_flow new after)
+    → StepOf pages most page (record { core = with_flow core flow; words = words }) (record { core = with_flow new after; words = left }) later last
+    → AreAt pages most begun first halt end (index + 1) page s r new after left last
+at_next pages most begun first halt end index page s r core new flow after words left later last ends at more free count leads step = record {
+  goes = goes_one pages most begun first halt end index page s r core flow words later (record { core = with_flow new after; words = left }) last ends at more count step;
+  may = (step (flow.pc + 1) 0 (omega (arith, ends.since, ends.made)) (λ same. omega (arith, same)) at.may).may;
+  here = leads.here ∙ (at.next free ∙ (ap (λ (a : ℕ). sum_of a 4) at.here ∙ next_address (page.number * PAGE_BYTES) index));
+  next = leads.next;
+  count = omega (arith, count, at.count, at.low);
+  low = omega (arith, at.low);
+  high = omega (arith, more);
+}
 
 -- steps from none on, of a run that has come here
 pub from_none : (pages most address : ℕ) (page : CodePage) (n : ℕ) (s t : State) (r later : Recording) → ((s : State) → state_elapsed 0 s ≡ s)

@@ -1,7 +1,8 @@
 -- How far a run has gone (own).
-use Rattle.std.specs.Prelude.{◌≡◌, ℕ, ◌+◌, ◌<◌, ◌≤◌, List, [], IsFalse, IsTrue, slice_index}
+use Rattle.std.specs.Prelude.{◌≡◌, ℕ, ◌+◌, ◌-◌, ◌<◌, ◌≤◌, List, [], IsFalse, IsTrue, slice_index}
 use Rattle.input_log.specs.Event.{LogEvent}
 use Rattle.r3k_word.specs.Layout.{page_of_place}
+use Rattle.r3k_word.specs.declared.layout.TheConstants.{PAGE_WORDS}
 use Rattle.r3k_machine.specs.declared.quick.CodePage.{CodePage}
 use Rattle.r3k_machine.specs.Core.{Core}
 use Rattle.r3k_machine.specs.Quiet.{IsCodePage, IsIndexIn, IsQuietFor, state_elapsed}
@@ -64,3 +65,11 @@ pub record GoesOn (pages most address : ℕ) (page : CodePage) (made n : ℕ) (s
 -- where an address is in a page, if it is in it
 abbrev pub IsWordAt : (page : CodePage) → (address index : ℕ) → Type 0
 IsWordAt page address index = (other : ℕ) → IsIndexIn page address other → other ≡ index
+
+-- steps from word to word may be made before this one: within the page, not past the address at which all end, and fewer than `most` after `begun`
+pub record Ends (most begun first halt end steps : ℕ) : Type 0 where
+  pub since : begun ≤ steps
+  pub made : steps ≤ begun + most
+  pub bound : end ≤ first + (begun + most - steps)
+  pub within : end ≤ PAGE_WORDS
+  pub stops : first ≤ halt → end ≤ halt

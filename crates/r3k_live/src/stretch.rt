@@ -9,7 +9,7 @@ ghost use Rattle.r3k_machine.specs.Run.{arriving};
 ghost use Rattle.r3k_machine.specs.State.{State};
 ghost use Rattle.r3k_machine.specs.Told.{IsPage};
 ghost use Rattle.r3k_pages.specs.Pages.{holds};
-ghost use Rattle.r3k_live.specs.Going.{AreLeft, GoesOn, HasGone, HasGoneFor, IsFreeFor, IsWordAt, MayGoOn};
+ghost use Rattle.r3k_live.specs.Going.{AreLeft, Ends, GoesOn, HasGone, HasGoneFor, IsFreeFor, IsWordAt, MayGoOn};
 ghost use Rattle.r3k_live.specs.Living.{state_of};
 ghost use Rattle.r3k_live.specs.Slots.{is_open};
 
@@ -71,23 +71,24 @@ fn step_quickly<const PAGES: u32, const SPAN: u32>(
     true
 }
 
-// The number of the word before which straight steps from a word end: within the page, not past where all steps end, and after at
-// most `most` of them.
+// The number of the word before which straight steps from a word end: within the page, not past where all steps end, and before there
+// are `most` steps after `begun`.
 #[inline(always)]
-fn end_of(first: usize, most: u32, halt: usize) -> usize
+fn end_of(first: usize, begun: u32, most: u32, steps: u32, halt: usize) -> usize
     requires first { first < PAGE_WORDS }
     requires halt { halt ≤ PAGE_WORDS }
+    requires begun { begun ≤ steps }
+    requires made { steps ≤ begun + most }
+    requires fits { begun + most < 2 ^ 32 }
+    ensures ends { Ends most begun first halt result steps }
     ensures first { first ≤ result }
-    ensures within { result ≤ PAGE_WORDS }
-    ensures most { result ≤ first + most }
-    ensures halt { first ≤ halt → result ≤ halt }
 {
     let end = if first <= halt {
         halt
     } else {
         PAGE_WORDS as usize
     };
-    end.min(first + most as usize)
+    end.min(first + (begun + most - steps) as usize)
 }
 
 // Makes quick steps from word to word, up to a jump, and the step in the jump's delay slot. Says whether more may follow. `begun` steps
@@ -113,7 +114,7 @@ fn step_straight<const PAGES: u32, const SPAN: u32>(
     requires within { first < PAGE_WORDS }
     requires halt { halt ≤ PAGE_WORDS }
     requires begun { begun ≤ recorder.old.steps }
-    requires made { recorder.old.steps < begun + most }
+    requires made { recorder.old.steps ≤ begun + most }
     requires room { begun + most ≤ SPAN }
     ensures goes { (address : ℕ) → IsWordAt page address halt → GoesOn PAGES most address page (recorder.old.steps - begun) (recorder.new.steps - begun)
         (state_of (with_flow core.old flow.old) memory.old) (state_of (with_flow core.new flow.new) memory.new) recorder.old recorder.new }
@@ -122,7 +123,7 @@ fn step_straight<const PAGES: u32, const SPAN: u32>(
     ensures straight { IsTrue result → IsStraight flow.new }
     ensures opened { IsTrue (is_open PAGES memory.new.opened.items page.page) }
 {
-    let end = end_of(first, begun + most - recorder.steps(), halt);
+    let end = end_of(first, begun, most, recorder.steps(), halt);
     let mut index = first;
     while index < end {
         flow.stand_straight(page.address(index));
@@ -170,7 +171,7 @@ fn quick_steps<const PAGES: u32, const SPAN: u32>(
         return (0, flow);
     }
     let halt = halt_in(page, stop);
-    while recorder.steps() < begun + most {
+    loop {
         let Some(index) = page.index(flow.pc()) else {
             return (recorder.steps() - begun, flow);
         };
@@ -180,7 +181,6 @@ fn quick_steps<const PAGES: u32, const SPAN: u32>(
             return (recorder.steps() - begun, flow);
         }
     }
-    (recorder.steps() - begun, flow)
 }
 
 // Whether one more step is wanted after some of at most `most` steps: there is room for it, and none of them came to the address where

@@ -5,8 +5,8 @@ use Rattle.r3k_live.specs.Living.{state_of}
 use Rattle.r3k_live.proofs.Quick.{goes_further, goes_nowhere}
 use Rattle.r3k_live.proofs.stretch.quick_steps.Goals as goal
 
-pub loop-page-init : goal.loop-page-init
-loop-page-init g c =
+pub loop-index-init : goal.loop-index-init
+loop-index-init g c =
     let s = state_of (with_flow c.args.core.now c.args.flow) c.args.memory.now in record {
       goes =
           subst (λ (n : ℕ). GoesOn g.row.PAGES c.args.most c.args.stop c.args.page 0 n s s c.args.recorder.now c.args.recorder.now)
@@ -20,21 +20,21 @@ loop-page-init g c =
 pub returns-then-not-step_straight-clause-goes : goal.returns-then-not-step_straight-clause-goes
 returns-then-not-step_straight-clause-goes g c =
     rw c.steps-then-not-step_straight.ensures.steps
-    (goes_further g.row.PAGES c.args.most c.args.stop c.args.page 0 (c.loop-page.recorder.steps - c.steps-begun.result) (c.step_straight.new.recorder.steps - c.steps-begun.result)
-    (state_of (with_flow c.args.core.now c.args.flow) c.args.memory.now) (state_of (with_flow c.loop-page.core c.loop-page.flow) c.loop-page.memory)
+    (goes_further g.row.PAGES c.args.most c.args.stop c.args.page 0 (c.loop-index.recorder.steps - c.steps-begun.result) (c.step_straight.new.recorder.steps - c.steps-begun.result)
+    (state_of (with_flow c.args.core.now c.args.flow) c.args.memory.now) (state_of (with_flow c.loop-index.core c.loop-index.flow) c.loop-index.memory)
     (state_of (with_flow c.step_straight.new.core c.step_straight.new.flow) c.step_straight.new.memory)
-    c.args.recorder.now c.loop-page.recorder c.step_straight.new.recorder
-    c.loop-page.invariant.goes (c.step_straight.ensures.goes c.args.stop c.halt_in-halt.ensures.word))
+    c.args.recorder.now c.loop-index.recorder c.step_straight.new.recorder
+    c.loop-index.invariant.goes (c.step_straight.ensures.goes c.args.stop c.halt_in-halt.ensures.word))
 
-pub loop-page-preserved : goal.loop-page-preserved
-loop-page-preserved g c = record {
+pub loop-index-preserved : goal.loop-index-preserved
+loop-index-preserved g c = record {
   goes =
-      goes_further g.row.PAGES c.args.most c.args.stop c.args.page 0 (c.loop-page.recorder.steps - c.steps-begun.result) (c.step_straight.new.recorder.steps - c.steps-begun.result)
-      (state_of (with_flow c.args.core.now c.args.flow) c.args.memory.now) (state_of (with_flow c.loop-page.core c.loop-page.flow) c.loop-page.memory)
+      goes_further g.row.PAGES c.args.most c.args.stop c.args.page 0 (c.loop-index.recorder.steps - c.steps-begun.result) (c.step_straight.new.recorder.steps - c.steps-begun.result)
+      (state_of (with_flow c.args.core.now c.args.flow) c.args.memory.now) (state_of (with_flow c.loop-index.core c.loop-index.flow) c.loop-index.memory)
       (state_of (with_flow c.step_straight.new.core c.step_straight.new.flow) c.step_straight.new.memory)
-      c.args.recorder.now c.loop-page.recorder c.step_straight.new.recorder
-      c.loop-page.invariant.goes (c.step_straight.ensures.goes c.args.stop c.halt_in-halt.ensures.word);
+      c.args.recorder.now c.loop-index.recorder c.step_straight.new.recorder
+      c.loop-index.invariant.goes (c.step_straight.ensures.goes c.args.stop c.halt_in-halt.ensures.word);
   straight = c.step_straight.ensures.straight c.if-not-step_straight.false;
-  least = omega (arith, c.loop-page.invariant.least, c.step_straight.ensures.least);
+  least = omega (arith, c.loop-index.invariant.least, c.step_straight.ensures.least);
   opened = c.step_straight.ensures.opened;
 }

@@ -6,8 +6,8 @@ use Rattle.r3k_live.specs.Slots.{is_open}
 use Rattle.r3k_live.proofs.stretch.quick_steps.Given as goal
 
 -- they went on, and the next one is straight
-abbrev pub invariant-loop-page : goal.invariant-loop-page
-invariant-loop-page g l = record {
+abbrev pub invariant-loop-index : goal.invariant-loop-index
+invariant-loop-index g l = record {
   goes : GoesOn g.row.PAGES l.most l.stop l.page 0 (l.recorder.steps - l.begun)
       (state_of (with_flow l.fn.core l.fn.flow) l.fn.memory) (state_of (with_flow l.core l.flow) l.memory) l.fn.recorder l.recorder;
   straight : IsStraight l.flow;
@@ -15,5 +15,5 @@ invariant-loop-page g l = record {
   opened : IsTrue (is_open g.row.PAGES l.memory.opened.items l.page.page);
 }
 
-abbrev pub decreases-loop-page : goal.decreases-loop-page
-decreases-loop-page g l = l.begun + l.most - l.recorder.steps
+abbrev pub decreases-loop-index : goal.decreases-loop-index
+decreases-loop-index g l = l.begun + l.most - l.recorder.steps
