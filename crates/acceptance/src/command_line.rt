@@ -17,58 +17,60 @@ fn asked<'a>(alloc: Global, words: &'a [&'a str]) -> Result<(Kind, u32, u32), u8
     }
 }
 
+// The words of a line.
+fn words_of(alloc: Global, line: &str) -> Result<Vec<&str>, Fail> {
+    let mut words = Vec::new(alloc);
+    for word in line.split(' ') {
+        words.push(word)?;
+    }
+    Ok(words)
+}
+
 /// Good lines are taken: a program that always reports usage fails here.
 #[test]
-fn always_usage(rt: HostRuntime) {
-    let alloc = rt.alloc();
-    same(&rt, &asked(alloc, &["r3kwb"]), &Ok((Kind::Rom, 0, 0)));
-    same(&rt, &asked(alloc, &[]), &Ok((Kind::Rom, 0, 0)));
-    let words = ["r3kwb", "--kind", "image", "--size", "32"];
-    same(&rt, &asked(alloc, &words), &Ok((Kind::Image, 32, 0)));
-    let words = ["r3kwb", "--kind", "source", "--size", "7"];
-    same(&rt, &asked(alloc, &words), &Ok((Kind::Source, 7, 0)));
-    let words = ["r3kwb", "--size=5", "--kind=rom"];
-    same(&rt, &asked(alloc, &words), &Ok((Kind::Rom, 5, 0)));
-    let words = ["r3kwb", "--log", "18", "--size", "7"];
-    same(&rt, &asked(alloc, &words), &Ok((Kind::Rom, 7, 18)));
-    let words = ["r3kwb", "--log=67108864"];
-    same(&rt, &asked(alloc, &words), &Ok((Kind::Rom, 0, 67_108_864)));
-    let words = ["r3kwb", "--size", "67108864"];
-    same(&rt, &asked(alloc, &words), &Ok((Kind::Rom, 67_108_864, 0)));
+fn always_usage(rt: HostRuntime) -> Result<(), Fail> {
+    same(&rt, &asked(rt.alloc(), &[]), &Ok((Kind::Rom, 0, 0)));
+    for (line, kind, size, log_size) in [
+        ("r3kwb", Kind::Rom, 0, 0),
+        ("r3kwb --kind image --size 32", Kind::Image, 32, 0),
+        ("r3kwb --kind source --size 7", Kind::Source, 7, 0),
+        ("r3kwb --size=5 --kind=rom", Kind::Rom, 5, 0),
+        ("r3kwb --log 18 --size 7", Kind::Rom, 7, 18),
+        ("r3kwb --log=67108864", Kind::Rom, 0, 67_108_864),
+        ("r3kwb --size 67108864", Kind::Rom, 67_108_864, 0),
+    ] {
+        let words = words_of(rt.alloc(), line)?;
+        let found = asked(rt.alloc(), &words);
+        same_at(&rt, &line, &found, &Ok((kind, size, log_size)));
+    }
+    Ok(())
 }
 
 #[test]
-fn wrong_lines(rt: HostRuntime) {
-    let alloc = rt.alloc();
-    same(
-        &rt,
-        &asked(alloc, &["r3kwb", "--size", "67108865"]),
-        &Err(2),
-    );
-    same(&rt, &asked(alloc, &["r3kwb", "--size", "-1"]), &Err(2));
-    same(&rt, &asked(alloc, &["r3kwb", "--size="]), &Err(2));
-    same(&rt, &asked(alloc, &["r3kwb", "--size"]), &Err(2));
-    same(&rt, &asked(alloc, &["r3kwb", "--size", "+5"]), &Err(2));
-    same(
-        &rt,
-        &asked(alloc, &["r3kwb", "--size", "1", "--size", "1"]),
-        &Err(2),
-    );
-    same(&rt, &asked(alloc, &["r3kwb", "--kind", "sources"]), &Err(2));
-    same(&rt, &asked(alloc, &["r3kwb", "--kind="]), &Err(2));
-    same(&rt, &asked(alloc, &["r3kwb", "image"]), &Err(2));
-    for words in [
-        ["r3kwb", "--log"].as_slice(),
-        &["r3kwb", "--log="],
-        &["r3kwb", "--log", "67108865"],
-        &["r3kwb", "--log", "-1"],
-        &["r3kwb", "--log", "0x1"],
-        &["r3kwb", "--log", "1", "2"],
-        &["r3kwb", "--log", "1", "--log", "1"],
-        &["r3kwb", "--logs", "1"],
+fn wrong_lines(rt: HostRuntime) -> Result<(), Fail> {
+    for line in [
+        "r3kwb --size 67108865",
+        "r3kwb --size -1",
+        "r3kwb --size=",
+        "r3kwb --size",
+        "r3kwb --size +5",
+        "r3kwb --size 1 --size 1",
+        "r3kwb --kind sources",
+        "r3kwb --kind=",
+        "r3kwb image",
+        "r3kwb --log",
+        "r3kwb --log=",
+        "r3kwb --log 67108865",
+        "r3kwb --log -1",
+        "r3kwb --log 0x1",
+        "r3kwb --log 1 2",
+        "r3kwb --log 1 --log 1",
+        "r3kwb --logs 1",
     ] {
-        same_at(&rt, &words, &asked(alloc, words), &Err(2));
+        let words = words_of(rt.alloc(), line)?;
+        same_at(&rt, &line, &asked(rt.alloc(), &words), &Err(2));
     }
+    Ok(())
 }
 
 /// Help goes to the output and says what the input is, the statuses, and where the commands are explained. Usage goes to the
@@ -77,7 +79,6 @@ fn wrong_lines(rt: HostRuntime) {
 fn help_and_usage(rt: HostRuntime) -> Result<(), Fail> {
     let alloc = rt.alloc();
     let run = run_program(alloc, &["r3kwb", "--help"], b"pos\n", 1)?;
-    let help = str::from_utf8(run.output.as_slice())?;
     for part in [
         "Usage: r3kwb [OPTIONS]",
         "Standard input is the bytes of the kind, then those of the log (0 bytes are the empty log), and then a",
@@ -85,22 +86,19 @@ fn help_and_usage(rt: HostRuntime) -> Result<(), Fail> {
         "Statuses: 0 good, also for this help; 1 a bad image, source or log",
         "docs/USING.md",
     ] {
-        same_at(&rt, &part, &help.contains(part), &true);
+        same_at(&rt, &part, &run.output.contains(part), &true);
     }
     for of in ["of it that", "behind them the log"] {
         let part = format!(in alloc; "How many bytes {of} takes, 0 to {MAX_SIZE} [default: 0]")?;
-        same_at(&rt, &part, &help.contains(part.as_str()), &true);
+        same_at(&rt, &part, &run.output.contains(part.as_str()), &true);
     }
-    assert!(rt; !help.contains("pos 0"));
-    same(&rt, &run.told.len(), &0);
-    same(&rt, &run.status, &0);
+    assert!(rt; !run.output.contains("pos 0"));
+    same(&rt, &(run.told.len(), run.status), &(0, 0));
     for option in ["--size", "--log"] {
         let run = run_program(alloc, &["r3kwb", option, "67108865"], b"pos\n", 1)?;
-        let usage = str::from_utf8(run.told.as_slice())?;
         let part = format!(in alloc; "{option} is a number from 0 to {MAX_SIZE}\n")?;
-        same_at(&rt, &part, &usage.contains(part.as_str()), &true);
-        same(&rt, &run.output.len(), &0);
-        same(&rt, &run.status, &2);
+        same_at(&rt, &part, &run.told.contains(part.as_str()), &true);
+        same(&rt, &(run.output.len(), run.status), &(0, 2));
     }
     Ok(())
 }
@@ -128,25 +126,27 @@ fn no_words(rt: HostRuntime) -> Result<(), Fail> {
 
 #[test]
 fn fault_lines(rt: HostRuntime) {
-    let short = RunFault::BadImage(ImageKind::Short);
-    same(
-        &rt,
-        &fault_line(&short).as_slice(),
-        &b"r3kwb: error 9 BadImage Short\n".as_slice(),
-    );
     let longest = RunFault::BadSource {
         line: u64::MAX,
         kind: AsmKind::Overlap,
     };
-    same(
-        &rt,
-        &fault_line(&longest).as_slice(),
-        &b"r3kwb: error 13 BadSource 18446744073709551615 Overlap\n".as_slice(),
-    );
-    same(&rt, &status(&Err(longest)), &1);
-    let line = b"r3kwb: error 11 ReadFault\n".as_slice();
-    same(&rt, &fault_line(&RunFault::ReadFault).as_slice(), &line);
-    same(&rt, &status(&Err(short)), &1);
+    let faults: [(RunFault, &[u8], u8); 3] = [
+        (
+            RunFault::BadImage(ImageKind::Short),
+            b"r3kwb: error 9 BadImage Short\n",
+            1,
+        ),
+        (
+            longest,
+            b"r3kwb: error 13 BadSource 18446744073709551615 Overlap\n",
+            1,
+        ),
+        (RunFault::ReadFault, b"r3kwb: error 11 ReadFault\n", 3),
+    ];
+    for (fault, line, ends) in faults {
+        same(&rt, &fault_line(&fault).as_slice(), &line);
+        same(&rt, &status(&Err(fault)), &ends);
+    }
     same(&rt, &status(&Err(RunFault::WriteFault)), &3);
     same(&rt, &status(&Err(RunFault::Memory)), &4);
     same(&rt, &status(&Ok(())), &0);

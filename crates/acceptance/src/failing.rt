@@ -1,4 +1,7 @@
 //! Runs of which one read or one write is upset, at each place.
+ghost use Rattle.std.specs.Prelude.{◌≤◌};
+ghost use Rattle.wb_options.specs.Options.{max_size};
+
 use crate::same::same_at;
 use samples::{ECHO, LOAD_SLOT};
 use std::alloc::{AllocError, Global};
@@ -41,26 +44,27 @@ fn edited_echo(alloc: Global) -> Result<Vec<u8>, AllocError> {
     Ok(input)
 }
 
-// Compares a run with its status and with what it wrote.
+// Serves an input and compares the status and what was written.
 fn ends(
-    rt: &impl Abort,
-    alloc: Global,
+    rt: &(impl Abort + AllocGlobal),
     place: usize,
     options: Options,
     reader: &mut Plan,
     writer: &mut Plan,
     wants: (u8, &[u8]),
 ) {
-    let outcome = serve::<16, 64, Plan, Plan>(alloc, options, reader, writer);
-    same_at(rt, &place, &status(&outcome), &wants.0);
-    same_at(rt, &place, &writer.written(), &wants.1);
+    let outcome = serve::<16, 64, Plan, Plan>(rt.alloc(), options, reader, writer);
+    same_at(rt, &place, &(status(&outcome), writer.written()), &wants);
 }
 
-fn source_options() -> Options {
+fn options(kind: Kind, size: u32, log_size: u32) -> Options
+    requires size { size ≤ max_size }
+    requires log { log_size ≤ max_size }
+{
     Options {
-        kind: Kind::Source,
-        size: ECHO.len() as u32,
-        log_size: 0,
+        kind,
+        size,
+        log_size,
     }
 }
 
@@ -68,37 +72,22 @@ fn source_options() -> Options {
 #[test]
 fn each_read_failing(rt: HostRuntime) -> Result<(), Fail> {
     let alloc = rt.alloc();
-    let input = edited_echo(alloc)?;
     let front = ECHO.len();
+    let asked = options(Kind::Source, front as u32, 0);
+    let input = edited_echo(alloc)?;
     for good in front..input.len() + 1 {
         let mut reader = Plan::new(alloc, &input, 1, 0)?;
         reader.fail_read(good as u64);
         let mut writer = Plan::new(alloc, &[], 4096, 4096)?;
         let out = first_replies(feeds(&input[front..good]));
-        ends(
-            &rt,
-            alloc,
-            good,
-            source_options(),
-            &mut reader,
-            &mut writer,
-            (3, out),
-        );
+        ends(&rt, good, asked, &mut reader, &mut writer, (3, out));
     }
     // In large pieces the reads are that of the source, that of the script, and that of the end.
     for (good, out) in [(0, &b""[..]), (1, b""), (2, REPLIES)] {
         let mut reader = Plan::new(alloc, &input, 4096, 0)?;
-        reader.fail_read(good);
+        reader.fail_read(good as u64);
         let mut writer = Plan::new(alloc, &[], 4096, 4096)?;
-        ends(
-            &rt,
-            alloc,
-            good as usize,
-            source_options(),
-            &mut reader,
-            &mut writer,
-            (3, out),
-        );
+        ends(&rt, good, asked, &mut reader, &mut writer, (3, out));
     }
     Ok(())
 }
@@ -107,37 +96,22 @@ fn each_read_failing(rt: HostRuntime) -> Result<(), Fail> {
 #[test]
 fn each_write_upset(rt: HostRuntime) -> Result<(), Fail> {
     let alloc = rt.alloc();
+    let asked = options(Kind::Source, ECHO.len() as u32, 0);
     let input = edited_echo(alloc)?;
     for upset in [Upset::Fails, Upset::TakesNone] {
         for good in 0..feeds(REPLIES) {
             let mut reader = Plan::new(alloc, &input, 4096, 0)?;
             let mut writer = Plan::new(alloc, &[], 4096, 4096)?;
             writer.upset_write(good as u64, upset);
-            let out = first_replies(good);
-            ends(
-                &rt,
-                alloc,
-                good,
-                source_options(),
-                &mut reader,
-                &mut writer,
-                (3, out),
-            );
+            let wants = (3, first_replies(good));
+            ends(&rt, good, asked, &mut reader, &mut writer, wants);
         }
         for good in 0..REPLIES.len() {
             let mut reader = Plan::new(alloc, &input, 4096, 0)?;
             let mut writer = Plan::new(alloc, &[], 1, 4096)?;
             writer.upset_write(good as u64, upset);
-            let out = &REPLIES[..good];
-            ends(
-                &rt,
-                alloc,
-                good,
-                source_options(),
-                &mut reader,
-                &mut writer,
-                (3, out),
-            );
+            let wants = (3, &REPLIES[..good]);
+            ends(&rt, good, asked, &mut reader, &mut writer, wants);
         }
     }
     Ok(())
@@ -147,6 +121,7 @@ fn each_write_upset(rt: HostRuntime) -> Result<(), Fail> {
 #[test]
 fn narrow_writers(rt: HostRuntime) -> Result<(), Fail> {
     let alloc = rt.alloc();
+    let asked = options(Kind::Source, ECHO.len() as u32, 0);
     let input = edited_echo(alloc)?;
     let all = REPLIES.len();
     for (piece, room, fault) in [
@@ -158,16 +133,8 @@ fn narrow_writers(rt: HostRuntime) -> Result<(), Fail> {
     ] {
         let mut reader = Plan::new(alloc, &input, 3, 0)?;
         let mut writer = Plan::new(alloc, &[], piece, room)?;
-        let out = &REPLIES[..room];
-        ends(
-            &rt,
-            alloc,
-            room,
-            source_options(),
-            &mut reader,
-            &mut writer,
-            (fault, out),
-        );
+        let wants = (fault, &REPLIES[..room]);
+        ends(&rt, room, asked, &mut reader, &mut writer, wants);
     }
     Ok(())
 }
@@ -175,16 +142,11 @@ fn narrow_writers(rt: HostRuntime) -> Result<(), Fail> {
 /// A reader that gives blanks for ever: a read fault after 2^20 reads, and nothing is written.
 #[test]
 fn blanks_for_ever(rt: HostRuntime) -> Result<(), Fail> {
-    let alloc = rt.alloc();
-    let options = Options {
-        kind: Kind::Rom,
-        size: 0,
-        log_size: 0,
-    };
-    let mut reader = Plan::new(alloc, b" ", 4096, 0)?;
+    let mut reader = Plan::new(rt.alloc(), b" ", 4096, 0)?;
     reader.give_for_ever();
-    let mut writer = Plan::new(alloc, &[], 4096, 16)?;
-    ends(&rt, alloc, 0, options, &mut reader, &mut writer, (3, b""));
+    let mut writer = Plan::new(rt.alloc(), &[], 4096, 16)?;
+    let asked = options(Kind::Rom, 0, 0);
+    ends(&rt, 0, asked, &mut reader, &mut writer, (3, b""));
     Ok(())
 }
 
@@ -215,30 +177,18 @@ fn cut(len: usize) -> &'static [u8] {
 #[test]
 fn cut_scripts(rt: HostRuntime) -> Result<(), Fail> {
     let alloc = rt.alloc();
-    let options = Options {
-        kind: Kind::Image,
-        size: 68,
-        log_size: 0,
-    };
+    let asked = options(Kind::Image, 68, 0);
     let mut input = Vec::from_slice(alloc, &LOAD_SLOT)?;
     input.extend_from_slice(b"goto 2\nregs")?;
     for len in 0..12 {
         let mut reader = Plan::new(alloc, &input[..68 + len], 5, 0)?;
         let mut writer = Plan::new(alloc, &[], 4096, 4096)?;
-        ends(
-            &rt,
-            alloc,
-            len,
-            options,
-            &mut reader,
-            &mut writer,
-            (0, cut(len)),
-        );
+        ends(&rt, len, asked, &mut reader, &mut writer, (0, cut(len)));
         let mut reader = Plan::new(alloc, &input[..68 + len], 1, 0)?;
         reader.fail_read(68 + len as u64);
         let mut writer = Plan::new(alloc, &[], 4096, 4096)?;
         let out: &[u8] = if len < 7 { b"" } else { b"pos 2\n" };
-        ends(&rt, alloc, len, options, &mut reader, &mut writer, (3, out));
+        ends(&rt, len, asked, &mut reader, &mut writer, (3, out));
     }
     Ok(())
 }
@@ -247,24 +197,19 @@ fn cut_scripts(rt: HostRuntime) -> Result<(), Fail> {
 #[test]
 fn cut_fronts(rt: HostRuntime) -> Result<(), Fail> {
     let alloc = rt.alloc();
-    let options = Options {
-        kind: Kind::Image,
-        size: 68,
-        log_size: 18,
-    };
+    let asked = options(Kind::Image, 68, 18);
     let mut input = Vec::from_slice(alloc, &LOAD_SLOT)?;
-    input.extend_from_slice(b"R3KLOG1\n\x01\0\0\0\x46\0\0\0\0\x41")?;
-    input.extend_from_slice(b"pos\n")?;
+    input.extend_from_slice(b"R3KLOG1\n\x01\0\0\0\x46\0\0\0\0\x41pos\n")?;
     for len in 0..91 {
         let mut reader = Plan::new(alloc, &input, 1, 0)?;
         reader.fail_read(len as u64);
         let mut writer = Plan::new(alloc, &[], 4096, 64)?;
         let out: &[u8] = if len < 90 { b"" } else { b"pos 0\n" };
-        ends(&rt, alloc, len, options, &mut reader, &mut writer, (3, out));
+        ends(&rt, len, asked, &mut reader, &mut writer, (3, out));
         if len < 86 {
             let mut reader = Plan::new(alloc, &input[..len], 7, 0)?;
             let mut writer = Plan::new(alloc, &[], 4096, 64)?;
-            ends(&rt, alloc, len, options, &mut reader, &mut writer, (3, b""));
+            ends(&rt, len, asked, &mut reader, &mut writer, (3, b""));
         }
     }
     Ok(())

@@ -28,6 +28,4 @@ mod readers;
 #[cfg(test)]
 mod same;
 #[cfg(test)]
-mod scripts;
-#[cfg(test)]
 mod served;

@@ -1,182 +1,153 @@
 //! The image format, raw ROMs, and images made word by word.
-use crate::image_patches::writes;
 use crate::same::{same, same_at};
+use crate::tables::{changed, numbers, rows};
 use r3k_image::{
-    ClockStart, Constant, ImageFault, ImageKind, WordAddress, WordMap, raw_rom, read_image,
+    ClockStart, Constant, Image, ImageFault, ImageKind, WordAddress, WordMap, raw_rom, read_image,
+    write_image,
 };
-use samples::{EMPTY_IMAGE, LOAD_SLOT};
+use samples::{EMPTY_IMAGE, LOAD_SLOT, number, shown};
+use std::alloc::{AllocError, Global};
+use std::process::Abort;
 use std::test::Fail;
 
-const CLOCK: [u8; 12] = [0, 0, 0, 0, 0, 0, 1, 1, 1, 0, 0x20, 6];
+/// The clock of a raw ROM.
+pub const CLOCK: [u8; 12] = [0, 0, 0, 0, 0, 0, 1, 1, 1, 0, 0x20, 6];
+
+/// Compares the bytes that an image is written as.
+pub fn writes(rt: &(impl Abort + AllocGlobal), image: &Image, bytes: &[u8]) -> Result<(), Fail> {
+    same(rt, &write_image(rt.alloc(), image)?.as_slice(), &bytes);
+    Ok(())
+}
+
+/// Compares words of an image: `ADDRESS WORD` with `; ` between, and `none` for a word that is not set.
+pub fn has_words(rt: &impl Abort, image: &Image, words: &str) -> Result<(), Fail> {
+    for row in words.split("; ") {
+        let (address, word) = row.split_once(' ').ok_or("no word")?;
+        let address = u32::try_from(number(address)?)?;
+        let wanted = match word {
+            "none" => None,
+            _ => Some(u32::try_from(number(word)?)?),
+        };
+        same_at(rt, &address, &image.word(address), &wanted);
+    }
+    Ok(())
+}
+
+/// Compares an image's byte time, its unit and the start of its clock.
+pub fn has_constants(rt: &impl Abort, image: &Image, byte_time: u16, unit: u16, clock: &[u8; 12]) {
+    same(rt, &image.byte_time(), &byte_time);
+    same(rt, &image.unit(), &unit);
+    same(rt, &image.clock_start(), clock);
+}
+
+/// A header, with words behind it: how many segments there are, and of each its address, its count and its words.
+pub fn image_bytes(alloc: Global, header: &[u8], words: &str) -> Result<Vec<u8>, Fail> {
+    let mut bytes = header.to_vec(alloc)?;
+    for word in &numbers(alloc, words)? {
+        bytes.extend_from_slice(&u32::try_from(*word)?.to_le_bytes())?;
+    }
+    Ok(bytes)
+}
+
+// The fault of an image, or `None`.
+fn fault(alloc: Global, bytes: &[u8]) -> Result<String, AllocError> {
+    shown(alloc, &read_image(alloc, bytes).err())
+}
 
 #[test]
 fn empty_image(rt: HostRuntime) -> Result<(), Fail> {
     let image = read_image(rt.alloc(), &EMPTY_IMAGE)?;
-    same(&rt, &image.byte_time(), &16);
-    same(&rt, &image.unit(), &1);
-    same(&rt, &image.clock_start(), &CLOCK);
-    same(&rt, &image.word(0), &None);
+    has_constants(&rt, &image, 16, 1, &CLOCK);
+    has_words(&rt, &image, "0 none")?;
     assert!(rt; image.fits(0));
-    Ok(())
+    writes(&rt, &image, &EMPTY_IMAGE)
 }
 
 #[test]
 fn load_slot(rt: HostRuntime) -> Result<(), Fail> {
     let image = read_image(rt.alloc(), &LOAD_SLOT)?;
-    for (address, word) in [
-        (0xFF, None),
-        (0x100, Some(5)),
-        (0x102, None),
-        (0x104, None),
-        (0x1FBF_FFFC, None),
-        (0x1FC0_0000, Some(0x3C01_A000)),
-        (0x1FC0_000C, Some(0x0040_2021)),
-        (0x1FC0_0010, None),
-        (0xFFFF_FFFC, None),
-    ] {
-        same_at(&rt, &address, &image.word(address), &word);
-    }
+    let words =
+        "0xff none; 0x100 5; 0x102 none; 0x104 none; 0x1fbffffc none; 0x1fc00000 0x3c01a000; \
+0x1fc0000c 0x00402021; 0x1fc00010 none; 0xfffffffc none";
+    has_words(&rt, &image, words)?;
     assert!(rt; !image.fits(0));
     assert!(rt; image.fits(1));
     for end in 0..LOAD_SLOT.len() {
         let fault = read_image(rt.alloc(), &LOAD_SLOT[..end]).err();
         same_at(&rt, &end, &fault, &Some(ImageFault::Bad(ImageKind::Short)));
     }
-    Ok(())
+    writes(&rt, &image, &LOAD_SLOT)
 }
 
 #[test]
-fn faults_of_the_header(rt: HostRuntime) {
+fn faults_of_the_header(rt: HostRuntime) -> Result<(), Fail> {
     let short = read_image(rt.alloc(), b"another").err();
     same(&rt, &short, &Some(ImageFault::Bad(ImageKind::Short)));
-    for (place, byte, kind) in [
-        (7, b'\r', Some(ImageKind::Magic)),
-        (8, 0, Some(ImageKind::ByteTime)),
-        (9, 0xFF, None),
-        (10, 1, Some(ImageKind::ByteTime)),
-        (12, 0, Some(ImageKind::Unit)),
-        (14, 1, Some(ImageKind::Unit)),
-        (26, 0x80, Some(ImageKind::ClockStart)),
-        (27, 7, Some(ImageKind::ClockStart)),
-        (28, 1, Some(ImageKind::Short)),
-    ] {
-        let mut bytes = EMPTY_IMAGE;
-        bytes[place] = byte;
-        let fault = read_image(rt.alloc(), &bytes).err();
-        same_at(&rt, &(byte, place), &fault, &kind.map(ImageFault::Bad));
+    for (change, wanted) in &rows(rt.alloc(), HEADERS)? {
+        let bytes = changed(rt.alloc(), &EMPTY_IMAGE, change.as_str())?;
+        same_at(&rt, &change, &fault(rt.alloc(), &bytes)?, wanted);
     }
+    Ok(())
 }
+
+// Changes of a byte of `EMPTY_IMAGE`, which has 32, and the fault.
+const HEADERS: &str = "
+9 0xff 32 = None
+7 0x0d 32 = Some Bad Magic
+8 0 32; 10 1 32 = Some Bad ByteTime
+12 0 32; 14 1 32 = Some Bad Unit
+26 0x80 32; 27 7 32 = Some Bad ClockStart
+28 1 32 = Some Bad Short
+";
 
 #[test]
 fn faults_of_segments(rt: HostRuntime) -> Result<(), Fail> {
-    for (address, count, words, kind) in [
-        (0u32, 1u32, 1usize, None),
-        (0, 1, 2, Some(ImageKind::Extra)),
-        (0, 1, 0, Some(ImageKind::Short)),
-        (0, 0, 0, Some(ImageKind::Segment)),
-        (2, 1, 1, Some(ImageKind::Segment)),
-        (0, 0x0080_0000, 0, Some(ImageKind::Short)),
-        (0, 0x4000_0000, 0, Some(ImageKind::Segment)),
-        (0x01FF_FFFC, 1, 1, None),
-        (0x01FF_FFFC, 2, 2, Some(ImageKind::Segment)),
-        (0x1FBF_FFFC, 2, 2, Some(ImageKind::Segment)),
-        (0x1FC3_FFFC, 1, 1, None),
-        (0x1FC3_FFFC, 2, 2, Some(ImageKind::Segment)),
-        (0xFFFF_FFFC, 2, 2, Some(ImageKind::Segment)),
-    ] {
-        let mut bytes = EMPTY_IMAGE.to_vec(rt.alloc())?;
-        bytes[28] = 1;
-        bytes.extend_from_slice(&address.to_le_bytes())?;
-        bytes.extend_from_slice(&count.to_le_bytes())?;
-        for _ in 0..words {
-            bytes.extend_from_slice(&[1, 2, 3, 4])?;
-        }
-        let fault = read_image(rt.alloc(), &bytes).err();
-        same_at(&rt, &(count, address), &fault, &kind.map(ImageFault::Bad));
+    for (words, wanted) in &rows(rt.alloc(), SEGMENTS)? {
+        let bytes = image_bytes(rt.alloc(), &EMPTY_IMAGE[..28], words.as_str())?;
+        same_at(&rt, &words, &fault(rt.alloc(), &bytes)?, wanted);
     }
     Ok(())
 }
 
-#[test]
-fn segments_may_touch(rt: HostRuntime) -> Result<(), Fail> {
-    for (second, kind) in [
-        (0xFCu32, Some(ImageKind::Segment)),
-        (0x100, Some(ImageKind::Segment)),
-        (0x104, None),
-        (0x108, None),
-    ] {
-        let mut bytes = EMPTY_IMAGE.to_vec(rt.alloc())?;
-        bytes[28] = 2;
-        bytes.extend_from_slice(b"\0\x01\0\0\x01\0\0\0\x05\0\0\0")?;
-        bytes.extend_from_slice(&second.to_le_bytes())?;
-        bytes.extend_from_slice(b"\x01\0\0\0\x06\0\0\0")?;
-        let fault = read_image(rt.alloc(), &bytes).err();
-        same_at(&rt, &second, &fault, &kind.map(ImageFault::Bad));
-    }
-    Ok(())
-}
+// The words behind the header of `EMPTY_IMAGE`, and the fault.
+const SEGMENTS: &str = "
+1 0 1 0x04030201; 1 0x01fffffc 1 0x04030201; 1 0x1fc3fffc 1 0x04030201 = None
+1 0 1 0x04030201 0x04030201 = Some Bad Extra
+1 0 1; 1 0 0x00800000 = Some Bad Short
+1 0 0; 1 2 1 0x04030201; 1 0 0x40000000; 1 0x01fffffc 2 0x04030201 0x04030201 = Some Bad Segment
+1 0x1fbffffc 2 0x04030201 0x04030201; 1 0x1fc3fffc 2 0x04030201 0x04030201 = Some Bad Segment
+1 0xfffffffc 2 0x04030201 0x04030201 = Some Bad Segment
+// two segments that may touch
+2 0x100 1 5 0x104 1 6; 2 0x100 1 5 0x108 1 6 = None
+2 0x100 1 5 0xfc 1 6; 2 0x100 1 5 0x100 1 6 = Some Bad Segment
+";
 
 #[test]
 fn raw_roms(rt: HostRuntime) -> Result<(), Fail> {
     let image = raw_rom(rt.alloc(), &[0x11, 0x22, 0x33, 0x44, 0x55])?;
-    same(&rt, &image.word(0x1FC0_0000), &Some(0x4433_2211));
-    same(&rt, &image.word(0x1FC0_0004), &Some(0x55));
-    same(&rt, &image.word(0x1FC0_0008), &None);
-    same(&rt, &image.byte_time(), &16);
-    same(&rt, &image.unit(), &1);
-    same(&rt, &image.clock_start(), &CLOCK);
+    let words = "0x1fc00000 0x44332211; 0x1fc00004 0x55; 0x1fc00008 none";
+    has_words(&rt, &image, words)?;
+    has_constants(&rt, &image, 16, 1, &CLOCK);
     assert!(rt; image.fits(0));
-
-    let none = raw_rom(rt.alloc(), &[])?;
-    same(&rt, &none.word(0x1FC0_0000), &None);
-    Ok(())
-}
-
-#[test]
-fn longest_raw_rom(rt: HostRuntime) -> Result<(), Fail> {
-    for (len, kind, last) in [
-        (262_144usize, None, Some(0xA5A5_A5A5)),
-        (262_145, Some(ImageKind::RawSize), None),
-    ] {
-        let bytes = vec![in rt.alloc(); 0xA5u8; len]?;
-        let image = raw_rom(rt.alloc(), &bytes);
-        if let Ok(image) = &image {
-            same(&rt, &image.word(0x1FC3_FFFC), &last);
-            same(&rt, &image.word(0x1FC4_0000), &None);
-        }
-        same_at(&rt, &len, &image.err(), &kind.map(ImageFault::Bad));
-    }
-    Ok(())
-}
-
-#[test]
-fn written_again(rt: HostRuntime) -> Result<(), Fail> {
-    for bytes in [EMPTY_IMAGE.as_slice(), LOAD_SLOT.as_slice()] {
-        let image = read_image(rt.alloc(), bytes)?;
-        writes(&rt, &image, bytes)?;
-    }
+    has_words(&rt, &raw_rom(rt.alloc(), &[])?, "0x1fc00000 none")?;
+    // The longest, and one longer.
+    let mut bytes = vec![in rt.alloc(); 0xA5u8; 262_144]?;
+    let image = raw_rom(rt.alloc(), &bytes)?;
+    has_words(&rt, &image, "0x1fc3fffc 0xa5a5a5a5; 0x1fc40000 none")?;
+    bytes.push(0xA5)?;
+    let fault = raw_rom(rt.alloc(), &bytes).err();
+    same(&rt, &fault, &Some(ImageFault::Bad(ImageKind::RawSize)));
     Ok(())
 }
 
 // Segments that touch are written as one, also where RAM ends and where ROM does.
 #[test]
 fn touching_segments_are_joined(rt: HostRuntime) -> Result<(), Fail> {
-    let apart = *b"R3KIMG1\n\x02\0\0\0\x03\0\0\0\
-\0\0\0\0\0\0\x01\x01\x01\0\x20\x06\
-\x04\0\0\0\
-\0\x01\0\0\x01\0\0\0\x05\0\0\0\
-\x04\x01\0\0\x02\0\0\0\x06\0\0\0\x07\0\0\0\
-\x10\x01\0\0\x01\0\0\0\x08\0\0\0\
-\xfc\xff\xff\x01\x01\0\0\0\x09\0\0\0";
-    let joined = *b"R3KIMG1\n\x02\0\0\0\x03\0\0\0\
-\0\0\0\0\0\0\x01\x01\x01\0\x20\x06\
-\x03\0\0\0\
-\0\x01\0\0\x03\0\0\0\x05\0\0\0\x06\0\0\0\x07\0\0\0\
-\x10\x01\0\0\x01\0\0\0\x08\0\0\0\
-\xfc\xff\xff\x01\x01\0\0\0\x09\0\0\0";
-    let image = read_image(rt.alloc(), &apart)?;
-    writes(&rt, &image, &joined)?;
-    Ok(())
+    let header = b"R3KIMG1\n\x02\0\0\0\x03\0\0\0\0\0\0\0\0\0\x01\x01\x01\0\x20\x06";
+    let apart = "4 0x100 1 5 0x104 2 6 7 0x110 1 8 0x01fffffc 1 9";
+    let joined = "3 0x100 3 5 6 7 0x110 1 8 0x01fffffc 1 9";
+    let image = read_image(rt.alloc(), &image_bytes(rt.alloc(), header, apart)?)?;
+    writes(&rt, &image, &image_bytes(rt.alloc(), header, joined)?)
 }
 
 #[test]
@@ -195,12 +166,8 @@ fn image_of_words(rt: HostRuntime) -> Result<(), Fail> {
     }
     same(&rt, &WordAddress::new(0x101), &None);
     same(&rt, &WordAddress::new(0x0200_0000), &None);
-    let image = words.image(
-        rt.alloc(),
-        Constant::plain_byte_time(),
-        Constant::plain_unit(),
-        ClockStart::plain(),
-    )?;
+    let (byte_time, unit) = (Constant::plain_byte_time(), Constant::plain_unit());
+    let image = words.image(rt.alloc(), byte_time, unit, ClockStart::plain())?;
     writes(&rt, &image, &LOAD_SLOT)?;
     same(&rt, &Constant::new(0), &None);
     same(&rt, &Constant::new(65536), &None);

@@ -1,24 +1,15 @@
 //! Patches of an image.
+use crate::image_format::{has_words, image_bytes, writes};
 use crate::same::{same, same_at};
-use r3k_image::{Image, read_image, write_image};
+use crate::tables::rows;
+use r3k_image::read_image;
 use refusal::Fault;
-use samples::{EMPTY_IMAGE, LOAD_SLOT};
-use std::process::Abort;
+use samples::{EMPTY_IMAGE, LOAD_SLOT, number, shown};
 use std::test::Fail;
 
-// The image of `LOAD_SLOT` after patches of 0xfc, 0x104, 0x200 and 0x1fc00010: words 0xfc, 0x100 and 0x104 are one run.
-const PATCHED: [u8; 92] = *b"R3KIMG1\n\x10\0\0\0\x01\0\0\0\
-\0\0\0\0\0\0\x01\x01\x01\0\x20\x06\
-\x03\0\0\0\
-\xfc\0\0\0\x03\0\0\0\x07\0\0\0\x05\0\0\0\0\0\0\0\
-\0\x02\0\0\x01\0\0\0\xff\xff\xff\xff\
-\0\0\xc0\x1f\x05\0\0\0\0\xa0\x01\x3c\0\x01\x22\x8c\x21\x18\x40\0\x21\x20\x40\0\x11\0\x05\x24";
-
-/// Compares the bytes that an image is written as.
-pub fn writes(rt: &(impl Abort + AllocGlobal), image: &Image, bytes: &[u8]) -> Result<(), Fail> {
-    same(rt, &write_image(rt.alloc(), image)?.as_slice(), &bytes);
-    Ok(())
-}
+// The segments of `LOAD_SLOT` after patches of 0xfc, 0x104, 0x200 and 0x1fc00010: words 0xfc, 0x100 and 0x104 are one run.
+const PATCHED: &str = "3 0xfc 3 7 5 0 0x200 1 0xffffffff \
+0x1fc00000 5 0x3c01a000 0x8c220100 0x00401821 0x00402021 0x24050011";
 
 #[test]
 fn patches(rt: HostRuntime) -> Result<(), Fail> {
@@ -31,25 +22,15 @@ fn patches(rt: HostRuntime) -> Result<(), Fail> {
     image.patch(0xFC, 7)?;
     image.patch(0x104, 0)?;
     image.patch(0x1FC0_0010, 0x2405_0011)?;
-    writes(&rt, &image, &PATCHED)?;
+    let patched = image_bytes(rt.alloc(), &EMPTY_IMAGE[..28], PATCHED)?;
+    writes(&rt, &image, &patched)?;
     // Set words have another value, and no other word is touched.
     image.patch(0x1FC0_0004, 1)?;
     image.patch(0xFC, 0)?;
-    for (address, word) in [
-        (0xF8, None),
-        (0xFC, Some(0)),
-        (0x100, Some(5)),
-        (0x104, Some(0)),
-        (0x108, None),
-        (0x1FC0_0000, Some(0x3C01_A000)),
-        (0x1FC0_0004, Some(1)),
-        (0x1FC0_0008, Some(0x0040_1821)),
-        (0x1FC0_0010, Some(0x2405_0011)),
-        (0x1FC0_0014, None),
-    ] {
-        same_at(&rt, &address, &image.word(address), &word);
-    }
-    Ok(())
+    let words =
+        "0xf8 none; 0xfc 0; 0x100 5; 0x104 0; 0x108 none; 0x1fc00000 0x3c01a000; 0x1fc00004 1; \
+0x1fc00008 0x00401821; 0x1fc00010 0x24050011; 0x1fc00014 none";
+    has_words(&rt, &image, words)
 }
 
 #[test]
@@ -69,31 +50,18 @@ fn patches_at_the_ends(rt: HostRuntime) -> Result<(), Fail> {
 #[test]
 fn refused_patches(rt: HostRuntime) -> Result<(), Fail> {
     let mut image = read_image(rt.alloc(), &LOAD_SLOT)?;
-    for address in [0x101, 0x102, 0x0200_0001, 0x1FE0_0002, 0xFFFF_FFFF] {
-        same_at(
-            &rt,
-            &address,
-            &image.patch(address, 0).err(),
-            &Some(Fault::Unaligned),
-        );
+    for (address, wanted) in &rows(rt.alloc(), REFUSED)? {
+        let fault = image.patch(u32::try_from(number(address.as_str())?)?, 0);
+        same_at(&rt, &address, &shown(rt.alloc(), &fault.err())?, wanted);
     }
-    for address in [
-        0x0200_0000,
-        0x1FBF_FFFC,
-        0x1FC4_0000,
-        0x1FE0_0000,
-        0xFFFF_FFFC,
-    ] {
-        same_at(
-            &rt,
-            &address,
-            &image.patch(address, 0).err(),
-            &Some(Fault::NotMemory),
-        );
-    }
-    writes(&rt, &image, &LOAD_SLOT)?;
-    Ok(())
+    writes(&rt, &image, &LOAD_SLOT)
 }
+
+// Addresses, and why no word is patched there.
+const REFUSED: &str = "
+0x101; 0x102; 0x02000001; 0x1fe00002; 0xffffffff = Some Unaligned
+0x02000000; 0x1fbffffc; 0x1fc40000; 0x1fe00000; 0xfffffffc = Some NotMemory
+";
 
 // Where an allocation fails, as in a run with failing ones, the word is as it was, and the next call may succeed.
 #[test]

@@ -18,4 +18,4 @@ mod same;
 #[cfg(test)]
 mod script_lines;
 #[cfg(test)]
-mod sources;
+mod tables;

@@ -1,9 +1,10 @@
 //! Edits of a log.
-use crate::log_format::{MIXED, THREE};
+use crate::log_format::{MIXED, THREE, told};
 use crate::same::{same, same_at};
-use input_log::{Log, LogFault, read_log};
+use crate::tables::numbers;
+use input_log::{Log, read_log};
 use refusal::Fault;
-use samples::{number, plain, shown};
+use samples::{plain, shown};
 use std::alloc::Global;
 use std::test::Fail;
 
@@ -11,12 +12,13 @@ use std::test::Fail;
 fn edits(rt: HostRuntime) -> Result<(), Fail> {
     for list in LISTS.split("\n$ ").skip(1) {
         let (head, rows) = list.split_once('\n').ok_or("nothing is done")?;
-        let mut log = log_of(rt.alloc(), head)?;
+        let (_, begin) = head.split_once(": ").ok_or("no log")?;
+        let mut log = log_of(rt.alloc(), begin)?;
         for row in rows.lines().filter(|row| !row.starts_with("#")) {
             for edit in row.split("; ").filter(|edit| !edit.is_empty()) {
                 let (edit, wanted) = edit.split_once(" = ").ok_or("nothing is wanted")?;
                 if edit == "again" {
-                    log = log_of(rt.alloc(), head)?;
+                    log = log_of(rt.alloc(), begin)?;
                 } else {
                     let found = edited(rt.alloc(), &mut log, edit)?;
                     same_at(&rt, &(head, edit), &found, &plain(rt.alloc(), wanted)?);
@@ -27,60 +29,48 @@ fn edits(rt: HostRuntime) -> Result<(), Fail> {
     Ok(())
 }
 
-// The log in which a list begins.
-fn log_of(alloc: Global, head: &str) -> Result<Log, LogFault> {
-    if head.ends_with("mixed") {
-        read_log(alloc, &MIXED)
-    } else if head.ends_with("three") {
-        read_log(alloc, &THREE)
-    } else {
-        Ok(Log::new(alloc))
+// The log in which a list begins. A full one has 1,048,576 events, all of step 0, line 0 and byte 0.
+fn log_of(alloc: Global, begin: &str) -> Result<Log, Fail> {
+    match begin {
+        "mixed" => Ok(read_log(alloc, &MIXED)?),
+        "three" => Ok(read_log(alloc, &THREE)?),
+        "full" => {
+            let mut bytes = b"R3KLOG1\n\0\0\x10\0".to_vec(alloc)?;
+            for _ in 0..1_048_576 {
+                bytes.extend_from_slice(&[0; 6])?;
+            }
+            Ok(read_log(alloc, &bytes)?)
+        }
+        "empty" => Ok(Log::new(alloc)),
+        _ => Err("no log".into()),
     }
 }
 
-// The answer to an edit, or the log's events.
+// The answer to an edit, or the log's events, or how many they are.
 fn edited(alloc: Global, log: &mut Log, edit: &str) -> Result<String, Fail> {
     let (name, words) = edit.split_once(' ').unwrap_or((edit, ""));
-    let mut numbers = Vec::new(alloc);
-    for word in words.split_whitespace() {
-        numbers.push(number(word)?)?;
-    }
-    Ok(match (name, numbers.as_slice()) {
-        ("add", [time, line, byte]) => {
+    Ok(match (name, numbers(alloc, words)?.as_slice()) {
+        ("add" | "ferr" | "wire", [time, line, byte]) => {
             let (line, byte) = (u8::try_from(*line)?, u8::try_from(*byte)?);
-            shown(alloc, &log.add(*time, line, byte))?
-        }
-        ("ferr", [time, line, byte]) => {
-            let (line, byte) = (u8::try_from(*line)?, u8::try_from(*byte)?);
-            shown(alloc, &log.ferr(*time, line, byte))?
-        }
-        ("wire", [time, line, level]) => {
-            let (line, level) = (u8::try_from(*line)?, u8::try_from(*level)?);
-            shown(alloc, &log.wire(*time, line, level))?
+            let place = match name {
+                "add" => log.add(*time, line, byte),
+                "ferr" => log.ferr(*time, line, byte),
+                _ => log.wire(*time, line, byte),
+            };
+            shown(alloc, &place)?
         }
         ("del", [place]) => shown(alloc, &log.del(*place))?,
         ("set", [place, byte]) => shown(alloc, &log.set(*place, u8::try_from(*byte)?))?,
         ("move", [place, time]) => shown(alloc, &log.move_to(*place, *time))?,
         ("erase", [from, to]) => shown(alloc, &log.erase(*from, *to))?,
-        ("log", []) => events(alloc, log)?,
+        ("log", []) => told(alloc, log.events())?,
+        ("count", []) => shown(alloc, &log.events().len())?,
         _ => return Err("no edit".into()),
     })
 }
 
-// The time, kind, line and byte of each event.
-fn events(alloc: Global, log: &Log) -> Result<String, Fail> {
-    if log.events().is_empty() {
-        return Ok(plain(alloc, "empty")?);
-    }
-    let mut events = Vec::new(alloc);
-    for event in log.events() {
-        events.push((event.time, event.kind, event.line, event.byte))?;
-    }
-    Ok(shown(alloc, &events)?)
-}
-
-// Edits, with `; ` between, each with its answer, and `log` with the events. A list begins with its name and with its log: an empty one,
-// that of `THREE`, or that of `MIXED`, which `again` brings back.
+// Edits, with `; ` between, each with its answer, `log` with the events, and `count` with their number. A list begins with its name and
+// with its log, which `again` brings back: an empty one, that of `THREE`, that of `MIXED`, or a full one.
 const LISTS: &str = "
 $ adds after the events of its time: empty
 add 5 0 1 = Ok 0; add 5 3 2 = Ok 1; add 4 0 3 = Ok 0; add 4294967294 0 255 = Ok 3; add 0 1 0 = Ok 0; add 5 0 4 = Ok 4
@@ -114,15 +104,12 @@ again = Ok; erase 0 4 = Ok; log = 4 Framing 3 255, 5 Wire 2 1, 5 Byte 3 2, 42949
 again = Ok; erase 6 4294967294 = Ok; log = 4 Framing 3 255, 5 Wire 2 1, 5 Byte 3 2, 4294967294 Wire 0 0
 again = Ok; erase 4 5 = Ok; log = 5 Wire 2 1, 5 Byte 3 2, 4294967294 Wire 0 0
 again = Ok; erase 5 6 = Ok; log = 4 Framing 3 255, 4294967294 Wire 0 0
-again = Ok; erase 0 6 = Ok; log = 4294967294 Wire 0 0
-again = Ok; erase 4 4294967294 = Ok; log = 4294967294 Wire 0 0
+again = Ok; erase 0 6 = Ok; log = 4294967294 Wire 0 0; again = Ok; erase 4 4294967294 = Ok; log = 4294967294 Wire 0 0
 again = Ok; erase 5 4294967294 = Ok; log = 4 Framing 3 255, 4294967294 Wire 0 0
 again = Ok; erase 5 1099511627775 = Ok; log = 4 Framing 3 255
 again = Ok; erase 4294967294 1099511627775 = Ok; log = 4 Framing 3 255, 5 Wire 2 1, 5 Byte 3 2
-again = Ok; erase 0 1099511627775 = Ok; log = empty
-again = Ok; erase 4 1099511627775 = Ok; log = empty
-again = Ok; erase 0 4294967295 = Ok; log = empty
-erase 0 1099511627775 = Ok; log = empty
+again = Ok; erase 0 1099511627775 = Ok; log = empty; again = Ok; erase 4 1099511627775 = Ok; log = empty
+again = Ok; erase 0 4294967295 = Ok; log = empty; erase 0 1099511627775 = Ok; log = empty
 
 $ refused erasing: mixed
 erase 1 0 = Err Range; erase 6 5 = Err Range; erase 1099511627775 0 = Err Range; erase 0 1099511627776 = Err Range
@@ -132,8 +119,7 @@ log = 4 Framing 3 255, 5 Wire 2 1, 5 Byte 3 2, 4294967294 Wire 0 0
 
 $ takes out and changes: three
 set 1 255 = Ok; log = 4 Byte 3 255, 5 Byte 0 255, 5 Byte 1 2
-del 2 = Ok; log = 4 Byte 3 255, 5 Byte 0 255
-del 0 = Ok; log = 5 Byte 0 255
+del 2 = Ok; log = 4 Byte 3 255, 5 Byte 0 255; del 0 = Ok; log = 5 Byte 0 255
 del 0 = Ok; log = empty
 
 $ moves: empty
@@ -158,46 +144,25 @@ del 4294967296 = Err NoEvent; set 4294967296 0 = Err NoEvent; move 4294967296 10
 del 18446744073709551615 = Err NoEvent; set 18446744073709551615 0 = Err NoEvent; move 18446744073709551615 1099511627774 = Err NoEvent
 move 18446744073709551615 1099511627775 = Err Range
 log = 4 Byte 3 255, 5 Byte 0 1, 5 Byte 1 2
-";
 
-// A log of 1,048,576 events, all of step 0, line 0 and byte 0.
-#[test]
-fn full_log(rt: HostRuntime) -> Result<(), Fail> {
-    let mut bytes = b"R3KLOG1\n\0\0\x10\0".to_vec(rt.alloc())?;
-    for _ in 0..1_048_576 {
-        bytes.extend_from_slice(&[0; 6])?;
-    }
-    let mut log = read_log(rt.alloc(), &bytes)?;
-    same(&rt, &log.add(0, 0, 1).err(), &Some(Fault::Range));
-    same(&rt, &log.ferr(0, 0, 1).err(), &Some(Fault::Range));
-    same(&rt, &log.wire(0, 0, 1).err(), &Some(Fault::Range));
-    // A move takes no room.
-    same(&rt, &log.move_to(0, 1)?, &1_048_575);
-    log.del(1_048_575)?;
-    same(&rt, &log.wire(0, 0, 1)?, &1_048_575);
-    same(&rt, &log.add(0, 0, 1).err(), &Some(Fault::Range));
-    same(&rt, &log.wire(0, 0, 1).err(), &Some(Fault::Range));
-    same(&rt, &log.events().len(), &1_048_576);
-    log.erase(0, 1)?;
-    same(&rt, &log.events().len(), &0);
-    same(&rt, &log.add(0, 0, 1)?, &0);
-    Ok(())
-}
+$ takes no event more: full
+# A move takes no room.
+add 0 0 1 = Err Range; ferr 0 0 1 = Err Range; wire 0 0 1 = Err Range; move 0 1 = Ok 1048575; del 1048575 = Ok; wire 0 0 1 = Ok 1048575
+add 0 0 1 = Err Range; wire 0 0 1 = Err Range; count = 1048576; erase 0 1 = Ok; count = 0; add 0 0 1 = Ok 0
+";
 
 // Where an allocation fails, as in a run with failing ones, the log is as it was, and the next call may succeed.
 #[test]
 fn refused_growth(rt: HostRuntime) -> Result<(), Fail> {
     let mut log = Log::new(rt.alloc());
     for time in 0..9 {
-        let place = match log.add(time, 0, 7) {
-            Ok(place) => place,
-            Err(fault) => {
-                same(&rt, &fault, &Fault::Memory);
-                same(&rt, &(log.events().len() as u64), &time);
-                log.add(time, 0, 7)?
-            }
-        };
-        same(&rt, &(place as u64), &time);
+        let mut place = log.add(time, 0, 7);
+        if let Err(fault) = &place {
+            same(&rt, fault, &Fault::Memory);
+            same(&rt, &(log.events().len() as u64), &time);
+            place = log.add(time, 0, 7);
+        }
+        same(&rt, &(place? as u64), &time);
     }
     Ok(())
 }

@@ -1,21 +1,31 @@
 //! The versions of the log format, and windows of a log.
 use crate::same::{same, same_at};
-use input_log::{Cursor, Event, Kind, Log, LogFault, LogKind, MAX_TIME, read_log, write_log};
+use crate::tables::{changed, rows};
+use input_log::{Cursor, Event, Log, LogFault, LogKind, read_log, write_log};
 use samples::{number, plain, shown};
+use std::alloc::{AllocError, Global};
 use std::process::Abort;
 use std::test::Fail;
+
+// No event.
+const NONE: [u8; 12] = *b"R3KLOG1\n\0\0\0\0";
 
 // One event: in step 70 line 0 gets 0x41.
 const ONE: [u8; 18] = *b"R3KLOG1\n\x01\0\0\0\x46\0\0\0\0\x41";
 
-// In step 4 line 3 gets 0xff; in step 5 line 0 gets 1, and then line 1 gets 2.
+/// In step 4 line 3 gets 0xff; in step 5 line 0 gets 1, and then line 1 gets 2.
 pub const THREE: [u8; 30] = *b"R3KLOG1\n\x03\0\0\0\
 \x04\0\0\0\x03\xff\
 \x05\0\0\0\0\x01\
 \x05\0\0\0\x01\x02";
 
-// The same event in version two, and as a framing error.
+// In the last step that version one has room for line 3 gets 0.
+const LAST: [u8; 18] = *b"R3KLOG1\n\x01\0\0\0\xfe\xff\xff\xff\x03\0";
+
+// The same events as in `ONE` and `LAST` in version two, and that of `ONE` as a framing error.
 const ONE_IN_TWO: [u8; 23] = *b"R3KLOG2\n\x01\0\0\0\x46\0\0\0\0\0\0\0\0\0\x41";
+
+const LAST_IN_TWO: [u8; 23] = *b"R3KLOG2\n\x01\0\0\0\xfe\xff\xff\xff\0\0\0\0\0\x03\0";
 
 const FRAMING: [u8; 23] = *b"R3KLOG2\n\x01\0\0\0\x46\0\0\0\0\0\0\0\x01\0\x41";
 
@@ -27,54 +37,24 @@ pub const MIXED: [u8; 56] = *b"R3KLOG2\n\x04\0\0\0\
 \x05\0\0\0\0\0\0\0\0\x03\x02\
 \xfe\xff\xff\xff\0\0\0\0\x02\0\0";
 
-/// Its events.
-pub const MIXED_EVENTS: [Event; 4] = [
-    Event {
-        time: 4,
-        kind: Kind::Framing,
-        line: 3,
-        byte: 0xff,
-    },
-    Event {
-        time: 5,
-        kind: Kind::Wire,
-        line: 2,
-        byte: 1,
-    },
-    Event {
-        time: 5,
-        kind: Kind::Byte,
-        line: 3,
-        byte: 2,
-    },
-    Event {
-        time: 4_294_967_294,
-        kind: Kind::Wire,
-        line: 0,
-        byte: 0,
-    },
-];
+/// The time, kind, line and byte of each event.
+pub fn told(alloc: Global, events: &[Event]) -> Result<String, Fail> {
+    if events.is_empty() {
+        return Ok(plain(alloc, "empty")?);
+    }
+    let mut told = Vec::new(alloc);
+    for event in events {
+        told.push((event.time, event.kind, event.line, event.byte))?;
+    }
+    Ok(shown(alloc, &told)?)
+}
 
-pub const FIRST: Event = Event {
-    time: 4,
-    kind: Kind::Byte,
-    line: 3,
-    byte: 0xff,
-};
-
-pub const SECOND: Event = Event {
-    time: 5,
-    kind: Kind::Byte,
-    line: 0,
-    byte: 1,
-};
-
-pub const THIRD: Event = Event {
-    time: 5,
-    kind: Kind::Byte,
-    line: 1,
-    byte: 2,
-};
+// Compares events with the time, kind, line and byte of each.
+fn has_events(rt: &(impl Abort + AllocGlobal), events: &[Event], wanted: &str) -> Result<(), Fail> {
+    let found = told(rt.alloc(), events)?;
+    same(rt, &found, &plain(rt.alloc(), wanted)?);
+    Ok(())
+}
 
 // Compares the bytes that a log is written as.
 fn writes(rt: &(impl Abort + AllocGlobal), log: &Log, bytes: &[u8]) -> Result<(), Fail> {
@@ -82,83 +62,34 @@ fn writes(rt: &(impl Abort + AllocGlobal), log: &Log, bytes: &[u8]) -> Result<()
     Ok(())
 }
 
-#[test]
-fn one_event(rt: HostRuntime) -> Result<(), Fail> {
-    let log = read_log(rt.alloc(), &ONE)?;
-    let event = Event {
-        time: 70,
-        kind: Kind::Byte,
-        line: 0,
-        byte: 0x41,
-    };
-    same(&rt, &log.events(), &[event].as_slice());
-    writes(&rt, &log, &ONE)?;
-    Ok(())
+// The fault of a log, or `None`.
+fn fault(alloc: Global, bytes: &[u8]) -> Result<String, AllocError> {
+    shown(alloc, &read_log(alloc, bytes).err())
 }
 
+// Logs as they are read, their events, and as they are written: in version one where that has room for them.
 #[test]
 fn written_again(rt: HostRuntime) -> Result<(), Fail> {
-    let log = read_log(rt.alloc(), &THREE)?;
-    same(&rt, &log.events(), &[FIRST, SECOND, THIRD].as_slice());
-    writes(&rt, &log, &THREE)?;
-    let none = *b"R3KLOG1\n\0\0\0\0";
-    let log = read_log(rt.alloc(), &none)?;
-    same(&rt, &log.events().len(), &0);
-    writes(&rt, &log, &none)?;
-    let empty = Log::new(rt.alloc());
-    writes(&rt, &empty, &none)?;
-    Ok(())
-}
-
-// Each kind of event is read, and written as it was.
-#[test]
-fn each_kind(rt: HostRuntime) -> Result<(), Fail> {
-    let log = read_log(rt.alloc(), &MIXED)?;
-    same(&rt, &log.events(), &MIXED_EVENTS.as_slice());
-    writes(&rt, &log, &MIXED)?;
-    let log = read_log(rt.alloc(), &FRAMING)?;
-    let event = Event {
-        time: 70,
-        kind: Kind::Framing,
-        line: 0,
-        byte: 0x41,
-    };
-    same(&rt, &log.events(), &[event].as_slice());
-    writes(&rt, &log, &FRAMING)?;
-    Ok(())
-}
-
-// A log of version two that version one has room for is written in version one.
-#[test]
-fn written_in_version_one(rt: HostRuntime) -> Result<(), Fail> {
-    let none = *b"R3KLOG1\n\0\0\0\0";
-    let last = *b"R3KLOG1\n\x01\0\0\0\xfe\xff\xff\xff\x03\0";
-    for (bytes, written) in [
-        (ONE_IN_TWO.as_slice(), ONE.as_slice()),
-        (b"R3KLOG2\n\0\0\0\0", &none),
-        (
-            b"R3KLOG2\n\x01\0\0\0\xfe\xff\xff\xff\0\0\0\0\0\x03\0",
-            &last,
-        ),
+    let mixed = "4 Framing 3 255, 5 Wire 2 1, 5 Byte 3 2, 4294967294 Wire 0 0";
+    for (bytes, events, written) in [
+        (NONE.as_slice(), "empty", NONE.as_slice()),
+        (&ONE, "70 Byte 0 0x41", &ONE),
+        (&THREE, "4 Byte 3 255, 5 Byte 0 1, 5 Byte 1 2", &THREE),
+        (&FRAMING, "70 Framing 0 0x41", &FRAMING),
+        (&MIXED, mixed, &MIXED),
+        (b"R3KLOG2\n\0\0\0\0", "empty", &NONE),
+        (&ONE_IN_TWO, "70 Byte 0 0x41", &ONE),
+        (&LAST_IN_TWO, "4294967294 Byte 3 0", &LAST),
     ] {
         let log = read_log(rt.alloc(), bytes)?;
+        has_events(&rt, log.events(), events)?;
         writes(&rt, &log, written)?;
     }
-    Ok(())
+    writes(&rt, &Log::new(rt.alloc()), &NONE)
 }
 
-// A byte after the last time of version one is written in version two.
-#[test]
-fn late_byte(rt: HostRuntime) -> Result<(), Fail> {
-    let mut log = Log::new(rt.alloc());
-    log.add(4_294_967_295, 0, 1)?;
-    let late = *b"R3KLOG2\n\x01\0\0\0\xff\xff\xff\xff\0\0\0\0\0\0\x01";
-    writes(&rt, &log, &late)?;
-    same(&rt, &read_log(rt.alloc(), &late)?.events(), &log.events());
-    Ok(())
-}
-
-// One event that is no byte is enough for version two, and without it version one is written again.
+// One event that is no byte is enough for version two, and without it version one is written again. A byte after the last time of version
+// one is enough too.
 #[test]
 fn version_of_an_edited_log(rt: HostRuntime) -> Result<(), Fail> {
     let mut log = Log::new(rt.alloc());
@@ -168,20 +99,19 @@ fn version_of_an_edited_log(rt: HostRuntime) -> Result<(), Fail> {
     log.del(0)?;
     writes(&rt, &log, &ONE)?;
     log.wire(71, 1, 1)?;
-    let both = *b"R3KLOG2\n\x02\0\0\0\x46\0\0\0\0\0\0\0\0\0\x41\
-\x47\0\0\0\0\0\0\0\x02\x01\x01";
+    let both = *b"R3KLOG2\n\x02\0\0\0\x46\0\0\0\0\0\0\0\0\0\x41\x47\0\0\0\0\0\0\0\x02\x01\x01";
     writes(&rt, &log, &both)?;
+    let mut log = Log::new(rt.alloc());
+    log.add(4_294_967_295, 0, 1)?;
+    let late = *b"R3KLOG2\n\x01\0\0\0\xff\xff\xff\xff\0\0\0\0\0\0\x01";
+    writes(&rt, &log, &late)?;
+    same(&rt, &read_log(rt.alloc(), &late)?.events(), &log.events());
     Ok(())
 }
 
 #[test]
 fn too_few_bytes_and_too_many(rt: HostRuntime) -> Result<(), Fail> {
-    for bytes in [
-        ONE.as_slice(),
-        THREE.as_slice(),
-        FRAMING.as_slice(),
-        MIXED.as_slice(),
-    ] {
+    for bytes in [ONE.as_slice(), &THREE, &FRAMING, &MIXED] {
         for end in 0..bytes.len() {
             let fault = read_log(rt.alloc(), &bytes[..end]).err();
             same_at(&rt, &end, &fault, &Some(LogFault::Bad(LogKind::Short)));
@@ -194,152 +124,101 @@ fn too_few_bytes_and_too_many(rt: HostRuntime) -> Result<(), Fail> {
     Ok(())
 }
 
-// Logs with the byte at a place replaced, and cut short: the place, the byte, the length, and the fault.
 #[test]
 fn first_fault(rt: HostRuntime) -> Result<(), Fail> {
-    faults(&rt, &THREE, OF_THREE)?;
-    faults(&rt, &MIXED, OF_MIXED)
-}
-
-fn faults(rt: &(impl Abort + AllocGlobal), log: &[u8], rows: &str) -> Result<(), Fail> {
-    for row in rows.lines().filter(|row| !row.starts_with("#")) {
-        for row in row.split("; ") {
-            let (numbers, wanted) = row.split_once(" = ").ok_or("nothing is wanted")?;
-            let (place, rest) = numbers.split_once(' ').ok_or("no byte")?;
-            let (byte, end) = rest.split_once(' ').ok_or("no length")?;
-            let mut bytes = log.to_vec(rt.alloc())?;
-            let place = number(place)? as usize;
-            *bytes.get_mut(place).ok_or("no byte there")? = u8::try_from(number(byte)?)?;
-            bytes.truncate(number(end)? as usize);
-            let fault = read_log(rt.alloc(), &bytes).err();
-            let found = shown(rt.alloc(), &fault)?;
-            let wanted = plain(rt.alloc(), wanted)?;
-            same_at(rt, &row, &found, &wanted);
+    for (log, table) in [(THREE.as_slice(), OF_THREE), (&MIXED, OF_MIXED)] {
+        for (change, wanted) in &rows(rt.alloc(), table)? {
+            let bytes = changed(rt.alloc(), log, change.as_str())?;
+            same_at(&rt, &change, &fault(rt.alloc(), &bytes)?, wanted);
         }
     }
     Ok(())
 }
 
-const OF_THREE: &str =
-    "0 0x52 30 = None; 7 0xd 30 = Some Bad Magic; 7 0xd 8 = Some Bad Magic; 7 0xd 7 = Some Bad Short; 10 0x10 30 = Some Bad Count; 10 0x10 12 = Some Bad Count
-10 0x10 11 = Some Bad Short; 8 0 30 = Some Bad Extra; 8 2 30 = Some Bad Extra; 8 4 30 = Some Bad Short; 15 0xff 30 = Some Bad Time; 16 4 30 = Some Bad Line; 16 4 17 = Some Bad Line
-16 4 16 = Some Bad Short; 12 5 30 = None; 12 6 30 = Some Bad Time; 18 4 30 = None; 18 3 30 = Some Bad Time; 18 3 22 = Some Bad Time; 18 3 21 = Some Bad Short
-22 4 30 = Some Bad Line; 22 4 23 = Some Bad Line; 24 4 30 = Some Bad Time; 28 4 29 = Some Bad Line
+// Changes of a byte of `THREE`, which has 30, and of `MIXED`, which has 56, and the fault.
+const OF_THREE: &str = "
+0 0x52 30; 12 5 30; 18 4 30 = None / 7 0xd 30; 7 0xd 8 = Some Bad Magic / 10 0x10 30; 10 0x10 12 = Some Bad Count
+8 0 30; 8 2 30 = Some Bad Extra / 15 0xff 30; 12 6 30; 18 3 30; 18 3 22; 24 4 30 = Some Bad Time
+16 4 30; 16 4 17; 22 4 30; 22 4 23; 28 4 29 = Some Bad Line
+7 0xd 7; 10 0x10 11; 8 4 30; 16 4 16; 18 3 21 = Some Bad Short
 ";
 
-const OF_MIXED: &str =
-    "6 0x33 56 = Some Bad Magic; 6 0x33 8 = Some Bad Magic; 6 0x33 7 = Some Bad Short
-# In version one byte 22 is the line of the second event.
-6 0x31 56 = Some Bad Line; 10 0x10 56 = Some Bad Count; 10 0x10 12 = Some Bad Count; 10 0x10 11 = Some Bad Short; 8 3 56 = Some Bad Extra; 8 5 56 = Some Bad Short
-12 5 56 = None; 12 6 56 = Some Bad Time; 12 6 31 = Some Bad Time; 12 6 30 = Some Bad Short; 17 1 56 = Some Bad Time; 19 1 20 = Some Bad Time; 19 1 19 = Some Bad Short
-20 3 56 = Some Bad Kind; 20 0xff 56 = Some Bad Kind; 20 3 21 = Some Bad Kind; 20 3 20 = Some Bad Short; 20 0 56 = None
-# An external line 3.
-20 2 56 = Some Bad Line; 20 2 22 = Some Bad Line; 20 2 21 = Some Bad Short; 21 4 56 = Some Bad Line; 32 3 56 = Some Bad Line; 32 3 33 = Some Bad Line; 32 3 32 = Some Bad Short
-32 1 56 = None; 33 0 56 = None; 33 2 56 = Some Bad Value; 33 2 34 = Some Bad Value; 33 2 33 = Some Bad Short; 31 1 56 = None; 43 4 56 = Some Bad Line
-55 0xff 56 = Some Bad Value
+const OF_MIXED: &str = "
+12 5 56; 20 0 56; 31 1 56; 32 1 56; 33 0 56 = None / 6 0x33 56; 6 0x33 8 = Some Bad Magic
+10 0x10 56; 10 0x10 12 = Some Bad Count / 8 3 56 = Some Bad Extra / 12 6 56; 12 6 31; 17 1 56; 19 1 20 = Some Bad Time
+20 3 56; 20 0xff 56; 20 3 21 = Some Bad Kind / 21 4 56; 43 4 56 = Some Bad Line
+// in version one, where byte 22 is the line of the second event
+6 0x31 56 = Some Bad Line
+// an external line 3
+20 2 56; 20 2 22; 32 3 56; 32 3 33 = Some Bad Line / 33 2 56; 33 2 34; 55 0xff 56 = Some Bad Value
+6 0x33 7; 10 0x10 11; 8 5 56; 12 6 30; 19 1 19; 20 3 20; 20 2 21; 32 3 32; 33 2 33 = Some Bad Short
 ";
 
-// Of one event with several faults the time is judged first, then the kind, the line and the value.
 #[test]
-fn order_of_faults(rt: HostRuntime) {
-    for (bytes, kind) in [
-        (
-            b"R3KLOG2\n\x01\0\0\0\xff\xff\xff\xff\xff\xff\xff\xff\x03\x04\x02\0".as_slice(),
-            LogKind::Time,
-        ),
-        (
-            b"R3KLOG2\n\x01\0\0\0\xfe\xff\xff\xff\0\0\0\0\x03\x04\x02\0",
-            LogKind::Kind,
-        ),
-        (
-            b"R3KLOG2\n\x01\0\0\0\xfe\xff\xff\xff\0\0\0\0\x02\x03\x02\0",
-            LogKind::Line,
-        ),
-        (
-            b"R3KLOG2\n\x01\0\0\0\xfe\xff\xff\xff\0\0\0\0\x02\x02\x02\0",
-            LogKind::Value,
-        ),
-        (
-            b"R3KLOG2\n\x01\0\0\0\xfe\xff\xff\xff\0\0\0\0\x02\x02\x01\0",
-            LogKind::Extra,
-        ),
-    ] {
-        let fault = read_log(rt.alloc(), bytes).err();
-        same_at(&rt, &bytes, &fault, &Some(LogFault::Bad(kind)));
-    }
-}
-
-// The greatest time of version two is that of the last step, and each version has its own.
-#[test]
-fn last_time(rt: HostRuntime) -> Result<(), Fail> {
-    for (time, kind) in [
-        (0, None),
-        (4_294_967_294, None),
-        (4_294_967_295, None),
-        (MAX_TIME, None),
-        (MAX_TIME + 1, Some(LogKind::Time)),
-        (1 << 40, Some(LogKind::Time)),
-        (u64::MAX, Some(LogKind::Time)),
-    ] {
-        let mut bytes = b"R3KLOG2\n\x01\0\0\0".to_vec(rt.alloc())?;
-        bytes.extend_from_slice(&u64::to_le_bytes(time))?;
-        bytes.extend_from_slice(b"\0\0\x41")?;
-        let fault = read_log(rt.alloc(), &bytes).err();
-        same_at(&rt, &time, &fault, &kind.map(LogFault::Bad));
+fn order_of_faults(rt: HostRuntime) -> Result<(), Fail> {
+    for (log, wanted) in &rows(rt.alloc(), LOGS)? {
+        let (magic, digits) = log.split_once(' ').ok_or("no bytes")?;
+        let mut bytes = Vec::new(rt.alloc());
+        bytes.extend_from_slice(magic.as_bytes())?;
+        bytes.push(b'\n')?;
+        for byte in digits.split_whitespace() {
+            bytes.push(u8::from_str_radix(byte, 16)?)?;
+        }
+        same_at(&rt, &log, &fault(rt.alloc(), &bytes)?, wanted);
     }
     Ok(())
 }
 
+// Logs, with what follows their first line in hexadecimal, and the fault.
+const LOGS: &str = "
+// 1,048,577 events, and one less
+R3KLOG1 01 00 10 00; R3KLOG2 01 00 10 00 = Some Bad Count
+R3KLOG1 00 00 10 00; R3KLOG2 00 00 10 00 = Some Bad Short
+// the time is judged before the line
+R3KLOG1 01 00 00 00 ff ff ff ff 04 00; R3KLOG1 01 00 00 00 ff ff ff ff = Some Bad Time
+R3KLOG1 01 00 00 00 fe ff ff ff 04 00 = Some Bad Line
+R3KLOG1 01 00 00 00 fe ff ff ff 03 00 = None
+// in version two the time, then the kind, the line and the value, and then what is left
+R3KLOG2 01 00 00 00 ff ff ff ff ff ff ff ff 03 04 02 00 = Some Bad Time
+R3KLOG2 01 00 00 00 fe ff ff ff 00 00 00 00 03 04 02 00 = Some Bad Kind
+R3KLOG2 01 00 00 00 fe ff ff ff 00 00 00 00 02 03 02 00 = Some Bad Line
+R3KLOG2 01 00 00 00 fe ff ff ff 00 00 00 00 02 02 02 00 = Some Bad Value
+R3KLOG2 01 00 00 00 fe ff ff ff 00 00 00 00 02 02 01 00 = Some Bad Extra
+";
+
+// The greatest time of version two is that of the last step, and each version has its own.
 #[test]
-fn limits(rt: HostRuntime) {
-    for (bytes, kind) in [
-        // 1,048,577 events, and one less.
-        (b"R3KLOG1\n\x01\0\x10\0".as_slice(), Some(LogKind::Count)),
-        (b"R3KLOG1\n\0\0\x10\0", Some(LogKind::Short)),
-        (b"R3KLOG2\n\x01\0\x10\0", Some(LogKind::Count)),
-        (b"R3KLOG2\n\0\0\x10\0", Some(LogKind::Short)),
-        // The time is judged before the line.
-        (
-            b"R3KLOG1\n\x01\0\0\0\xff\xff\xff\xff\x04\0",
-            Some(LogKind::Time),
-        ),
-        (b"R3KLOG1\n\x01\0\0\0\xff\xff\xff\xff", Some(LogKind::Time)),
-        (
-            b"R3KLOG1\n\x01\0\0\0\xfe\xff\xff\xff\x04\0",
-            Some(LogKind::Line),
-        ),
-        (b"R3KLOG1\n\x01\0\0\0\xfe\xff\xff\xff\x03\0", None),
-    ] {
-        let fault = read_log(rt.alloc(), bytes).err();
-        same_at(&rt, &bytes, &fault, &kind.map(LogFault::Bad));
+fn last_time(rt: HostRuntime) -> Result<(), Fail> {
+    let times = "0; 4294967294; 4294967295; 1099511627774 = None
+1099511627775; 1099511627776; 18446744073709551615 = Some Bad Time";
+    for (time, wanted) in &rows(rt.alloc(), times)? {
+        let mut bytes = b"R3KLOG2\n\x01\0\0\0".to_vec(rt.alloc())?;
+        bytes.extend_from_slice(&number(time.as_str())?.to_le_bytes())?;
+        bytes.extend_from_slice(b"\0\0\x41")?;
+        same_at(&rt, &time, &fault(rt.alloc(), &bytes)?, wanted);
     }
+    Ok(())
 }
 
 #[test]
 fn windows(rt: HostRuntime) -> Result<(), Fail> {
     let log = read_log(rt.alloc(), &THREE)?;
-    same(&rt, &log.window(4, 5), &[FIRST].as_slice());
-    same(&rt, &log.window(5, 6), &[SECOND, THIRD].as_slice());
-    same(&rt, &log.window(5, 5).len(), &0);
-    same(&rt, &log.window(6, 4).len(), &0);
+    has_events(&rt, log.window(4, 5), "4 Byte 3 255")?;
+    has_events(&rt, log.window(5, 6), "5 Byte 0 1, 5 Byte 1 2")?;
+    has_events(&rt, log.window(5, 5), "empty")?;
+    has_events(&rt, log.window(6, 4), "empty")?;
     same(&rt, &log.window(0, u64::MAX), &log.events());
-    Ok(())
-}
-
-#[test]
-fn way_along_a_window(rt: HostRuntime) -> Result<(), Fail> {
-    let log = read_log(rt.alloc(), &THREE)?;
+    // The way along a window.
     let mut cursor = Cursor::new(log.window(2, 9));
-    same(&rt, &cursor.next(2).len(), &0);
-    same(&rt, &cursor.next(3).len(), &0);
-    same(&rt, &cursor.next(4), &[FIRST].as_slice());
-    same(&rt, &cursor.next(5), &[SECOND, THIRD].as_slice());
-    same(&rt, &cursor.next(5).len(), &0);
-    same(&rt, &cursor.next(6).len(), &0);
-    same(&rt, &cursor.next(u64::MAX).len(), &0);
+    has_events(&rt, cursor.next(2), "empty")?;
+    has_events(&rt, cursor.next(3), "empty")?;
+    has_events(&rt, cursor.next(4), "4 Byte 3 255")?;
+    has_events(&rt, cursor.next(5), "5 Byte 0 1, 5 Byte 1 2")?;
+    has_events(&rt, cursor.next(5), "empty")?;
+    has_events(&rt, cursor.next(6), "empty")?;
+    has_events(&rt, cursor.next(u64::MAX), "empty")?;
     // What is before the time is passed over.
     let mut cursor = Cursor::new(log.events());
-    same(&rt, &cursor.next(5), &[SECOND, THIRD].as_slice());
-    same(&rt, &cursor.next(4).len(), &0);
-    Ok(())
+    has_events(&rt, cursor.next(5), "5 Byte 0 1, 5 Byte 1 2")?;
+    has_events(&rt, cursor.next(4), "empty")
 }

@@ -1,7 +1,7 @@
 //! A machine with 16 pages of RAM and a program in ROM, and lists of what is done to it and asked of it.
 
 use cop0::number::{BAD_VADDR, CAUSE, CONTEXT, ENTRY_HI, ENTRY_LO, EPC, INDEX, RANDOM, STATUS};
-use dz_serial::Sent;
+use dz_serial::{Sent, SerialLine};
 use input_log::{Event, Log};
 use r3k_asm::assemble;
 use r3k_live::FlatMemory;
@@ -312,6 +312,7 @@ fn sent(word: &str) -> Result<Option<Sent>, Fail> {
     if line > 3 {
         return Err("a line".into());
     }
+    let line = SerialLine::new(line);
     Ok(Some(Sent { line, byte }))
 }
 

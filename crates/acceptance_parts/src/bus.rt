@@ -1,6 +1,6 @@
 //! The bus on its own: its regions, and its devices by their registers.
 use crate::same::{same, same_at};
-use dz_serial::Sent;
+use dz_serial::{Sent, SerialLine};
 use kn02_bus::{Bus, Device, Lines, Region};
 use std::test::Fail;
 
@@ -82,7 +82,7 @@ fn full_silo(rt: HostRuntime) {
     bus.store(RBUF_LPR, 0x1000, 15);
     bus.store(SERIAL_CSR, 0x20, 15);
     for byte in 0..65 {
-        bus.receive(0, byte);
+        bus.receive(SerialLine::new(0), byte);
     }
     let mut other = Bus::new(1, [0; 12], 2);
     assert!(rt; bus != other);
@@ -91,7 +91,7 @@ fn full_silo(rt: HostRuntime) {
     same(&rt, &bus.load(SERIAL_CSR), &0x00A0);
     same(&rt, &bus.load(RBUF_LPR), &0x8000);
     assert!(rt; bus != other);
-    bus.receive(0, 0x41);
+    bus.receive(SerialLine::new(0), 0x41);
     let mut last = 0;
     for _ in 0..63 {
         last = bus.load(RBUF_LPR);
@@ -175,7 +175,7 @@ fn csr(rt: HostRuntime) {
         &rt,
         &bus.store(TDR, 0x1241, 1),
         &Some(Sent {
-            line: 1,
+            line: SerialLine::new(1),
             byte: 0x41,
         }),
     );
@@ -268,7 +268,7 @@ fn levels_stay(rt: HostRuntime) {
     let mut bus = Bus::new(16, START, 1);
     bus.store(RBUF_LPR, 0x1000, 15);
     bus.store(SERIAL_CSR, 0x60, 15);
-    bus.receive(0, 0x41);
+    bus.receive(SerialLine::new(0), 0x41);
     bus.wire(0, true);
     bus.wire(2, true);
     bus.store(Device::Csr, 0x0004_0000, 15);
@@ -294,10 +294,10 @@ fn framing_error(rt: HostRuntime) {
     let mut bus = Bus::new(16, START, 1);
     bus.store(Device::Csr, 0x0080_0000, 15);
     bus.store(SERIAL_CSR, 0x60, 15);
-    bus.receive_framing(2, 0x41);
+    bus.receive_framing(SerialLine::new(2), 0x41);
     same(&rt, &bus.load(Device::Csr), &0x0080_0000);
     bus.store(RBUF_LPR, 0x1002, 15);
-    bus.receive_framing(2, 0x42);
+    bus.receive_framing(SerialLine::new(2), 0x42);
     same(&rt, &bus.load(Device::Csr), &0x0080_0080);
     assert!(rt; bus.lines().board);
     same(&rt, &bus.load(RBUF_LPR), &0xA242);

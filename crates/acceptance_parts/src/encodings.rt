@@ -145,7 +145,7 @@ fn every_instruction_both_ways(rt: HostRuntime) {
         let found = decode(*word);
         assert!(rt; found.is_some());
         if let Some(insn) = found {
-            let number = insn.row() as usize;
+            let number = insn.mnemonic() as usize;
             same(&rt, &number, &(place % 65));
             same(&rt, &rows[number].name, &*name);
             let seen = [

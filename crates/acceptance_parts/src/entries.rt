@@ -95,5 +95,10 @@ fn of(rt: HostRuntime) {
     let other = Tlb::of(tlb.entries());
     assert!(rt; tlb == other);
     same(&rt, &other.read(63), &entry);
-    same(&rt, &other.lookup(0x3000, 1), &tlb.lookup(0x3000, 1));
+    let found = Found {
+        index: 63,
+        entry,
+        several: false,
+    };
+    same(&rt, &other.lookup(0x3000, 1), &Some(found));
 }

@@ -1,6 +1,7 @@
 //! The two indexes over spans on their own: the last span that stored into a page, and the places of a line's bytes.
 use crate::same::{same, same_at};
 use console_index::ConsoleIndex;
+use dz_serial::SerialLine;
 use std::alloc::{AllocError, Global};
 use std::process::Abort;
 use std::test::Fail;
@@ -13,6 +14,16 @@ fn last(index: &WriteIndex, page: u32, before: u64) -> (Option<u64>, u64) {
     (span, asked.nodes)
 }
 
+// The four lines.
+fn lines() -> [SerialLine; 4] {
+    [
+        SerialLine::new(0),
+        SerialLine::new(1),
+        SerialLine::new(2),
+        SerialLine::new(3),
+    ]
+}
+
 // One span, as the worked row has it.
 #[test]
 fn direct_calls(rt: HostRuntime) -> Result<(), Fail> {
@@ -23,14 +34,15 @@ fn direct_calls(rt: HostRuntime) -> Result<(), Fail> {
     same(&rt, &last(&writes, 0, 0), &(None, 0));
     same(&rt, &last(&writes, 1, 1), &(None, 1));
 
+    let [l0, ..] = lines();
     let mut console = ConsoleIndex::new(rt.alloc());
-    same(&rt, &console.count(0, 2), &0);
-    same(&rt, &console.find(0, 0), &None);
+    same(&rt, &console.count(l0, 2), &0);
+    same(&rt, &console.find(l0, 0), &None);
     console.replace(0, [0, 0, 0, 0])?;
     console.replace(1, [1, 0, 0, 0])?;
-    same(&rt, &console.count(0, 2), &1);
-    same(&rt, &console.find(0, 0), &Some((1, 0)));
-    same(&rt, &console.find(0, 1), &None);
+    same(&rt, &console.count(l0, 2), &1);
+    same(&rt, &console.find(l0, 0), &Some((1, 0)));
+    same(&rt, &console.find(l0, 1), &None);
     Ok(())
 }
 
@@ -88,27 +100,28 @@ fn spans_between(rt: HostRuntime) -> Result<(), Fail> {
 // Spans between those that are put have no bytes.
 #[test]
 fn bytes_between(rt: HostRuntime) -> Result<(), Fail> {
+    let [l0, l1, l2, l3] = lines();
     let mut console = ConsoleIndex::new(rt.alloc());
     console.replace(6, [0, 5, 0, 1_048_576])?;
-    same(&rt, &console.count(1, 6), &0);
-    same(&rt, &console.count(1, 7), &5);
+    same(&rt, &console.count(l1, 6), &0);
+    same(&rt, &console.count(l1, 7), &5);
     console.replace(1, [0, 2, 9, 0])?;
     for (line, before, count) in [
-        (1, 1, 0),
-        (1, 2, 2),
-        (1, u64::MAX, 7),
-        (2, u64::MAX, 9),
-        (3, 7, 1_048_576),
-        (0, 7, 0),
+        (l1, 1, 0),
+        (l1, 2, 2),
+        (l1, u64::MAX, 7),
+        (l2, u64::MAX, 9),
+        (l3, 7, 1_048_576),
+        (l0, 7, 0),
     ] {
         same_at(&rt, &(line, before), &console.count(line, before), &count);
     }
     for (line, place, found) in [
-        (1, 1, Some((1, 1))),
-        (1, 2, Some((6, 0))),
-        (1, 6, Some((6, 4))),
-        (1, 7, None),
-        (3, 1_048_575, Some((6, 1_048_575))),
+        (l1, 1, Some((1, 1))),
+        (l1, 2, Some((6, 0))),
+        (l1, 6, Some((6, 4))),
+        (l1, 7, None),
+        (l3, 1_048_575, Some((6, 1_048_575))),
     ] {
         same_at(&rt, &(line, place), &console.find(line, place), &found);
     }
@@ -169,6 +182,7 @@ fn few_nodes_asked(rt: HostRuntime) -> Result<(), Fail> {
 // Each span of a thousand has one byte of line 0 and, where its number is odd, two of line 3.
 #[test]
 fn thousand_spans(rt: HostRuntime) -> Result<(), Fail> {
+    let [l0, .., l3] = lines();
     let mut console = ConsoleIndex::new(rt.alloc());
     for span in 0..1000 {
         if span % 2 == 0 {
@@ -178,20 +192,20 @@ fn thousand_spans(rt: HostRuntime) -> Result<(), Fail> {
         }
     }
     for span in 0..1000 {
-        same(&rt, &console.count(0, span), &span);
-        same(&rt, &console.count(3, span), &(span / 2 * 2));
-        same(&rt, &console.find(0, span), &Some((span, 0)));
+        same(&rt, &console.count(l0, span), &span);
+        same(&rt, &console.count(l3, span), &(span / 2 * 2));
+        same(&rt, &console.find(l0, span), &Some((span, 0)));
         same(
             &rt,
-            &console.find(3, span),
+            &console.find(l3, span),
             &Some((span / 2 * 2 + 1, span % 2)),
         );
     }
-    same(&rt, &console.find(0, 1000), &None);
-    same(&rt, &console.count(3, 2000), &1000);
+    same(&rt, &console.find(l0, 1000), &None);
+    same(&rt, &console.count(l3, 2000), &1000);
     console.replace(500, [0, 0, 0, 0])?;
-    same(&rt, &console.find(0, 499), &Some((499, 0)));
-    same(&rt, &console.find(0, 500), &Some((501, 0)));
-    same(&rt, &console.count(0, 1000), &999);
+    same(&rt, &console.find(l0, 499), &Some((499, 0)));
+    same(&rt, &console.find(l0, 500), &Some((501, 0)));
+    same(&rt, &console.count(l0, 1000), &999);
     Ok(())
 }

@@ -1,7 +1,7 @@
 //! The serial part by example. Bits of CSR in hexadecimal: TRDY 8000, TIE 4000, TLINE 0300,
 //! RDONE 80, RIE 40, MSE 20, CLR 10, MAINT 8. Of RBUF: DVAL 8000, OERR 4000, FERR 2000, line 0300.
 use crate::lists::{Part, plays};
-use dz_serial::{Dz, Sent};
+use dz_serial::{Dz, Sent, SerialLine};
 use std::mem;
 use std::test::Fail;
 
@@ -143,30 +143,28 @@ impl Serial {
     }
 
     fn receive(&mut self, line: u32, byte: u32) -> Result<(), Fail> {
-        let (line, byte) = (u8::try_from(line)?, u8::try_from(byte)?);
-        if line > 3 {
-            return Err("no line".into());
-        }
-        self.dz.receive(line, byte);
+        self.dz.receive(line_of(line)?, u8::try_from(byte)?);
         Ok(())
     }
 
     fn framing(&mut self, line: u32, byte: u32) -> Result<(), Fail> {
-        let (line, byte) = (u8::try_from(line)?, u8::try_from(byte)?);
-        if line > 3 {
-            return Err("no line".into());
-        }
-        self.dz.receive_framing(line, byte);
+        self.dz.receive_framing(line_of(line)?, u8::try_from(byte)?);
         Ok(())
     }
 }
 
-fn on(line: u32, byte: u32) -> Result<Option<Sent>, Fail> {
-    let (line, byte) = (u8::try_from(line)?, u8::try_from(byte)?);
-    if line > 3 {
+fn line_of(number: u32) -> Result<SerialLine, Fail> {
+    if number > 3 {
         return Err("no line".into());
     }
-    Ok(Some(Sent { line, byte }))
+    Ok(SerialLine::new(number as u8))
+}
+
+fn on(line: u32, byte: u32) -> Result<Option<Sent>, Fail> {
+    Ok(Some(Sent {
+        line: line_of(line)?,
+        byte: u8::try_from(byte)?,
+    }))
 }
 
 // The byte after the lost one has OERR, and FERR if it has a framing error.

@@ -473,7 +473,7 @@ fn are_writers<const PAGES: u32, const SPAN: u32>(
 // Whether these are the bytes that were sent, on line 0, each with its step.
 fn is_sent(told: &[SentAt], sent: &[(u64, u64)]) -> bool {
     told.len() == sent.len()
-        && told.iter().zip(sent).all(|(told, sent)| told.line == 0
+        && told.iter().zip(sent).all(|(told, sent)| told.line.number() == 0
             && told.byte as u64 == sent.0
             && told.step as u64 == sent.1)
 }

@@ -1,2 +1,2 @@
 pub mod Sums
-pub mod Putting
+pub mod Spans

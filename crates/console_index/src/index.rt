@@ -1,31 +1,32 @@
 //! The index: what each line sent in each span.
 
-ghost use Rattle.std.specs.Prelude.{◌≡◌, ◌≢◌, ◌+◌, ◌^◌, ◌<◌, ◌≤◌, ℕ, All, IfOk, IsOk, MatchOption, OnErr, [], length, max, slice_index_or};
+ghost use Rattle.std.specs.Prelude.{◌≡◌, ◌≢◌, ◌+◌, ◌<◌, ◌≤◌, ℕ, All, IfOk, IsOk, MatchOption, OnErr, OnOk, [], length, max, slice_index_or};
 ghost use Rattle.console_index.specs.Counts.{IsPlace, count_at, total};
-ghost use Rattle.console_index.specs.declared.tree.TheConstants.{MAX_SPANS};
+ghost use Rattle.console_index.specs.declared.index.TheConstants.{MAX_SPANS};
 
-use crate::level::Level;
-use crate::tree::{deepen, find_in, sum_below, update};
+use crate::span::{Span, put, totals_below, whole_before};
+use dz_serial::SerialLine;
 use std::alloc::{AllocError, Global};
 use std::marker::Model;
+
+/// How many spans there may be: those of all positions up to 2^40 - 1, where a span has 64 steps.
+pub const MAX_SPANS: u64 = 1 << 34;
 
 /// How many bytes each of four lines sent in each span, seen as a list of these counts by span.
 #[derive(Drop)]
 pub struct ConsoleIndex {
-    alloc: Global,
-    levels: Vec<Level>,
-    count: usize,
+    spans: Vec<Span>,
 }
 
 impl Model for ConsoleIndex {
-    ghost use Rattle.std.specs.Prelude.{List, ℕ, take};
-    ghost use Rattle.console_index.specs.Tree.{IsIndex, bottom};
+    ghost use Rattle.std.specs.Prelude.{List, ℕ};
+    ghost use Rattle.console_index.specs.Totals.{IsIndex, counts_of};
 
     ghost Value = { List (List ℕ) };
 
-    ghost view = { λ index. take index.count (bottom index.levels.items) };
+    ghost view = { λ index. counts_of index.spans.items };
 
-    ghost invariant = { λ index. IsIndex index.count index.levels.items };
+    ghost invariant = { λ index. IsIndex index.spans.items };
 }
 
 impl ConsoleIndex {
@@ -34,13 +35,12 @@ impl ConsoleIndex {
         ensures { result ≡ [] }
     {
         ConsoleIndex {
-            alloc,
-            levels: Vec::new(alloc),
-            count: 0,
+            spans: Vec::new(alloc),
         }
     }
 
-    /// Puts the counts of a span. Where memory is refused, all is as it was.
+    /// Puts the counts of a span. Where memory is refused, all is as it was. Replacing a span costs a step for each span after it,
+    /// unless its counts stay.
     pub fn replace(&mut self, index: u64, counts: [u32; 4]) -> Result<(), AllocError>
         requires index { index < MAX_SPANS }
         requires counts { All (λ count. count ≤ 1048576) counts }
@@ -51,10 +51,11 @@ impl ConsoleIndex {
         ensures free { index < length self.old → IsOk result }
     {
         let index = index as usize;
-        let count = self.count.max(index + 1);
-        deepen(self.alloc, &mut self.levels)?;
-        update(&mut self.levels, self.count, index, wide(counts))?;
-        self.count = count;
+        self.extend_to(index)?;
+        if self.spans[index].counts == counts {
+            return Ok(());
+        }
+        put(&mut self.spans, index, counts);
         Ok(())
     }
 
@@ -64,37 +65,45 @@ impl ConsoleIndex {
         ensures room { IfOk result (λ _. index < length self.new) }
         ensures counts { (i line : ℕ) → count_at self.new line i ≡ count_at self.old line i }
     {
-        if index < self.count as u64 {
-            return Ok(());
-        }
-        self.replace(index, [0; 4])
+        self.extend_to(index as usize)
     }
 
-    /// How many bytes of a line the spans below one have together.
-    pub fn count(&self, line: u8, before: u64) -> u64
-        requires { line ≤ 3 }
+    /// How many bytes of a line the spans below one have together. It looks at one span.
+    pub fn count(&self, line: SerialLine, before: u64) -> u64
         ensures { result ≡ total self.now line before }
     {
-        let end = self.count.min(before as usize);
-        sum_below(&self.levels, line, end)
+        let end = self.spans.len().min(before as usize);
+        totals_below(&self.spans, end)[line.index()]
     }
 
-    /// The span of the byte at a place in the line's whole console, and its place in that span.
-    pub fn find(&self, line: u8, place: u64) -> Option<(u64, u64)>
-        requires { line ≤ 3 }
+    /// The span of the byte at a place in the line's whole console, and its place in that span: a binary search among the spans.
+    pub fn find(&self, line: SerialLine, place: u64) -> Option<(u64, u64)>
         ensures { MatchOption result (total self.now line (length self.now) ≤ place) (λ found. IsPlace self.now line place (found.0) (found.1)) }
     {
-        let (span, rest) = find_in(&self.levels, line, self.count, place);
-        if span == self.count {
+        let span = whole_before(&self.spans, line, place);
+        if span == self.spans.len() {
             return None;
         }
-        Some((span as u64, rest))
+        let span = span as u64;
+        Some((span, place - self.count(line, span)))
     }
-}
 
-// The counts as words of 64 bits.
-fn wide(counts: [u32; 4]) -> [u64; 4]
-    ensures { result ≡ counts }
-{
-    counts.map(u64::from)
+    // Adds spans with no bytes up to and with one, unless it is there.
+    fn extend_to(&mut self, index: usize) -> Result<(), AllocError>
+        requires { index < MAX_SPANS }
+        ensures counts { (i line : ℕ) → count_at self.new line i ≡ count_at self.old line i }
+        ensures held { OnOk result (length self.new ≡ max (length self.old) (index + 1)) }
+        ensures same { OnErr result (self.new ≡ self.old) }
+        ensures free { index < length self.old → IsOk result }
+    {
+        let held = self.spans.len();
+        if index < held {
+            return Ok(());
+        }
+        let empty = Span {
+            counts: [0; 4],
+            totals: totals_below(&self.spans, held),
+        };
+        self.spans.resize(index + 1, empty)
+    }
 }

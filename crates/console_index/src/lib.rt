@@ -2,8 +2,6 @@
 #![tactic(auto)]
 
 mod index;
-mod level;
-mod tree;
+mod span;
 
-pub use index::ConsoleIndex;
-pub use tree::MAX_SPANS;
+pub use index::{ConsoleIndex, MAX_SPANS};

@@ -3,7 +3,6 @@ pub mod Character
 pub mod Serial
 pub mod Silo
 pub mod Scan
-pub mod Sent
 pub mod Quiet
 pub mod Bits
 pub mod Reads

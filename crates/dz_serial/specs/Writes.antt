@@ -3,7 +3,7 @@
 use Rattle.std.specs.Prelude.{ℕ, Bool, false, ◌==◌, ◌&&◌, List, [], ◌∷◌, slice_set, Option, Some, None, if◌then◌else◌}
 use Rattle.r3k_word.specs.Word.{field_of, has}
 use Rattle.dz_serial.specs.declared.registers.TheConstants.{CSR, LPR, TCR, TDR, TIE, RIE, MSE, CLR, MAINT, RX_ENABLE, LINE_0, LINE_1, LINE_2, LINE_3, BYTE_0, BYTE_1}
-use Rattle.dz_serial.specs.Sent.{Sent}
+use Rattle.dz_serial.specs.declared.write.Sent.{Sent}
 use Rattle.dz_serial.specs.Serial.{Serial, entry_of, reset_serial}
 use Rattle.dz_serial.specs.Silo.{scanner_off}
 

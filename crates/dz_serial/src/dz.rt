@@ -5,7 +5,7 @@ ghost use Rattle.dz_serial.specs.Serial.{reset_serial};
 ghost use Rattle.dz_serial.specs.Silo.{rdone};
 ghost use Rattle.dz_serial.specs.Reads.{interrupt_line_of};
 
-use crate::line::{LINES, Line};
+use crate::line::{LINES, SerialLine};
 use crate::silo::{Received, SILO};
 use arrayvec::ArrayVec;
 use std::marker::Model;
@@ -23,14 +23,14 @@ pub struct Dz {
     pub(crate) receivers: [bool; LINES],
     /// Of each line: whether it may send.
     pub(crate) enabled: [bool; LINES],
-    pub(crate) tline: Line,
+    pub(crate) tline: SerialLine,
     pub(crate) trdy: bool,
     pub(crate) tie: bool,
     pub(crate) rie: bool,
     pub(crate) mse: bool,
     pub(crate) maint: bool,
     /// The line that a byte was last sent on.
-    pub(crate) last_served: Line,
+    pub(crate) last_served: SerialLine,
     /// For how many ticks a line sends a byte.
     pub(crate) byte_time: u16,
 }
@@ -89,13 +89,13 @@ impl Dz {
             lost: [false; LINES],
             receivers: [false; LINES],
             enabled: [false; LINES],
-            tline: Line::new(0),
+            tline: SerialLine::new(0),
             trdy: false,
             tie: false,
             rie: false,
             mse: false,
             maint: false,
-            last_served: Line::new(0),
+            last_served: SerialLine::new(0),
             byte_time: byte_time as u16,
         }
     }

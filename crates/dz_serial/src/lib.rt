@@ -13,6 +13,7 @@ mod silo;
 mod write;
 
 pub use dz::Dz;
+pub use line::SerialLine;
 pub use quiet::quiet_laws;
 pub use registers::CSR;
 pub use write::Sent;

@@ -9,11 +9,11 @@ pub(crate) const LINES: usize = 4;
 
 /// A line of the part, 0 to 3.
 #[derive(Clone, Copy, Debug, Default, PartialEq, Eq)]
-pub(crate) struct Line {
+pub struct SerialLine {
     number: u8,
 }
 
-impl Model for Line {
+impl Model for SerialLine {
     ghost use Rattle.std.specs.Prelude.{ℕ, ◌≤◌};
 
     ghost Value = { ℕ };
@@ -25,19 +25,19 @@ impl Model for Line {
     ghost inverse = { λ number. record { number = number } };
 }
 
-impl Line {
+impl SerialLine {
     /// The line with a number.
     #[inline]
-    pub(crate) fn new(number: u8) -> Line
+    pub fn new(number: u8) -> SerialLine
         requires { number ≤ 3 }
         ensures { result ≡ number }
     {
-        Line { number }
+        SerialLine { number }
     }
 
     /// Its number.
     #[inline]
-    pub(crate) fn number(self) -> u8
+    pub fn number(self) -> u8
         ensures value { result ≡ self }
         ensures within { result ≤ 3 }
     {
@@ -46,7 +46,7 @@ impl Line {
 
     /// Where a list with an entry for each line has that of this one.
     #[inline]
-    pub(crate) fn index(self) -> usize
+    pub fn index(self) -> usize
         ensures value { result ≡ self }
         ensures within { result < 4 }
     {
@@ -55,11 +55,11 @@ impl Line {
 
     /// The line that is `lines` lines above, cyclic.
     #[inline]
-    pub(crate) fn up(self, lines: u8) -> Line
+    pub(crate) fn up(self, lines: u8) -> SerialLine
         requires { lines ≤ 3 }
         ensures { result ≡ (self + lines) % 4 }
     {
-        Line {
+        SerialLine {
             number: (self.number + lines) % LINES as u8,
         }
     }

@@ -7,7 +7,7 @@ ghost use Rattle.dz_serial.specs.Reads.{interrupt_line_of};
 ghost use Rattle.dz_serial.specs.Quiet.{after, passed, quiet_line, quiet_of};
 
 use crate::dz::Dz;
-use crate::line::Line;
+use crate::line::SerialLine;
 
 /// The number that stands for all ticks to come.
 pub(crate) const FOREVER: u32 = u32::MAX;
@@ -30,7 +30,7 @@ impl Dz {
     }
 
     /// How many ticks pass before the one after which a line can take a byte.
-    fn quiet_line(&self, line: Line) -> u32
+    fn quiet_line(&self, line: SerialLine) -> u32
         ensures { result ≡ quiet_line self.now line }
     {
         let place = line.index();

@@ -4,7 +4,7 @@ ghost use Rattle.std.specs.Prelude.{◌≡◌};
 ghost use Rattle.dz_serial.specs.Scan.{counted_down, is_ready, next_ready, scanned, ticked};
 
 use crate::dz::Dz;
-use crate::line::Line;
+use crate::line::SerialLine;
 
 impl Dz {
     /// A tick: each busy count above 0 falls by one. Then, if MSE is 1 and TRDY 0, the first of the
@@ -51,7 +51,7 @@ impl Dz {
 
     /// The line that the scanner comes to, if any is ready.
     #[inline]
-    fn next_ready(&self) -> Option<Line>
+    fn next_ready(&self) -> Option<SerialLine>
         ensures { result ≡ next_ready self.now }
     {
         let served = self.last_served;
@@ -73,7 +73,7 @@ impl Dz {
 
     /// Whether a line is enabled and sends no byte.
     #[inline]
-    fn is_ready(&self, line: Line) -> bool
+    fn is_ready(&self, line: SerialLine) -> bool
         ensures { result ≡ is_ready self.now line }
     {
         self.enabled[line.index()] && self.busy[line.index()] == 0

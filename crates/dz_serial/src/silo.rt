@@ -1,10 +1,10 @@
 //! The silo: received characters wait in it until RBUF is read.
 
-ghost use Rattle.std.specs.Prelude.{◌≡◌, ◌≤◌};
+ghost use Rattle.std.specs.Prelude.{◌≡◌};
 ghost use Rattle.dz_serial.specs.Silo.{stored, taken, arrived, arrived_framing, scanner_off};
 
 use crate::dz::Dz;
-use crate::line::{LINES, Line};
+use crate::line::{LINES, SerialLine};
 use std::marker::Model;
 
 /// How many characters the silo holds.
@@ -14,7 +14,7 @@ pub(crate) const SILO: usize = 64;
 /// before it, and whether it has a framing error.
 #[derive(Clone, Copy, Debug, Default, PartialEq, Eq)]
 pub(crate) struct Received {
-    pub(crate) line: Line,
+    pub(crate) line: SerialLine,
     pub(crate) byte: u8,
     pub(crate) overrun: bool,
     pub(crate) framing: bool,
@@ -31,29 +31,27 @@ impl Model for Received {
 }
 
 impl Dz {
-    /// A byte arrives at a line, which is at most 3. It is ignored unless MSE is 1 and the line's
+    /// A byte arrives at a line. It is ignored unless MSE is 1 and the line's
     /// receiver is on, and lost where the silo is full: the next one that is stored from the line
     /// then has OERR.
     #[tactic(auto, unfolding(crate::specs::Silo::arrived))]
-    pub fn receive(&mut self, line: u8, byte: u8)
-        requires { line ≤ 3 }
+    pub fn receive(&mut self, line: SerialLine, byte: u8)
         ensures { self.new ≡ arrived self.old line byte }
     {
-        self.take(Line::new(line), byte, false);
+        self.take(line, byte, false);
     }
 
-    /// A byte with a framing error arrives at a line, which is at most 3. It is treated as any other
+    /// A byte with a framing error arrives at a line. It is treated as any other
     /// byte, and has FERR.
     #[tactic(auto, unfolding(crate::specs::Silo::arrived_framing))]
-    pub fn receive_framing(&mut self, line: u8, byte: u8)
-        requires { line ≤ 3 }
+    pub fn receive_framing(&mut self, line: SerialLine, byte: u8)
         ensures { self.new ≡ arrived_framing self.old line byte }
     {
-        self.take(Line::new(line), byte, true);
+        self.take(line, byte, true);
     }
 
     /// Takes a byte if MSE is 1 and the line's receiver is on.
-    fn take(&mut self, line: Line, byte: u8, framing: bool)
+    fn take(&mut self, line: SerialLine, byte: u8, framing: bool)
         ensures { self.new ≡ taken self.old line byte framing }
     {
         if self.mse && self.receivers[line.index()] {
@@ -62,7 +60,7 @@ impl Dz {
     }
 
     /// Stores a byte, or marks its line where the silo is full.
-    fn store(&mut self, line: Line, byte: u8, framing: bool)
+    fn store(&mut self, line: SerialLine, byte: u8, framing: bool)
         ensures { self.new ≡ stored self.old line byte framing }
     {
         let place = line.index();

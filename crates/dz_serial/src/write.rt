@@ -5,28 +5,15 @@ ghost use Rattle.dz_serial.specs.Writes.{csr_written, lpr_written, tcr_written, 
 ghost use Rattle.dz_serial.specs.Writes.{sent_by_tdr, after_write, sent_by};
 
 use crate::dz::Dz;
+use crate::line::SerialLine;
 use crate::registers::*;
 use r3k_word::field::field;
-use std::marker::Model;
 
-/// A byte that was sent, and its line, 0 to 3.
+/// A byte that was sent, and its line.
 #[derive(Clone, Copy, Debug, PartialEq, Eq)]
 pub struct Sent {
-    pub line: u8,
+    pub line: SerialLine,
     pub byte: u8,
-}
-
-impl Model for Sent {
-    ghost use Rattle.std.specs.Prelude.{◌≤◌};
-    ghost use Rattle.dz_serial.specs.Sent.{Sent};
-
-    ghost Value = { Sent };
-
-    ghost view = { λ sent. record { line = sent.line; byte = sent.byte } };
-
-    ghost invariant = { λ sent. sent.line ≤ 3 };
-
-    ghost inverse = { λ sent. record { line = sent.line; byte = sent.byte } };
 }
 
 impl Dz {
@@ -108,7 +95,7 @@ impl Dz {
         self.last_served = line;
         self.trdy = false;
         Some(Sent {
-            line: line.number(),
+            line,
             byte: field::<7, 0>(word) as u8,
         })
     }

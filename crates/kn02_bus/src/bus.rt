@@ -8,6 +8,7 @@ ghost use Rattle.kn02_bus.specs.Quiet.{after, quiet_of};
 use crate::laws::quiet_laws;
 use crate::parts::Parts;
 use crate::schedule::Schedule;
+use dz_serial::SerialLine;
 use std::marker::Model;
 
 /// The devices of the board, the enables of its interrupt lines, and the levels of the external
@@ -68,9 +69,8 @@ impl Bus {
         self.schedule = other.schedule;
     }
 
-    /// A byte arrives at a line of the serial part, which is at most 3.
-    pub fn receive(&mut self, line: u8, byte: u8)
-        requires { line ≤ 3 }
+    /// A byte arrives at a line of the serial part.
+    pub fn receive(&mut self, line: SerialLine, byte: u8)
         ensures { self.new ≡ arrived self.old line byte }
     {
         quiet_laws();
@@ -78,9 +78,8 @@ impl Bus {
         self.schedule.lines = self.parts.lines();
     }
 
-    /// A byte with a framing error arrives at a line of the serial part, which is at most 3.
-    pub fn receive_framing(&mut self, line: u8, byte: u8)
-        requires { line ≤ 3 }
+    /// A byte with a framing error arrives at a line of the serial part.
+    pub fn receive_framing(&mut self, line: SerialLine, byte: u8)
         ensures { self.new ≡ arrived_framing self.old line byte }
     {
         quiet_laws();

@@ -6,7 +6,7 @@ ghost use Rattle.kn02_bus.specs.Tick.{arrived, arrived_framing, wired, ticked};
 ghost use Rattle.kn02_bus.specs.Quiet.{quiet_of, after};
 
 use crate::laws::quiet_laws;
-use dz_serial::Dz;
+use dz_serial::{Dz, SerialLine};
 use mc146818::Clock;
 use std::marker::Model;
 
@@ -72,17 +72,15 @@ impl Parts {
         copy
     }
 
-    /// A byte arrives at a line of the serial part, which is at most 3.
-    pub(crate) fn receive(&mut self, line: u8, byte: u8)
-        requires { line ≤ 3 }
+    /// A byte arrives at a line of the serial part.
+    pub(crate) fn receive(&mut self, line: SerialLine, byte: u8)
         ensures { self.new ≡ arrived self.old line byte }
     {
         self.serial.receive(line, byte);
     }
 
-    /// A byte with a framing error arrives at a line of the serial part, which is at most 3.
-    pub(crate) fn receive_framing(&mut self, line: u8, byte: u8)
-        requires { line ≤ 3 }
+    /// A byte with a framing error arrives at a line of the serial part.
+    pub(crate) fn receive_framing(&mut self, line: SerialLine, byte: u8)
         ensures { self.new ≡ arrived_framing self.old line byte }
     {
         self.serial.receive_framing(line, byte);

@@ -1,8 +1,8 @@
 -- Bytes that steps sent, by their lines.
-use Rattle.std.proofs.Common.{◌≡◌, ◌≢◌, ℕ, suc, ◌+◌, ◌≤◌, ◌==◌, List, [], ◌∷◌, ◌++◌, length, map, Option, Some, None, refl, sym, ap, ◌∙◌, arith, inl, inr}
+use Rattle.std.proofs.Common.{◌≡◌, ◌≢◌, ℕ, suc, ◌+◌, ◌<◌, ◌≤◌, ◌==◌, List, [], ◌∷◌, ◌++◌, length, map, slice_index_or, take, Option, Some, None, refl, sym, ap, ◌∙◌, arith, inl, inr}
 use Rattle.std.specs.List.{cons_option}
 use Rattle.std.proofs.lemmas.Bool.{cases_Bool, eq-eqb, ne_eqb}
-use Rattle.std.proofs.lemmas.List.{append-nil}
+use Rattle.std.proofs.lemmas.List.{append-nil, take_more}
 use Rattle.std.proofs.lemmas.List.Elements.{filter_map-append}
 use Rattle.dz_serial.specs.declared.write.Sent.{Sent}
 use Rattle.r3k_machine.specs.declared.step.Done.{Done}
@@ -10,6 +10,10 @@ use Rattle.r3k_machine.specs.Run.{byte_on, console_of, senders_of, with_sender}
 use Rattle.r3k_live.specs.Record.{sent_from, with_sent}
 use Rattle.r3k_live.specs.declared.recorder.SentAt.{SentAt}
 use Rattle.present_run.specs.Sent.{bytes_on, on_line, steps_on}
+
+-- those before an item, and the item
+pub item_taken : (sent : List SentAt) (i : ℕ) (one : SentAt) → one ≡ slice_index_or sent i one → i < length sent → take (i + 1) sent ≡ take i sent ++ one ∷ []
+item_taken sent i one is within = take_more sent i one within ∙ ap (λ (item : SentAt). take i sent ++ item ∷ []) (sym is)
 
 -- the bytes of a line, with one more in front
 byte_first : (line step : ℕ) (sent : Option Sent) (later : List SentAt) → bytes_on line (with_sent step sent later) ≡ cons_option (byte_on line sent) (bytes_on line later)

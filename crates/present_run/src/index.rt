@@ -11,6 +11,7 @@ ghost use Rattle.present_run.specs.Index.{Agrees, Has, IsLastWriter, IsSender, m
 
 use checkpoints::Kept;
 use console_index::ConsoleIndex;
+use dz_serial::SerialLine;
 use r3k_live::SentAt;
 use r3k_word::layout::PAGE_BYTES;
 use span_fact::Fact;
@@ -102,8 +103,7 @@ impl SpanIndex {
     }
 
     /// How many bytes of a line the first `count` records sent.
-    pub(crate) fn count(&self, line: u8, count: u64) -> u64
-        requires line { line ≤ 3 }
+    pub(crate) fn count(&self, line: SerialLine, count: u64) -> u64
         ensures { (pages span : ℕ) (spans : List (Option Span)) → Agrees pages span self.now spans →
             result ≡ sent_below pages span spans line count }
     {
@@ -112,8 +112,7 @@ impl SpanIndex {
 
     /// Which of the first `count` records sent the byte at a place of a line's console, and its place among the bytes that this
     /// record sent on the line.
-    pub(crate) fn find(&self, line: u8, place: u64, count: u64) -> Option<(u64, u64)>
-        requires line { line ≤ 3 }
+    pub(crate) fn find(&self, line: SerialLine, place: u64, count: u64) -> Option<(u64, u64)>
         ensures { (pages span : ℕ) (spans : List (Option Span)) → Agrees pages span self.now spans →
             IsSender pages span spans line place count result }
     {
@@ -144,10 +143,7 @@ fn counts_of(sent: &[SentAt]) -> [u32; 4]
 {
     let mut counts = [0; 4];
     for one in sent {
-        if one.line > 3 {
-            continue;
-        }
-        counts[one.line as usize] += 1;
+        counts[one.line.index()] += 1;
     }
     counts
 }

@@ -6,6 +6,7 @@ ghost use Rattle.present_run.specs.Sent.{bytes_on, on_line, steps_on};
 ghost use Rattle.present_run.specs.Seeking.{IsNear, Seeks};
 
 use arrayvec::ArrayVec;
+use dz_serial::SerialLine;
 use r3k_live::SentAt;
 
 /// What is shown of a console: how many bytes were sent, and those from a place on.
@@ -17,7 +18,7 @@ pub struct Shown {
 
 impl Shown {
     /// Takes the bytes of a line among those that were sent next.
-    pub(crate) fn take_of(&mut self, line: u8, sent: &[SentAt], from: u64, count: usize)
+    pub(crate) fn take_of(&mut self, line: SerialLine, sent: &[SentAt], from: u64, count: usize)
         requires room { self.old.total + length sent.now < 2 ^ 64 }
         requires count { count ≤ 256 }
         ensures shows { (console : List ℕ) → Shows from count console self.old →
@@ -49,7 +50,7 @@ impl Shown {
 }
 
 // A byte, if it was sent on this line.
-fn byte_on(line: u8, sent: SentAt) -> Option<u8>
+fn byte_on(line: SerialLine, sent: SentAt) -> Option<u8>
     ensures { result ≡ on_line line (λ one. one.byte) sent }
 {
     if sent.line == line {
@@ -66,7 +67,7 @@ pub(crate) enum Sought {
 }
 
 /// Searches for the byte of a line at a place, among bytes that were sent from a time on.
-pub(crate) fn seek(line: u8, sent: &[SentAt], place: u64) -> Sought
+pub(crate) fn seek(line: SerialLine, sent: &[SentAt], place: u64) -> Sought
     ensures found { Seeks (steps_on line sent.now) place result }
     ensures near { IsNear result }
 {

@@ -17,6 +17,7 @@ ghost use Rattle.present_run.specs.Seeking.{Seeks};
 use crate::present::Present;
 use crate::sent::{Shown, Sought, seek};
 use arrayvec::ArrayVec;
+use dz_serial::SerialLine;
 use r3k_live::SentAt;
 use std::alloc::AllocError;
 
@@ -43,12 +44,11 @@ impl<const PAGES: u32, const SPAN: u32> Present<PAGES, SPAN> {
     pub fn console(
         &mut self,
         position: u64,
-        line: u8,
+        line: SerialLine,
         from: u64,
         count: usize,
     ) -> Result<Shown, AllocError>
         requires position { position ≤ max_position }
-        requires line { line ≤ 3 }
         requires count { count ≤ 256 }
         ensures stays { Stays self.old self.new }
         ensures shown { IfOk result (Shows from count (console_of line (trace_at PAGES self.new.inputs.image self.new.inputs.log position))) }
@@ -64,9 +64,13 @@ impl<const PAGES: u32, const SPAN: u32> Present<PAGES, SPAN> {
     }
 
     /// The step that sent a byte of a line, by its place in the console, if it came before a position.
-    pub fn sender(&mut self, position: u64, line: u8, place: u64) -> Result<Option<u64>, AllocError>
+    pub fn sender(
+        &mut self,
+        position: u64,
+        line: SerialLine,
+        place: u64,
+    ) -> Result<Option<u64>, AllocError>
         requires position { position ≤ max_position }
-        requires line { line ≤ 3 }
         ensures stays { Stays self.old self.new }
         ensures sender { IfOk result (λ step. step ≡
             slice_get (senders_of line 0 (trace_at PAGES self.new.inputs.image self.new.inputs.log position)) place) }
@@ -110,9 +114,8 @@ impl<const PAGES: u32, const SPAN: u32> Present<PAGES, SPAN> {
     }
 
     // Which of the first `spans` spans sent the byte of a line at a place, or `spans` where they sent fewer.
-    fn sender_of(&self, spans: u64, line: u8, place: u64) -> u64
+    fn sender_of(&self, spans: u64, line: SerialLine, place: u64) -> u64
         requires joined { spans ≤ self.now.runs.kept.valid }
-        requires line { line ≤ 3 }
         ensures within { result ≤ spans }
         ensures from { length (console_of line (trace_at PAGES self.now.inputs.image self.now.inputs.log (result * SPAN))) ≤ place }
         ensures to { result < spans → place < length (console_of line (trace_at PAGES self.now.inputs.image self.now.inputs.log ((result + 1) * SPAN))) }
@@ -124,19 +127,17 @@ impl<const PAGES: u32, const SPAN: u32> Present<PAGES, SPAN> {
     }
 
     // How many bytes of a line the first `spans` spans sent.
-    fn count_of(&self, spans: u64, line: u8) -> u64
+    fn count_of(&self, spans: u64, line: SerialLine) -> u64
         requires joined { spans ≤ self.now.runs.kept.valid }
-        requires line { line ≤ 3 }
         ensures { result ≡ length (console_of line (trace_at PAGES self.now.inputs.image self.now.inputs.log (spans * SPAN))) }
     {
         self.runs.told.count(line, spans)
     }
 
     // What is shown of the console of a line by the steps of the first `spans` spans.
-    fn shown_before(&self, spans: u64, line: u8, from: u64, count: usize) -> Shown
+    fn shown_before(&self, spans: u64, line: SerialLine, from: u64, count: usize) -> Shown
         requires joined { spans ≤ self.now.runs.kept.valid }
         requires near { spans * SPAN ≤ max_position }
-        requires line { line ≤ 3 }
         requires count { count ≤ 256 }
         ensures shown { Shows from count (console_of line (trace_at PAGES self.now.inputs.image self.now.inputs.log (spans * SPAN))) result }
         ensures few { result.total ≤ spans * SPAN }
@@ -155,10 +156,9 @@ impl<const PAGES: u32, const SPAN: u32> Present<PAGES, SPAN> {
     }
 
     // Searches the steps of the first `spans` spans for the one that sent the byte of a line at a place.
-    fn sought_before(&self, spans: u64, line: u8, place: u64) -> Sought
+    fn sought_before(&self, spans: u64, line: SerialLine, place: u64) -> Sought
         requires joined { spans ≤ self.now.runs.kept.valid }
         requires near { spans * SPAN ≤ max_position }
-        requires line { line ≤ 3 }
         ensures { Seeks (senders_of line 0 (trace_at PAGES self.now.inputs.image self.now.inputs.log (spans * SPAN))) place result }
     {
         let index = self.sender_of(spans, line, place);

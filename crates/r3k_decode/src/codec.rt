@@ -1,11 +1,13 @@
 //! Decoding and encoding by the table.
 
-ghost use Rattle.std.specs.Prelude.{◌≡◌, ◌<◌, IfSome, length};
-ghost use Rattle.r3k_table.specs.Table.{instructions};
+ghost use Rattle.std.specs.Prelude.{◌≡◌};
+ghost use Rattle.std.specs.Option.{option_map};
+ghost use Rattle.r3k_table.specs.Mnemonics.{number_of};
 ghost use Rattle.r3k_decode.specs.Decoding.{operation_of, word_of};
 ghost use Rattle.r3k_decode.specs.Jump.{special_rows, regimm_rows, cop0_rows, other_rows, candidate_of, picked, said_at};
 
 use crate::insn::Insn;
+use r3k_table::mnemonic::Mnemonic;
 use r3k_table::row::Shape;
 use r3k_table::rows;
 
@@ -19,51 +21,46 @@ const REGIMM: u32 = 0xFC1F_0000;
 const COP0: u32 = 0xFFE0_003F;
 
 macro_rules! by_value {
-    (($bits:ident) $(($number:literal, $name:ident, $mask:literal, $value:literal, $shape:ident))*) => {
+    (($bits:ident) $(($mnemonic:ident, $name:ident, $mask:literal, $value:literal, $shape:ident))*) => {
         match $bits {
-            $($value => Some($number),)*
+            $($value => Some(Mnemonic::$mnemonic),)*
             _ => None,
         }
     };
 }
 
 #[inline(always)]
-fn special(bits: u32) -> Option<u8>
-    ensures row { result ≡ picked special_rows bits }
-    ensures within { IfSome result (λ number. number < length instructions) }
+fn special(bits: u32) -> Option<Mnemonic>
+    ensures { option_map number_of result ≡ picked special_rows bits }
 {
     rows!(special by_value (bits))
 }
 
 #[inline(always)]
-fn regimm(bits: u32) -> Option<u8>
-    ensures row { result ≡ picked regimm_rows bits }
-    ensures within { IfSome result (λ number. number < length instructions) }
+fn regimm(bits: u32) -> Option<Mnemonic>
+    ensures { option_map number_of result ≡ picked regimm_rows bits }
 {
     rows!(regimm by_value (bits))
 }
 
 #[inline(always)]
-fn cop0(bits: u32) -> Option<u8>
-    ensures row { result ≡ picked cop0_rows bits }
-    ensures within { IfSome result (λ number. number < length instructions) }
+fn cop0(bits: u32) -> Option<Mnemonic>
+    ensures { option_map number_of result ≡ picked cop0_rows bits }
 {
     rows!(cop0 by_value (bits))
 }
 
 #[inline(always)]
-fn other(bits: u32) -> Option<u8>
-    ensures row { result ≡ picked other_rows bits }
-    ensures within { IfSome result (λ number. number < length instructions) }
+fn other(bits: u32) -> Option<Mnemonic>
+    ensures { option_map number_of result ≡ picked other_rows bits }
 {
     rows!(other by_value (bits))
 }
 
-// The number of the only row that a word may match.
+// The only instruction whose row a word may match.
 #[inline(always)]
-fn candidate(word: u32) -> Option<u8>
-    ensures row { result ≡ candidate_of word }
-    ensures within { IfSome result (λ number. number < length instructions) }
+fn candidate(word: u32) -> Option<Mnemonic>
+    ensures { option_map number_of result ≡ candidate_of word }
 {
     match word & OPCODE {
         0 => special(word & SPECIAL),
@@ -74,27 +71,25 @@ fn candidate(word: u32) -> Option<u8>
 }
 
 macro_rules! if_matches {
-    (($word:ident, $number_of:ident) $(($number:literal, $name:ident, $mask:literal, $value:literal, $shape:ident))*) => {
-        match $number_of {
-            $($number => {
+    (($word:ident, $found:ident) $(($mnemonic:ident, $name:ident, $mask:literal, $value:literal, $shape:ident))*) => {
+        match $found {
+            $(Mnemonic::$mnemonic => {
                 if $word & $mask == $value {
-                    Some(Insn::read($number, Shape::$shape, $word))
+                    Some(Insn::read(Mnemonic::$mnemonic, Shape::$shape, $word))
                 } else {
                     None
                 }
             })*
-            _ => unreachable!(),
         }
     };
 }
 
-// What a word says as an instruction of a row, if it matches it.
+// What a word says as an instruction of this name, if it matches its row.
 #[inline(always)]
-fn read_by(number: u8, word: u32) -> Option<Insn>
-    requires { number < length instructions }
-    ensures { result ≡ said_at word number }
+fn read_by(mnemonic: Mnemonic, word: u32) -> Option<Insn>
+    ensures { result ≡ said_at word (number_of mnemonic) }
 {
-    rows!(all if_matches (word, number))
+    rows!(all if_matches (word, mnemonic))
 }
 
 /// The instruction that a word says: its row in the table and its operands, or `None` exactly where it has no row.
@@ -103,15 +98,14 @@ fn read_by(number: u8, word: u32) -> Option<Insn>
 pub fn decode(word: u32) -> Option<Insn>
     ensures { result ≡ operation_of word }
 {
-    let number = candidate(word)?;
-    read_by(number, word)
+    let mnemonic = candidate(word)?;
+    read_by(mnemonic, word)
 }
 
 macro_rules! by_number {
-    (($insn:ident) $(($number:literal, $name:ident, $mask:literal, $value:literal, $shape:ident))*) => {
-        match $insn.row() {
-            $($number => $value + $insn.placed(Shape::$shape),)*
-            _ => unreachable!(),
+    (($insn:ident) $(($mnemonic:ident, $name:ident, $mask:literal, $value:literal, $shape:ident))*) => {
+        match $insn.mnemonic() {
+            $(Mnemonic::$mnemonic => $value + $insn.placed(Shape::$shape),)*
         }
     };
 }

@@ -1,19 +1,20 @@
 //! An instruction of the table.
 
-ghost use Rattle.std.specs.Prelude.{◌≡◌, ◌<◌, ◌≤◌, length};
+ghost use Rattle.std.specs.Prelude.{◌≡◌, ◌<◌, ◌≤◌};
 ghost use Rattle.r3k_table.specs.Table.{instructions};
+ghost use Rattle.r3k_table.specs.Mnemonics.{number_of};
 ghost use Rattle.r3k_decode.specs.Kept.{kept};
 
 use crate::register::Register;
+use r3k_table::mnemonic::Mnemonic;
 use r3k_table::row::Shape;
 use r3k_word::field::field;
 use std::marker::Model;
 
-/// An instruction: the number of its row in the table, and its fields. Each field fits its width, and is 0 where the
-/// row's shape lacks it.
-#[derive(Clone, Copy, Debug, PartialEq, Eq)]
+/// An instruction: its mnemonic, and its fields. Each field fits its width, and is 0 where the shape of its row lacks it.
+#[derive(Clone, Copy, Debug)]
 pub struct Insn {
-    row: u8,
+    mnemonic: Mnemonic,
     rs: Register,
     rt: Register,
     rd: Register,
@@ -25,7 +26,7 @@ pub struct Insn {
 
 impl Model for Insn {
     ghost use Rattle.r3k_decode.specs.Operation.{Operation, IsOperation};
-    ghost use Rattle.r3k_decode.specs.Seen.{operation, inside};
+    ghost use Rattle.r3k_decode.specs.Seen.{operation, inside, inside_again};
 
     ghost Value = { Operation };
 
@@ -34,6 +35,8 @@ impl Model for Insn {
     ghost invariant = { λ i. IsOperation (operation i) };
 
     ghost inverse = { inside };
+
+    ghost inverse_ok = { inside_again };
 }
 
 // A field that an instruction has. One that it lacks is 0.
@@ -51,13 +54,13 @@ impl Insn {
 
     /// What a word says as an instruction of this row and shape.
     #[inline]
-    pub(crate) fn read(row: u8, shape: Shape, word: u32) -> Insn
-        requires { IsSomeAnd (slice_get instructions row) (λ r. r.shape ≡ shape) }
-        ensures { result ≡ read_as row shape word }
+    pub(crate) fn read(mnemonic: Mnemonic, shape: Shape, word: u32) -> Insn
+        requires { IsSomeAnd (slice_get instructions (number_of mnemonic)) (λ r. r.shape ≡ shape) }
+        ensures { result ≡ read_as (number_of mnemonic) shape word }
     {
         let has = shape.fields();
         Insn {
-            row,
+            mnemonic,
             rs: Register::new(kept(has.rs, field::<25, 21>(word)) as u8),
             rt: Register::new(kept(has.rt, field::<20, 16>(word)) as u8),
             rd: Register::new(kept(has.rd, field::<15, 11>(word)) as u8),
@@ -85,13 +88,12 @@ impl Insn {
             + (kept(has.code, insn.code) << 6)
     }
 
-    /// The number of its row in the table.
+    /// Its mnemonic.
     #[inline]
-    pub fn row(&self) -> u8
-        ensures value { result ≡ self.now.row }
-        ensures within { result < length instructions }
+    pub fn mnemonic(&self) -> Mnemonic
+        ensures { number_of result ≡ self.now.row }
     {
-        self.row
+        self.mnemonic
     }
 
     /// The field `rs`, bits 25 to 21.

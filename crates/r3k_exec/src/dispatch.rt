@@ -1,4 +1,4 @@
-//! The effect of an instruction, by its row.
+//! The effect of an instruction, by its name.
 
 ghost use Rattle.std.specs.Prelude.{◌≡◌};
 ghost use Rattle.r3k_exec.specs.Effects.{effect_of};
@@ -12,21 +12,21 @@ use crate::operands::{Effect, Operands};
 use crate::shifts::{sll, sllv, sra, srav, srl, srlv};
 use crate::transfers::{lb, lbu, lh, lhu, lw, lwl, lwr, sb, sh, sw, swl, swr};
 use r3k_decode::Insn;
+use r3k_table::mnemonic::Mnemonic;
 use r3k_table::rows;
 
-macro_rules! by_number {
-    (($insn:ident, $operands:ident) $(($number:literal, $name:ident, $mask:literal, $value:literal, $shape:ident))*) => {
-        match $insn.row() {
-            $($number => $name($insn, $operands),)*
-            _ => unreachable!(),
+macro_rules! by_name {
+    (($insn:ident, $operands:ident) $(($mnemonic:ident, $name:ident, $mask:literal, $value:literal, $shape:ident))*) => {
+        match $insn.mnemonic() {
+            $(Mnemonic::$mnemonic => $name($insn, $operands),)*
         }
     };
 }
 
-/// What an instruction does with the values that it reads, by its row in the table.
+/// What an instruction does with the values that it reads, by its name.
 #[inline(always)]
 pub fn effect(insn: &Insn, operands: Operands) -> Effect
     ensures { result ≡ effect_of insn.now operands }
 {
-    rows!(all by_number (insn, operands))
+    rows!(all by_name (insn, operands))
 }

@@ -14,6 +14,7 @@ use r3k_decode::Insn;
 use r3k_image::Image;
 use r3k_machine::{Mem, decoded, stop};
 use r3k_pages::{PageMarks, Snapshot};
+use r3k_table::mnemonic::Mnemonic;
 use r3k_word::layout::{PAGE_WORDS, address_of, word_count};
 use std::alloc::{AllocError, Global};
 
@@ -193,7 +194,7 @@ impl<const PAGES: u32> Mem for FlatMemory<PAGES> {
     #[inline(always)]
     fn learn(&mut self, page: u32, index: usize) -> bool {
         let place = slot_of(PAGES, page) * WORDS + index;
-        if self.known[place].row() != self.stop.row() {
+        if self.known[place].mnemonic() != Mnemonic::Break {
             return false;
         }
         let Some(insn) = decoded(self.words[page as usize * WORDS + index]) else {

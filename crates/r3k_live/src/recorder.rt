@@ -12,7 +12,7 @@ ghost use Rattle.r3k_live.specs.Record.{AreWriters, dirty_pages, sent_from, touc
 ghost use Rattle.r3k_live.specs.Recording.{AreStored, Records, page_of_store, with_writer};
 
 use crate::virtual_pages::VirtualPages;
-use dz_serial::Sent;
+use dz_serial::{Sent, SerialLine};
 use r3k_machine::Done;
 use r3k_pages::PageMarks;
 use r3k_word::layout::{PAGE_BYTES, PAGE_WORDS};
@@ -22,7 +22,7 @@ use std::marker::Model;
 /// A byte that a step sent, with the step's number in its run.
 #[derive(Clone, Copy, Debug, PartialEq, Eq)]
 pub struct SentAt {
-    pub line: u8,
+    pub line: SerialLine,
     pub byte: u8,
     pub step: u32,
 }

@@ -4,15 +4,11 @@ ghost use Rattle.std.specs.Prelude.{IfSome};
 ghost use Rattle.r3k_machine.specs.Known.{IsDecoded, IsStop};
 
 use r3k_decode::{Insn, decode};
+use r3k_table::mnemonic::Mnemonic;
 use r3k_word::field::field;
 
 // The word of `break`.
 const BREAK: u32 = 0xD;
-
-// The rows of `mfc0` and `mtc0` in the table.
-const MFC0: u8 = 46;
-
-const MTC0: u8 = 47;
 
 /// The instruction that a word is, unless it is none, or one of coprocessor 0 that is no move.
 #[cold]
@@ -21,7 +17,7 @@ pub fn decoded(word: u32) -> Option<Insn>
     ensures { IfSome result (λ insn. IsDecoded word insn) }
 {
     let insn = decode(word)?;
-    if field::<31, 26>(word) == 16 && insn.row() != MFC0 && insn.row() != MTC0 {
+    if field::<31, 26>(word) == 16 && !matches!(insn.mnemonic(), Mnemonic::Mfc0 | Mnemonic::Mtc0) {
         return None;
     }
     Some(insn)

@@ -9,7 +9,7 @@ use crate::execute::execute_word;
 use crate::load_store::{Stored, Word, fetch};
 use crate::memory::Mem;
 use crate::state::Core;
-use dz_serial::Sent;
+use dz_serial::{Sent, SerialLine};
 use input_log::{Event, Kind};
 use kn02_bus::Bus;
 use r3k_word::layout::PAGE_BYTES;
@@ -79,8 +79,8 @@ fn receive_one(bus: &mut Bus, event: Event)
     ensures { bus.new ≡ received_as event.kind bus.old event.line event.byte }
 {
     match event.kind {
-        Kind::Byte => bus.receive(event.line, event.byte),
-        Kind::Framing => bus.receive_framing(event.line, event.byte),
+        Kind::Byte => bus.receive(SerialLine::new(event.line), event.byte),
+        Kind::Framing => bus.receive_framing(SerialLine::new(event.line), event.byte),
         Kind::Wire => bus.wire(event.line, event.byte == 1),
     }
 }

@@ -2,6 +2,7 @@
 #![tactic(auto)]
 
 pub mod laws;
+pub mod mnemonic;
 pub mod operand;
 pub mod row;
 pub mod rows;

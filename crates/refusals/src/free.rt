@@ -6,6 +6,7 @@ use crate::script::{answer, begun};
 use crate::show::Show;
 use checkpoints::Kept;
 use console_index::ConsoleIndex;
+use dz_serial::SerialLine;
 use input_log::Log;
 use r3k_asm::assemble;
 use r3k_decode::{decode, encode};
@@ -230,8 +231,8 @@ fn show_indices<W: Sink>(indices: &Indices, show: &mut Show<W>) {
     let last = stores.last_span(0, 1, &mut asked);
     show.number(b"last_span", last.unwrap_or(99));
     show.number(b"none", stores.last_span(0, 0, &mut asked).unwrap_or(99));
-    show.number(b"count", sent.count(0, 2));
-    let found = sent.find(0, 0).unwrap_or((99, 99));
+    show.number(b"count", sent.count(SerialLine::new(0), 2));
+    let found = sent.find(SerialLine::new(0), 0).unwrap_or((99, 99));
     show.number(b"find", found.0);
     show.number(b"place", found.1);
 }

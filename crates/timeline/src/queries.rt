@@ -16,6 +16,7 @@ ghost use Rattle.present_run.specs.Landed.{Asks, Lands};
 use crate::timeline::Timeline;
 use crate::writer::Writer;
 use arrayvec::ArrayVec;
+use dz_serial::SerialLine;
 use input_log::MAX_POSITION;
 use r3k_machine::Core;
 use r3k_word::layout::place_of;
@@ -80,7 +81,9 @@ impl<const PAGES: u32, const SPAN: u32> Timeline<PAGES, SPAN> {
         if position > MAX_POSITION {
             return Err(Fault::TooFar);
         }
-        let shown = self.present.console(position, line, from, count)?;
+        let shown = self
+            .present
+            .console(position, SerialLine::new(line), from, count)?;
         Ok((shown.total, shown.bytes))
     }
 
@@ -119,7 +122,7 @@ impl<const PAGES: u32, const SPAN: u32> Timeline<PAGES, SPAN> {
         if position > MAX_POSITION {
             return Err(Fault::TooFar);
         }
-        let sender = self.present.sender(position, line, place)?;
+        let sender = self.present.sender(position, SerialLine::new(line), place)?;
         sender.ok_or(Fault::NotFound)
     }
 

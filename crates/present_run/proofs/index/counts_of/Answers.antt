@@ -1,43 +1,30 @@
-use Rattle.std.proofs.Common.{◌≡◌, ◌≢◌, ℕ, ◌≤◌, List, length, length-set, take, slice_index, slice_index_or, sym, ap, ◌∙◌, arith}
+use Rattle.std.proofs.Common.{◌≡◌, ℕ, ◌≤◌, List, length, length-set, take, slice_index, sym, ap, ◌∙◌, arith}
 use Rattle.std.proofs.lemmas.Grind.{get_or_default_zero}
-use Rattle.std.proofs.lemmas.List.{length-take-le, take_all, take_more}
+use Rattle.std.proofs.lemmas.List.{length-take-le, take_all}
 use Rattle.r3k_live.specs.declared.recorder.SentAt.{SentAt}
 use Rattle.present_run.specs.Sent.{bytes_on}
-use Rattle.present_run.proofs.Counting.{bytes_none, counted_one, few_on}
+use Rattle.present_run.proofs.Counting.{counted_one, few_on}
+use Rattle.present_run.proofs.Sending.{item_taken}
 use Rattle.present_run.proofs.index.counts_of.Goals as goal
 
 pub overflow_add-counts : goal.overflow_add-counts
 overflow_add-counts c =
     let i = c.loop-one.one-index in
-    let none : SentAt = record { line = 0; byte = 0; step = 0 } in
-    let one = slice_index_or c.args.sent.now i none in
-    let few = few_on one.line (take i c.args.sent.now) in
+    let few = few_on c.index.result (take i c.args.sent.now) in
     let long = length-take-le i c.args.sent.now (omega arith) in
-    let so_far = c.loop-one.invariant.each one.line c.if-one-gt3.false in
+    let so_far = c.loop-one.invariant.each c.index.result (omega arith) in
     record { fits = omega (arith, few, long, so_far) }
-
-pub loop-one-preserved-then-one-gt3 : goal.loop-one-preserved-then-one-gt3
-loop-one-preserved-then-one-gt3 c =
-    let i = c.loop-one.one-index in
-    let none : SentAt = record { line = 0; byte = 0; step = 0 } in
-    let one = slice_index_or c.args.sent.now i none in record {
-      each = λ line known.
-          let other : one.line ≢ line = (λ same. absurd (let e : ⊥ = omega (arith, same, known, c.if-one-gt3.true) in e)) in
-          c.loop-one.invariant.each line known
-          ∙ (sym (bytes_none line (take i c.args.sent.now) one other)
-          ∙ ap (λ (front : List SentAt). length (bytes_on line front)) (sym (take_more c.args.sent.now i none c.loop-one-test.true)));
-      four = c.loop-one.invariant.four;
-    }
 
 pub loop-one-preserved : goal.loop-one-preserved
 loop-one-preserved c =
     let i = c.loop-one.one-index in
     let counts = c.loop-one.counts in
-    let none : SentAt = record { line = 0; byte = 0; step = 0 } in
-    let one = slice_index_or c.args.sent.now i none in record {
+    let one = c.one-item.result in
+    let taken = item_taken c.args.sent.now i one c.one-item.is c.loop-one-test.true in
+    rw c.index.ensures.value record {
       each = λ line known.
-          counted_one counts (take i c.args.sent.now) one line (omega (arith, c.loop-one.invariant.four, c.if-one-gt3.false)) (c.loop-one.invariant.each line known)
-          ∙ ap (λ (front : List SentAt). length (bytes_on line front)) (sym (take_more c.args.sent.now i none c.loop-one-test.true));
+          counted_one counts (take i c.args.sent.now) one line (omega (arith, c.loop-one.invariant.four, c.index.ensures)) (c.loop-one.invariant.each line known)
+          ∙ ap (λ (front : List SentAt). length (bytes_on line front)) (sym taken);
       four = length-set counts one.line _ ∙ c.loop-one.invariant.four;
     }
 

@@ -1,16 +1,26 @@
-use Rattle.std.proofs.Common.{◌∙◌, inl, inr, refl, sym}
+use Rattle.std.proofs.Common.{◌≡◌, ◌⊎◌, ◌∙◌, ap, inl, inr, true, false, refl, sym}
 use Rattle.std.proofs.lemmas.Bool.{ne_eqb}
-use Rattle.r3k_machine.proofs.known.decoded.Goals.{else-field-eq16-via-then-field-eq16+then-row-ne-MFC0+else-row-ne-MTC0, else-field-eq16-via-then-field-eq16+else-row-ne-MFC0, else-field-eq16-via-else-field-eq16}
+use Rattle.r3k_table.specs.Mnemonics.{number_of}
+use Rattle.r3k_table.specs.declared.mnemonic.Mnemonic.{Mnemonic}
+use Rattle.r3k_table.specs.declared.mnemonic.Mnemonic.TheVariants.{Mfc0, Mtc0}
+use Rattle.r3k_decode.specs.Operation.{Operation}
+use Rattle.r3k_machine.proofs.known.decoded.Goals.{else-field-eq16-via-then-field-eq16+else-not-matches, in-Mfc0, in_default, else-field-eq16-via-else-field-eq16}
 use Rattle.r3k_machine.specs.Known.{IsMove}
 use Rattle.r3k_machine.proofs.known.decoded.Goals as goal
 
-pub returns : goal.returns
+is_move : (i : Operation) (name : Mnemonic) → number_of name ≡ i.row → (name ≡ Mfc0) ⊎ (name ≡ Mtc0) → IsMove i
 unfolding IsMove
+is_move i name row (inl is) = λ operands. inl (rw (sym row ∙ ap number_of is) refl)
+is_move i name row (inr is) = λ operands. inr (rw (sym row ∙ ap number_of is) refl)
+
+pub returns : goal.returns
 returns c = record {
   decoded = sym c.in_ok-insn.ensures;
   usable = elim c.else-field-eq16.branch [
-    | else-field-eq16-via-then-field-eq16+then-row-ne-MFC0+else-row-ne-MTC0 w ↦ λ other. absurd (other (λ operands. inr (rw (sym w.row-then-row-ne-MFC0.ensures.value ∙ w.if-row-ne-MTC0.false) refl)))
-    | else-field-eq16-via-then-field-eq16+else-row-ne-MFC0 w ↦ λ other. absurd (other (λ operands. inl (rw (sym w.row.ensures.value ∙ w.if-row-ne-MFC0.false) refl)))
+    | else-field-eq16-via-then-field-eq16+else-not-matches w ↦ elim w.match-matches.branch [
+      | in-Mfc0 v ↦ λ other. absurd (other (is_move c.in_ok-insn.insn w.mnemonic.result w.mnemonic.ensures v.in-Mfc0.is))
+      | in_default v ↦ (let bad : true ≡ false = sym w.if-not-matches.false ∙ v.matches-is in cc)
+    ]
     | else-field-eq16-via-else-field-eq16 w ↦ λ other core. rw (← c.field.ensures.value, ne_eqb c.field.result 16 w.if-field-eq16.false) refl
   ];
 }

@@ -9,7 +9,7 @@ returns-in_err-index c = λ pages span spans agrees.
     let index : Index = c.args.self.now in
     let line = c.args.line in
     let behind = subst (λ (x : Index). total x.consoles line (length x.consoles) ≤ c.args.place) c.self.view_is (c.in_err-index.ensures {u = tt}) in
-    let is = totals pages span index spans line c.args.count c.requires.line (λ i below. agrees i) in
+    let is = totals pages span index spans line c.args.count (omega arith) (λ i below. agrees i) in
     subst (λ (found : Option (ℕ × ℕ)). IsSender pages span spans line c.args.place c.args.count found) (sym c.from_residual.ensures)
     (omega (arith, behind, is, total_most index.consoles line c.args.count))
 
@@ -22,8 +22,8 @@ returns-then-index-count c = λ pages span spans agrees.
     let found = c.in_ok-index.ensures {u = tt} in
     let place = subst (λ (x : Index). total x.consoles line at + c.in_ok-index.rest ≡ c.args.place) c.self.view_is found.0 in
     let within = subst (λ (x : Index). c.in_ok-index.rest < count_at x.consoles line at) c.self.view_is found.1 in
-    let front = totals pages span index spans line at c.requires.line (λ i below. has i (omega (arith, below, c.if-index-count.true))) in
-    let here = (has at c.if-index-count.true).sent line c.requires.line in
+    let front = totals pages span index spans line at (omega arith) (λ i below. has i (omega (arith, below, c.if-index-count.true))) in
+    let here = (has at c.if-index-count.true).sent line (omega arith) in
     (c.if-index-count.true, omega (arith, place, front), omega (arith, within, here))
 
 pub returns : goal.returns
@@ -32,5 +32,5 @@ returns c = λ pages span spans agrees.
     let line = c.args.line in
     let found = c.in_ok-index.ensures {u = tt} in
     let place = subst (λ (x : Index). total x.consoles line c.in_ok-index.index + c.in_ok-index.rest ≡ c.args.place) c.self.view_is found.0 in
-    let is = totals pages span index spans line c.args.count c.requires.line (λ i below. agrees i) in
+    let is = totals pages span index spans line c.args.count (omega arith) (λ i below. agrees i) in
     omega (arith, place, is, total_rises index.consoles line c.args.count c.in_ok-index.index c.if-index-count.false)

@@ -11,7 +11,7 @@ use Rattle.timeline.proofs.timeline.Timeline.console_at.Goals as goal
 pub returns-clause-shown : goal.returns-clause-shown
 returns-clause-shown g c =
     let position = c.args.position in
-    let shown = (c.in_ok-shown.ensures {u = tt}).shown in
+    let shown = (rw c.new.ensures at (c.in_ok-shown.ensures {u = tt}).shown) in
     let answer : ℕ → List ℕ → Result (ℕ × List ℕ) Fault = λ total bytes. Ok (total, bytes) in
     console_given g.row.PAGES c.args.self.now.history position c.args.line c.args.from c.args.count (omega arith) (omega arith) (omega arith) (omega arith)
     ∙ sym (ap₂ answer shown.0 shown.1

@@ -1,5 +1,4 @@
-use Rattle.std.proofs.Common.{sym}
-use Rattle.std.proofs.lemmas.Bool.{not-true}
+use Rattle.std.proofs.Common.{sym, rules}
 use Rattle.tlb64.proofs.Keeping.{one_more}
 use Rattle.tlb64.proofs.tlb.Tlb.translate.Goals as goal
 
@@ -10,5 +9,5 @@ invariant_of-self c =
     rw c.tag-tag.ensures (
       c.self.invariant.0,
       one_more entries c.self.inside.kept c.slot.result c.args.address c.args.hi c.in_ok-found.found c.self.invariant.1 (sym found)
-          (not-true _ c.if-not-found.true),
+          (search rules),
     )

@@ -1,5 +1,0 @@
-use Rattle.std.proofs.Common.{length}
-use Rattle.console_index.proofs.tree.+grow.Given as goal
-
-abbrev pub decreases-grow : goal.decreases-grow
-decreases-grow l = length l.levels.now

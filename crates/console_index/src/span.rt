@@ -1,0 +1,60 @@
+//! Spans with running totals.
+
+ghost use Rattle.std.specs.Prelude.{◌≡◌, ◌+◌, ◌<◌, ◌≤◌, ◌^◌, ℕ, length, slice_index, slice_set};
+ghost use Rattle.console_index.specs.Counts.{total};
+ghost use Rattle.console_index.specs.Totals.{HasTotals, IsIndex, counts_of};
+
+use dz_serial::SerialLine;
+use std::array;
+
+/// What each line sent in a span, and what it sent in all spans up to and with this one.
+#[derive(Clone, Copy)]
+pub(crate) struct Span {
+    pub(crate) counts: [u32; 4],
+    pub(crate) totals: [u64; 4],
+}
+
+/// What each line sent in the spans below one.
+pub(crate) fn totals_below(spans: &[Span], end: usize) -> [u64; 4]
+    requires within { end ≤ length spans.now }
+    requires totals { HasTotals end spans.now }
+    ensures { (line : ℕ) → line ≤ 3 → slice_index result line ≡ total (counts_of spans.now) line end }
+{
+    if end == 0 {
+        return [0; 4];
+    }
+    spans[end - 1].totals
+}
+
+/// How many spans lie whole before the byte at a place of a line's console.
+pub(crate) fn whole_before(spans: &[Span], line: SerialLine, place: u64) -> usize
+    requires { HasTotals (length spans.now) spans.now }
+    ensures passed { result ≤ length spans.now }
+    ensures before { total (counts_of spans.now) line result ≤ place }
+    ensures within { result < length spans.now → place < total (counts_of spans.now) line (result + 1) }
+{
+    let line = line.index();
+    spans.partition_point(|span| span.totals[line] <= place)
+}
+
+/// Puts the counts of a span, and brings the totals from there on up to date.
+pub(crate) fn put(spans: &mut [Span], index: usize, counts: [u32; 4])
+    requires index { index < length spans.old }
+    requires small { (line : ℕ) → line ≤ 3 → slice_index counts line ≤ 1048576 }
+    requires spans { IsIndex spans.old }
+    ensures counts { counts_of spans.new ≡ slice_set (counts_of spans.old) index counts }
+    ensures spans { IsIndex spans.new }
+{
+    spans[index].counts = counts;
+    for i in index..spans.len() {
+        spans[i].totals = sums(totals_below(spans, i), spans[i].counts);
+    }
+}
+
+// What each line sent in the spans below one and in that one.
+fn sums(below: [u64; 4], counts: [u32; 4]) -> [u64; 4]
+    requires { (line : ℕ) → line ≤ 3 → slice_index below line + slice_index counts line < 2 ^ 64 }
+    ensures { (line : ℕ) → line ≤ 3 → slice_index result line ≡ slice_index below line + slice_index counts line }
+{
+    array::from_fn(|line| below[line] + u64::from(counts[line]))
+}
