@@ -1,330 +1,188 @@
 //! The bus on its own: its regions, and its devices by their registers.
-use crate::same::{same, same_at};
-use dz_serial::{Sent, SerialLine};
+use crate::lists::{Part, cases, numbers_of, plays, within};
+use crate::same::same_at;
+use crate::serial_part::{RBUF, TDR, line_of, sent_on};
 use kn02_bus::{Bus, Device, Lines, Region};
+use samples::shown;
 use std::test::Fail;
 
 const START: [u8; 12] = [0x59, 0, 0x59, 0, 0x23, 0, 7, 0x28, 2, 4, 0x20, 2];
 
-const PAGES: u32 = 2048;
+// Clauses on a bus, which begins with byte time 16. The serial part's registers are 0 CSR, 8 RBUF and LPR, 16 TCR and 24 TDR, at their
+// offsets, and the clock's 10 A, 11 B and 12 C:
+//
+//     new T, zeros T U            one with a byte time; one with a unit too, whose clock starts with zeros
+//     csr W, enable W L           what the board's CSR reads; a store into the bytes of these lanes
+//     reads O W, write O W L      what a register of the serial part reads; a store into one, which sends nothing
+//     rbuf W .., counts W X       what RBUF reads in turn; all from W to X
+//     sends W L I B               a store into TDR, which sends byte B on line I
+//     clock R W .., set R W L     what the clock's registers from one on read; a store into one
+//     receive I B, framing I B    a byte arrives on line I, or one with a framing error
+//     many I N                    the bytes from 0 up to N arrive
+//     wire K V                    the level of external line K
+//     lines B C                   whether the lines of the board and of the clock interrupt
+//     tick N
+impl Part for Bus {
+    fn begin() -> Bus {
+        Bus::new(16, START, 1)
+    }
 
-const SERIAL_CSR: Device = Device::Serial(0);
+    fn copy_from(&mut self, other: &Bus) {
+        self.assign(other);
+    }
 
-// RBUF is read and LPR written.
-const RBUF_LPR: Device = Device::Serial(8);
+    fn clause(&mut self, name: &str, numbers: &[u32]) -> Result<bool, Fail> {
+        Ok(does(self, name, numbers)? || stores(self, name, numbers)? || is_so(self, name, numbers))
+    }
+}
 
-const TCR: Device = Device::Serial(16);
+// Does what is said, and answers whether something is.
+fn does(bus: &mut Bus, name: &str, numbers: &[u32]) -> Result<bool, Fail> {
+    match (name, numbers) {
+        ("new", [time]) => *bus = Bus::new(within(*time, 1, 65_535)?, START, 1),
+        ("zeros", [time, unit]) => {
+            let (time, unit) = (within(*time, 1, 65_535)?, within(*unit, 1, 65_535)?);
+            *bus = Bus::new(time, [0; 12], unit);
+        }
+        ("receive", [line, byte]) => bus.receive(line_of(*line)?, u8::try_from(*byte)?),
+        ("framing", [line, byte]) => bus.receive_framing(line_of(*line)?, u8::try_from(*byte)?),
+        ("many", [line, count]) => {
+            for byte in 0..*count {
+                bus.receive(line_of(*line)?, u8::try_from(byte)?);
+            }
+        }
+        ("wire", [line, level]) => bus.wire(within(*line, 0, 2)? as u8, *level != 0),
+        ("tick", [ticks]) => {
+            for _ in 0..*ticks {
+                bus.tick();
+            }
+        }
+        _ => return Ok(false),
+    }
+    Ok(true)
+}
 
-const TDR: Device = Device::Serial(24);
+// Whether a store is said, and sends what is said.
+fn stores(bus: &mut Bus, name: &str, numbers: &[u32]) -> Result<bool, Fail> {
+    let (device, word, lanes, sent) = match (name, numbers) {
+        ("enable", [word, lanes]) => (Device::Csr, word, lanes, None),
+        ("write", [offset, word, lanes]) => (Device::Serial(*offset), word, lanes, None),
+        ("set", [number, word, lanes]) => (register(*number), word, lanes, None),
+        ("sends", [word, lanes, line, byte]) => {
+            (Device::Serial(TDR), word, lanes, sent_on(*line, *byte)?)
+        }
+        _ => return Ok(false),
+    };
+    Ok(bus.store(device, *word, u8::try_from(*lanes)?) == sent)
+}
+
+// Whether the bus is as is said.
+fn is_so(bus: &mut Bus, name: &str, numbers: &[u32]) -> bool {
+    match (name, numbers) {
+        ("csr", [want]) => bus.load(Device::Csr) == *want,
+        ("reads", [offset, want]) => bus.load(Device::Serial(*offset)) == *want,
+        ("rbuf", wants) => wants
+            .iter()
+            .all(|want| bus.load(Device::Serial(RBUF)) == *want),
+        ("counts", [first, last]) => {
+            (*first..=*last).all(|want| bus.load(Device::Serial(RBUF)) == want)
+        }
+        ("clock", [first, wants @ ..]) => {
+            (*first..64)
+                .zip(wants)
+                .all(|(number, want)| bus.load(register(number)) == *want)
+        }
+        ("lines", [board, clock]) => {
+            let (board, clock) = (*board != 0, *clock != 0);
+            bus.lines() == Lines { board, clock }
+        }
+        _ => false,
+    }
+}
 
 // A register of the clock, by its address.
 fn register(number: u32) -> Device {
-    match Region::of(0x1FE8_0000u32.wrapping_add(number.wrapping_mul(4)), PAGES) {
+    match Region::of(0x1FE8_0000u32.wrapping_add(number.wrapping_mul(4)), 16) {
         Region::Device(device) => device,
         _ => Device::Csr,
     }
 }
 
-// The number of a clock register that an address is of, if it is of one.
-fn clock_register(pa: u32) -> Option<u8> {
-    let Region::Device(device) = Region::of(pa, PAGES) else {
-        return None;
-    };
-    match device {
-        Device::Clock(register) => Some(register.number()),
-        _ => None,
-    }
-}
-
-fn tick(bus: &mut Bus, ticks: u32) {
-    for _ in 0..ticks {
-        bus.tick();
-    }
-}
-
-// The first and the last address of each part, and those beside them.
 #[test]
-fn regions(rt: HostRuntime) {
-    for (pa, pages, region) in [
-        (0, 16, Region::Ram),
-        (0x0000_FFFF, 16, Region::Ram),
-        (0x0001_0000, 16, Region::Unassigned),
-        (0x01FF_FFFF, 8192, Region::Ram),
-        (0x0200_0000, 8192, Region::Unassigned),
-        (0x1FBF_FFFF, PAGES, Region::Unassigned),
-        (0x1FC0_0000, PAGES, Region::Rom),
-        (0x1FC3_FFFF, PAGES, Region::Rom),
-        (0x1FC4_0000, PAGES, Region::Unassigned),
-        (0x1FDF_FFFF, PAGES, Region::Unassigned),
-        (0x1FE0_0000, PAGES, Region::Device(SERIAL_CSR)),
-        (0x1FE0_000B, PAGES, Region::Device(RBUF_LPR)),
-        (0x1FE0_001F, PAGES, Region::Device(Device::Serial(28))),
-        (0x1FE0_0020, PAGES, Region::Unassigned),
-        (0x1FE7_FFFF, PAGES, Region::Unassigned),
-        (0x1FE8_0100, PAGES, Region::Unassigned),
-        (0x1FEF_FFFF, PAGES, Region::Unassigned),
-        (0x1FF0_0000, PAGES, Region::Device(Device::Csr)),
-        (0x1FF0_0003, PAGES, Region::Device(Device::Csr)),
-        (0x1FF0_0004, PAGES, Region::Unassigned),
-        (0xFFFF_FFFF, PAGES, Region::Unassigned),
-    ] {
-        same_at(&rt, &pa, &Region::of(pa, pages), &region);
-    }
-    for (pa, number) in [(0x1FE8_0000, 0), (0x1FE8_002A, 10), (0x1FE8_00FF, 63)] {
-        same_at(&rt, &pa, &clock_register(pa), &Some(number));
-    }
+fn lists(rt: HostRuntime) -> Result<(), Fail> {
+    plays::<Bus>(&rt, LISTS)
 }
 
-// Two buses with the same history are equal, and so is a third that takes it over.
-#[test]
-fn full_silo(rt: HostRuntime) {
-    let mut bus = Bus::new(16, START, 1);
-    bus.store(RBUF_LPR, 0x1000, 15);
-    bus.store(SERIAL_CSR, 0x20, 15);
-    for byte in 0..65 {
-        bus.receive(SerialLine::new(0), byte);
-    }
-    let mut other = Bus::new(1, [0; 12], 2);
-    assert!(rt; bus != other);
-    other.assign(&bus);
-    assert!(rt; bus == other);
-    same(&rt, &bus.load(SERIAL_CSR), &0x00A0);
-    same(&rt, &bus.load(RBUF_LPR), &0x8000);
-    assert!(rt; bus != other);
-    bus.receive(SerialLine::new(0), 0x41);
-    let mut last = 0;
-    for _ in 0..63 {
-        last = bus.load(RBUF_LPR);
-    }
-    same(&rt, &last, &0x803F);
-    same(&rt, &bus.load(RBUF_LPR), &0xC041);
-    same(&rt, &bus.load(RBUF_LPR), &0);
-}
+const LISTS: &str = "
+$ full silo
+# Two buses with the same history are equal, and so is a third that takes it over.
+swap, zeros 1 2, swap, write 8 0x1000 15, write 0 0x20 15, many 0 65, other, mark, same, reads 0 0x00a0, rbuf 0x8000, other
+receive 0 0x41, counts 0x8001 0x803f, rbuf 0xc041 0
 
-// An update of the time at the end of a second, with its interrupt.
-#[test]
-fn clock(rt: HostRuntime) {
-    let mut bus = Bus::new(16, START, 1);
-    tick(&mut bus, 8189);
-    same(&rt, &bus.load(register(10)), &0x20);
-    bus.tick();
-    same(&rt, &bus.load(register(10)), &0xA0);
-    // UIE, by byte 0 alone
-    bus.store(register(11), 0x12, 14);
-    same(&rt, &bus.load(register(11)), &2);
-    bus.store(register(11), 0xFFFF_FF12, 1);
-    same(&rt, &bus.load(register(11)), &0x12);
-    bus.tick();
-    same(
-        &rt,
-        &bus.lines(),
-        &Lines {
-            board: false,
-            clock: false,
-        },
-    );
-    bus.tick();
-    same(
-        &rt,
-        &bus.lines(),
-        &Lines {
-            board: false,
-            clock: true,
-        },
-    );
-    let want = [0, 0, 0, 0, 0, 0, 1, 0x29, 2, 4];
-    for r in 0..10u32 {
-        same_at(&rt, &r, &bus.load(register(r)), &want[r as usize]);
-    }
-    same(&rt, &bus.load(register(12)), &0xB0);
-    same(&rt, &bus.load(register(12)), &0);
-    same(
-        &rt,
-        &bus.lines(),
-        &Lines {
-            board: false,
-            clock: false,
-        },
-    );
-}
+$ an update of the time at the end of a second, with its interrupt
+tick 8189, clock 10 0x20, tick 1, clock 10 0xa0
+# UIE, by byte 0 alone.
+set 11 0x12 14, clock 11 2, set 11 0xffffff12 1, clock 11 0x12, tick 1, lines 0 0, tick 1, lines 0 1
+clock 0 0 0 0 0 0 0 1 0x29 2 4, clock 12 0xb0, clock 12 0, lines 0 0
 
-// Byte 2 of CSR has the enables, bit 7 is the serial part's line, and both together interrupt.
-#[test]
-fn csr(rt: HostRuntime) {
-    let mut bus = Bus::new(3, START, 1);
-    bus.store(Device::Csr, 0xFFFF_FFFF, 11);
-    same(&rt, &bus.load(Device::Csr), &0);
-    bus.store(Device::Csr, 0xFFFF_FFFF, 15);
-    same(&rt, &bus.load(Device::Csr), &0x00FF_0000);
-    assert!(rt; !bus.lines().board);
-    // TIE and MSE, and line 1
-    bus.store(TCR, 2, 1);
-    bus.store(SERIAL_CSR, 0x4020, 3);
-    same(&rt, &bus.load(Device::Csr), &0x00FF_0000);
-    bus.tick();
-    same(&rt, &bus.load(Device::Csr), &0x00FF_0080);
-    assert!(rt; bus.lines().board);
-    bus.store(Device::Csr, 0x007F_0000, 4);
-    same(&rt, &bus.load(Device::Csr), &0x007F_0080);
-    assert!(rt; !bus.lines().board);
-    bus.store(Device::Csr, 0x0080_0000, 4);
-    assert!(rt; bus.lines().board);
-    // the byte goes out, and the line is busy for three ticks
-    same(&rt, &bus.store(TDR, 0x1241, 14), &None);
-    same(
-        &rt,
-        &bus.store(TDR, 0x1241, 1),
-        &Some(Sent {
-            line: SerialLine::new(1),
-            byte: 0x41,
-        }),
-    );
-    same(&rt, &bus.load(Device::Csr), &0x0080_0000);
-    tick(&mut bus, 2);
-    assert!(rt; !bus.lines().board);
-    bus.tick();
-    same(&rt, &bus.load(SERIAL_CSR), &0xC120);
-    assert!(rt; bus.lines().board);
-}
+$ CSR
+# Byte 2 has the enables, bit 7 is the serial part's line, and both together interrupt.
+new 3, enable 0xffffffff 11, csr 0, enable 0xffffffff 15, csr 0x00ff0000, lines 0 0
+# TIE and MSE, and line 1.
+write 16 2 1, write 0 0x4020 3, csr 0x00ff0000, tick 1, csr 0x00ff0080, lines 1 0, enable 0x007f0000 4, csr 0x007f0080, lines 0 0
+enable 0x00800000 4, lines 1 0
+# The byte goes out, and the line is busy for three ticks.
+write 24 0x1241 14, sends 0x1241 1 1 0x41, csr 0x00800000, tick 2, lines 0 0, tick 1, reads 0 0xc120, lines 1 0
 
-// Of each external line: its bit of CSR, its enable, and all enables but that one.
-const EXTERNAL: [[u32; 3]; 3] = [
-    [1, 0x0001_0000, 0x00FE_0000],
-    [2, 0x0002_0000, 0x00FD_0000],
-    [4, 0x0004_0000, 0x00FB_0000],
-];
+$ external line $1
+# It rises, is set again and falls. It counts from when its enable comes, and no other enable makes it count.
+| 0 | 1 | 0x0001 | 0x00fe
+| 1 | 2 | 0x0002 | 0x00fd
+| 2 | 4 | 0x0004 | 0x00fb
+csr 0, wire $1 0, same, wire $1 1, csr $2, other, mark, wire $1 1, same, enable $40000 15, csr $4000$2, lines 0 0
+enable $30000 15, csr $3000$2, lines 1 0, wire $1 1, lines 1 0, wire $1 0, csr $30000, lines 0 0, wire $1 1, lines 1 0
 
-// An external line rises, is set again and falls. It counts from when its enable comes, and no other
-// enable makes it count.
-#[test]
-fn external_lines(rt: HostRuntime) {
-    for k in 0..3u8 {
-        let [bit, enable, others] = EXTERNAL[k as usize];
-        let mut bus = Bus::new(16, START, 1);
-        let mut before = Bus::new(16, START, 1);
-        same(&rt, &bus.load(Device::Csr), &0);
-        bus.wire(k, false);
-        assert!(rt; bus == before);
-        bus.wire(k, true);
-        same(&rt, &bus.load(Device::Csr), &bit);
-        assert!(rt; bus != before);
-        before.assign(&bus);
-        bus.wire(k, true);
-        assert!(rt; bus == before);
-        bus.store(Device::Csr, others, 15);
-        same(&rt, &bus.load(Device::Csr), &(others | bit));
-        assert!(rt; !bus.lines().board);
-        bus.store(Device::Csr, enable, 15);
-        same(&rt, &bus.load(Device::Csr), &(enable | bit));
-        assert!(rt; bus.lines().board);
-        bus.wire(k, true);
-        assert!(rt; bus.lines().board);
-        bus.wire(k, false);
-        same(&rt, &bus.load(Device::Csr), &enable);
-        assert!(rt; !bus.lines().board);
-        bus.wire(k, true);
-        assert!(rt; bus.lines().board);
-    }
-}
+$ external and serial lines, with enables stored into lanes $1
+# Each interrupts as long as it is up and enabled. TIE and MSE, and line 1.
+| 4
+| 12
+| 15
+write 16 2 1, write 0 0x4020 3, tick 1, wire 1 1
+enable 0 $1, csr 0x00000082, lines 0 0, enable 0x007d0000 $1, csr 0x007d0082, lines 0 0
+enable 0x00020000 $1, csr 0x00020082, lines 1 0, enable 0x00800000 $1, csr 0x00800082, lines 1 0
+enable 0x00820000 $1, csr 0x00820082, lines 1 0, wire 1 0, csr 0x00820080, lines 1 0
+wire 1 1, sends 0x41 1 1 0x41, csr 0x00820002, lines 1 0, wire 1 0, csr 0x00820000, lines 0 0
 
-// An external line and that of the serial part at once, with enables stored as a byte, a half and a
-// word. Each interrupts as long as it is up and enabled.
+$ levels stay when the serial part is cleared, when bits 2 to 0 of CSR are stored, and over ticks
+write 8 0x1000 15, write 0 0x60 15, receive 0 0x41, wire 0 1, wire 2 1, enable 0x00040000 15, csr 0x00040085
+# CLR.
+write 0 0x10 15, reads 0 0, csr 0x00040005, lines 1 0, enable 0xffffffff 15, csr 0x00ff0005, enable 0 1, csr 0x00ff0005
+tick 100, clock 12 0, csr 0x00ff0005, lines 1 0
+
+$ a byte with a framing error raises the serial part's line as any byte does
+enable 0x00800000 15, write 0 0x60 15, framing 2 0x41, csr 0x00800000, write 8 0x1002 15, framing 2 0x42
+csr 0x00800080, lines 1 0, rbuf 0xa242 0, lines 0 0
+
+$ looks
+# The same tick is the same, whether the clock was read before or not, and whether a level was set before a tick or after it.
+tick 9, clock 0 0x59, tick 9, swap, tick 17, other, tick 1, same, swap, wire 1 1, tick 9, swap, tick 9, other, wire 1 1, same, alike
+";
+
+// The first and the last address of each part, and those beside them, by the pages of RAM.
 #[test]
-fn external_and_serial_lines(rt: HostRuntime) {
-    for lanes in [4, 12, 15] {
-        let mut bus = Bus::new(16, START, 1);
-        // TIE and MSE, and line 1
-        bus.store(TCR, 2, 1);
-        bus.store(SERIAL_CSR, 0x4020, 3);
-        bus.tick();
-        bus.wire(1, true);
-        for (enables, csr, up) in [
-            (0, 0x0000_0082, false),
-            (0x007D_0000, 0x007D_0082, false),
-            (0x0002_0000, 0x0002_0082, true),
-            (0x0080_0000, 0x0080_0082, true),
-            (0x0082_0000, 0x0082_0082, true),
-        ] {
-            bus.store(Device::Csr, enables, lanes);
-            same_at(&rt, &enables, &bus.load(Device::Csr), &csr);
-            same_at(&rt, &enables, &bus.lines().board, &up);
+fn regions(rt: HostRuntime) -> Result<(), Fail> {
+    for (pages, places, wanted) in &cases(rt.alloc(), REGIONS)? {
+        for place in &numbers_of(rt.alloc(), *places)? {
+            let region = Region::of(*place, u32::from_str_radix(*pages, 10)?);
+            same_at(&rt, place, &shown(rt.alloc(), &region)?, wanted);
         }
-        bus.wire(1, false);
-        same(&rt, &bus.load(Device::Csr), &0x0082_0080);
-        assert!(rt; bus.lines().board);
-        bus.wire(1, true);
-        bus.store(TDR, 0x41, 1);
-        same(&rt, &bus.load(Device::Csr), &0x0082_0002);
-        assert!(rt; bus.lines().board);
-        bus.wire(1, false);
-        same(&rt, &bus.load(Device::Csr), &0x0082_0000);
-        assert!(rt; !bus.lines().board);
     }
-}
-
-// Levels stay when the serial part is cleared, when bits 2 to 0 of CSR are stored, and over ticks.
-#[test]
-fn levels_stay(rt: HostRuntime) {
-    let mut bus = Bus::new(16, START, 1);
-    bus.store(RBUF_LPR, 0x1000, 15);
-    bus.store(SERIAL_CSR, 0x60, 15);
-    bus.receive(SerialLine::new(0), 0x41);
-    bus.wire(0, true);
-    bus.wire(2, true);
-    bus.store(Device::Csr, 0x0004_0000, 15);
-    same(&rt, &bus.load(Device::Csr), &0x0004_0085);
-    // CLR
-    bus.store(SERIAL_CSR, 0x10, 15);
-    same(&rt, &bus.load(SERIAL_CSR), &0);
-    same(&rt, &bus.load(Device::Csr), &0x0004_0005);
-    assert!(rt; bus.lines().board);
-    bus.store(Device::Csr, 0xFFFF_FFFF, 15);
-    same(&rt, &bus.load(Device::Csr), &0x00FF_0005);
-    bus.store(Device::Csr, 0, 1);
-    same(&rt, &bus.load(Device::Csr), &0x00FF_0005);
-    tick(&mut bus, 100);
-    bus.load(register(12));
-    same(&rt, &bus.load(Device::Csr), &0x00FF_0005);
-    assert!(rt; bus.lines().board);
-}
-
-// A byte with a framing error raises the serial part's line as any byte does.
-#[test]
-fn framing_error(rt: HostRuntime) {
-    let mut bus = Bus::new(16, START, 1);
-    bus.store(Device::Csr, 0x0080_0000, 15);
-    bus.store(SERIAL_CSR, 0x60, 15);
-    bus.receive_framing(SerialLine::new(2), 0x41);
-    same(&rt, &bus.load(Device::Csr), &0x0080_0000);
-    bus.store(RBUF_LPR, 0x1002, 15);
-    bus.receive_framing(SerialLine::new(2), 0x42);
-    same(&rt, &bus.load(Device::Csr), &0x0080_0080);
-    assert!(rt; bus.lines().board);
-    same(&rt, &bus.load(RBUF_LPR), &0xA242);
-    same(&rt, &bus.load(RBUF_LPR), &0);
-    assert!(rt; !bus.lines().board);
-}
-
-// Buses at the same tick are equal and print the same, whether the clock was read before or not, and
-// whether a level was set before a tick or after it.
-#[test]
-fn looks(rt: HostRuntime) -> Result<(), Fail> {
-    let mut bus = Bus::new(16, START, 1);
-    let mut other = Bus::new(16, START, 1);
-    tick(&mut bus, 9);
-    bus.load(register(0));
-    tick(&mut bus, 9);
-    tick(&mut other, 17);
-    assert!(rt; bus != other);
-    other.tick();
-    assert!(rt; bus == other);
-    bus.wire(1, true);
-    tick(&mut bus, 9);
-    tick(&mut other, 9);
-    assert!(rt; bus != other);
-    other.wire(1, true);
-    assert!(rt; bus == other);
-    let printed = format!(in rt.alloc(); "{bus:?}")?;
-    same(&rt, &printed, &format!(in rt.alloc(); "{other:?}")?);
     Ok(())
 }
+
+const REGIONS: &str = "16: 0 0xffff = Ram; 0x10000 = Unassigned
+8192: 0x01ffffff = Ram; 0x02000000 = Unassigned
+2048: 0x1fc00000 0x1fc3ffff = Rom; 0x1fbfffff 0x1fc40000 0x1fdfffff 0x1fe00020 0x1fe7ffff 0x1fe80100 0x1fefffff = Unassigned
+2048: 0x1fe00000 = Device Serial 0; 0x1fe0000b = Device Serial 8; 0x1fe0001f = Device Serial 28
+2048: 0x1fe80000 = Device Clock ClockRegister number 0; 0x1fe8002a = Device Clock ClockRegister number 10
+2048: 0x1fe800ff = Device Clock ClockRegister number 63; 0x1ff00000 0x1ff00003 = Device Csr; 0x1ff00004 0xffffffff = Unassigned";

@@ -1,183 +1,129 @@
 //! The control registers by hand: numbers 0 Index, 1 Random, 2 EntryLo, 4 Context, 8 BadVAddr, 10 EntryHi, 12 Status, 13
 //! Cause, 14 EPC, 15 PRId.
-use crate::same::same;
+use crate::lists::{Part, plays, within};
 use cop0::{Cop0, Coprocessor, Exc, ExcCode};
+use std::test::Fail;
 
-const ALL: [u8; 16] = [0, 1, 2, 3, 4, 5, 6, 7, 8, 9, 10, 11, 12, 13, 14, 15];
+// Clauses on the control registers:
+//
+//     reads N W .., write N W     what those from one on read; one is written
+//     all W                       a word is written into each
+//     break V, call V, unusable V, miss V, user-miss V, modification A V, misaligned A V
+//                                 an exception of the instruction at 0xBFC00010, some with an address, and its vector: a breakpoint, a
+//                                 system call in a delay slot, coprocessor 2, a load without an entry, and for the handler of user misses
+//     rfe, fall N                 the return from an exception; Random falls
+//     sample B C, wanted V        the interrupt lines of the board and the clock; whether an interrupt is wanted
+//     probed, probed I            a probe finds no entry, or one
+//     loaded H L, ts, cm V        an entry is read; TS and CM of Status are set
+impl Part for Cop0 {
+    fn begin() -> Cop0 {
+        Cop0::new()
+    }
 
-// An exception of the instruction at 0xBFC00010, outside a delay slot.
-fn exception(code: ExcCode) -> Exc {
-    Exc {
+    fn copy_from(&mut self, other: &Cop0) {
+        self.assign(other);
+    }
+
+    fn clause(&mut self, name: &str, numbers: &[u32]) -> Result<bool, Fail> {
+        if let [numbers @ .., vector] = numbers
+            && let Some(exception) = exception_of(name, numbers.first().copied())
+        {
+            return Ok(self.enter(exception) == *vector);
+        }
+        match (name, numbers) {
+            ("reads", [first, wants @ ..]) => {
+                let mut pairs = (*first..32).zip(wants);
+                return Ok(pairs.all(|(number, want)| self.read(number.min(31) as u8) == *want));
+            }
+            ("wanted", [want]) => return Ok(self.wanted() as u32 == *want),
+            ("write", [number, word]) => self.write(u8::try_from(*number)?, *word),
+            ("all", [word]) => {
+                for number in 0..16 {
+                    self.write(number, *word);
+                }
+            }
+            ("rfe", []) => self.rfe(),
+            ("fall", [falls]) => {
+                for _ in 0..*falls {
+                    self.fall();
+                }
+            }
+            ("sample", [board, clock]) => self.sample(*board != 0, *clock != 0),
+            ("probed", []) => self.probed(None),
+            ("probed", [index]) => self.probed(Some(within(*index, 0, 63)?)),
+            ("loaded", [hi, lo]) => self.loaded(*hi, *lo),
+            ("ts", []) => self.set_ts(),
+            ("cm", [miss]) => self.set_cm(*miss != 0),
+            _ => return Ok(false),
+        }
+        Ok(true)
+    }
+}
+
+// An exception of the instruction at 0xBFC00010, with the address that it has.
+fn exception_of(name: &str, bad: Option<u32>) -> Option<Exc> {
+    let code = match name {
+        "break" => ExcCode::Breakpoint,
+        "call" => ExcCode::SystemCall,
+        "unusable" => ExcCode::CoprocessorUnusable(Coprocessor::Cp2),
+        "miss" | "user-miss" => ExcCode::TlbLoad,
+        "modification" => ExcCode::Modification,
+        "misaligned" => ExcCode::AddressLoad,
+        _ => return None,
+    };
+    Some(Exc {
         code,
         pc: 0xBFC0_0010,
-        delay: false,
-        bad: None,
-        mapped: false,
-        refill: false,
-    }
+        delay: name == "call",
+        bad,
+        mapped: name == "modification",
+        refill: name == "user-miss",
+    })
 }
 
 #[test]
-fn reset(rt: HostRuntime) {
-    let registers = Cop0::new();
-    for number in ALL {
-        let want = match number {
-            1 => 0x0000_3F00,
-            12 => 0x0040_0000,
-            15 => 0x0000_0220,
-            _ => 0,
-        };
-        same(&rt, &registers.read(number), &want);
-    }
-    same(&rt, &registers.read(31), &0);
+fn lists(rt: HostRuntime) -> Result<(), Fail> {
+    plays::<Cop0>(&rt, LISTS)
 }
 
-// All bits written over zeros, and zeros over them.
-#[test]
-fn write_masks(rt: HostRuntime) {
-    let mut registers = Cop0::new();
-    for number in ALL {
-        registers.write(number, 0xFFFF_FFFF);
-    }
-    let set = [
-        0x0000_3F00u32,
-        0x0000_3F00,
-        0xFFFF_FF00,
-        0,
-        0xFFE0_0000,
-        0,
-        0,
-        0,
-        0,
-        0,
-        0xFFFF_FFC0,
-        0,
-        0x1047_FF3F,
-        0x0000_0300,
-        0,
-        0x0000_0220,
-    ];
-    for number in ALL {
-        same(&rt, &registers.read(number), &set[number as usize]);
-        registers.write(number, 0);
-    }
-    for number in ALL {
-        let want = match number {
-            1 => 0x0000_3F00,
-            15 => 0x0000_0220,
-            _ => 0,
-        };
-        same(&rt, &registers.read(number), &want);
-    }
-}
+const LISTS: &str = "
+$ reset
+reads 0 0 0x3f00 0 0 0 0 0 0 0 0 0 0 0x00400000 0 0 0x0220, reads 31 0
 
-#[test]
-fn system_call_in_a_delay_slot(rt: HostRuntime) {
-    let mut registers = Cop0::new();
-    registers.write(12, 0x0040_0001);
-    let mut call = exception(ExcCode::SystemCall);
-    call.delay = true;
-    same(&rt, &registers.enter(call), &0xBFC0_0180);
-    same(&rt, &registers.read(12), &0x0040_0004);
-    same(&rt, &registers.read(13), &0x8000_0020);
-    same(&rt, &registers.read(14), &0xBFC0_000C);
-    same(&rt, &registers.read(8), &0);
-}
+$ write masks
+# All bits written over zeros, and zeros over them.
+all 0xffffffff, reads 0 0x3f00 0x3f00 0xffffff00 0 0xffe00000 0 0 0 0 0 0xffffffc0 0 0x1047ff3f 0x0300 0 0x0220
+all 0, reads 0 0 0x3f00 0 0 0 0 0 0 0 0 0 0 0 0 0 0x0220
 
-#[test]
-fn vectors(rt: HostRuntime) {
-    for (bev, refill, vector) in [
-        (1u32, false, 0xBFC0_0180u32),
-        (1, true, 0xBFC0_0100),
-        (0, false, 0x8000_0080),
-        (0, true, 0x8000_0000),
-    ] {
-        let mut registers = Cop0::new();
-        registers.write(12, bev << 22);
-        let mut miss = exception(ExcCode::TlbLoad);
-        miss.refill = refill;
-        same(&rt, &registers.enter(miss), &vector);
-        same(&rt, &registers.read(14), &0xBFC0_0010);
-    }
-}
+$ a system call in a delay slot
+write 12 0x00400001, call 0xbfc00180, reads 12 0x00400004 0x80000020 0xbfc0000c, reads 8 0
 
-// A store to page 0x12345 that is not dirty, with PTEBase and a PID set before.
-#[test]
-fn mapped_address(rt: HostRuntime) {
-    let mut registers = Cop0::new();
-    registers.write(4, 0x8020_0000);
-    registers.write(10, 0x0000_0040);
-    let mut modification = exception(ExcCode::Modification);
-    modification.bad = Some(0x1234_5678);
-    modification.mapped = true;
-    registers.enter(modification);
-    same(&rt, &registers.read(8), &0x1234_5678);
-    same(&rt, &registers.read(4), &0x8024_8D14);
-    same(&rt, &registers.read(10), &0x1234_5040);
-    same(&rt, &registers.read(13), &0x0000_0004);
-    // An address error loads BadVAddr alone.
-    let mut misaligned = exception(ExcCode::AddressLoad);
-    misaligned.bad = Some(0x8000_0001);
-    registers.enter(misaligned);
-    same(&rt, &registers.read(8), &0x8000_0001);
-    same(&rt, &registers.read(4), &0x8024_8D14);
-    same(&rt, &registers.read(10), &0x1234_5040);
-    same(&rt, &registers.read(13), &0x0000_0010);
-}
+$ vectors, with BEV in $1
+| 0x00400000 | miss | 0xbfc00180
+| 0x00400000 | user-miss | 0xbfc00100
+| 0 | miss | 0x80000080
+| 0 | user-miss | 0x80000000
+write 12 $1, $2 $3, reads 14 0xbfc00010
 
-#[test]
-fn modes_and_interrupts(rt: HostRuntime) {
-    let mut registers = Cop0::new();
-    // Mode bits 11 01 10: entry gives 01 10 00, and the return 01 01 10.
-    registers.write(12, 0x0000_0036);
-    registers.enter(exception(ExcCode::Breakpoint));
-    same(&rt, &registers.read(12), &0x0000_0018);
-    registers.rfe();
-    same(&rt, &registers.read(12), &0x0000_0016);
-    // IE with the mask of line 10 alone.
-    registers.write(12, 0x0000_0401);
-    assert!(rt; !registers.wanted());
-    registers.sample(false, true);
-    same(&rt, &(registers.read(13) & 0xFF00), &0x0800);
-    assert!(rt; !registers.wanted());
-    registers.sample(true, false);
-    same(&rt, &(registers.read(13) & 0xFF00), &0x0400);
-    assert!(rt; registers.wanted());
-    registers.write(12, 0x0000_0400);
-    assert!(rt; !registers.wanted());
-    // CpU of coprocessor 2 keeps the pending interrupt.
-    registers.enter(exception(ExcCode::CoprocessorUnusable(Coprocessor::Cp2)));
-    same(&rt, &registers.read(13), &0x2000_042C);
-}
+$ addresses
+# A store to page 0x12345 that is not dirty, with PTEBase and a PID set before.
+write 4 0x80200000, write 10 0x0040, modification 0x12345678 0xbfc00180
+reads 8 0x12345678, reads 4 0x80248d14, reads 10 0x12345040, reads 13 4
+# An address error loads BadVAddr alone.
+misaligned 0x80000001 0xbfc00180, reads 8 0x80000001, reads 4 0x80248d14, reads 10 0x12345040, reads 13 0x10
 
-#[test]
-fn random_falls(rt: HostRuntime) {
-    let mut registers = Cop0::new();
-    for _ in 0..55 {
-        registers.fall();
-    }
-    same(&rt, &registers.read(1), &0x0000_0800);
-    registers.fall();
-    same(&rt, &registers.read(1), &0x0000_3F00);
-}
+$ modes and interrupts
+# Mode bits 11 01 10: entry gives 01 10 00, and the return 01 01 10.
+write 12 0x36, break 0x80000080, reads 12 0x18, rfe, reads 12 0x16
+# IE with the mask of line 10 alone. Cause has the breakpoint's code too.
+write 12 0x0401, wanted 0, sample 0 1, reads 13 0x0824, wanted 0, sample 1 0, reads 13 0x0424, wanted 1, write 12 0x0400, wanted 0
+# CpU of coprocessor 2 keeps the pending interrupt.
+unusable 0x80000080, reads 13 0x2000042c
 
-#[test]
-fn translation_and_caches(rt: HostRuntime) {
-    let mut registers = Cop0::new();
-    registers.probed(None);
-    same(&rt, &registers.read(0), &0x8000_0000);
-    registers.probed(Some(63));
-    same(&rt, &registers.read(0), &0x0000_3F00);
-    registers.loaded(0x1234_5FFF, 0xABCD_EFFF);
-    same(&rt, &registers.read(10), &0x1234_5FC0);
-    same(&rt, &registers.read(2), &0xABCD_EF00);
-    registers.set_ts();
-    registers.set_cm(true);
-    same(&rt, &registers.read(12), &0x0068_0000);
-    registers.set_cm(false);
-    same(&rt, &registers.read(12), &0x0060_0000);
-    let mut other = Cop0::new();
-    assert!(rt; other != registers);
-    other.assign(&registers);
-    assert!(rt; other == registers);
-}
+$ Random falls
+fall 55, reads 1 0x0800, fall 1, reads 1 0x3f00
+
+$ translation and caches
+probed, reads 0 0x80000000, probed 63, reads 0 0x3f00, loaded 0x12345fff 0xabcdefff, reads 10 0x12345fc0, reads 2 0xabcdef00
+ts, cm 1, reads 12 0x00680000, cm 0, reads 12 0x00600000, other, mark, same
+";

@@ -1,7 +1,9 @@
 //! Every instruction of the table both ways, beside an independent assembler.
-use crate::same::same;
+use crate::lists::numbers_of;
+use crate::same::same_at;
 use r3k_decode::{decode, encode};
 use r3k_table::rows::table;
+use std::test::Fail;
 
 // Each instruction twice, in the order of the table, with other operands: its name, the word that GNU as makes of it, and
 // the fields rs, rt, rd, sa, imm, index and code that it was given. `vectors/encodings.py` prints these lines.
@@ -139,63 +141,40 @@ static CASES: [(&str, u32, [u32; 7]); 130] = [
 ];
 
 #[test]
-fn every_instruction_both_ways(rt: HostRuntime) {
+fn every_instruction_both_ways(rt: HostRuntime) -> Result<(), Fail> {
     let rows = table();
     for (place, (name, word, fields)) in CASES.iter().enumerate() {
-        let found = decode(*word);
-        assert!(rt; found.is_some());
-        if let Some(insn) = found {
-            let number = insn.mnemonic() as usize;
-            same(&rt, &number, &(place % 65));
-            same(&rt, &rows[number].name, &*name);
-            let seen = [
-                u32::from(insn.rs().number()),
-                u32::from(insn.rt().number()),
-                u32::from(insn.rd().number()),
-                u32::from(insn.sa()),
-                u32::from(insn.imm()),
-                insn.index(),
-                insn.code(),
-            ];
-            same(&rt, &seen, &*fields);
-            same(&rt, &encode(&insn), &*word);
-        }
+        let insn = decode(*word).ok_or("no instruction")?;
+        let number = insn.mnemonic() as usize;
+        same_at(&rt, &place, &number, &(place % 65));
+        same_at(&rt, &place, &rows[number].name, &*name);
+        let [rs, other, rd] = [insn.rs(), insn.rt(), insn.rd()].map(|it| u32::from(it.number()));
+        let (sa, imm) = (u32::from(insn.sa()), u32::from(insn.imm()));
+        let seen = [rs, other, rd, sa, imm, insn.index(), insn.code()];
+        same_at(&rt, &place, &seen, &*fields);
+        same_at(&rt, &place, &encode(&insn), &*word);
     }
+    Ok(())
 }
 
-/// Words that the manual gives no instruction: a bit in a field that the instruction lacks, and opcodes and functions that
-/// this processor lacks.
 #[test]
-fn words_without_a_row(rt: HostRuntime) {
-    let words = [
-        // sll with rs, sllv with sa, jr with rt, jalr with rt, mfhi with rs, mthi with rd, mult with rd, add with sa
-        0x0026_5D40u32,
-        0x03A6_5844,
-        0x03A1_0008,
-        0x03A1_5809,
-        0x0020_5810,
-        0x03A0_0811,
-        0x03A6_0818,
-        0x03A6_5860,
-        // blez with rt, lui with rs, mfc0 with a low bit, tlbr with rd
-        0x1BA1_8005,
-        0x3C26_8005,
-        0x4006_5801,
-        0x4200_0801,
-        // functions 1 and 14, rt 2 of the first branches, functions 0 and 3 of coprocessor 0, cfc0
-        0x0000_0001,
-        0x0000_000E,
-        0x07A2_8005,
-        0x4200_0000,
-        0x4200_0003,
-        0x4040_0000,
-        // opcodes of coprocessors 1 to 3, of later processors, and the last one
-        0x4400_0000,
-        0x5000_0000,
-        0xC000_0000,
-        0xFFFF_FFFF,
-    ];
-    for word in words {
-        assert!(rt; decode(word).is_none(), "{word:08x} is none");
+fn words_without_a_row(rt: HostRuntime) -> Result<(), Fail> {
+    for words in WITHOUT_A_ROW.lines().filter(|line| !line.starts_with("#")) {
+        for word in &numbers_of(rt.alloc(), words)? {
+            assert!(rt; decode(*word).is_none(), "{word:08x} is none");
+        }
     }
+    Ok(())
 }
+
+// Words that the manual gives no instruction: a bit in a field that the instruction lacks, and opcodes and functions that this processor
+// lacks.
+const WITHOUT_A_ROW: &str = "\
+# sll with rs, sllv with sa, jr with rt, jalr with rt, mfhi with rs, mthi with rd, mult with rd, add with sa
+0x00265d40 0x03a65844 0x03a10008 0x03a15809 0x00205810 0x03a00811 0x03a60818 0x03a65860
+# blez with rt, lui with rs, mfc0 with a low bit, tlbr with rd
+0x1ba18005 0x3c268005 0x40065801 0x42000801
+# functions 1 and 14, rt 2 of the first branches, functions 0 and 3 of coprocessor 0, cfc0
+0x00000001 0x0000000e 0x07a28005 0x42000000 0x42000003 0x40400000
+# opcodes of coprocessors 1 to 3, of later processors, and the last one
+0x44000000 0x50000000 0xc0000000 0xffffffff";

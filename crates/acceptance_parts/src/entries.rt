@@ -1,104 +1,84 @@
-//! The translation entries on their own.
-use crate::same::same;
+//! The translation entries on their own. EntryHi of page 3 is 0x3000, and of process 1 of it 0x3040. EntryLo has G in bit 8.
+use crate::lists::{Part, plays, within};
+use std::test::Fail;
 use tlb64::{Entry, Found, Tlb};
 
-// EntryHi of page 3 is 0x3000, and of process 1 of it 0x3040. EntryLo has G in bit 8.
-#[test]
-fn translation_lookup(rt: HostRuntime) {
-    let mut tlb = Tlb::new();
-    let own = Entry {
-        hi: 0x3040,
-        lo: 0x7200,
-    };
-    tlb.write(5, own);
-    same(&rt, &tlb.lookup(0x3000, 0), &None);
-    let found = Found {
-        index: 5,
-        entry: own,
-        several: false,
-    };
-    same(&rt, &tlb.lookup(0x3000, 1), &Some(found));
-
-    let global = Entry {
-        hi: 0x3040,
-        lo: 0x7300,
-    };
-    tlb.write(5, global);
-    let found = Found {
-        index: 5,
-        entry: global,
-        several: false,
-    };
-    same(&rt, &tlb.lookup(0x3000, 0), &Some(found));
-
-    let other = Entry {
-        hi: 0x3000,
-        lo: 0x8200,
-    };
-    tlb.write(9, other);
-    let several = Found {
-        several: true,
-        ..found
-    };
-    same(&rt, &tlb.lookup(0x3000, 0), &Some(several));
-    same(&rt, &tlb.lookup(0x3FFF, 0), &Some(several));
-    same(&rt, &tlb.probe(0x3000), &Some(several));
-    // What several entries match is never kept; what one matches is, of its process and for its use alone.
-    for is_fetch in [false, true, false, true] {
-        same(
-            &rt,
-            &tlb.translate(is_fetch, 0x3004, 0x0000),
-            &Some(several),
-        );
-        same(&rt, &tlb.kept(is_fetch, 0x3004, 0x0000), &None);
-        same(&rt, &tlb.translate(is_fetch, 0x3008, 0x0040), &Some(found));
-        same(&rt, &tlb.kept(is_fetch, 0x3FFC, 0x0040), &Some(0x7300));
-        same(&rt, &tlb.kept(is_fetch, 0x3FFC, 0x0080), &None);
-        same(&rt, &tlb.translate(is_fetch, 0xB000, 0x0000), &None);
+// Clauses on the entries, where F is what is found: nothing, or its place, EntryHi and EntryLo, and whether several match.
+//
+//     write I H L, read I H L     an entry is written, or read
+//     lookup A P F, probe H F     what is found for an address and a process; for an EntryHi
+//     translate U A H F           what is found for an address and an EntryHi, for a fetch if U is 1
+//     kept U A H, kept U A H L    nothing of it is kept, or this EntryLo
+impl Part for Tlb {
+    fn begin() -> Tlb {
+        Tlb::new()
     }
-    // Process 1 has the global entry alone, and the next page has none.
-    same(&rt, &tlb.probe(0x3040), &Some(found));
-    same(&rt, &tlb.lookup(0x4000, 0), &None);
-    same(&rt, &tlb.read(5), &global);
-    same(&rt, &tlb.read(9), &other);
-    tlb.write(5, other);
-    same(&rt, &tlb.kept(true, 0x3004, 0x0040), &None);
-    same(&rt, &tlb.translate(true, 0x3004, 0x0040), &None);
+
+    fn copy_from(&mut self, other: &Tlb) {
+        *self = Tlb::of(other.entries());
+    }
+
+    fn clause(&mut self, name: &str, numbers: &[u32]) -> Result<bool, Fail> {
+        Ok(match (name, numbers) {
+            ("write", [index, hi, lo]) => {
+                self.write(within(*index, 0, 63)?, entry(*hi, *lo));
+                true
+            }
+            ("read", [index, hi, lo]) => self.read(within(*index, 0, 63)?) == entry(*hi, *lo),
+            ("lookup", [address, pid, found @ ..]) => self.lookup(*address, *pid)
+                == found_of(found)?,
+            ("probe", [hi, found @ ..]) => self.probe(*hi) == found_of(found)?,
+            ("translate", [fetch, address, hi, found @ ..]) => {
+                self.translate(*fetch != 0, *address, *hi) == found_of(found)?
+            }
+            ("kept", [fetch, address, hi, lo @ ..]) => {
+                self.kept(*fetch != 0, *address, *hi) == lo.first().copied()
+            }
+            _ => false,
+        })
+    }
 }
 
-// At reset all entries are of page 0 and process 0, and none is global.
-#[test]
-fn reset(rt: HostRuntime) {
-    let tlb = Tlb::new();
-    let entry = Entry { hi: 0, lo: 0 };
-    let found = Found {
-        index: 0,
-        entry,
-        several: true,
-    };
-    same(&rt, &tlb.lookup(0xFFF, 0), &Some(found));
-    same(&rt, &tlb.lookup(0xFFF, 1), &None);
-    same(&rt, &tlb.lookup(0xFFF, 64), &None);
-    same(&rt, &tlb.lookup(0x1000, 0), &None);
-    same(&rt, &tlb.read(63), &entry);
+fn entry(hi: u32, lo: u32) -> Entry {
+    Entry { hi, lo }
+}
+
+fn found_of(numbers: &[u32]) -> Result<Option<Found>, Fail> {
+    match numbers {
+        [] => Ok(None),
+        [index, hi, lo, several] => Ok(Some(Found {
+            index: *index,
+            entry: entry(*hi, *lo),
+            several: *several != 0,
+        })),
+        _ => Err("nothing that can be found".into()),
+    }
 }
 
 #[test]
-fn of(rt: HostRuntime) {
-    let mut tlb = Tlb::new();
-    let entry = Entry {
-        hi: 0x3040,
-        lo: 0x7200,
-    };
-    tlb.write(63, entry);
-    assert!(rt; tlb != Tlb::new());
-    let other = Tlb::of(tlb.entries());
-    assert!(rt; tlb == other);
-    same(&rt, &other.read(63), &entry);
-    let found = Found {
-        index: 63,
-        entry,
-        several: false,
-    };
-    same(&rt, &other.lookup(0x3000, 1), &Some(found));
+fn lists(rt: HostRuntime) -> Result<(), Fail> {
+    plays::<Tlb>(&rt, LISTS)
 }
+
+const LISTS: &str = "
+$ lookup
+| 5 0x3040 0x7300 0 | 5 0x3040 0x7300 1
+write 5 0x3040 0x7200, lookup 0x3000 0, lookup 0x3000 1 5 0x3040 0x7200 0
+# It is global, and then there is another one.
+write 5 0x3040 0x7300, lookup 0x3000 0 $1, write 9 0x3000 0x8200, lookup 0x3000 0 $2, lookup 0x3fff 0 $2, probe 0x3000 $2
+# What several entries match is never kept; what one matches is, of its process and for its use alone.
+translate 0 0x3004 0 $2, kept 0 0x3004 0, translate 0 0x3008 0x40 $1, kept 0 0x3ffc 0x40 0x7300, kept 0 0x3ffc 0x80, translate 0 0xb000 0
+translate 1 0x3004 0 $2, kept 1 0x3004 0, translate 1 0x3008 0x40 $1, kept 1 0x3ffc 0x40 0x7300, kept 1 0x3ffc 0x80, translate 1 0xb000 0
+translate 0 0x3004 0 $2, kept 0 0x3004 0, translate 0 0x3008 0x40 $1, kept 0 0x3ffc 0x40 0x7300, kept 0 0x3ffc 0x80, translate 0 0xb000 0
+translate 1 0x3004 0 $2, kept 1 0x3004 0, translate 1 0x3008 0x40 $1, kept 1 0x3ffc 0x40 0x7300, kept 1 0x3ffc 0x80, translate 1 0xb000 0
+# Process 1 has the global entry alone, and the next page has none.
+probe 0x3040 $1, lookup 0x4000 0, read 5 0x3040 0x7300, read 9 0x3000 0x8200
+write 5 0x3000 0x8200, kept 1 0x3004 0x40, translate 1 0x3004 0x40
+
+$ reset
+# All entries are of page 0 and process 0, and none is global.
+lookup 0xfff 0 0 0 0 1, lookup 0xfff 1, lookup 0xfff 64, lookup 0x1000 0, read 63 0 0
+
+$ entries that are taken over
+write 63 0x3040 0x7200, other, mark, same, swap, read 63 0x3040 0x7200, lookup 0x3000 1 63 0x3040 0x7200 0
+";

@@ -4,6 +4,7 @@ ghost use Rattle.r3k_word.specs.Layout.{word_count_of};
 ghost use Rattle.r3k_word.specs.declared.layout.TheConstants.{MAX_RAM_PAGES};
 ghost use Rattle.r3k_pages.specs.Pages.{SameOutside};
 
+use crate::lists::within;
 use crate::same::{same, same_at};
 use r3k_asm::assemble;
 use r3k_image::Image;
@@ -34,17 +35,12 @@ fn filled<const PAGES: u32>(alloc: Global) -> Result<Vec<u32>, AllocError>
 }
 
 // A set of pages.
-fn set_of<const PAGES: u32>(
-    rt: &impl Abort,
-    alloc: Global,
-    pages: &[u32],
-) -> Result<PageMarks<PAGES>, AllocError>
+fn set_of<const PAGES: u32>(alloc: Global, pages: &[u32]) -> Result<PageMarks<PAGES>, Fail>
     requires { PAGES ≤ MAX_RAM_PAGES }
 {
     let mut set = PageMarks::new(alloc)?;
     for page in pages {
-        assert!(rt; *page < PAGES + ROM_PAGES);
-        set.mark(*page);
+        set.mark(within(*page, 0, PAGES + ROM_PAGES - 1)?);
     }
     Ok(set)
 }
@@ -110,13 +106,10 @@ fn holds<const PAGES: u32>(rt: &impl Abort, snapshot: &Snapshot<PAGES>, turned: 
 {
     for place in 0..word_count(PAGES) {
         let at = place % PAGE_WORDS as usize;
-        let turns = (at == 0 || at == PAGE_WORDS as usize - 1)
-            && turned.contains(&(page_of(place) as u32));
-        let want = if turns {
-            !first_word(place)
-        } else {
-            first_word(place)
-        };
+        let is_end = at == 0 || at == PAGE_WORDS as usize - 1;
+        let turned = is_end && turned.contains(&(page_of(place) as u32));
+        let word = first_word(place);
+        let want = if turned { !word } else { word };
         same_at(rt, &place, &snapshot.word(place), &want);
     }
 }
@@ -137,23 +130,6 @@ fn differ_in<const PAGES: u32>(
     }
 }
 
-// A snapshot keeps its words when the memory changes, and gives them back.
-fn kept<const PAGES: u32>(rt: &impl Abort, alloc: Global) -> Result<(), Fail>
-    requires { PAGES ≤ MAX_RAM_PAGES }
-{
-    let mut words = filled::<PAGES>(alloc)?;
-    let before = words.clone()?;
-    let none = PageMarks::new(alloc)?;
-    let snapshot = Snapshot::<PAGES>::capture(alloc, &words, None, &none)?;
-    holds(rt, &snapshot, &[]);
-    words.fill(7);
-    holds(rt, &snapshot, &[]);
-    let sevens = Snapshot::<PAGES>::capture(alloc, &words, None, &none)?;
-    snapshot.copy_to(&mut words, &sevens, &none);
-    assert!(rt; words == before);
-    Ok(())
-}
-
 // With a set of pages that change: the later snapshot has the new words and the earlier one the old ones.
 fn changed<const PAGES: u32>(rt: &impl Abort, alloc: Global, dirty: &[u32]) -> Result<(), Fail>
     requires { PAGES ≤ MAX_RAM_PAGES }
@@ -161,7 +137,7 @@ fn changed<const PAGES: u32>(rt: &impl Abort, alloc: Global, dirty: &[u32]) -> R
     let mut words = filled::<PAGES>(alloc)?;
     let before = words.clone()?;
     let none = PageMarks::new(alloc)?;
-    let set = set_of(rt, alloc, dirty)?;
+    let set = set_of(alloc, dirty)?;
     let earlier = Snapshot::<PAGES>::capture(alloc, &words, None, &none)?;
     let later = after(rt, alloc, &mut words, &earlier, &set)?;
     holds(rt, &earlier, &[]);
@@ -177,38 +153,29 @@ fn changed<const PAGES: u32>(rt: &impl Abort, alloc: Global, dirty: &[u32]) -> R
     assert!(rt; words == turned);
     back.copy_to(&mut words, &later, &none);
     assert!(rt; words == before);
+    // Where all of memory changes, a snapshot gives its words back.
+    words.fill(7);
+    holds(rt, &earlier, &[]);
+    let sevens = Snapshot::<PAGES>::capture(alloc, &words, None, &none)?;
+    earlier.copy_to(&mut words, &sevens, &none);
+    assert!(rt; words == before);
     Ok(())
 }
 
+// No page, also with no RAM and with pages that fill their groups; the first page and the last of RAM and of ROM, and pages at the ends of
+// a group; and many.
 #[test]
-fn words_are_kept(rt: HostRuntime) -> Result<(), Fail> {
-    kept::<16>(&rt, rt.alloc())?;
-    kept::<40>(&rt, rt.alloc())?;
-    // No RAM, and pages that fill their groups.
-    kept::<0>(&rt, rt.alloc())?;
-    kept::<32>(&rt, rt.alloc())
-}
-
-#[test]
-fn no_page_changes(rt: HostRuntime) -> Result<(), Fail> {
+fn pages_change(rt: HostRuntime) -> Result<(), Fail> {
+    changed::<0>(&rt, rt.alloc(), &[])?;
     changed::<16>(&rt, rt.alloc(), &[])?;
-    changed::<40>(&rt, rt.alloc(), &[])
-}
-
-// The first page and the last of RAM and of ROM, and pages at the ends of a group.
-#[test]
-fn one_page_changes(rt: HostRuntime) -> Result<(), Fail> {
+    changed::<32>(&rt, rt.alloc(), &[])?;
+    changed::<40>(&rt, rt.alloc(), &[])?;
     for page in [0, 15, 16, 31, 32, 63, 64, 79] {
         changed::<16>(&rt, rt.alloc(), &[page])?;
     }
     for page in [0, 31, 32, 39, 40, 95, 96, 103] {
         changed::<40>(&rt, rt.alloc(), &[page])?;
     }
-    Ok(())
-}
-
-#[test]
-fn many_pages_change(rt: HostRuntime) -> Result<(), Fail> {
     changed::<16>(&rt, rt.alloc(), &[0, 15, 16, 31, 32, 79])?;
     changed::<16>(&rt, rt.alloc(), &[1, 2, 3, 30, 77, 78])?;
     changed::<40>(&rt, rt.alloc(), &[0, 31, 32, 39, 40, 103])
@@ -229,8 +196,8 @@ fn stays_the_same<const PAGES: u32>(
     requires { PAGES ≤ MAX_RAM_PAGES }
 {
     let none = PageMarks::new(alloc)?;
-    let one = set_of(rt, alloc, one)?;
-    let two = set_of(rt, alloc, two)?;
+    let one = set_of(alloc, one)?;
+    let two = set_of(alloc, two)?;
     let words = filled::<PAGES>(alloc)?;
     let earlier = Snapshot::<PAGES>::capture(alloc, &words, None, &none)?;
     let later = again(alloc, &words, &earlier, &two)?;
@@ -245,31 +212,20 @@ fn stays_the_same<const PAGES: u32>(
 // Pages of two spans, one of them in both: each snapshot stands for its own time.
 #[test]
 fn snapshots_one_behind_another(rt: HostRuntime) -> Result<(), Fail> {
-    stand_apart::<16>(&rt, rt.alloc(), &[3, 70], &[3, 4, 33], &[4, 33, 70])
-}
-
-fn stand_apart<const PAGES: u32>(
-    rt: &impl Abort,
-    alloc: Global,
-    one: &[u32],
-    two: &[u32],
-    once: &[u32],
-) -> Result<(), Fail>
-    requires { PAGES ≤ MAX_RAM_PAGES }
-{
+    let alloc = rt.alloc();
     let none = PageMarks::new(alloc)?;
-    let mut words = filled::<PAGES>(alloc)?;
-    let first = Snapshot::<PAGES>::capture(alloc, &words, None, &none)?;
-    let set = set_of(rt, alloc, one)?;
-    let second = after(rt, alloc, &mut words, &first, &set)?;
-    let set = set_of(rt, alloc, two)?;
-    let third = after(rt, alloc, &mut words, &second, &set)?;
+    let mut words = filled::<16>(alloc)?;
+    let first = Snapshot::<16>::capture(alloc, &words, None, &none)?;
+    let set = set_of(alloc, &[3, 70])?;
+    let second = after(&rt, alloc, &mut words, &first, &set)?;
+    let set = set_of(alloc, &[3, 4, 33])?;
+    let third = after(&rt, alloc, &mut words, &second, &set)?;
     drop(first);
-    differ_in(rt, &second, &third, two);
-    holds(rt, &second, one);
-    holds(rt, &third, once);
+    differ_in(&rt, &second, &third, &[3, 4, 33]);
+    holds(&rt, &second, &[3, 70]);
+    holds(&rt, &third, &[4, 33, 70]);
     drop(second);
-    holds(rt, &third, once);
+    holds(&rt, &third, &[4, 33, 70]);
     Ok(())
 }
 
@@ -290,47 +246,34 @@ fn one_word_is_set(rt: HostRuntime) -> Result<(), Fail> {
     Ok(())
 }
 
-// Of pages that all differ the named ones are taken from the other one.
+// Of pages that all differ the named ones are taken from the other one, and taken back, with one that does not differ.
 #[test]
 fn pages_of_another(rt: HostRuntime) -> Result<(), Fail> {
+    let alloc = rt.alloc();
     let all = [0, 1, 15, 16, 31, 32, 63, 64, 79];
-    taken_from_another::<16>(&rt, rt.alloc(), &all, &[1, 16, 31, 79])
-}
-
-fn taken_from_another<const PAGES: u32>(
-    rt: &impl Abort,
-    alloc: Global,
-    all: &[u32],
-    some: &[u32],
-) -> Result<(), Fail>
-    requires { PAGES ≤ MAX_RAM_PAGES }
-{
     let none = PageMarks::new(alloc)?;
-    let mut words = filled::<PAGES>(alloc)?;
-    let own = Snapshot::<PAGES>::capture(alloc, &words, None, &none)?;
-    let set = set_of(rt, alloc, all)?;
-    let other = after(rt, alloc, &mut words, &own, &set)?;
-    is_overlaid(rt, alloc, &own, &other, &[])?;
+    let mut words = filled::<16>(alloc)?;
+    let own = Snapshot::<16>::capture(alloc, &words, None, &none)?;
+    let set = set_of(alloc, &all)?;
+    let other = after(&rt, alloc, &mut words, &own, &set)?;
+    is_overlaid(&rt, alloc, &own, &other, &[])?;
     for page in all {
-        is_overlaid(rt, alloc, &own, &other, &[*page])?;
+        is_overlaid(&rt, alloc, &own, &other, &[page])?;
     }
-    is_overlaid(rt, alloc, &own, &other, some)?;
-    holds(rt, &own, &[]);
-    holds(rt, &other, all);
+    is_overlaid(&rt, alloc, &own, &other, &[1, 16, 31, 79])?;
+    holds(&rt, &own, &[]);
+    holds(&rt, &other, &all);
     Ok(())
 }
 
-// Takes pages from the other one, and takes them back, with one that does not differ.
-fn is_overlaid<const PAGES: u32>(
+fn is_overlaid(
     rt: &impl Abort,
     alloc: Global,
-    own: &Snapshot<PAGES>,
-    other: &Snapshot<PAGES>,
+    own: &Snapshot<16>,
+    other: &Snapshot<16>,
     pages: &[u32],
-) -> Result<(), Fail>
-    requires { PAGES ≤ MAX_RAM_PAGES }
-{
-    let mut set = set_of(rt, alloc, pages)?;
+) -> Result<(), Fail> {
+    let mut set = set_of(alloc, pages)?;
     let both = own.overlay(alloc, &set, other)?;
     holds(rt, &both, pages);
     set.mark(5);
@@ -357,11 +300,10 @@ fn page_of_the_echo_program(rt: HostRuntime) -> Result<(), Fail> {
     let mut image = assemble(rt.alloc(), ECHO.as_bytes())?;
     let words = memory_of(rt.alloc(), &image)?;
     let own = Snapshot::<16>::capture(rt.alloc(), &words, None, &none)?;
-    let patched = image.patch(0x1FC0_0010, 0x2405_0011).is_ok();
-    same(&rt, &patched, &true);
+    image.patch(0x1FC0_0010, 0x2405_0011)?;
     let words = memory_of(rt.alloc(), &image)?;
     let other = Snapshot::<16>::capture(rt.alloc(), &words, None, &none)?;
-    let both = own.overlay(rt.alloc(), &set_of(&rt, rt.alloc(), &[16])?, &other)?;
+    let both = own.overlay(rt.alloc(), &set_of(rt.alloc(), &[16])?, &other)?;
     same(&rt, &own.word(16 * 1024 + 4), &0x2405_0001);
     same(&rt, &both.word(16 * 1024 + 4), &0x2405_0011);
     differ_in(&rt, &own, &both, &[16]);
@@ -393,23 +335,13 @@ fn marked_pages(rt: HostRuntime) -> Result<(), Fail> {
 // Pages that are blank in one of two snapshots are brought back.
 #[test]
 fn blank_pages(rt: HostRuntime) -> Result<(), Fail> {
-    let set = set_of::<16>(&rt, rt.alloc(), &[5, 9])?;
-    brought_back(&rt, rt.alloc(), &set)
-}
-
-fn brought_back<const PAGES: u32>(
-    rt: &impl Abort,
-    alloc: Global,
-    set: &PageMarks<PAGES>,
-) -> Result<(), Fail>
-    requires { PAGES ≤ MAX_RAM_PAGES }
-{
+    let alloc = rt.alloc();
     let none = PageMarks::new(alloc)?;
-    let mut words = filled::<PAGES>(alloc)?;
-    words.fill(0);
-    let blank = Snapshot::<PAGES>::capture(alloc, &words, None, &none)?;
-    let other = after(rt, alloc, &mut words, &blank, set)?;
-    differ_in(rt, &blank, &other, set.pages());
+    let mut words = vec![in alloc; 0; word_count(16)]?;
+    let blank = Snapshot::<16>::capture(alloc, &words, None, &none)?;
+    let set = set_of(alloc, &[5, 9])?;
+    let other = after(&rt, alloc, &mut words, &blank, &set)?;
+    differ_in(&rt, &blank, &other, &[5, 9]);
     blank.copy_to(&mut words, &other, &none);
     assert!(rt; words.iter().all(|word| *word == 0));
     Ok(())
@@ -421,9 +353,10 @@ fn refused_memory(rt: HostRuntime) -> Result<(), Fail> {
     let Ok(words) = filled::<16>(rt.alloc()) else {
         return Ok(());
     };
-    let Ok(set) = set_of(&rt, rt.alloc(), &[0, 79]) else {
+    let Ok(mut set) = PageMarks::new(rt.alloc()) else {
         return Ok(());
     };
+    set.add(&[0, 79]);
     let Ok(earlier) = Snapshot::<16>::capture(rt.alloc(), &words, None, &set) else {
         return Ok(());
     };

@@ -6,60 +6,32 @@ use r3k_disasm::text;
 use r3k_table::rows::table;
 use std::test::Fail;
 
-// The word and the text of a line of the vectors.
-fn vector(line: &str) -> Result<(u32, &str), Fail> {
-    let (word, text) = line.split_once(' ').unwrap_or((line, ""));
-    Ok((u32::from_str_radix(word, 16)?, text))
-}
-
+// Each vector both ways. Each row of the table has one.
 #[test]
-fn texts_of_words(rt: HostRuntime) -> Result<(), Fail> {
-    let mut address = 0x1FC0_0000;
-    for line in VECTORS.lines() {
-        let (word, expected) = vector(line)?;
-        same_at(&rt, &line, &text(address, word).as_str(), &expected);
-        address = address.wrapping_add(4);
-    }
-    Ok(())
-}
-
-#[test]
-fn words_of_texts(rt: HostRuntime) -> Result<(), Fail> {
+fn words_and_texts(rt: HostRuntime) -> Result<(), Fail> {
+    let mut words = Vec::new(rt.alloc());
     let mut source = String::new(rt.alloc());
     for line in VECTORS.lines() {
-        source.push_str(vector(line)?.1)?;
+        let (word, text) = line.split_once(' ').ok_or("no text")?;
+        words.push(u32::from_str_radix(word, 16)?)?;
+        source.push_str(text)?;
         source.push_str("\n")?;
     }
     let image = assemble(rt.alloc(), source.as_bytes())?;
     let mut address = 0x1FC0_0000;
-    for line in VECTORS.lines() {
-        let (word, _) = vector(line)?;
-        same_at(&rt, &line, &image.word(address), &Some(word));
+    for (word, wanted) in words.iter().zip(source.as_str().lines()) {
+        same_at(&rt, word, &text(address, *word).as_str(), &wanted);
+        same_at(&rt, &wanted, &image.word(address), &Some(*word));
         address = address.wrapping_add(4);
     }
-    Ok(())
-}
-
-// Whether a vector has a word with this value under the mask.
-fn has(mask: u32, value: u32) -> Result<bool, Fail> {
-    for line in VECTORS.lines() {
-        if vector(line)?.0 & mask == value {
-            return Ok(true);
-        }
-    }
-    Ok(false)
-}
-
-#[test]
-fn every_row_has_a_vector(rt: HostRuntime) -> Result<(), Fail> {
     for row in table() {
-        same_at(&rt, &row.name, &has(row.mask, row.value)?, &true);
+        let found = words.iter().any(|word| word & row.mask == row.value);
+        same_at(&rt, &row.name, &found, &true);
     }
     Ok(())
 }
 
-// Words at addresses and their texts, with numbers and targets at their bounds: by hand from the table and the texts of its
-// shapes.
+// Words at addresses and their texts, with numbers and targets at their bounds: by hand from the table and the texts of its shapes.
 #[test]
 fn corners(rt: HostRuntime) {
     for (address, word, expected) in [

@@ -18,6 +18,4 @@ mod reuse;
 #[cfg(test)]
 mod running;
 #[cfg(test)]
-mod same;
-#[cfg(test)]
 mod states;

@@ -13,104 +13,107 @@ fn queries(rt: HostRuntime) -> Result<(), Fail> {
 const LISTS: &str = "
 $ edited echo
 # A byte of step 70 costs its span alone: the runs are equal from position 128 on.
-==
-writer 256 0x100 253, costs 256, never 256 0x104, console 256, costs 0, add 70 0x41, costs 0, writer 256 0x104 81
-costs 64, writer 256 0x100 253, console 256 0x41, sent 256 0 83, sent 256 1 none, costs 0
+--
+writer 256 0x100 = Step 253, costs = 256, writer 256 0x104 = Never, console 256 = 0, costs = 0, add 70 0x41, costs = 0
+writer 256 0x104 = Step 81, costs = 64, writer 256 0x100 = Step 253, console 256 = 1 0x41, sender 256 0 0 = 83, sender 256 0 1 = NotFound
+costs = 0
 
 $ search by spans
 # A search passes the spans of records in which the PC is never in the page of the address. The program is in its first page up to
 # step 9, and then in its second one alone.
-==
-writer 256 0x100 253, costs 256, nowhere 0 0xbfc02000 256, nowhere 100 0xbfc00ffc 156, costs 0, nowhere 0 0xbfc00ffc 256
-costs 64, next 20 0xbfc01000 31, costs-at-most 64
+--
+writer 256 0x100 = Step 253, costs = 256, next 0 0xbfc02000 256 = NotFound, next 100 0xbfc00ffc 156 = NotFound, costs = 0
+next 0 0xbfc00ffc 256 = NotFound, costs = 64, next 20 0xbfc01000 20 = 31, costs-at-most 64 = true
 # The span after these has no record.
-nowhere 128 0xbfc02000 192, costs 64
+next 128 0xbfc02000 192 = NotFound, costs = 64
 
 $ two edits
 # Two bytes cost two spans, and one deleted its own.
-==
-writer 256 0x100 253, never 256 0x104, console 256, costs 256, add 70 0x41, add 200 0x42, writer 256 0x104 213
-costs 128, console 256 0x41 0x42, sent 256 0 83, sent 256 1 215, writer 256 0x100 253, costs 0, del 1
-writer 256 0x104 81, costs 64, console 256 0x41, costs 0
+--
+writer 256 0x100 = Step 253, writer 256 0x104 = Never, console 256 = 0, costs = 256, add 70 0x41, add 200 0x42
+writer 256 0x104 = Step 213, costs = 128, console 256 = 2 0x41 0x42, sender 256 0 0 = 83, sender 256 0 1 = 215
+writer 256 0x100 = Step 253, costs = 0, del 1, writer 256 0x104 = Step 81, costs = 64, console 256 = 1 0x41, costs = 0
 
 $ framing over echo
 # A framing error in place of the byte of step 70 costs its span alone, and so does the byte in place of the error. RBUF, as
 # step 77 stores it, has FERR.
-==
-never 256 0x104, costs 256, add 70 0x41, writer 256 0x104 81, costs 64, del 0, ferr 70 0x41, writer 256 0x104 81
-costs 64, console 256 0x41, costs 0, word 78 0x100 0xa041, costs 14, del 0, add 70 0x41, writer 256 0x104 81, costs 64
-word 78 0x100 0x8041, costs 14
+--
+writer 256 0x104 = Never, costs = 256, add 70 0x41, writer 256 0x104 = Step 81, costs = 64, del 0, ferr 70 0x41
+writer 256 0x104 = Step 81, costs = 64, console 256 = 1 0x41, costs = 0, word 78 0x100 = 0xa041, costs = 14, del 0, add 70 0x41
+writer 256 0x104 = Step 81, costs = 64, word 78 0x100 = 0x8041, costs = 14
 
 $ external line
 # An external line, of which the program makes nothing: the runs differ in its level, from the span in which it rises up to the end
 # of the span in which it falls.
-==
-console 256, costs 256, wire 70 1 1, wire 90 1 0, console 256, costs 64, del 1, console 256, costs 192
+--
+console 256 = 0, costs = 256, wire 70 1 1, wire 90 1 0, console 256 = 0, costs = 64, del 1, console 256 = 0, costs = 192
 # What it costs up to the fall stands.
-wire 140 1 0, console 256, costs 128
+wire 140 1 0, console 256 = 0, costs = 128
 # A level that is set again.
-wire 150 1 0, console 256, costs 64
+wire 150 1 0, console 256 = 0, costs = 64
 
 $ erased bytes
 # Bytes of steps 70 and 130 are erased at once, and that of step 200 stays, whose span costs nothing.
-==
-never 256 0x104, costs 256, add 70 0x41, add 130 0x43, add 200 0x42, writer 256 0x104 213, costs 192
-console 256 0x41 0x43 0x42, unerased 131 70, console 256 0x41 0x43 0x42, costs 0, erase 70 131 1, costs 0
-writer 256 0x104 213, costs 128, console 256 0x42, sent 256 0 215, erase 0 0 1, console 256 0x42, costs 0
+--
+writer 256 0x104 = Never, costs = 256, add 70 0x41, add 130 0x43, add 200 0x42, writer 256 0x104 = Step 213, costs = 192
+console 256 = 3 0x41 0x43 0x42, erase 131 70 = Range, console 256 = 3 0x41 0x43 0x42, costs = 0, erase 70 131, events = 1, costs = 0
+writer 256 0x104 = Step 213, costs = 128, console 256 = 1 0x42, sender 256 0 0 = 215, erase 0 0, events = 1, console 256 = 1 0x42
+costs = 0
 
 $ erasing between spans
 # Of eight spans the second, third, fourth and sixth have a byte each. Erasing costs the spans whose bytes it takes, and neither
 # those before them nor those after them.
-==
-console 512, costs 512, add 70 0x41, add 130 0x42, add 200 0x43, add 330 0x44, console 512 0x41 0x42 0x43 0x44
-costs 256, erase 128 256 2, console 512 0x41 0x44, costs 128, sent 512 1 347
+--
+console 512 = 0, costs = 512, add 70 0x41, add 130 0x42, add 200 0x43, add 330 0x44, console 512 = 4 0x41 0x42 0x43 0x44, costs = 256
+erase 128 256, events = 2, console 512 = 2 0x41 0x44, costs = 128, sender 512 0 1 = 347
 # No byte is left between the two.
-erase 71 330 2, console 512 0x41 0x44, costs 0, erase 70 71 1, console 512 0x44, costs 64, erase 0 1099511627775 0
-console 512, costs 64
+erase 71 330, events = 2, console 512 = 2 0x41 0x44, costs = 0, erase 70 71, events = 1, console 512 = 1 0x44, costs = 64
+erase 0 1099511627775, events = 0, console 512 = 0, costs = 64
 # Erased before anything is asked, an event costs nothing.
-add 70 0x41, wire 330 0 1, erase 70 331 0, console 512, costs 0
+add 70 0x41, wire 330 0 1, erase 70 331, events = 0, console 512 = 0, costs = 0
 
 $ patches
 # A patched word that the first span overwrites costs only that span. So does a word of the start, whose page is carried over.
-==
-writer 256 0x100 253, costs 256, patch 0x100 0x1234, costs 0, writer 256 0x100 253, costs-at-most 64
-word 11 0x100 0x1234, costs-at-most 11, image 11 0x100, costs-at-most 11, word 12 0x100 0, costs-at-most 12
-writer 12 0x100 11, costs-at-most 12, patch 0x1fc00010 0x24050011, costs 0, writer 256 0x100 253, costs-at-most 64
-word 256 0x1fc00010 0x24050011, notmemory 0x1fe00000, unaligned 0x102
+--
+writer 256 0x100 = Step 253, costs = 256, patch 0x100 0x1234, costs = 0, writer 256 0x100 = Step 253, costs-at-most 64 = true
+word 11 0x100 = 0x1234, costs-at-most 11 = true, writer 11 0x100 = Image, costs-at-most 11 = true, word 12 0x100 = 0
+costs-at-most 12 = true, writer 12 0x100 = Step 11, costs-at-most 12 = true, patch 0x1fc00010 0x24050011, costs = 0
+writer 256 0x100 = Step 253, costs-at-most 64 = true, word 256 0x1fc00010 = 0x24050011, patch 0x1fe00000 0 = NotMemory
+patch 0x102 0 = Unaligned
 
 $ meeting in the load slot
 # At position 384 the runs differ in the load slot alone, so the next span is run too.
-==
-never 512 0x104, costs 512, add 383 0x41, writer 512 0x104 389, costs-at-most 128, sent 512 0 391, console 512 0x41
-costs 0
+--
+writer 512 0x104 = Never, costs = 512, add 383 0x41, writer 512 0x104 = Step 389, costs-at-most 128 = true, sender 512 0 0 = 391
+console 512 = 1 0x41, costs = 0
 
 $ first and last step of a span
 # A byte in the first step of a span is read there; one in the last is in the silo where the next span starts.
-==
-console 512, costs 512, add 64 0x41, sent 512 0 72, costs 64, del 0, add 63 0x41, sent 512 0 72, costs 128, del 0
-add 127 0x41, sent 512 0 138, costs 192
+--
+console 512 = 0, costs = 512, add 64 0x41, sender 512 0 0 = 72, costs = 64, del 0, add 63 0x41, sender 512 0 0 = 72, costs = 128, del 0
+add 127 0x41, sender 512 0 0 = 138, costs = 192
 
 $ undone edits
 # An edit and its undoing cost nothing where nothing was asked between, and else the span again.
-==
-console 256, costs 256, add 70 0x41, del 0, console 256, costs 0, patch 0x100 7, patch 0x100 0, console 256, costs 0
-add 70 0x41, console 256 0x41, costs 64, del 0, console 256, costs 64
+--
+console 256 = 0, costs = 256, add 70 0x41, del 0, console 256 = 0, costs = 0, patch 0x100 7, patch 0x100 0, console 256 = 0, costs = 0
+add 70 0x41, console 256 = 1 0x41, costs = 64, del 0, console 256 = 0, costs = 64
 
 $ edit behind the position
 # An edit after the position that is asked costs nothing there.
-==
-console 512, costs 512, add 300 0x41, console 256, costs 0, console 300, costs-at-most 44
+--
+console 512 = 0, costs = 512, add 300 0x41, console 256 = 0, costs = 0, console 300 = 0, costs-at-most 44 = true
 # The line is busy up to step 330, so the next span starts otherwise too.
-sent 512 0 314, costs 128
+sender 512 0 0 = 314, costs = 128
 
 $ going on
 # A query inside a span that comes again, or goes on from there, runs at most what is between.
-==
-word 100 0x100 0, costs 100, word 100 0x100 0, costs 0, word 110 0x100 0, costs 10, word 109 0x100 0, costs-at-most 45
-word 64 0x100 0, costs 0
+--
+word 100 0x100 = 0, costs = 100, word 100 0x100 = 0, costs = 0, word 110 0x100 = 0, costs = 10, word 109 0x100 = 0
+costs-at-most 45 = true, word 64 0x100 = 0, costs = 0
 
 $ refusals cost nothing
 # What is refused before it is asked runs no step.
-==
-refuses, costs 0
+--
+word 1099511627776 0x100 = TooFar, writer 256 0x102 = Unaligned, sender 256 4 0 = Range, next 256 0xbfc01000 0 = Range, costs = 0
 ";

@@ -7,7 +7,8 @@ use Rattle.r3k_live.specs.Record.{dirty_pages, is_dirty, sent_from}
 use Rattle.span_fact.specs.Span.{Span}
 use Rattle.r3k_word.specs.declared.layout.TheConstants.{PAGE_BYTES}
 use Rattle.r3k_machine.specs.Run.{last_writer}
-use Rattle.write_index.specs.Pages.{holds, pages_at}
+use Rattle.r3k_pages.specs.Pages.{holds}
+use Rattle.write_index.specs.Pages.{pages_at}
 use Rattle.console_index.specs.Counts.{count_at}
 use Rattle.present_run.specs.Index.{Agrees, Has, Index, steps_at, steps_in}
 use Rattle.present_run.specs.Sent.{bytes_on}

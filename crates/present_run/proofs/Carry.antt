@@ -50,10 +50,10 @@ end_carried pages span s start old new near loses same long =
     near_end pages span s start s.events old new near long same (none_lost old touched new loses) (all_others old touched new loses)
 
 -- and so does the end
-pub behind_carried : (pages span : ℕ) (s : Span) (start : State) (old new : List ℕ) → NearlyApplies pages span s start s.events
+pub after_carried : (pages span : ℕ) (s : Span) (start : State) (old new : List ℕ) → NearlyApplies pages span s start s.events
     → Loses old (touched_pages pages (steps_of pages span s)) new → SameOutside old s.start.words start.words → length start.words ≡ length s.start.words
     → SameOutside new (end_of pages span s).words (end_of pages span (record s { start = start })).words
-behind_carried pages span s start old new near loses same long =
+after_carried pages span s start old new near loses same long =
     subst (λ (words : List ℕ). SameOutside new (end_of pages span s).words words)
     (sym (ap (λ (state : State). state.words) (end_carried pages span s start old new near loses same long)))
     (overlaid_outside new (end_of pages span s).words start.words)

@@ -23,10 +23,10 @@ at_first pages span image log index first =
     ap (state_at pages image log) (ap (λ (n : ℕ). n * span) first ∙ (let z : 0 * span ≡ 0 = omega arith in z)) ∙ at_reset pages image log
 
 -- the start of the next record, from the end of one that leads to it
-pub behind_kept : (pages span : ℕ) (set words : List ℕ) (r : Span) (o s : Option Span) → o ≡ Some r → Follows pages span o s
+pub after_kept : (pages span : ℕ) (set words : List ℕ) (r : Span) (o s : Option Span) → o ≡ Some r → Follows pages span o s
     → SameOutside set (end_of pages span r).words words → IfSome s (λ s. SameOutside set s.start.words words)
-behind_kept pages span set words r o None is follows same = tt
-behind_kept pages span set words r o (Some s) is follows same =
+after_kept pages span set words r o None is follows same = tt
+after_kept pages span set words r o (Some s) is follows same =
     subst (λ (start : State). SameOutside set start.words words) (sym (subst (λ (o : Option Span). Follows pages span o (Some s)) is follows)) same
 
 -- one record leads to the next

@@ -82,9 +82,9 @@ impl<const PAGES: u32> Frontier<PAGES> {
     {
         let index = fact.index();
         self.stand(kept, fact.start());
-        pass(kept, &fact, &mut self.differing);
+        differ_after_run(kept, &fact, &mut self.differing);
         let _there_is_room = kept.put(fact);
-        begin(kept, &mut self.patched, index, true, self.exact);
+        note_start(kept, &mut self.patched, index, true, self.exact);
         self.exact = true;
         self.at = Some(index + 1);
     }
@@ -114,10 +114,10 @@ impl<const PAGES: u32> Frontier<PAGES> {
         let Some(fact) = kept.fact(index) else {
             unreachable!();
         };
-        let end = carry(alloc, fact, start, &mut self.differing)?;
+        let end = carry_to_end(alloc, fact, start, &mut self.differing)?;
         let exact = self.differing.pages().is_empty();
-        lead(kept, index, &end, &mut self.differing);
-        begin(kept, &mut self.patched, index, exact, self.exact);
+        differ_after_record(kept, index, &end, &mut self.differing);
+        note_start(kept, &mut self.patched, index, exact, self.exact);
         self.exact = exact;
         self.at = Some(index + 1);
         Ok(end)
@@ -151,7 +151,7 @@ impl<const PAGES: u32> Frontier<PAGES> {
 
 // Over a span that was run: the differing pages are then those of the next one. Where the old record leads to the next one, they gain
 // those that either run stored into.
-fn pass<const PAGES: u32, const SPAN: u32>(
+fn differ_after_run<const PAGES: u32, const SPAN: u32>(
     kept: &Kept<PAGES, SPAN>,
     fact: &Fact<PAGES, SPAN>,
     differing: &mut PageMarks<PAGES>,
@@ -171,7 +171,7 @@ fn pass<const PAGES: u32, const SPAN: u32>(
 
 // Where a span ends whose record nearly applies: where the record ends, with the differing pages carried over from the start.
 // Pages that the span touches do not differ any more.
-fn carry<const PAGES: u32, const SPAN: u32>(
+fn carry_to_end<const PAGES: u32, const SPAN: u32>(
     alloc: Global,
     fact: &Fact<PAGES, SPAN>,
     start: &Boundary<PAGES>,
@@ -181,7 +181,7 @@ fn carry<const PAGES: u32, const SPAN: u32>(
     requires same { SameOutside differing.old fact.now.start.words start.now.words }
     ensures end { IfOk result (λ end. end.value ≡ end_of PAGES SPAN (record fact.now { start = start.now })) }
     ensures start { SameOutside differing.new fact.now.start.words start.now.words }
-    ensures behind { SameOutside differing.new (end_of PAGES SPAN fact.now).words (end_of PAGES SPAN (record fact.now { start = start.now })).words }
+    ensures after { SameOutside differing.new (end_of PAGES SPAN fact.now).words (end_of PAGES SPAN (record fact.now { start = start.now })).words }
     ensures exact { differing.new ≡ [] → fact.now.start ≡ start.now }
     ensures long { length start.now.words ≡ length fact.now.start.words }
 {
@@ -211,7 +211,7 @@ fn end_with<const PAGES: u32, const SPAN: u32>(
 
 // From a record to the next one, where the run ends after the first: the differing pages stay if the one leads to the other, or else
 // they are compared.
-fn lead<const PAGES: u32, const SPAN: u32>(
+fn differ_after_record<const PAGES: u32, const SPAN: u32>(
     kept: &Kept<PAGES, SPAN>,
     index: u64,
     end: &Boundary<PAGES>,
@@ -243,7 +243,7 @@ fn compare<const PAGES: u32, const SPAN: u32>(
 
 // Notes that the record of a number starts where its span does, if that is so. The first one starts at reset. Another one starts where
 // the one before it ends, if that is known to be where the span before it ends.
-fn begin<const PAGES: u32, const SPAN: u32>(
+fn note_start<const PAGES: u32, const SPAN: u32>(
     kept: &mut Kept<PAGES, SPAN>,
     patched: &mut PageMarks<PAGES>,
     index: u64,

@@ -102,7 +102,7 @@ pub fn decode(word: u32) -> Option<Insn>
     read_by(mnemonic, word)
 }
 
-macro_rules! by_number {
+macro_rules! by_name {
     (($insn:ident) $(($mnemonic:ident, $name:ident, $mask:literal, $value:literal, $shape:ident))*) => {
         match $insn.mnemonic() {
             $(Mnemonic::$mnemonic => $value + $insn.placed(Shape::$shape),)*
@@ -114,5 +114,5 @@ macro_rules! by_number {
 pub fn encode(insn: &Insn) -> u32
     ensures { result ≡ word_of insn.now }
 {
-    rows!(all by_number (insn))
+    rows!(all by_name (insn))
 }

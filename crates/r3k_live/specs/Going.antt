@@ -62,7 +62,7 @@ pub record GoesOn (pages most address : ℕ) (page : CodePage) (made n : ℕ) (s
       → HasGone pages log from start (before + made) (state_elapsed made s) r
       → HasGoneOn pages log from start address page.number (before + made) (before + n) (state_elapsed n t) later
 
--- where an address is in a page, if it is in it
+-- the number of the word of a page at an address, if that lies in the page
 abbrev pub IsWordAt : (page : CodePage) → (address index : ℕ) → Type 0
 IsWordAt page address index = (other : ℕ) → IsIndexIn page address other → other ≡ index
 

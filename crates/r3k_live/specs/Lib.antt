@@ -9,3 +9,4 @@ pub mod Standing
 pub mod Living
 pub mod Going
 pub mod Slots
+pub mod Stores

@@ -1,6 +1,5 @@
 -- How a recorder keeps what steps reported (own).
-use Rattle.std.specs.Prelude.{◌≡◌, ℕ, ◌+◌, ◌*◌, ◌/◌, ◌<◌, ◌≤◌, List, length, All, Contains, Option, Some, None, nat_eq, slice_index, slice_set}
-use Rattle.std.specs.List.{IsDistinct}
+use Rattle.std.specs.Prelude.{◌≡◌, ℕ, ◌+◌, ◌*◌, ◌/◌, ◌<◌, ◌≤◌, List, length, Option, Some, None, slice_index, slice_set}
 use Rattle.r3k_word.specs.declared.layout.TheConstants.{MAX_RAM_PAGES, PAGE_BYTES, PAGE_WORDS}
 use Rattle.r3k_machine.specs.declared.step.Done.{Done}
 use Rattle.r3k_machine.specs.Run.{last_writer}
@@ -13,7 +12,6 @@ use Rattle.r3k_live.specs.declared.recorder.SentAt.{SentAt}
 pub record Recording : Type 0 where
   pub steps : ℕ
   pub last : List ℕ
-  pub stored : List ℕ
   pub dirty : List ℕ
   pub touched : List ℕ
   pub sent : List SentAt
@@ -34,22 +32,13 @@ abbrev pub page_of_store : Option ℕ → Option ℕ
 page_of_store None = None
 page_of_store (Some address) = Some (address / PAGE_BYTES)
 
--- the places of the words that a step is kept with
-pub record AreStored (last stored : List ℕ) : Type 0 where
-  pub within : All (λ place. (place < length last) × (0 < slice_index last place)) stored
-  pub all : (place : ℕ) → 0 < slice_index last place → Contains stored place
-
 -- a recorder has room for all that `span` steps can report
-pub record IsRecording (pages span stored_room sent_room : ℕ) (r : Recording) : Type 0 where
+pub record IsRecording (pages span sent_room : ℕ) (r : Recording) : Type 0 where
   pub few : pages ≤ MAX_RAM_PAGES
   pub steps : r.steps ≤ span
   pub last : length r.last ≡ pages * PAGE_WORDS
-  pub stored : length r.stored ≤ r.steps
   pub sent : length r.sent ≤ r.steps
-  pub stored_fits : span ≤ stored_room
   pub sent_fits : span ≤ sent_room
-  pub marked : AreStored r.last r.stored
-  pub once : IsDistinct nat_eq r.stored
 
 -- a recorder holds what these steps reported
 pub record Records (pages : ℕ) (steps : List Done) (r : Recording) : Type 0 where

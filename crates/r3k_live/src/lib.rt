@@ -6,6 +6,7 @@ mod flat;
 mod laws;
 mod live;
 mod recorder;
+mod stores;
 mod stretch;
 mod virtual_pages;
 

@@ -1,21 +1,21 @@
 //! A record of what steps reported: bytes sent, words stored into, and pages touched.
 
-ghost use Rattle.std.specs.Prelude.{◌≡◌, ◌+◌, ◌-◌, ◌*◌, ◌/◌, ◌^◌, ◌<◌, ◌≤◌, [], ◌∷◌, ◌++◌, All, ◌||◌, IfOk, IfSome, IsTrue, List, length, map, nat_eq, slice_index, slice_set, vec_capacity, vec_len, ℕ};
-ghost use Rattle.std.specs.List.{IsDistinct};
-ghost use Rattle.r3k_word.specs.declared.layout.TheConstants.{MAX_RAM_PAGES, PAGE_WORDS};
+ghost use Rattle.std.specs.Prelude.{◌≡◌, ◌+◌, ◌^◌, ◌<◌, ◌≤◌, [], ◌∷◌, ◌++◌, All, ◌||◌, IfOk, IfSome, IsTrue, List, length, nat_eq, vec_capacity, vec_len, ℕ};
+ghost use Rattle.r3k_word.specs.declared.layout.TheConstants.{MAX_RAM_PAGES};
 ghost use Rattle.r3k_pages.specs.Pages.{IsPageSet, holds, page_count_of};
 ghost use Rattle.r3k_machine.specs.declared.step.Done.{Done};
 ghost use Rattle.r3k_machine.specs.Locality.{fetched_page, is_page};
 ghost use Rattle.r3k_machine.specs.Run.{last_writer};
 ghost use Rattle.r3k_machine.specs.Told.{IsPage, IsRamWord};
 ghost use Rattle.r3k_live.specs.Record.{AreWriters, dirty_pages, sent_from, touched_pages, with_sent};
-ghost use Rattle.r3k_live.specs.Recording.{AreStored, Records, page_of_store, with_writer};
+ghost use Rattle.r3k_live.specs.Recording.{Records};
 
+use crate::stores::Stores;
 use crate::virtual_pages::VirtualPages;
 use dz_serial::{Sent, SerialLine};
 use r3k_machine::Done;
 use r3k_pages::PageMarks;
-use r3k_word::layout::{PAGE_BYTES, PAGE_WORDS};
+use r3k_word::layout::PAGE_BYTES;
 use std::alloc::{AllocError, Global};
 use std::marker::Model;
 
@@ -39,11 +39,7 @@ pub struct Written {
 #[derive(Drop)]
 pub struct Recorder<const PAGES: u32, const SPAN: u32> {
     steps: u32,
-    // For each word of RAM one more than the last step that stored into it, or 0.
-    last: Vec<u32>,
-    // The places of these words, each once, in the order of their first stores.
-    stored: Vec<u32>,
-    dirty: PageMarks<PAGES>,
+    stores: Stores<PAGES>,
     touched: PageMarks<PAGES>,
     sent: Vec<SentAt>,
     // The virtual pages in which the PC stood.
@@ -58,19 +54,17 @@ impl<const PAGES: u32, const SPAN: u32> Model for Recorder<PAGES, SPAN> {
 
     ghost view = { λ r. record {
       steps = r.steps;
-      last = r.last.items;
-      stored = r.stored.items;
-      dirty = r.dirty;
+      last = r.stores.last;
+      dirty = r.stores.dirty;
       touched = r.touched;
       sent = r.sent.items;
       stood = r.stood;
     } };
 
-    ghost invariant = { λ r. IsRecording PAGES SPAN (vec_capacity r.stored) (vec_capacity r.sent) (record {
+    ghost invariant = { λ r. IsRecording PAGES SPAN (vec_capacity r.sent) (record {
       steps = r.steps;
-      last = r.last.items;
-      stored = r.stored.items;
-      dirty = r.dirty;
+      last = r.stores.last;
+      dirty = r.stores.dirty;
       touched = r.touched;
       sent = r.sent.items;
       stood = r.stood;
@@ -85,9 +79,7 @@ impl<const PAGES: u32, const SPAN: u32> Recorder<PAGES, SPAN> {
     {
         Ok(Recorder {
             steps: 0,
-            last: vec![in alloc; 0; PAGES as usize * PAGE_WORDS as usize]?,
-            stored: Vec::with_capacity(alloc, SPAN as usize)?,
-            dirty: PageMarks::new(alloc)?,
+            stores: Stores::new(alloc)?,
             touched: PageMarks::new(alloc)?,
             sent: Vec::with_capacity(alloc, SPAN as usize)?,
             stood: VirtualPages::new(alloc)?,
@@ -99,9 +91,7 @@ impl<const PAGES: u32, const SPAN: u32> Recorder<PAGES, SPAN> {
         ensures empty { Records PAGES [] self.new }
         ensures stood { self.new.stood ≡ [] }
     {
-        forget(&mut self.last, &self.stored);
-        self.stored.clear();
-        self.dirty.clear();
+        self.stores.clear();
         self.touched.clear();
         self.sent.clear();
         self.stood.clear();
@@ -124,16 +114,14 @@ impl<const PAGES: u32, const SPAN: u32> Recorder<PAGES, SPAN> {
         if address % 4 != 0 || address / PAGE_BYTES >= PAGES {
             return None;
         }
-        self.last[address as usize / 4].checked_sub(1)
+        self.stores.last(address / 4)
     }
 
     /// The words of RAM that were stored into, in ascending order, each once and with the last step that did so.
     pub fn writers(&self, alloc: Global) -> Result<Vec<Written>, AllocError>
         ensures { (steps : List Done) → Records PAGES steps self.now → IfOk result (λ writers. AreWriters PAGES steps writers.items) }
     {
-        let mut places = Vec::from_slice(alloc, &self.stored)?;
-        places.sort_unstable();
-        writers_of(alloc, &self.last, &places)
+        self.stores.written(alloc)
     }
 
     /// The bytes that were sent, in order.
@@ -149,7 +137,7 @@ impl<const PAGES: u32, const SPAN: u32> Recorder<PAGES, SPAN> {
         ensures pages { (steps : List Done) → Records PAGES steps self.now → IfOk result (λ pages. pages.items ≡ dirty_pages PAGES steps) }
         ensures set { IfOk result (λ pages. IsPageSet PAGES pages.items) }
     {
-        self.dirty.ascending(alloc)
+        self.stores.dirty().ascending(alloc)
     }
 
     /// The pages that were touched, in ascending order: fetched from, loaded from or stored into.
@@ -182,7 +170,7 @@ impl<const PAGES: u32, const SPAN: u32> Recorder<PAGES, SPAN> {
     pub(crate) fn dirty_marks(&self) -> &PageMarks<PAGES>
         ensures { result.now ≡ self.now.dirty }
     {
-        &self.dirty
+        self.stores.dirty()
     }
 
     /// Whether a page was touched.
@@ -206,8 +194,7 @@ impl<const PAGES: u32, const SPAN: u32> Recorder<PAGES, SPAN> {
         ensures stood { self.new.stood ≡ self.old.stood }
     {
         note_sent(&mut self.sent, done.sent, self.steps);
-        note_store(&mut self.last, &mut self.stored, done.stored, self.steps);
-        mark(&mut self.dirty, page_of_store(done.stored));
+        self.stores.note(done.stored, self.steps);
         mark(&mut self.touched, done.touched[1]);
         self.steps += 1;
     }
@@ -223,8 +210,7 @@ impl<const PAGES: u32, const SPAN: u32> Recorder<PAGES, SPAN> {
         ensures stood { self.new.stood ≡ self.old.stood }
     {
         note_sent(&mut self.sent, done.sent, self.steps);
-        note_store(&mut self.last, &mut self.stored, done.stored, self.steps);
-        mark(&mut self.dirty, page_of_store(done.stored));
+        self.stores.note(done.stored, self.steps);
         mark(&mut self.touched, done.touched[0]);
         mark(&mut self.touched, done.touched[1]);
         self.steps += 1;
@@ -248,41 +234,6 @@ fn note_sent(sent: &mut Vec<SentAt>, byte: Option<Sent>, step: u32)
     }
 }
 
-// Notes with the word that a step stored into, if it did, that it was the last one.
-#[inline]
-fn note_store(last: &mut Vec<u32>, stored: &mut Vec<u32>, address: Option<u32>, step: u32)
-    requires within { IfSome address (λ address. address / 4 < length last.old.items) }
-    requires step { step < 2 ^ 32 - 1 }
-    requires room { vec_len stored.old < vec_capacity stored.old }
-    requires marked { AreStored last.old.items stored.old.items }
-    requires once { IsDistinct nat_eq stored.old.items }
-    ensures last { last.new.items ≡ with_writer last.old.items step address }
-    ensures marked { AreStored last.new.items stored.new.items }
-    ensures once { IsDistinct nat_eq stored.new.items }
-    ensures long { length stored.new.items ≤ length stored.old.items + 1 }
-    ensures room { vec_capacity stored.new ≡ vec_capacity stored.old }
-{
-    let Some(address) = address else {
-        return;
-    };
-    let place = address as usize / 4;
-    if last[place] == 0 {
-        stored.push_reserved(address / 4);
-    }
-    last[place] = step + 1;
-}
-
-// The page of the word that a step stored into, if it did.
-#[inline]
-fn page_of_store(address: Option<u32>) -> Option<u32>
-    ensures { result ≡ page_of_store address }
-{
-    match address {
-        Some(address) => Some(address / PAGE_BYTES),
-        None => None,
-    }
-}
-
 // Marks a page, if there is one.
 #[inline]
 fn mark<const PAGES: u32>(marks: &mut PageMarks<PAGES>, page: Option<u32>)
@@ -291,33 +242,5 @@ fn mark<const PAGES: u32>(marks: &mut PageMarks<PAGES>, page: Option<u32>)
 {
     if let Some(page) = page {
         marks.mark(page);
-    }
-}
-
-// Words by their places, each with its last step.
-fn writers_of(alloc: Global, last: &[u32], places: &[u32]) -> Result<Vec<Written>, AllocError>
-    requires { All (λ place. (place < length last.now) × (0 < slice_index last.now place)) places.now }
-    ensures places { IfOk result (λ writers. map (λ writer. writer.place) writers.items ≡ places.now) }
-    ensures steps { IfOk result (λ writers. All (λ writer. slice_index last.now writer.place ≡ writer.step + 1) writers.items) }
-{
-    let mut writers = Vec::with_capacity(alloc, places.len())?;
-    for place in places {
-        let step = last[*place as usize] - 1;
-        writers.push(Written {
-            place: *place,
-            step,
-        })?;
-    }
-    Ok(writers)
-}
-
-// Forgets the steps that are noted for these words.
-fn forget(last: &mut Vec<u32>, stored: &[u32])
-    requires { AreStored last.old.items stored.now }
-    ensures long { length last.new.items ≡ length last.old.items }
-    ensures none { (place : ℕ) → slice_index last.new.items place ≡ 0 }
-{
-    for place in stored {
-        last[*place as usize] = 0;
     }
 }

@@ -280,6 +280,9 @@ fn stretch<const PAGES: u32, const SPAN: u32>(
         return 0;
     };
     let free = u64::from(most.min(quiet)).min(events.free(time)) as u32;
+    if free == 0 {
+        return 0;
+    }
     let Some(page) = code_page(core, memory) else {
         return 0;
     };

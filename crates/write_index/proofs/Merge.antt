@@ -10,7 +10,8 @@ use Rattle.std.proofs.lemmas.List.Kept.{AllPairs-from_increasing}
 use Rattle.std.proofs.lemmas.List.Sorted.{searched}
 use Rattle.std.proofs.lemmas.Bool.{cases_Bool, eq-eqb, eqb-true, true≢false}
 use Rattle.std.proofs.lemmas.List.Folds.{list_any-append}
-use Rattle.write_index.specs.Pages.{IsUnion, holds}
+use Rattle.r3k_pages.specs.Pages.{holds}
+use Rattle.write_index.specs.Pages.{IsUnion}
 
 -- the first pages of both
 pub record IsMerged (a b : List ℕ) (i j : ℕ) (pages : List ℕ) : Type 0 where

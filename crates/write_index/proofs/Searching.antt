@@ -3,7 +3,8 @@ use Rattle.std.proofs.Common.{◌≡◌, ℕ, zero, suc, ◌+◌, ◌*◌, ◌/�
 use Rattle.std.proofs.lemmas.Bool.{true≢false}
 use Rattle.std.proofs.Math.Nat.{pow-suc}
 use Rattle.std.proofs.lemmas.List.{get_or-take, get_or_past, length-take}
-use Rattle.write_index.specs.Pages.{IsLast, holds, pages_at}
+use Rattle.r3k_pages.specs.Pages.{holds}
+use Rattle.write_index.specs.Pages.{IsLast, pages_at}
 use Rattle.write_index.specs.Tree.{IsTree, bottom}
 use Rattle.write_index.proofs.Merge.{before_or}
 

@@ -1,10 +1,6 @@
 -- Sets of pages by span (own). A set is an ascending list.
-use Rattle.std.specs.Prelude.{◌≡◌, ℕ, ◌^◌, ◌<◌, Bool, ◌||◌, IsFalse, IsTrue, List, [], Option, None, Some, nat_eq, slice_index_or}
-use Rattle.std.specs.List.{list_any}
-
--- whether a page is in a set
-abbrev pub holds : List ℕ → ℕ → Bool
-holds set page = list_any (λ other. nat_eq other page) set
+use Rattle.std.specs.Prelude.{◌≡◌, ℕ, ◌^◌, ◌<◌, ◌||◌, IsFalse, IsTrue, List, [], Option, None, Some, slice_index_or}
+use Rattle.r3k_pages.specs.Pages.{holds}
 
 -- the pages of a span; a missing span has none
 abbrev pub pages_at : List (List ℕ) → ℕ → List ℕ

@@ -2,7 +2,8 @@
 
 ghost use Rattle.std.specs.Prelude.{◌≡◌, IfOk, []};
 ghost use Rattle.std.specs.List.Sorted.{IsStrictlyIncreasing};
-ghost use Rattle.write_index.specs.Pages.{IsUnion, holds};
+ghost use Rattle.r3k_pages.specs.Pages.{holds};
+ghost use Rattle.write_index.specs.Pages.{IsUnion};
 
 use std::alloc::{AllocError, Global};
 use std::marker::Model;

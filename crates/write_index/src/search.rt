@@ -1,7 +1,8 @@
 //! The search for the last span that has a page. It asks a node for its pages through `look` alone, which counts.
 
 ghost use Rattle.std.specs.Prelude.{◌≡◌, ◌+◌, ◌-◌, ◌*◌, ◌/◌, ◌^◌, ◌<◌, ◌≤◌, ℕ, IfSome, IsFalse, IsTrue, false, length, min};
-ghost use Rattle.write_index.specs.Pages.{IsLast, holds, pages_at};
+ghost use Rattle.r3k_pages.specs.Pages.{holds};
+ghost use Rattle.write_index.specs.Pages.{IsLast, pages_at};
 ghost use Rattle.write_index.specs.Tree.{IsTree, bottom};
 
 use crate::level::Level;

@@ -1,7 +1,8 @@
 //! The tree by its levels, the lowest first.
 
 ghost use Rattle.std.specs.Prelude.{◌≡◌, ◌+◌, ◌*◌, ◌/◌, ◌^◌, ◌<◌, ◌≤◌, ℕ, [], IfOk, OnErr, length, max, slice_set};
-ghost use Rattle.write_index.specs.Pages.{IsLast, IsUnion, holds, pages_at};
+ghost use Rattle.r3k_pages.specs.Pages.{holds};
+ghost use Rattle.write_index.specs.Pages.{IsLast, IsUnion, pages_at};
 ghost use Rattle.write_index.specs.Tree.{Grown, HasRoom, IsPut, IsTree, IsTreeBut, Same, bottom};
 ghost use Rattle.write_index.specs.declared.tree.TheConstants.{LEVELS, MAX_SPANS};
 

@@ -21,8 +21,8 @@ stand-requires g c =
     let here = c.deref.ensures ∙ c.start.ensures.start in
     (omega arith, (omega arith, (omega arith, λ at. subst (λ (s : State). IsKnownAt g.row.SPAN c.args.kept.now.spans c.args.kept.now.valid s c.args.self.now) (sym here) (c.requires.known at))))
 
-pub begin-requires : goal.begin-requires
-begin-requires g c =
+pub note_start-requires : goal.note_start-requires
+note_start-requires g c =
     let new = c.put-there_is_room.new.self in
     let n = c.index-index.result in
     let here = c.deref.ensures ∙ c.start.ensures.start in
@@ -42,12 +42,12 @@ begin-requires g c =
 
 pub returns-clause-there : goal.returns-clause-there
 returns-clause-there g c =
-    ap (λ (s : List (Option Span)). slice_index_or s c.args.kept.now.valid None) c.begin.ensures.spans
+    ap (λ (s : List (Option Span)). slice_index_or s c.args.kept.now.valid None) c.note_start.ensures.spans
     ∙ (ap (span_at c.put-there_is_room.new.self) (sym c.requires.number) ∙ ok_of c.put-there_is_room.result _ (c.put-there_is_room.ensures.free c.requires.room) c.put-there_is_room.ensures.there)
 
 pub returns-clause-others : goal.returns-clause-others
 returns-clause-others g c = λ i other.
-    ap (λ (s : List (Option Span)). slice_index_or s i None) c.begin.ensures.spans
+    ap (λ (s : List (Option Span)). slice_index_or s i None) c.note_start.ensures.spans
     ∙ ok_of c.put-there_is_room.result _ (c.put-there_is_room.ensures.free c.requires.room) c.put-there_is_room.ensures.others i (λ same. other (same ∙ c.requires.number))
 
 pub returns-clause-known : goal.returns-clause-known
@@ -57,10 +57,10 @@ returns-clause-known g c = λ starts ends.
     let kept = c.args.kept.now in
     let n = kept.valid in
     let fact = c.args.fact in
-    let now = c.begin.new.kept in
-    let set = c.pass.new.differing in
-    let f : Frontier pages = record { at = Some (c.index-index.result + 1); differing = set; exact = true; patched = c.begin.new.patched } in
-    let alike : IsAlike kept.spans (fact.index + 1) set (end_of pages span fact) = c.pass.ensures
+    let now = c.note_start.new.kept in
+    let set = c.differ_after_run.new.differing in
+    let f : Frontier pages = record { at = Some (c.index-index.result + 1); differing = set; exact = true; patched = c.note_start.new.patched } in
+    let alike : IsAlike kept.spans (fact.index + 1) set (end_of pages span fact) = c.differ_after_run.ensures
     (subst (λ (s : State). IsAlike kept.spans fact.index c.stand.new.self.differing s) (c.deref.ensures ∙ c.start.ensures.start)
     (subst (λ (i : ℕ). IsAlike kept.spans i c.stand.new.self.differing c.deref.result.now) (sym c.requires.number) c.stand.ensures.known.differ)) in
     subst (λ (i : ℕ). IsKnownAt span now.spans (i + 1) (starts (i + 1)) f) (sym (c.index-index.ensures ∙ c.requires.number))
@@ -76,12 +76,12 @@ returns-clause-known g c = λ starts ends.
 
 pub returns-clause-patches : goal.returns-clause-patches
 returns-clause-patches g c = λ reset first was.
-    let P : List ℕ → Type 0 = λ set. IsAlike c.begin.new.kept.spans 0 set reset in
+    let P : List ℕ → Type 0 = λ set. IsAlike c.note_start.new.kept.spans 0 set reset in
     elim (cases_eq 0 c.args.kept.now.valid) [
       | inl zero ↦
-          into_some (λ (s : Span). SameOutside c.begin.new.patched s.start.words reset.words) (span_at c.begin.new.kept 0) c.args.fact
-          (ap (span_at c.begin.new.kept) zero ∙ returns-clause-there g c) (same_all c.begin.new.patched _ _ (ap (λ (s : State). s.words) (first (sym zero))))
+          into_some (λ (s : Span). SameOutside c.note_start.new.patched s.start.words reset.words) (span_at c.note_start.new.kept 0) c.args.fact
+          (ap (span_at c.note_start.new.kept) zero ∙ returns-clause-there g c) (same_all c.note_start.new.patched _ _ (ap (λ (s : State). s.words) (first (sym zero))))
       | inr other ↦
-          subst P (sym (c.begin.ensures.patched (λ _. omega (arith, other, c.index-index.ensures, c.requires.number)) ∙ c.stand.ensures.patched))
+          subst P (sym (c.note_start.ensures.patched (λ _. omega (arith, other, c.index-index.ensures, c.requires.number)) ∙ c.stand.ensures.patched))
           (subst (λ (o : Option Span). IfSome o (λ s. SameOutside c.args.self.now.patched s.start.words reset.words)) (sym (returns-clause-others g c 0 other)) was)
     ]

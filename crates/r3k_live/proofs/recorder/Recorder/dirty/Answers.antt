@@ -1,4 +1,4 @@
-use Rattle.std.proofs.Common.{ap, ◌∙◌}
+use Rattle.std.proofs.Common.{List, ℕ, ap, ◌∙◌}
 use Rattle.r3k_pages.specs.Pages.{holds}
 use Rattle.r3k_pages.proofs.Ascending.{if_ok_too, same_where}
 use Rattle.r3k_live.specs.Record.{is_dirty}
@@ -11,5 +11,6 @@ returns-clause-pages g c =
     if_ok_too _ c.ascending.result c.ascending.ensures.pages
     (λ pages same.
     same
-    ∙ same_where g.row.PAGES (holds c.self.inside.dirty) (is_dirty steps)
-    (λ page within. ap (λ (r : Recording). holds r.dirty page) c.self.view_is ∙ so_far.dirty page))
+    ∙ same_where g.row.PAGES (holds c.dirty.result.now) (is_dirty steps)
+    (λ page within.
+    ap (λ (set : List ℕ). holds set page) c.dirty.ensures ∙ (ap (λ (r : Recording). holds r.dirty page) c.self.view_is ∙ so_far.dirty page)))

@@ -21,19 +21,19 @@ returns-clause-records g c =
     let touched_is = ap (λ (r : Recording). r.touched) c.self.view_is in record {
       count = ap (λ (n : ℕ). n + 1) steps_are ∙ sym (length-append steps (done ∷ []));
       last = λ place within.
-          ap (λ (xs : List ℕ). slice_index xs place) (c.note_store.ensures.last ∙ ap (λ (n : ℕ). with_writer inside.last.items n done.stored) steps_are)
-          ∙ last_more g.row.PAGES place inside.last.items steps done c.self.invariant.last within c.requires.stored
+          ap (λ (xs : List ℕ). slice_index xs place) (c.note.ensures.last ∙ ap (λ (n : ℕ). with_writer inside.stores.last n done.stored) steps_are)
+          ∙ last_more g.row.PAGES place inside.stores.last steps done c.self.invariant.last within c.requires.stored
           (ap (λ (xs : List ℕ). slice_index xs place) last_is ∙ so_far.last place within);
       ram = λ address other. ram_more g.row.PAGES address steps done c.requires.stored other (so_far.ram address other);
       dirty = λ page.
-          c.mark.ensures page
+          c.note.ensures.dirty page
           ∙ (ap₂ (λ (a b : Bool). a || b) (ap (λ (set : List ℕ). holds set page) dirty_is ∙ so_far.dirty page)
-          (ap (is_page page) c.page_of_store.ensures ∙ page_stored page done.stored)
+          (page_stored page done.stored)
           ∙ sym (any_more (λ done. stores_in page done.stored) steps done));
       touched = λ page.
-          c.mark-3.ensures page
+          c.mark-2.ensures page
           ∙ (ap (λ (b : Bool). b || is_page page second)
-          (c.mark-2.ensures page ∙ ap (λ (b : Bool). b || is_page page first) (ap (λ (set : List ℕ). holds set page) touched_is ∙ so_far.touched page))
+          (c.mark.ensures page ∙ ap (λ (b : Bool). b || is_page page first) (ap (λ (set : List ℕ). holds set page) touched_is ∙ so_far.touched page))
           ∙ (sym (or-assoc (is_touched steps page) (is_page page first) (is_page page second))
           ∙ sym (any_more (touches page) steps done)));
       sent =

@@ -1,7 +1,7 @@
 use Rattle.std.proofs.Common.{List, ℕ, ap, ◌∙◌, subst}
 use Rattle.std.specs.List.Sorted.{IsBinarySearchResult}
 use Rattle.std.specs.Ordering.{nat_cmp}
-use Rattle.write_index.specs.Pages.{holds}
+use Rattle.r3k_pages.specs.Pages.{holds}
 use Rattle.write_index.proofs.Merge.{searched_for}
 use Rattle.write_index.proofs.page_set.PageSet.holds.Goals as goal
 

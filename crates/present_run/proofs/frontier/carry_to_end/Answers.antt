@@ -1,7 +1,7 @@
 use Rattle.std.proofs.Common.{ℕ, List, length, sym, ap, ◌∙◌}
-use Rattle.present_run.proofs.Carry.{behind_carried, end_carried, exactly, loses_by, start_carried}
+use Rattle.present_run.proofs.Carry.{after_carried, end_carried, exactly, loses_by, start_carried}
 use Rattle.present_run.proofs.Spans.{map_ok}
-use Rattle.present_run.proofs.frontier.carry.Goals as goal
+use Rattle.present_run.proofs.frontier.carry_to_end.Goals as goal
 
 pub returns-clause-long : goal.returns-clause-long
 returns-clause-long g c =
@@ -18,9 +18,9 @@ returns-clause-start g c =
     start_carried g.row.PAGES g.row.SPAN c.args.fact.now c.args.start.now c.args.fact.now.events c.args.differing.now c.remove.new.self c.requires.near
     (loses_by c.args.differing.now _ _ _ c.touched.ensures.pages c.remove.ensures) c.requires.same
 
-pub returns-clause-behind : goal.returns-clause-behind
-returns-clause-behind g c =
-    behind_carried g.row.PAGES g.row.SPAN c.args.fact.now c.args.start.now c.args.differing.now c.remove.new.self c.requires.near
+pub returns-clause-after : goal.returns-clause-after
+returns-clause-after g c =
+    after_carried g.row.PAGES g.row.SPAN c.args.fact.now c.args.start.now c.args.differing.now c.remove.new.self c.requires.near
     (loses_by c.args.differing.now _ _ _ c.touched.ensures.pages c.remove.ensures) c.requires.same (returns-clause-long g c)
 
 pub returns-clause-exact : goal.returns-clause-exact

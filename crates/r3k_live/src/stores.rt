@@ -1,0 +1,206 @@
+//! The words that steps stored into, each with its last step, and their pages.
+
+ghost use Rattle.std.specs.Prelude.{◌≡◌, ◌+◌, ◌-◌, ◌*◌, ◌/◌, ◌^◌, ◌<◌, ◌≤◌, ◌||◌, ◌++◌, ℕ, [], IfOk, IfSome, IsTrue, false, length, slice_index, slice_index_or};
+ghost use Rattle.r3k_word.specs.Layout.{page_of_place};
+ghost use Rattle.r3k_word.specs.declared.layout.TheConstants.{MAX_RAM_PAGES, PAGE_WORDS};
+ghost use Rattle.r3k_pages.specs.Pages.{holds};
+ghost use Rattle.r3k_machine.specs.Locality.{is_page};
+ghost use Rattle.r3k_machine.specs.Told.{IsRamWord};
+ghost use Rattle.r3k_live.specs.Recording.{kept_step, page_of_store, with_writer};
+ghost use Rattle.r3k_live.specs.Stores.{AreInBlocks, AreInPages, writers_in};
+ghost use Rattle.r3k_live.specs.declared.stores.TheConstants.{BLOCK_WORDS, PAGE_BLOCKS};
+
+use crate::recorder::Written;
+use r3k_pages::PageMarks;
+use r3k_word::layout::{PAGE_BYTES, PAGE_WORDS};
+use std::alloc::{AllocError, Global};
+use std::marker::Model;
+
+// How many words a block has, and a page blocks.
+const BLOCK_WORDS: usize = 32;
+
+const PAGE_BLOCKS: usize = 32;
+
+/// For each word of RAM the last step that stored into it, and the pages that were stored into, on a machine with `PAGES` pages of RAM.
+/// All room is taken when it is made.
+#[derive(Drop)]
+pub struct Stores<const PAGES: u32> {
+    // For each word one more than its last step, or 0.
+    last: Vec<u32>,
+    // For each block of words whether a step stored into it, so that few words are looked at for those that have a step.
+    blocks: Vec<bool>,
+    dirty: PageMarks<PAGES>,
+}
+
+impl<const PAGES: u32> Model for Stores<PAGES> {
+    ghost use Rattle.r3k_live.specs.Stores.{AreKept, Stores};
+
+    ghost Value = { Stores };
+
+    ghost view = { λ s. record { last = s.last.items; dirty = s.dirty } };
+
+    ghost invariant = { λ s. AreKept PAGES s.last.items s.blocks.items s.dirty };
+}
+
+impl<const PAGES: u32> Stores<PAGES> {
+    /// None. All its memory is taken here.
+    pub fn new(alloc: Global) -> Result<Stores<PAGES>, AllocError>
+        requires { PAGES ≤ MAX_RAM_PAGES }
+        ensures long { IfOk result (λ stores. length stores.last ≡ PAGES * PAGE_WORDS) }
+        ensures none { IfOk result (λ stores. (place : ℕ) → slice_index stores.last place ≡ 0) }
+        ensures dirty { IfOk result (λ stores. stores.dirty ≡ []) }
+    {
+        Ok(Stores {
+            last: vec![in alloc; 0; PAGES as usize * PAGE_WORDS as usize]?,
+            blocks: vec![in alloc; false; PAGES as usize * PAGE_BLOCKS]?,
+            dirty: PageMarks::new(alloc)?,
+        })
+    }
+
+    /// Forgets all.
+    pub fn clear(&mut self)
+        ensures long { length self.new.last ≡ length self.old.last }
+        ensures none { (place : ℕ) → slice_index self.new.last place ≡ 0 }
+        ensures dirty { self.new.dirty ≡ [] }
+    {
+        forget::<PAGES>(&mut self.last, &mut self.blocks, self.dirty.pages());
+        self.dirty.clear();
+    }
+
+    /// Notes with the word that a step stored into, if it did, that it was the last one.
+    #[inline]
+    pub fn note(&mut self, address: Option<u32>, step: u32)
+        requires within { IfSome address (IsRamWord PAGES) }
+        requires step { step < 2 ^ 32 - 1 }
+        ensures last { self.new.last ≡ with_writer self.old.last step address }
+        ensures dirty { (page : ℕ) → holds self.new.dirty page ≡ (holds self.old.dirty page || is_page page (page_of_store address)) }
+    {
+        let Some(address) = address else {
+            return;
+        };
+        let place = address as usize / 4;
+        self.last[place] = step + 1;
+        self.blocks[place / BLOCK_WORDS] = true;
+        self.dirty.mark(address / PAGE_BYTES);
+    }
+
+    /// The last step that stored into a word, given by its place, if one did.
+    pub fn last(&self, place: u32) -> Option<u32>
+        requires { place < PAGES * PAGE_WORDS }
+        ensures { kept_step result ≡ slice_index self.now.last place }
+    {
+        self.last[place as usize].checked_sub(1)
+    }
+
+    /// The words that were stored into, in ascending order, each with its last step.
+    pub fn written(&self, alloc: Global) -> Result<Vec<Written>, AllocError>
+        ensures { IfOk result (λ written. written.items ≡ writers_in 0 (PAGES * PAGE_WORDS) self.now.last) }
+    {
+        let mut written = Vec::new(alloc);
+        for page in &self.dirty.ascending(alloc)? {
+            // No word of ROM is stored into.
+            if *page < PAGES {
+                add_of_page(&mut written, &self.last, &self.blocks, *page)?;
+            }
+        }
+        Vec::from_slice(alloc, &written)
+    }
+
+    /// The pages that were stored into.
+    pub fn dirty(&self) -> &PageMarks<PAGES>
+        ensures { result.now ≡ self.now.dirty }
+    {
+        &self.dirty
+    }
+}
+
+// Adds the words of a page that have a step.
+fn add_of_page(
+    written: &mut Vec<Written>,
+    last: &[u32],
+    blocks: &[bool],
+    page: u32,
+) -> Result<(), AllocError>
+    requires within { (page + 1) * PAGE_WORDS ≤ length last.now }
+    requires few { length last.now < 2 ^ 32 }
+    requires whole { length last.now ≡ length blocks.now * BLOCK_WORDS }
+    requires marked { AreInBlocks last.now blocks.now }
+    ensures { IfOk result (λ _. written.new.items ≡ written.old.items ++ writers_in (page * PAGE_WORDS) PAGE_WORDS last.now) }
+{
+    let first = page as usize * PAGE_BLOCKS;
+    for block in first..first + PAGE_BLOCKS {
+        if blocks[block] {
+            add_of_block(written, last, block)?;
+        }
+    }
+    Ok(())
+}
+
+// Adds the words of a block that have a step.
+fn add_of_block(written: &mut Vec<Written>, last: &[u32], block: usize) -> Result<(), AllocError>
+    requires within { (block + 1) * BLOCK_WORDS ≤ length last.now }
+    requires few { length last.now < 2 ^ 32 }
+    ensures { IfOk result (λ _. written.new.items ≡ written.old.items ++ writers_in (block * BLOCK_WORDS) BLOCK_WORDS last.now) }
+{
+    let first = block * BLOCK_WORDS;
+    for place in first..first + BLOCK_WORDS {
+        if let Some(step) = last[place].checked_sub(1) {
+            written.push(Written {
+                place: place as u32,
+                step,
+            })?;
+        }
+    }
+    Ok(())
+}
+
+// Forgets the steps of all words, which lie in these pages.
+fn forget<const PAGES: u32>(last: &mut Vec<u32>, blocks: &mut Vec<bool>, pages: &[u32])
+    requires long { length last.old.items ≡ PAGES * PAGE_WORDS }
+    requires whole { length blocks.old.items ≡ PAGES * PAGE_BLOCKS }
+    requires blocks { AreInBlocks last.old.items blocks.old.items }
+    requires pages { AreInPages last.old.items pages.now }
+    ensures long { length last.new.items ≡ length last.old.items }
+    ensures whole { length blocks.new.items ≡ length blocks.old.items }
+    ensures none { (place : ℕ) → slice_index last.new.items place ≡ 0 }
+{
+    for page in pages {
+        // No word of ROM is stored into.
+        if *page < PAGES {
+            forget_page(last, blocks, *page);
+        }
+    }
+}
+
+// Forgets the steps of the words of a page.
+fn forget_page(last: &mut Vec<u32>, blocks: &mut Vec<bool>, page: u32)
+    requires within { (page + 1) * PAGE_BLOCKS ≤ length blocks.old.items }
+    requires whole { length last.old.items ≡ length blocks.old.items * BLOCK_WORDS }
+    requires blocks { AreInBlocks last.old.items blocks.old.items }
+    ensures long { length last.new.items ≡ length last.old.items }
+    ensures whole { length blocks.new.items ≡ length blocks.old.items }
+    ensures blocks { AreInBlocks last.new.items blocks.new.items }
+    ensures none { (place : ℕ) → page_of_place place ≡ page → slice_index last.new.items place ≡ 0 }
+    ensures fewer { (place : ℕ) → 0 < slice_index last.new.items place → 0 < slice_index last.old.items place }
+{
+    let first = page as usize * PAGE_BLOCKS;
+    for block in first..first + PAGE_BLOCKS {
+        if blocks[block] {
+            blocks[block] = false;
+            forget_block(last, block);
+        }
+    }
+}
+
+// Forgets the steps of the words of a block.
+fn forget_block(last: &mut Vec<u32>, block: usize)
+    requires { (block + 1) * BLOCK_WORDS ≤ length last.old.items }
+    ensures long { length last.new.items ≡ length last.old.items }
+    ensures none { (place : ℕ) → place / BLOCK_WORDS ≡ block → slice_index last.new.items place ≡ 0 }
+    ensures others { (place : ℕ) → ¬ (place / BLOCK_WORDS ≡ block) → slice_index last.new.items place ≡ slice_index last.old.items place }
+{
+    let first = block * BLOCK_WORDS;
+    for place in first..first + BLOCK_WORDS {
+        last[place] = 0;
+    }
+}
