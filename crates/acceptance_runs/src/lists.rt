@@ -101,9 +101,10 @@ fn machine_of<const PAGES: u32, const SPAN: u32>(
     requires { AreSizes PAGES SPAN }
 {
     let (_, own) = front.split_once('\n').unwrap_or((front, ""));
-    let own = own.replace(alloc, "<source>", source)?;
-    let text = if own.is_empty() { source } else { own.as_str() };
-    let text = program(alloc, text)?;
+    let mut text = program(alloc, own.replace(alloc, "<source>", source)?.as_str())?;
+    if text.is_empty() {
+        text = program(alloc, source)?;
+    }
     let image = assemble(alloc, text.as_bytes())?;
     Running::of(alloc, image, assemble(alloc, text.as_bytes())?)
 }
