@@ -45,8 +45,8 @@ CHAPTERS = r"(?:chapters? \d+(?:(?:, | to | and )\d+)*|appendix [A-D])"
 class Group:
     """Definitions under one comment, with their file."""
 
-    def __init__(self, file, told):
-        self.file, self.told, self.names = file, told, []
+    def __init__(self, file, comment):
+        self.file, self.comment, self.names = file, comment, []
 
 
 class Specs:
@@ -55,15 +55,15 @@ class Specs:
     def __init__(self, path):
         self.name, self.head, self.groups = path.stem, "", []
         text = path.read_text()
-        told, taken = [], None
+        comment, taken = [], None
         for line in text.splitlines():
             if line.startswith("--"):
-                told.append(line[2:].strip())
+                comment.append(line[2:].strip())
                 continue
-            if told and not self.head:
-                self.head, told = " ".join(told), []
-            elif told:
-                taken, told = Group(self, " ".join(told)), []
+            if comment and not self.head:
+                self.head, comment = " ".join(comment), []
+            elif comment:
+                taken, comment = Group(self, " ".join(comment)), []
             if name := declared(line):
                 if taken is None:
                     taken = Group(self, "")
@@ -94,11 +94,11 @@ def named(text):
 def source(group):
     """Where the definitions under a comment come from: the comment says so, or else the first one of its file."""
     head = group.file.head
-    found = named(group.told) or named(head)
+    found = named(group.comment) or named(head)
     if re.search(r"\(own, after", head):
         return "own, after " + ", ".join(found)
     says_own = lambda text: re.search(r"\(own|\b(?:is|are) own\b", text)
-    is_own = not found or says_own(group.told) or says_own(head) and not named(group.told)
+    is_own = not found or says_own(group.comment) or says_own(head) and not named(group.comment)
     return ", ".join(found + ["own"] * bool(is_own))
 
 
@@ -157,7 +157,7 @@ def edit_of(crate, name):
 
 
 def says(group):
-    return (group.told or group.file.head).replace("|", "\\|").replace("*", "\\*")
+    return (group.comment or group.file.head).replace("|", "\\|").replace("*", "\\*")
 
 
 def row(group, names, *cells):
@@ -174,8 +174,8 @@ class Page:
             self.read(crate)
         for crate in self.crates:
             self.check(crate)
-        told = {it.name for it in self.crates}
-        for name in sorted({it.parent.parent.name for it in ROOT.glob("crates/*/specs/*.antt")} - told):
+        known = {it.name for it in self.crates}
+        for name in sorted({it.parent.parent.name for it in ROOT.glob("crates/*/specs/*.antt")} - known):
             self.wrong.append(f".ci/definitions.txt: says nothing of the crate {name}")
 
     def read(self, crate):

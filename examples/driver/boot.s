@@ -59,7 +59,7 @@ receive:
         srl r9, r8, 8
         andi r9, r9, 3                  # the line
         sll r10, r9, 5
-        addu r10, r10, r22              # its ring is 0x100 behind
+        addu r10, r10, r22              # its ring is 0x100 further
         lw r11, 0x110(r10)              # put in
         lw r12, 0x114(r10)              # taken out
         andi r13, r11, 15

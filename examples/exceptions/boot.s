@@ -41,7 +41,7 @@ done:
         sw r26, 0(r16)
         sw r27, 4(r16)
         mfc0 r26, c8                    # BadVAddr
-        addiu r27, r27, 4               # behind the instruction
+        addiu r27, r27, 4               # after the instruction
         sw r26, 8(r16)
         addiu r16, r16, 12
         jr r27

@@ -1,4 +1,4 @@
-# From reset to main: the stack, the data, which stands in ROM behind the code, and the words that begin as 0.
+# From reset to main: the stack, the data, which stands in ROM after the code, and the words that begin as 0.
 # The assembler fills the delay slots.
         .section .text.start, "ax"
         .globl  start

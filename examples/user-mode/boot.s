@@ -13,7 +13,7 @@
         jr r27
         rfe                             # in the jump's delay slot: back to the mode before
 
-# The general vector, 0x80000080: notes the exception, and goes on behind it.
+# The general vector, 0x80000080: notes the exception, and goes on after it.
         .org 0x00000080
         mfc0 r26, c14                   # EPC
         mfc0 r27, c13                   # Cause

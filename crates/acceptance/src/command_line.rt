@@ -88,16 +88,16 @@ fn help_and_usage(rt: HostRuntime) -> Result<(), Fail> {
     ] {
         same_at(&rt, &part, &run.output.contains(part), &true);
     }
-    for of in ["of it that", "behind them the log"] {
+    for of in ["of it that", "after them the log"] {
         let part = format!(in alloc; "How many bytes {of} takes, 0 to {MAX_SIZE} [default: 0]")?;
         same_at(&rt, &part, &run.output.contains(part.as_str()), &true);
     }
     assert!(rt; !run.output.contains("pos 0"));
-    same(&rt, &(run.told.len(), run.status), &(0, 0));
+    same(&rt, &(run.errors.len(), run.status), &(0, 0));
     for option in ["--size", "--log"] {
         let run = run_program(alloc, &["r3kwb", option, "67108865"], b"pos\n", 1)?;
         let part = format!(in alloc; "{option} is a number from 0 to {MAX_SIZE}\n")?;
-        same_at(&rt, &part, &run.told.contains(part.as_str()), &true);
+        same_at(&rt, &part, &run.errors.contains(part.as_str()), &true);
         same(&rt, &(run.output.len(), run.status), &(0, 2));
     }
     Ok(())
@@ -118,8 +118,8 @@ fn no_words(rt: HostRuntime) -> Result<(), Fail> {
         same_at(&rt, &why, &status, &fault);
         same_at(&rt, &why, &input.left().len(), &4);
         same_at(&rt, &why, &output.written().len(), &0);
-        let told = str::from_utf8(errors.written())?;
-        same_at(&rt, &why, &told.contains(part), &true);
+        let text = str::from_utf8(errors.written())?;
+        same_at(&rt, &why, &text.contains(part), &true);
     }
     Ok(())
 }

@@ -39,7 +39,7 @@ const BUTTON: &[u8; 1392] = b"\
     \x20       jr r26\n\
     \x20       rfe                             # in the jump's delay slot\n";
 
-const DRIVER: &[u8; 4014] = b"\
+const DRIVER: &[u8; 4015] = b"\
     # A driver by interrupts: what arrives at a serial line is sent back on the same line, from a ring of 16 bytes in RAM, and each\n\
     # update of the clock is noted. The main loop counts its turns.\n\
     #\n\
@@ -101,7 +101,7 @@ const DRIVER: &[u8; 4014] = b"\
     \x20       srl r9, r8, 8\n\
     \x20       andi r9, r9, 3                  # the line\n\
     \x20       sll r10, r9, 5\n\
-    \x20       addu r10, r10, r22              # its ring is 0x100 behind\n\
+    \x20       addu r10, r10, r22              # its ring is 0x100 further\n\
     \x20       lw r11, 0x110(r10)              # put in\n\
     \x20       lw r12, 0x114(r10)              # taken out\n\
     \x20       andi r13, r11, 15\n\
@@ -216,7 +216,7 @@ const EDITS: &[u8; 1130] = b"\
     \x20       j loop\n\
     \x20       sll r0, r0, 0\n";
 
-const EXCEPTIONS: &[u8; 1941] = b"\
+const EXCEPTIONS: &[u8; 1940] = b"\
     # A boot ROM that sets up exception handling, and then takes a system call, an overflow and an address error.\n\
     \x20       lui r8, 0xbfc0                  # copy the stub to the general vector in RAM\n\
     \x20       ori r8, r8, 0x0068              # where the stub stands in ROM\n\
@@ -260,7 +260,7 @@ const EXCEPTIONS: &[u8; 1941] = b"\
     \x20       sw r26, 0(r16)\n\
     \x20       sw r27, 4(r16)\n\
     \x20       mfc0 r26, c8                    # BadVAddr\n\
-    \x20       addiu r27, r27, 4               # behind the instruction\n\
+    \x20       addiu r27, r27, 4               # after the instruction\n\
     \x20       sw r26, 8(r16)\n\
     \x20       addiu r16, r16, 12\n\
     \x20       jr r27\n\
@@ -554,7 +554,7 @@ const RANDOM_2: &[u8; 288] = b"\
     \x00\x00\x00\x00\x00\x00\x00\x00\x1a\x00\x0a\x24\xff\xff\x4a\x25\
     \xfe\xff\x40\x1d\x00\x00\x00\x00\xed\xff\x00\x10\x00\x00\x00\x00";
 
-const USER_MODE: &[u8; 2195] = b"\
+const USER_MODE: &[u8; 2194] = b"\
     # Boot code that starts a user program through translation entries: its pages are refilled as they are missed, and it makes a\n\
     # system call.\n\
     \n\
@@ -570,7 +570,7 @@ const USER_MODE: &[u8; 2195] = b"\
     \x20       jr r27\n\
     \x20       rfe                             # in the jump's delay slot: back to the mode before\n\
     \n\
-    # The general vector, 0x80000080: notes the exception, and goes on behind it.\n\
+    # The general vector, 0x80000080: notes the exception, and goes on after it.\n\
     \x20       .org 0x00000080\n\
     \x20       mfc0 r26, c14                   # EPC\n\
     \x20       mfc0 r27, c13                   # Cause\n\
@@ -1012,7 +1012,7 @@ fn user_mode(rt: HostRuntime) -> Result<(), Fail> {
         goto 31\n\
         tlb 36\n\
         mem 0x00011000 1\n\
-        # The system call, and the program behind it, which sees nothing of the kernel.\n\
+        # The system call, and the program after it, which sees nothing of the kernel.\n\
         goto 34\n\
         cp0\n\
         goto 42\n\

@@ -20,7 +20,7 @@ fn has(rt: &impl Abort, text: &str, part: &str) {
 #[test]
 fn vectors_and_landing(rt: HostRuntime) -> Result<(), Fail> {
     let alloc = rt.alloc();
-    // A source and a position, and r1 and the registers behind it there.
+    // A source and a position, and r1 and the registers after it there.
     let faults = [
         // a word without a row is a reserved instruction
         (".word 0xffffffff", 1, "0x00000000"),

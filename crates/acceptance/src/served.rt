@@ -14,15 +14,15 @@ use workbench::{Plan, serve_words};
 #[derive(Drop)]
 pub struct Served {
     pub output: String,
-    pub told: String,
+    pub errors: String,
     pub status: u8,
 }
 
 impl Served {
     /// Compares all of it with what is wanted.
-    pub fn is(&self, rt: &impl Abort, output: &str, told: &str, status: u8) {
-        let found = (self.output.as_str(), self.told.as_str(), self.status);
-        same(rt, &found, &(output, told, status));
+    pub fn is(&self, rt: &impl Abort, output: &str, errors: &str, status: u8) {
+        let found = (self.output.as_str(), self.errors.as_str(), self.status);
+        same(rt, &found, &(output, errors, status));
     }
 
     /// The same where a fault, given by its number and its kind, is all that is written.
@@ -72,7 +72,7 @@ pub fn run_on<const PAGES: u32, const SPAN: u32>(
     );
     Ok(Served {
         output: String::from_str(alloc, str::from_utf8(output.written())?)?,
-        told: String::from_str(alloc, str::from_utf8(errors.written())?)?,
+        errors: String::from_str(alloc, str::from_utf8(errors.written())?)?,
         status,
     })
 }

@@ -40,7 +40,7 @@ pub fn has_constants(rt: &impl Abort, image: &Image, byte_time: u16, unit: u16, 
     same(rt, &image.clock_start(), clock);
 }
 
-/// A header, with words behind it: how many segments there are, and of each its address, its count and its words.
+/// A header, with words after it: how many segments there are, and of each its address, its count and its words.
 pub fn image_bytes(alloc: Global, header: &[u8], words: &str) -> Result<Vec<u8>, Fail> {
     let mut bytes = header.to_vec(alloc)?;
     for word in &numbers(alloc, words)? {
@@ -109,7 +109,7 @@ fn faults_of_segments(rt: HostRuntime) -> Result<(), Fail> {
     Ok(())
 }
 
-// The words behind the header of `EMPTY_IMAGE`, and the fault.
+// The words after the header of `EMPTY_IMAGE`, and the fault.
 const SEGMENTS: &str = "
 1 0 1 0x04030201; 1 0x01fffffc 1 0x04030201; 1 0x1fc3fffc 1 0x04030201 = None
 1 0 1 0x04030201 0x04030201 = Some Bad Extra

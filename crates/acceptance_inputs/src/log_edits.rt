@@ -1,5 +1,5 @@
 //! Edits of a log.
-use crate::log_format::{MIXED, THREE, told};
+use crate::log_format::{MIXED, THREE, fields_of};
 use crate::same::{same, same_at};
 use crate::tables::numbers;
 use input_log::{Log, read_log};
@@ -63,7 +63,7 @@ fn edited(alloc: Global, log: &mut Log, edit: &str) -> Result<String, Fail> {
         ("set", [place, byte]) => shown(alloc, &log.set(*place, u8::try_from(*byte)?))?,
         ("move", [place, time]) => shown(alloc, &log.move_to(*place, *time))?,
         ("erase", [from, to]) => shown(alloc, &log.erase(*from, *to))?,
-        ("log", []) => told(alloc, log.events())?,
+        ("log", []) => fields_of(alloc, log.events())?,
         ("count", []) => shown(alloc, &log.events().len())?,
         _ => return Err("no edit".into()),
     })

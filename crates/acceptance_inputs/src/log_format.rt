@@ -38,20 +38,20 @@ pub const MIXED: [u8; 56] = *b"R3KLOG2\n\x04\0\0\0\
 \xfe\xff\xff\xff\0\0\0\0\x02\0\0";
 
 /// The time, kind, line and byte of each event.
-pub fn told(alloc: Global, events: &[Event]) -> Result<String, Fail> {
+pub fn fields_of(alloc: Global, events: &[Event]) -> Result<String, Fail> {
     if events.is_empty() {
         return Ok(plain(alloc, "empty")?);
     }
-    let mut told = Vec::new(alloc);
+    let mut fields = Vec::new(alloc);
     for event in events {
-        told.push((event.time, event.kind, event.line, event.byte))?;
+        fields.push((event.time, event.kind, event.line, event.byte))?;
     }
-    Ok(shown(alloc, &told)?)
+    Ok(shown(alloc, &fields)?)
 }
 
 // Compares events with the time, kind, line and byte of each.
 fn has_events(rt: &(impl Abort + AllocGlobal), events: &[Event], wanted: &str) -> Result<(), Fail> {
-    let found = told(rt.alloc(), events)?;
+    let found = fields_of(rt.alloc(), events)?;
     same(rt, &found, &plain(rt.alloc(), wanted)?);
     Ok(())
 }

@@ -10,7 +10,7 @@ fn devices(rt: HostRuntime) -> Result<(), Fail> {
 
 const LISTS: &str = "
 $ All four lines may send: the scan begins at line 1. Each store of TDR sends on the next line, the fifth finds all busy, and
-# 16 ticks behind the first store line 1 takes a byte again. TIE lets TRDY raise the board's line.
+# 16 ticks after the first store line 1 takes a byte again. TIE lets TRDY raise the board's line.
 lui r1, 0xbfe0; addiu r4, r0, 15; sw r4, 16(r1); lui r2, 0xbff0; lui r3, 128; sw r3, 0(r2); addiu r5, r0, 16416; sw r5, 0(r1)
 addiu r6, r0, 0x41; sw r6, 24(r1); sw r6, 24(r1); sw r6, 24(r1); sw r6, 24(r1); sw r6, 24(r1)
 -- run 8, cause 0, run 1, cause 0x400, sends 1:0x41 2:0x41 3:0x41 0:0x41 none, cause 0, run 11, cause 0, run 1, cause 0x400

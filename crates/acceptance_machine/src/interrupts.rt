@@ -36,7 +36,7 @@ lui r1, 0xbfe0; lui r2, 0xbff0; lui r3, 128; sw r3, 0(r2); addiu r4, r0, 4096; s
 lui r6, 64; ori r6, r6, 0x0c01; mtc0 r6, c12
 
 $ Where the mask lacks the line, IEc is 0, or the board does not enable the line, nothing is taken; Cause shows the line but for the last,
-# from the position behind the byte's step on.
+# from the position after the byte's step on.
 | 513 | 128 | 0x400
 | 1024 | 128 | 0x400
 | 1025 | 64 | 0
@@ -44,7 +44,7 @@ lui r3, $2; sw r3, 0(r2); lui r6, 64; ori r6, r6, $1; mtc0 r6, c12; j 0x1fc00040
 -- run 16, cause 0, receive 0:0x41, cause $3, run 3, cause $3, pc 0xbfc00040
 
 $ The clock's period ends with tick 32, in step 31, in which a byte arrives too; the loop is in its delay slot, as in each odd
-# step. Behind the load of C the clock's line is down, and behind that of RBUF the board's.
+# step. After the load of C the clock's line is down, and after that of RBUF the board's.
 .clock 0 0 0 0 0 0 1 1 1 0 0x21 0x42; lui r7, 0xbfe8; j 0x1fc00030; sll r0, r0, 0
 .org 0x1fc00180; mfc0 r8, c13; lw r9, 48(r7); mfc0 r10, c13; lw r11, 8(r1); mfc0 r12, c13
 -- run 31, cause 0, receive 0:0x41, pc 0xbfc00180, epc 0xbfc00030, run 5, landed 8 0x80000c00 0xc0 0x80000400 0x8041 0x80000000
@@ -58,7 +58,7 @@ $ An interrupt with a load of word 5 pending: it lands, and the instruction afte
 lui r8, 0xa000; lw r7, 256(r8); addiu r7, r0, 9; .org 0x100; .word 5
 -- run 13, load 7 5, receive 0:0x41, load none, register 7 5, epc 0xbfc00034
 
-$ A fetch that would be misaligned or where no memory would be, in step 15, behind jr and its delay slot: in the step in which a byte
+$ A fetch that would be misaligned or where no memory would be, in step 15, after jr and its delay slot: in the step in which a byte
 # arrives, and in one without.
 | 2 | 0xbfe00002 | 0x10
 | 0 | 0xbfe00000 | 0x18

@@ -99,7 +99,7 @@ $ few instructions: $1
 | mfc0 r2, c1 | random 0x3f00, run 1, load 2 0x3f00, random 0x3e00, run 54, random 0x800, run 1, random 0x3f00
 # A branch that is not taken: its successor is in a delay slot all the same.
 | bne r0, r0, 0x1fc00010; sll r0, r0, 0 | run 1, pc 0xbfc00004, next 0xbfc00008, delay 1, run 1, delay 0
-# A branch in the delay slot of a jump with link. r31 is behind the slot, one instruction of the jump's target is run, and then the
+# A branch in the delay slot of a jump with link. r31 is the address after the slot, one instruction of the jump's target is run, and then the
 # branch's target follows, by its own address.
 | jal 0x1fc00010; beq r0, r0, 0x1fc00014 | run 2, register 31 0xbfc00008, pc 0xbfc00010, next 0xbfc00014, run 1, pc 0xbfc00014, delay 0
 # jalr with equal registers goes to r4 as it was read, and then r4 is the link.

@@ -12,7 +12,7 @@ const TIME: [u8; 7] = [SECONDS, MINUTES, HOURS, WEEKDAY, DAY, MONTH, YEAR];
 //     start U B ..                one with a unit and the 12 bytes of an image's start
 //     at B S M H W D O Y          one whose divider runs, with a second of 8192 ticks: register B and the time
 //     time S M H W D O Y          what the registers of the time read
-//     tick N, pass N, quiet N     ticks; at most so many that only count; how many of them there are
+//     tick N, pass N, quiet N     ticks; at most N that only count; how many of them there are
 //     write R B, reads R B ..     a register is written; what those from one on read
 //     ram R S                     the registers from one up to another read 0, and hold what is written
 //     interrupts V                whether the clock asks for an interrupt

@@ -98,6 +98,30 @@ count 0 7 = 0, find 1 1 = Some 1 1, find 1 2 = Some 6 0, find 1 6 = Some 6 4, fi
     answers(&rt, rt.alloc(), &writes, &console, asked)
 }
 
+// What is answered does not depend on how far totals were made, also after a span got other counts.
+#[test]
+fn totals_of_spans(rt: HostRuntime) -> Result<(), Fail> {
+    let writes = WriteIndex::new(rt.alloc());
+    let mut console = ConsoleIndex::new(rt.alloc());
+    for span in 0..6 {
+        console.replace(span, [span as u32, 1, 0, 0])?;
+    }
+    let asked =
+        "count 0 6 = 15, count 0 4 = 6, count 1 none = 6, find 0 5 = Some 3 2, find 0 14 = Some 5 4, find 0 15 = None, find 1 3 = Some 3 0";
+    for before in [0, 3, 1, 6, u64::MAX] {
+        console.sum_up_to(before);
+        answers(&rt, rt.alloc(), &writes, &console, asked)?;
+    }
+    console.replace(2, [9, 1, 0, 0])?;
+    let asked =
+        "count 0 6 = 22, count 0 3 = 10, find 0 9 = Some 2 8, find 0 10 = Some 3 0, find 0 21 = Some 5 4, find 0 22 = None, find 1 3 = Some 3 0";
+    for before in [2, 4, 6] {
+        console.sum_up_to(before);
+        answers(&rt, rt.alloc(), &writes, &console, asked)?;
+    }
+    Ok(())
+}
+
 // A thousand spans: the first has page 5, each has page 6, and each hundredth page 7. 1,000 has ten binary digits, so no search asks more
 // than 22 nodes.
 #[test]

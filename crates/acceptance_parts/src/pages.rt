@@ -211,7 +211,7 @@ fn stays_the_same<const PAGES: u32>(
 
 // Pages of two spans, one of them in both: each snapshot stands for its own time.
 #[test]
-fn snapshots_one_behind_another(rt: HostRuntime) -> Result<(), Fail> {
+fn snapshots_one_after_another(rt: HostRuntime) -> Result<(), Fail> {
     let alloc = rt.alloc();
     let none = PageMarks::new(alloc)?;
     let mut words = filled::<16>(alloc)?;

@@ -67,7 +67,7 @@ writer 256 0x104 = Never, costs = 256, patch 0x3000 7, add 70 0x41, writer 256 0
 sender 256 0 0 = 83, word 256 0x3000 = 7, costs = 0, del 0, writer 256 0x104 = Never, costs = 64, console 256 = 0, word 256 0x3000 = 7
 costs = 0
 
-$ told by carried spans
+$ reported by carried spans
 # Last writers and bytes sent before, in and after spans that were carried over, with bytes of steps 70 and 200.
 --
 add 70 0x41, add 200 0x42, console 256 = 2 0x41 0x42, costs = 256, patch 0x3000 7, console 256 = 2 0x41 0x42, sender 256 0 0 = 83

@@ -21,7 +21,7 @@ use std::test::Fail;
 ///     stands = A N, then = A D        the PC, and how many steps were made; the next PC, and whether the PC stands in a delay slot
 ///     random = W, status = W          a control register
 ///     memory P = W, holds = P:W ..    the word at a place; all words that are not the image's
-///     told = P:S .. sent L:B:S .. dirty G .. touched G ..
+///     reports = P:S .. sent L:B:S .. dirty G .. touched G ..
 ///                           the record of the last run: words with their last steps, bytes with their lines and steps, the pages
 ///                           stored into, and those touched
 ///     keep, reset, load P   keeps where it stands; where another machine of the image stands at reset; stands at a place again

@@ -99,7 +99,7 @@ $ undone edits
 console 256 = 0, costs = 256, add 70 0x41, del 0, console 256 = 0, costs = 0, patch 0x100 7, patch 0x100 0, console 256 = 0, costs = 0
 add 70 0x41, console 256 = 1 0x41, costs = 64, del 0, console 256 = 0, costs = 64
 
-$ edit behind the position
+$ edit after the position
 # An edit after the position that is asked costs nothing there.
 --
 console 512 = 0, costs = 512, add 300 0x41, console 256 = 0, costs = 0, console 300 = 0, costs-at-most 44 = true

@@ -117,13 +117,13 @@ impl<const PAGES: u32, const SPAN: u32> Running<PAGES, SPAN> {
             ("tie", []) => self.tie(alloc)?,
             ("join", []) => self.join()?,
             ("truncate", [index]) => self.kept.truncate_valid(*index),
-            _ => return self.tells(alloc, name, numbers),
+            _ => return self.reports(alloc, name, numbers),
         }
         Ok(String::new(alloc))
     }
 
     // How the machine stands, and what the last run reported.
-    fn tells(&mut self, alloc: Global, name: &str, numbers: &[u64]) -> Result<String, Fail>
+    fn reports(&mut self, alloc: Global, name: &str, numbers: &[u64]) -> Result<String, Fail>
         requires { AreSizes PAGES SPAN }
     {
         let core = self.live.core();
@@ -137,10 +137,10 @@ impl<const PAGES: u32, const SPAN: u32> Running<PAGES, SPAN> {
                 shown(alloc, word)?
             }
             ("holds", []) => shown(alloc, &self.holds(alloc)?)?,
-            ("told", []) => {
+            (("reports", [])) => {
                 let (dirty, touched) = (self.recorder.dirty(alloc)?, self.recorder.touched(alloc)?);
                 let written = shown(alloc, &self.written(alloc)?)?;
-                let rest = told(alloc, self.recorder.sent(), &dirty, &touched)?;
+                let rest = reported(alloc, self.recorder.sent(), &dirty, &touched)?;
                 [written.as_str(), rest.as_str()].concat(alloc)?
             }
             ("counted", [before, steps]) => {
@@ -166,7 +166,7 @@ impl<const PAGES: u32, const SPAN: u32> Running<PAGES, SPAN> {
                 let (one, other) = (self.place(*one)?, self.place(*other)?);
                 differences(alloc, &one, &other)?
             }
-            ("fact", []) => self.fact_told(alloc)?,
+            ("fact", []) => self.fact_reports(alloc)?,
             ("starts", [place]) => {
                 let (fact, place) = (self.fact()?, self.place(*place)?);
                 differences(alloc, fact.start(), &place)?
@@ -237,7 +237,7 @@ impl<const PAGES: u32, const SPAN: u32> Running<PAGES, SPAN> {
         Ok(found)
     }
 
-    // The places of words that the last run stored into, and their last steps, as they are listed and as each place tells.
+    // The places of words that the last run stored into, and their last steps, as they are listed and as each place gives them.
     fn written(&self, alloc: Global) -> Result<Vec<(u32, u32)>, Fail>
         requires { AreSizes PAGES SPAN }
     {
@@ -312,14 +312,14 @@ impl<const PAGES: u32, const SPAN: u32> Running<PAGES, SPAN> {
     }
 
     // The number of the record that was made last, its events, and what it reports.
-    fn fact_told(&self, alloc: Global) -> Result<String, Fail> {
+    fn fact_reports(&self, alloc: Global) -> Result<String, Fail> {
         let fact = self.fact()?;
         let mut events = Vec::new(alloc);
         for event in fact.events() {
             events.push((event.time, event.kind, event.line, event.byte))?;
         }
         let begin = shown(alloc, &(fact.index(), events.as_slice()))?;
-        let rest = told(alloc, fact.sent(), fact.dirty(), fact.touched())?;
+        let rest = reported(alloc, fact.sent(), fact.dirty(), fact.touched())?;
         Ok([begin.as_str(), rest.as_str()].concat(alloc)?)
     }
 
@@ -327,9 +327,9 @@ impl<const PAGES: u32, const SPAN: u32> Running<PAGES, SPAN> {
     fn put(&mut self, alloc: Global) -> Result<(), Fail> {
         let fact = self.fact.take().ok_or("no record")?;
         let (start, index) = (fact.start().clone()?, fact.index());
-        let before = self.kept_told(alloc)?;
+        let before = self.records_kept(alloc)?;
         if self.kept.put(fact).is_err() {
-            if self.kept_told(alloc)? != before {
+            if self.records_kept(alloc)? != before {
                 return Err("other records are kept".into());
             }
             let fact = self.record(alloc, start, index)?;
@@ -339,7 +339,7 @@ impl<const PAGES: u32, const SPAN: u32> Running<PAGES, SPAN> {
     }
 
     // How many records are valid, which are kept, and which are taken at reset.
-    fn kept_told(&self, alloc: Global) -> Result<String, Fail> {
+    fn records_kept(&self, alloc: Global) -> Result<String, Fail> {
         let records = self.spans(alloc, "records", 0)?;
         let taken = self.spans(alloc, "taken", 0)?;
         Ok(shown(alloc, &(self.kept.valid(), records, taken))?)
@@ -441,7 +441,12 @@ fn differences<const PAGES: u32>(
 }
 
 // The bytes sent, and the pages that were stored into and touched.
-fn told(alloc: Global, sent: &[SentAt], dirty: &[u32], touched: &[u32]) -> Result<String, Fail> {
+fn reported(
+    alloc: Global,
+    sent: &[SentAt],
+    dirty: &[u32],
+    touched: &[u32],
+) -> Result<String, Fail> {
     let mut bytes = Vec::new(alloc);
     for sent in sent {
         bytes.push((sent.line.number(), sent.byte, sent.step))?;

@@ -9,7 +9,7 @@ use Rattle.r3k_image.specs.Boot.{IsClockStart}
 use Rattle.asm_line.specs.declared.kind.AsmKind.{AsmKind}
 use Rattle.asm_line.specs.declared.kind.AsmKind.TheVariants as kind
 use Rattle.asm_line.specs.declared.span.Class.TheVariants as class
-use Rattle.asm_line.specs.Span.{behind}
+use Rattle.asm_line.specs.Span.{rest_of}
 use Rattle.asm_line.specs.Operand.{number_at, is_blank, ◌>>=◌}
 use Rattle.asm_line.specs.Statement.{numbers_at, is_start, clock_of, or_fault, ◌>>=◌ as ◌>>=!◌}
 
@@ -21,7 +21,7 @@ is_long false ns e = absurd cc
 pub numbers_len : (n : ℕ) (text ns : List ℕ) → numbers_at n text ≡ Some ns → length ns ≡ n
 unfolding numbers_at
 numbers_len zero text ns e = is_long (is_blank text) ns e
-numbers_len (suc n) text ns e = first (number_at (behind class.Blank text)) ns (λ rest ms. numbers_len n rest ms) e
+numbers_len (suc n) text ns e = first (number_at (rest_of class.Blank text)) ns (λ rest ms. numbers_len n rest ms) e
   where
     second : (k : ℕ) (numbers : Option (List ℕ)) (ns : List ℕ) → ((ms : List ℕ) → numbers ≡ Some ms → length ms ≡ n) → (numbers >>= λ more. Some (k ∷ more)) ≡ Some ns → length ns ≡ suc n
     second k None ns h e = absurd cc

@@ -3,7 +3,7 @@ use Rattle.std.proofs.Common.{◌≡◌, ℕ, suc, List, [], ◌∷◌, ◌++◌
 use Rattle.std.specs.Prelude.{option_map}
 use Rattle.std.proofs.lemmas.List.{append-nil}
 use Rattle.asm_line.specs.declared.span.Class.TheVariants as class
-use Rattle.asm_line.specs.Span.{behind}
+use Rattle.asm_line.specs.Span.{rest_of}
 use Rattle.asm_line.specs.Operand.{number_at, is_blank, ◌>>=◌}
 use Rattle.asm_line.specs.Statement.{numbers_at}
 
@@ -19,14 +19,14 @@ regroup : (front : List ℕ) (n : ℕ) (numbers : Option (List ℕ)) → with_fr
 regroup front n None = refl
 regroup front n (Some more) = ap Some (simp append_assoc)
 
-pub one_more : (front rest after : List ℕ) (count n : ℕ) → Some (n, after) ≡ number_at (behind class.Blank rest)
+pub one_more : (front rest after : List ℕ) (count n : ℕ) → Some (n, after) ≡ number_at (rest_of class.Blank rest)
     → with_front front (numbers_at (suc count) rest) ≡ with_front (front ++ n ∷ []) (numbers_at count after)
 unfolding numbers_at
 one_more front rest after count n is =
     ap (λ (x : Option (ℕ × List ℕ)). with_front front (x >>= λ y. numbers_at count y.1 >>= λ more. Some (y.0 ∷ more))) (sym is)
     ∙ regroup front n (numbers_at count after)
 
-pub no_more : (front rest : List ℕ) (count : ℕ) → None ≡ number_at (behind class.Blank rest) → with_front front (numbers_at (suc count) rest) ≡ None
+pub no_more : (front rest : List ℕ) (count : ℕ) → None ≡ number_at (rest_of class.Blank rest) → with_front front (numbers_at (suc count) rest) ≡ None
 unfolding numbers_at
 no_more front rest count is = ap (λ (x : Option (ℕ × List ℕ)). with_front front (x >>= λ y. numbers_at count y.1 >>= λ more. Some (y.0 ∷ more))) (sym is)
 

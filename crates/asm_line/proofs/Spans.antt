@@ -1,7 +1,7 @@
 -- A text is split where a class ends.
 use Rattle.std.proofs.Common.{◌≡◌, ℕ, zero, suc, ◌<◌, ◌≤◌, true, false, cond, List, [], ◌∷◌, length, get_or, take, drop, refl, ap, ◌∙◌, arith}
 use Rattle.asm_line.specs.declared.span.Class.{Class}
-use Rattle.asm_line.specs.Span.{is_in, front_of, behind}
+use Rattle.asm_line.specs.Span.{is_in, front_of, rest_of}
 
 -- the front up to a place is of the class, and the byte there is not
 pub record EndsAt (class : Class) (text : List ℕ) (place : ℕ) : Type 0 where
@@ -19,11 +19,11 @@ front class (b ∷ bs) (suc place) h =
     ∙ ap (λ (xs : List ℕ). b ∷ xs)
     (front class bs place (record { within = omega (arith, h.within); before = λ k lt. h.before (suc k) (omega arith); at = λ lt. h.at (omega arith) }))
 
-pub rest : (class : Class) (text : List ℕ) (place : ℕ) → EndsAt class text place → behind class text ≡ drop place text
-unfolding behind
+pub rest : (class : Class) (text : List ℕ) (place : ℕ) → EndsAt class text place → rest_of class text ≡ drop place text
+unfolding rest_of
 rest class [] zero h = refl
 rest class [] (suc place) h = absurd (omega (arith, h.within))
-rest class (b ∷ bs) zero h = ap (λ t. cond t (behind class bs) (b ∷ bs)) (h.at (omega arith))
+rest class (b ∷ bs) zero h = ap (λ t. cond t (rest_of class bs) (b ∷ bs)) (h.at (omega arith))
 rest class (b ∷ bs) (suc place) h =
-    ap (λ t. cond t (behind class bs) (b ∷ bs)) (h.before 0 (omega arith))
+    ap (λ t. cond t (rest_of class bs) (b ∷ bs)) (h.before 0 (omega arith))
     ∙ rest class bs place (record { within = omega (arith, h.within); before = λ k lt. h.before (suc k) (omega arith); at = λ lt. h.at (omega arith) })

@@ -9,7 +9,7 @@ use Rattle.asm_line.specs.declared.target.Reach.TheVariants as reach
 use Rattle.asm_line.specs.declared.target.Place.{Place}
 use Rattle.asm_line.specs.declared.target.Place.TheVariants.{Address, Label}
 use Rattle.asm_line.specs.declared.operand.Operands.{Operands}
-use Rattle.asm_line.specs.Span.{front_of, behind}
+use Rattle.asm_line.specs.Span.{front_of, rest_of}
 use Rattle.asm_line.specs.Name.{is_name, register_of}
 use Rattle.asm_line.specs.Number.{number_of}
 
@@ -20,7 +20,7 @@ o >>= f = option_and_then f o
 
 -- what the word at the front of a text says, and what follows it
 abbrev pub word_at : {A : Type 0} → (List ℕ → Option A) → List ℕ → Option (A × List ℕ)
-word_at read text = option_map (λ x. (x, behind class.Word text)) (read (front_of class.Word text))
+word_at read text = option_map (λ x. (x, rest_of class.Word text)) (read (front_of class.Word text))
 
 -- a register after a letter
 abbrev pub register_at : ℕ → List ℕ → Option (ℕ × List ℕ)
@@ -57,8 +57,8 @@ place_at text = word_at place_of text
 -- what follows a byte and the blanks around it
 unfoldable pub after : ℕ → List ℕ → Option (List ℕ)
 after byte text =
-    let rest = behind class.Blank text in
-    if nat_lt 0 (length rest) && (slice_index rest 0 == byte) then Some (behind class.Blank (drop 1 rest)) else None
+    let rest = rest_of class.Blank text in
+    if nat_lt 0 (length rest) && (slice_index rest 0 == byte) then Some (rest_of class.Blank (drop 1 rest)) else None
 
 -- what a number says, which may be out of range
 abbrev pub checked : Option ℕ → Operands
@@ -116,14 +116,14 @@ joined a b = record { fields = (a.fields + b.fields) % 2 ^ 32; in_range = a.in_r
 
 -- nothing but blanks
 abbrev pub is_blank : List ℕ → Bool
-is_blank text = length (behind class.Blank text) == 0
+is_blank text = length (rest_of class.Blank text) == 0
 
 -- these operands, with commas between them, and nothing after them
 unfoldable pub operands_at : List Operand → List ℕ → Option Operands
 operands_at [] text = if is_blank text then Some (checked (Some 0)) else None
-operands_at (o ∷ []) text = operand_at o (behind class.Blank text) >>= λ x. if is_blank x.1 then Some x.0 else None
+operands_at (o ∷ []) text = operand_at o (rest_of class.Blank text) >>= λ x. if is_blank x.1 then Some x.0 else None
 operands_at (o ∷ p ∷ os) text = do
-  x ← operand_at o (behind class.Blank text)
+  x ← operand_at o (rest_of class.Blank text)
   rest ← after 44 x.1
   more ← operands_at (p ∷ os) rest
   Some (joined x.0 more)

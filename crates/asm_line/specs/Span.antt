@@ -24,6 +24,6 @@ front_of class [] = []
 front_of class (b ∷ bs) = if is_in class b then b ∷ front_of class bs else []
 
 -- what stands after that front
-unfoldable pub behind : Class → List ℕ → List ℕ
-behind class [] = []
-behind class (b ∷ bs) = if is_in class b then behind class bs else b ∷ bs
+unfoldable pub rest_of : Class → List ℕ → List ℕ
+rest_of class [] = []
+rest_of class (b ∷ bs) = if is_in class b then rest_of class bs else b ∷ bs

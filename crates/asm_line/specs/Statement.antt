@@ -11,7 +11,7 @@ use Rattle.asm_line.specs.declared.statement.Directive.{Directive}
 use Rattle.asm_line.specs.declared.statement.Directive.TheVariants as directive
 use Rattle.asm_line.specs.declared.statement.Statement.{Statement}
 use Rattle.asm_line.specs.declared.statement.Statement.TheVariants.{Empty, Label, Origin, Word, ByteTime, Unit, Clock}
-use Rattle.asm_line.specs.Span.{is_letter, is_in, front_of, behind}
+use Rattle.asm_line.specs.Span.{is_letter, is_in, front_of, rest_of}
 use Rattle.asm_line.specs.Name.{is_name}
 use Rattle.asm_line.specs.Operand as operand
 use Rattle.asm_line.specs.Operand.{number_at, operands_at, is_blank, below}
@@ -37,7 +37,7 @@ ends_word text = (length text == 0) || is_in class.Blank (slice_index text 0)
 
 -- the number in a text that has nothing else
 abbrev pub one_number : List ℕ → Option ℕ
-one_number text = operand.◌>>=◌ (number_at (behind class.Blank text)) (λ x. if is_blank x.1 then Some x.0 else None)
+one_number text = operand.◌>>=◌ (number_at (rest_of class.Blank text)) (λ x. if is_blank x.1 then Some x.0 else None)
 
 -- an instruction of a row with its operands, `Syntax` before `Number`: its word, which lacks the part of a target
 unfoldable pub instruction_of : Instruction → List ℕ → Result Statement AsmKind
@@ -65,7 +65,7 @@ numbered d text =
 unfoldable pub numbers_at : ℕ → List ℕ → Option (List ℕ)
 numbers_at zero text = if is_blank text then Some [] else None
 numbers_at (suc n) text =
-    operand.◌>>=◌ (number_at (behind class.Blank text)) (λ x. operand.◌>>=◌ (numbers_at n x.1) (λ more. Some (x.0 ∷ more)))
+    operand.◌>>=◌ (number_at (rest_of class.Blank text)) (λ x. operand.◌>>=◌ (numbers_at n x.1) (λ more. Some (x.0 ∷ more)))
 
 -- whether a clock may start with these registers 0 to 11
 abbrev pub is_start : List ℕ → Bool
@@ -95,8 +95,8 @@ named word text =
 -- what a line says, or what is wrong with it, without its line feed and a carriage return before that: # begins a comment
 unfoldable pub statement_of : List ℕ → Result Statement AsmKind
 statement_of line =
-    let text = behind class.Blank (front_of class.Code line) in
+    let text = rest_of class.Blank (front_of class.Code line) in
     if length text == 0 then Ok Empty
-    else (if slice_index text 0 == 46 then directive_of (front_of class.Word (drop 1 text)) (behind class.Word (drop 1 text))
-    else (if is_letter (slice_index text 0) then named (front_of class.Word text) (behind class.Word text)
+    else (if slice_index text 0 == 46 then directive_of (front_of class.Word (drop 1 text)) (rest_of class.Word (drop 1 text))
+    else (if is_letter (slice_index text 0) then named (front_of class.Word text) (rest_of class.Word text)
     else Err kind.Syntax))

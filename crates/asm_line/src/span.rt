@@ -1,7 +1,7 @@
 //! Parts of a text.
 
 ghost use Rattle.std.specs.Prelude.{◌≡◌, ◌≤◌, length, take, drop};
-ghost use Rattle.asm_line.specs.Span.{is_letter, is_decimal, is_in, front_of, behind};
+ghost use Rattle.asm_line.specs.Span.{is_letter, is_decimal, is_in, front_of, rest_of};
 
 /// A class of bytes.
 #[derive(Clone, Copy, Debug, PartialEq, Eq)]
@@ -52,7 +52,7 @@ pub fn is_digit(byte: u8) -> bool
 fn end_of(class: Class, text: &[u8]) -> usize
     ensures within { result ≤ length text.now }
     ensures front { front_of class text.now ≡ take result text.now }
-    ensures behind { behind class text.now ≡ drop result text.now }
+    ensures rest { rest_of class text.now ≡ drop result text.now }
 {
     for (place, byte) in text.iter().enumerate() {
         if !class.contains(*byte) {
@@ -65,14 +65,14 @@ fn end_of(class: Class, text: &[u8]) -> usize
 /// The bytes of the class that a text begins with, and what follows them.
 pub fn span(class: Class, text: &[u8]) -> (&[u8], &[u8])
     ensures front { result.0.now ≡ front_of class text.now }
-    ensures behind { result.1.now ≡ behind class text.now }
+    ensures rest { result.1.now ≡ rest_of class text.now }
 {
     text.split_at(end_of(class, text))
 }
 
 /// The text without the blanks that it begins with.
 pub fn skip_blanks(text: &[u8]) -> &[u8]
-    ensures { result.now ≡ behind Class.Blank text.now }
+    ensures { result.now ≡ rest_of Class.Blank text.now }
 {
     span(Class::Blank, text).1
 }

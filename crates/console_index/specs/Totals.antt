@@ -17,8 +17,9 @@ abbrev pub HasTotals : ℕ → List Span → Type 0
 HasTotals end spans = (span : ℕ) → span < end → (line : ℕ) → line ≤ 3 →
     count_at (totals_of spans) line span ≡ total (counts_of spans) line (span + 1)
 
--- spans as an index has them
-pub record IsIndex (spans : List Span) : Type 0 where
+-- spans as an index has them, the first `summed` ones with their totals
+pub record IsIndex (summed : ℕ) (spans : List Span) : Type 0 where
   pub few : length spans ≤ MAX_SPANS
   pub small : (span line : ℕ) → line ≤ 3 → count_at (counts_of spans) line span ≤ 1048576
-  pub totals : HasTotals (length spans) spans
+  pub within : summed ≤ length spans
+  pub totals : HasTotals summed spans

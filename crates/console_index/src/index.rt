@@ -4,7 +4,7 @@ ghost use Rattle.std.specs.Prelude.{◌≡◌, ◌≢◌, ◌+◌, ◌<◌, ◌�
 ghost use Rattle.console_index.specs.Counts.{IsPlace, count_at, total};
 ghost use Rattle.console_index.specs.declared.index.TheConstants.{MAX_SPANS};
 
-use crate::span::{Span, put, totals_below, whole_before};
+use crate::span::{Span, sum_up, total_below, whole_before};
 use dz_serial::SerialLine;
 use std::alloc::{AllocError, Global};
 use std::marker::Model;
@@ -16,6 +16,8 @@ pub const MAX_SPANS: u64 = 1 << 34;
 #[derive(Drop)]
 pub struct ConsoleIndex {
     spans: Vec<Span>,
+    // How many of the first spans have their totals.
+    summed: usize,
 }
 
 impl Model for ConsoleIndex {
@@ -26,7 +28,7 @@ impl Model for ConsoleIndex {
 
     ghost view = { λ index. counts_of index.spans.items };
 
-    ghost invariant = { λ index. IsIndex index.spans.items };
+    ghost invariant = { λ index. IsIndex index.summed index.spans.items };
 }
 
 impl ConsoleIndex {
@@ -36,11 +38,12 @@ impl ConsoleIndex {
     {
         ConsoleIndex {
             spans: Vec::new(alloc),
+            summed: 0,
         }
     }
 
-    /// Puts the counts of a span. Where memory is refused, all is as it was. Replacing a span costs a step for each span after it,
-    /// unless its counts stay.
+    /// Puts the counts of a span. Where memory is refused, all is as it was. Where they are others than before, the totals of the span
+    /// and of all after it are no longer there.
     pub fn replace(&mut self, index: u64, counts: [u32; 4]) -> Result<(), AllocError>
         requires index { index < MAX_SPANS }
         requires counts { All (λ count. count ≤ 1048576) counts }
@@ -55,7 +58,8 @@ impl ConsoleIndex {
         if self.spans[index].counts == counts {
             return Ok(());
         }
-        put(&mut self.spans, index, counts);
+        self.summed = self.summed.min(index);
+        self.spans[index].counts = counts;
         Ok(())
     }
 
@@ -68,24 +72,40 @@ impl ConsoleIndex {
         self.extend_to(index as usize)
     }
 
-    /// How many bytes of a line the spans below one have together. It looks at one span.
+    /// Makes the totals of the spans below one that do not have them.
+    pub fn sum_up_to(&mut self, before: u64)
+        ensures { self.new ≡ self.old }
+    {
+        let end = self.spans.len().min(before as usize);
+        if self.summed < end {
+            sum_up(&mut self.spans, self.summed, end);
+            self.summed = end;
+        }
+    }
+
+    /// How many bytes of a line the spans below one have together. It looks at one span, and at each one below that has no total.
     pub fn count(&self, line: SerialLine, before: u64) -> u64
         ensures { result ≡ total self.now line before }
     {
         let end = self.spans.len().min(before as usize);
-        totals_below(&self.spans, end)[line.index()]
+        total_below(&self.spans, self.summed.min(end), line, end)
     }
 
-    /// The span of the byte at a place in the line's whole console, and its place in that span: a binary search among the spans.
+    /// The span of the byte at a place in the line's whole console, and its place in that span: a binary search among the spans that
+    /// have totals, and then one by one.
     pub fn find(&self, line: SerialLine, place: u64) -> Option<(u64, u64)>
         ensures { MatchOption result (total self.now line (length self.now) ≤ place) (λ found. IsPlace self.now line place (found.0) (found.1)) }
     {
-        let span = whole_before(&self.spans, line, place);
-        if span == self.spans.len() {
-            return None;
+        let first = whole_before(&self.spans[..self.summed], line, place);
+        let mut left = place - self.count(line, first as u64);
+        for span in first..self.spans.len() {
+            let count = u64::from(self.spans[span].counts[line.index()]);
+            if left < count {
+                return Some((span as u64, left));
+            }
+            left -= count;
         }
-        let span = span as u64;
-        Some((span, place - self.count(line, span)))
+        None
     }
 
     // Adds spans with no bytes up to and with one, unless it is there.
@@ -102,7 +122,7 @@ impl ConsoleIndex {
         }
         let empty = Span {
             counts: [0; 4],
-            totals: totals_below(&self.spans, held),
+            totals: [0; 4],
         };
         self.spans.resize(index + 1, empty)
     }

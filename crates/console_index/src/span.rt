@@ -7,15 +7,15 @@ ghost use Rattle.console_index.specs.Totals.{HasTotals, IsIndex, counts_of};
 use dz_serial::SerialLine;
 use std::array;
 
-/// What each line sent in a span, and what it sent in all spans up to and with this one.
+/// What each line sent in a span, and, where it is summed up, in all spans up to and with this one.
 #[derive(Clone, Copy)]
 pub(crate) struct Span {
     pub(crate) counts: [u32; 4],
     pub(crate) totals: [u64; 4],
 }
 
-/// What each line sent in the spans below one.
-pub(crate) fn totals_below(spans: &[Span], end: usize) -> [u64; 4]
+// What each line sent in the spans below one.
+fn totals_below(spans: &[Span], end: usize) -> [u64; 4]
     requires within { end ≤ length spans.now }
     requires totals { HasTotals end spans.now }
     ensures { (line : ℕ) → line ≤ 3 → slice_index result line ≡ total (counts_of spans.now) line end }
@@ -37,17 +37,30 @@ pub(crate) fn whole_before(spans: &[Span], line: SerialLine, place: u64) -> usiz
     spans.partition_point(|span| span.totals[line] <= place)
 }
 
-/// Puts the counts of a span, and brings the totals from there on up to date.
-pub(crate) fn put(spans: &mut [Span], index: usize, counts: [u32; 4])
-    requires index { index < length spans.old }
-    requires small { (line : ℕ) → line ≤ 3 → slice_index counts line ≤ 1048576 }
-    requires spans { IsIndex spans.old }
-    ensures counts { counts_of spans.new ≡ slice_set (counts_of spans.old) index counts }
-    ensures spans { IsIndex spans.new }
+/// What a line sent in the spans below one, where the first `summed` ones have their totals.
+pub(crate) fn total_below(spans: &[Span], summed: usize, line: SerialLine, end: usize) -> u64
+    requires within { end ≤ length spans.now }
+    requires summed { summed ≤ end }
+    requires spans { IsIndex summed spans.now }
+    ensures { result ≡ total (counts_of spans.now) line end }
 {
-    spans[index].counts = counts;
-    for i in index..spans.len() {
-        spans[i].totals = sums(totals_below(spans, i), spans[i].counts);
+    let mut total = totals_below(spans, summed)[line.index()];
+    for span in summed..end {
+        total += u64::from(spans[span].counts[line.index()]);
+    }
+    total
+}
+
+/// Makes the totals of the spans from one up to another.
+pub(crate) fn sum_up(spans: &mut [Span], from: usize, end: usize)
+    requires within { end ≤ length spans.old }
+    requires from { from ≤ end }
+    requires spans { IsIndex from spans.old }
+    ensures counts { counts_of spans.new ≡ counts_of spans.old }
+    ensures spans { IsIndex end spans.new }
+{
+    for span in from..end {
+        spans[span].totals = sums(totals_below(spans, span), spans[span].counts);
     }
 }
 

@@ -307,11 +307,11 @@ there_is pages span index None s joined = absurd joined.near
 there_is pages span index (Some r) s joined = refl
 
 -- the same with other kept values, of the same records
-pub over_joined : {pages span : ℕ} (image : Boot) (log : List LogEvent) (runs : Runs pages span) (kept : Kept) (told : Index) (f : Frontier pages)
-    → ((i : ℕ) → span_at kept i ≡ span_at runs.kept i) → kept.valid ≡ runs.kept.valid → Agrees pages span told kept.spans
+pub over_joined : {pages span : ℕ} (image : Boot) (log : List LogEvent) (runs : Runs pages span) (kept : Kept) (reports : Index) (f : Frontier pages)
+    → ((i : ℕ) → span_at kept i ≡ span_at runs.kept i) → kept.valid ≡ runs.kept.valid → Agrees pages span reports kept.spans
     → IsKnown span kept.spans (λ n. state_at pages image log (n * span)) f → IsAlike kept.spans 0 f.patched (reset pages image)
-    → AreOf image log runs → AreOf image log (record runs { kept = kept; told = told; frontier = f })
-over_joined {pages} {span} image log runs kept told f same valid_is agrees known patches of = record {
+    → AreOf image log runs → AreOf image log (record runs { kept = kept; reports = reports; frontier = f })
+over_joined {pages} {span} image log runs kept reports f same valid_is agrees known patches of = record {
   sizes = of.sizes;
   start = of.start;
   stands = of.stands;
@@ -326,9 +326,9 @@ over_joined {pages} {span} image log runs kept told f same valid_is agrees known
   agrees = agrees;
 }
 
-pub over_kept : {pages span : ℕ} (image : Boot) (log : List LogEvent) (runs : Runs pages span) (kept : Kept) (told : Index)
-    → ((i : ℕ) → span_at kept i ≡ span_at runs.kept i) → kept.valid ≡ runs.kept.valid → Agrees pages span told kept.spans
-    → AreOf image log runs → AreOf image log (record runs { kept = kept; told = told })
-over_kept {pages} {span} image log runs kept told same valid_is agrees of =
-    over_joined image log runs kept told runs.frontier same valid_is agrees (known_by span runs.kept.spans kept.spans _ runs.frontier same of.known)
+pub over_kept : {pages span : ℕ} (image : Boot) (log : List LogEvent) (runs : Runs pages span) (kept : Kept) (reports : Index)
+    → ((i : ℕ) → span_at kept i ≡ span_at runs.kept i) → kept.valid ≡ runs.kept.valid → Agrees pages span reports kept.spans
+    → AreOf image log runs → AreOf image log (record runs { kept = kept; reports = reports })
+over_kept {pages} {span} image log runs kept reports same valid_is agrees of =
+    over_joined image log runs kept reports runs.frontier same valid_is agrees (known_by span runs.kept.spans kept.spans _ runs.frontier same of.known)
     (subst (λ (o : Option Span). IfSome o (λ s. SameOutside runs.frontier.patched s.start.words (reset pages image).words)) (sym (same 0)) of.patches) of

@@ -39,10 +39,10 @@ pub none_from : (pages span : ℕ) (index : Index) (spans : List (Option Span)) 
     → ((i : ℕ) → from ≤ i → i < before → IsFalse (holds (pages_at index.writes i) (address / PAGE_BYTES)))
     → ((i : ℕ) → before ≤ i → i < count → last_writer address (steps_at pages span spans i) ≡ None)
     → (i : ℕ) → from ≤ i → i < count → last_writer address (steps_at pages span spans i) ≡ None
-none_from pages span index spans count address before from agrees free behind i low within =
+none_from pages span index spans count address before from agrees free beyond i low within =
     elim (cases_lt i before) [
       | inl below ↦
           none_in_page pages span (slice_index_or spans i None) address
           (ap (λ (set : List ℕ). holds set (address / PAGE_BYTES)) (sym (agrees i).stored) ∙ free i low below)
-      | inr past ↦ behind i past within
+      | inr past ↦ beyond i past within
     ]

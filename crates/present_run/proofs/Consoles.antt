@@ -16,9 +16,9 @@ part_nil (suc from) zero = refl
 part_nil (suc from) (suc count) = refl
 
 -- the bytes of a line after one more
-behind : (bytes : List ℕ) (byte : Option ℕ) → bytes ++ cons_option byte [] ≡ with_byte bytes byte
-behind bytes None = append-nil bytes
-behind bytes (Some byte) = refl
+beyond : (bytes : List ℕ) (byte : Option ℕ) → bytes ++ cons_option byte [] ≡ with_byte bytes byte
+beyond bytes None = append-nil bytes
+beyond bytes (Some byte) = refl
 
 in_front : (console bytes : List ℕ) (byte : Option ℕ) → with_byte (console ++ bytes) byte ≡ console ++ with_byte bytes byte
 in_front console bytes None = refl
@@ -29,7 +29,7 @@ pub bytes_more : (line : ℕ) (console : List ℕ) (front : List SentAt) (one : 
 bytes_more line console front one =
     let byte = on_line line (λ one. one.byte) one in
     in_front console (bytes_on line front) byte
-    ∙ ap (λ (bytes : List ℕ). console ++ bytes) (sym (filter_map-append (on_line line (λ one. one.byte)) front (one ∷ []) ∙ behind (bytes_on line front) byte))
+    ∙ ap (λ (bytes : List ℕ). console ++ bytes) (sym (filter_map-append (on_line line (λ one. one.byte)) front (one ∷ []) ∙ beyond (bytes_on line front) byte))
 
 -- all of a list
 pub take_past : {A : Type 0} (xs : List A) (n : ℕ) → length xs ≤ n → take n xs ≡ xs

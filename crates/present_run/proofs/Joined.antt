@@ -11,7 +11,7 @@ use Rattle.r3k_machine.specs.Run.{byte_on, console_of, last_writer, later, sende
 use Rattle.r3k_machine.proofs.Splits.{senders_count}
 use Rattle.r3k_live.specs.Record.{sent_from}
 use Rattle.span_fact.specs.Span.{Span}
-use Rattle.present_run.specs.Index.{IsLastWriter, IsSender, bytes_at, sent_below, steps_in}
+use Rattle.present_run.specs.Index.{IsLastWriter, IsSender, sent_below, steps_in}
 use Rattle.present_run.specs.Sent.{bytes_on, steps_on}
 use Rattle.present_run.proofs.Indexed.{sent_joined, step_of, writer_joined}
 use Rattle.present_run.specs.Console.{Shows, part_of}
@@ -22,7 +22,7 @@ use Rattle.present_run.proofs.Consoles.{part_enough}
 use Rattle.present_run.specs.declared.sent.Shown.{Shown}
 use Rattle.present_run.proofs.Near.{same_steps}
 use Rattle.present_run.proofs.Steps.{trace_long}
-use Rattle.present_run.proofs.Told.{console_front, senders_front, span_steps, trace_none, up_to_next, writer_span}
+use Rattle.present_run.proofs.Reports.{console_front, senders_front, span_steps, trace_none, up_to_next, writer_span}
 
 -- the first n records are joined
 abbrev pub AreJoined : (pages span : ℕ) → Boot → List LogEvent → List (Option Span) → ℕ → Type 0
@@ -34,10 +34,10 @@ steps_joined pages span image log i None joined = absurd joined.near
 steps_joined pages span image log i (Some r) joined =
     same_steps pages span i (Some r) r (span_of pages span image log i) refl refl joined ∙ span_steps pages span image log i
 
-pub writer_told : (pages span : ℕ) (image : Boot) (log : List LogEvent) (spans : List (Option Span)) (count address : ℕ) (found : Option (ℕ × ℕ))
+pub writer_is : (pages span : ℕ) (image : Boot) (log : List LogEvent) (spans : List (Option Span)) (count address : ℕ) (found : Option (ℕ × ℕ))
     → AreJoined pages span image log spans count → IsLastWriter pages span spans count address found
     → last_writer address (trace_at pages image log (count * span)) ≡ step_of span found
-writer_told pages span image log spans count address found joined last =
+writer_is pages span image log spans count address found joined last =
     writer_joined pages span spans count address (λ i. last_writer address (trace_at pages image log (i * span)))
     (ap (last_writer address) (trace_none pages span image log 0 refl))
     (λ i within.
@@ -50,9 +50,9 @@ writer_told pages span image log spans count address found joined last =
 abbrev pub length_at : (pages span : ℕ) → Boot → List LogEvent → (line index : ℕ) → ℕ
 length_at pages span image log line index = length (console_of line (trace_at pages image log (index * span)))
 
-pub count_told : (pages span : ℕ) (image : Boot) (log : List LogEvent) (spans : List (Option Span)) (line count : ℕ)
+pub count_is : (pages span : ℕ) (image : Boot) (log : List LogEvent) (spans : List (Option Span)) (line count : ℕ)
     → AreJoined pages span image log spans count → sent_below pages span spans line count ≡ length_at pages span image log line count
-count_told pages span image log spans line count joined =
+count_is pages span image log spans line count joined =
     sent_joined pages span spans line count (length_at pages span image log line)
     (ap (λ (steps : List Done). length (console_of line steps)) (trace_none pages span image log 0 refl))
     (λ i within.
@@ -85,11 +85,6 @@ same_console pages image log line from to before few =
     let long = ap (λ (bytes : List ℕ). length bytes) whole ∙ length-append front more in
     whole ∙ (ap (λ (bytes : List ℕ). front ++ bytes) (none more (omega (arith, long, few))) ∙ append-nil front)
 
--- the span that sent the byte at a place
-abbrev pub span_or : ℕ → Option (ℕ × ℕ) → ℕ
-span_or count None = count
-span_or count (Some found) = found.0
-
 -- the part is full already
 enough : (from count : ℕ) (console more : List ℕ) → count ≤ length (part_of from count console) → part_of from count (console ++ more) ≡ part_of from count console
 enough from count console [] full = ap (part_of from count) (append-nil console)
@@ -108,30 +103,18 @@ shown_enough pages image log line from count begin end bytes before is full =
     ∙ (sym (enough from count front more (subst (λ (part : List ℕ). count ≤ length part) is full))
     ∙ ap (part_of from count) (console_front pages image log line begin end before))
 
-below_next : (pages span : ℕ) (spans : List (Option Span)) (line i : ℕ)
-    → sent_below pages span spans line (i + 1) ≡ sent_below pages span spans line i + length (bytes_at pages span spans line i)
-unfolding sent_below
-below_next pages span spans line i = ap (sent_below pages span spans line) (let e : i + 1 ≡ suc i = omega arith in e)
-
 -- where the byte at a place was sent
-pub sender_from : (pages span : ℕ) (image : Boot) (log : List LogEvent) (spans : List (Option Span)) (line place count : ℕ) (found : Option (ℕ × ℕ))
-    → AreJoined pages span image log spans count → IsSender pages span spans line place count found
-    → length_at pages span image log line (span_or count found) ≤ place
-sender_from pages span image log spans line place count None joined is = omega (arith, is, count_told pages span image log spans line count joined)
-sender_from pages span image log spans line place count (Some found) joined is =
-    omega (arith, is.0, is.1, count_told pages span image log spans line (found.0) (λ i below. joined i (omega (arith, below, is.0))))
+pub sender_from : (pages span : ℕ) (image : Boot) (log : List LogEvent) (spans : List (Option Span)) (line place count index : ℕ)
+    → AreJoined pages span image log spans count → IsSender pages span spans line place count index
+    → length_at pages span image log line index ≤ place
+sender_from pages span image log spans line place count index joined is =
+    omega (arith, is.from, count_is pages span image log spans line index (λ i below. joined i (omega (arith, below, is.within))))
 
-pub sender_to : (pages span : ℕ) (image : Boot) (log : List LogEvent) (spans : List (Option Span)) (line place count : ℕ) (found : ℕ × ℕ)
-    → AreJoined pages span image log spans count → IsSender pages span spans line place count (Some found)
-    → place < length_at pages span image log line (found.0 + 1)
-sender_to pages span image log spans line place count found joined is =
-    omega (
-      arith,
-      is.1,
-      is.2,
-      below_next pages span spans line (found.0),
-      count_told pages span image log spans line (found.0 + 1) (λ i below. joined i (omega (arith, below, is.0))),
-    )
+pub sender_to : (pages span : ℕ) (image : Boot) (log : List LogEvent) (spans : List (Option Span)) (line place count index : ℕ)
+    → AreJoined pages span image log spans count → IsSender pages span spans line place count index → index < count
+    → place < length_at pages span image log line (index + 1)
+sender_to pages span image log spans line place count index joined is more =
+    omega (arith, is.to more, count_is pages span image log spans line (index + 1) (λ i below. joined i (omega (arith, below, more))))
 
 -- at most one byte a step
 few_more : (byte : Option ℕ) (bytes : List ℕ) (n : ℕ) → length bytes ≤ n → length (cons_option byte bytes) ≤ suc n
@@ -154,23 +137,23 @@ later_sender pages span image log line index next spans total within is to =
       | inl before ↦
           let more = goes_on pages image log line ((next + 1) * span) ((index + 1) * span) (mul-le-mul_right span (omega (arith, before))) in
           absurd (let e : ⊥ = omega (arith, to (omega (arith, before, within)), is, more) in e)
-      | inr behind ↦ behind
+      | inr beyond ↦ beyond
     ]
 
 pub shows_next : (pages span : ℕ) (image : Boot) (log : List LogEvent) (line from count index next : ℕ) (shown : Shown) → index + 1 ≤ next
     → length_at pages span image log line next ≤ shown.total
     → Shows from count (console_of line (trace_at pages image log ((index + 1) * span))) shown
     → Shows from count (console_of line (trace_at pages image log (next * span))) shown
-shows_next pages span image log line from count index next shown behind few shows =
+shows_next pages span image log line from count index next shown beyond few shows =
     subst (λ (bytes : List ℕ). Shows from count bytes shown)
-    (sym (same_console pages image log line ((index + 1) * span) (next * span) (mul-le-mul_right span behind) (subst (λ (n : ℕ). length_at pages span image log line next ≤ n) shows.0 few)))
+    (sym (same_console pages image log line ((index + 1) * span) (next * span) (mul-le-mul_right span beyond) (subst (λ (n : ℕ). length_at pages span image log line next ≤ n) shows.0 few)))
     shows
 
 -- a byte that a span sent has a place among that span's bytes
-pub not_behind : (pages span : ℕ) (image : Boot) (log : List LogEvent) (line index place more : ℕ)
+pub not_after : (pages span : ℕ) (image : Boot) (log : List LogEvent) (line index place more : ℕ)
     → length_at pages span image log line index ≤ place → place < length_at pages span image log line (index + 1)
     → ¬ (length (steps_on line (sent_from 0 (steps_between pages image log (index * span) ((index + 1) * span)))) + more ≡ place - length_at pages span image log line index)
-not_behind pages span image log line index place more low high behind =
+not_after pages span image log line index place more low high beyond =
     let from = index * span in
     let to = (index + 1) * span in
     let steps = steps_between pages image log from to in
@@ -179,4 +162,4 @@ not_behind pages span image log line index place more low high behind =
     let whole = ap (λ (xs : List ℕ). length xs) (senders_front pages image log line from to (up_to_next index span)) in
     let long : length (front ++ map (λ k. from + k) here) ≡ length front + length here =
     length-append front (map (λ k. from + k) here) ∙ ap (λ (n : ℕ). length front + n) (length-map here (λ k. from + k)) in
-    (let e : ⊥ = omega (arith, behind, low, high, whole, long, senders_count line 0 (trace_at pages image log from), senders_count line 0 (trace_at pages image log to)) in e)
+    (let e : ⊥ = omega (arith, beyond, low, high, whole, long, senders_count line 0 (trace_at pages image log from), senders_count line 0 (trace_at pages image log to)) in e)

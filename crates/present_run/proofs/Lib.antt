@@ -21,7 +21,7 @@ mod Sending
 pub mod Spans
 mod Stays
 mod Steps
-mod Told
+mod Reports
 mod Totals
 mod Touched
 mod Visits

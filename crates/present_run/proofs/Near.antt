@@ -48,9 +48,9 @@ same_core pages span r s near long number =
     sym (subst (λ (log : List LogEvent). (run pages log (s.index * span) s.start span).core ≡ (end_of pages span r).core) near.same_events
     (subst (λ (n : ℕ). (run pages r.events (n * span) s.start span).core ≡ (end_of pages span r).core) number same.1.core))
 
-pub core_behind : (pages span : ℕ) (image : Boot) (log : List LogEvent) (index : ℕ) (o : Option Span) → IsJoined pages span index o (span_of pages span image log index)
+pub core_after : (pages span : ℕ) (image : Boot) (log : List LogEvent) (index : ℕ) (o : Option Span) → IsJoined pages span index o (span_of pages span image log index)
     → IfSome o (λ r. (end_of pages span r).core ≡ (state_at pages image log ((index + 1) * span)).core)
-core_behind pages span image log index o joined = by_cases o joined.near joined.number joined.long
+core_after pages span image log index o joined = by_cases o joined.near joined.number joined.long
   where
     s : Span
     s = span_of pages span image log index

@@ -45,10 +45,10 @@ pub some_is : {A : Type 0} (a b : A) → Some a ≡ Some b → a ≡ b
 some_is a b same = ap (λ (o : Option _). unwrap_or o a) same
 
 -- the span after another one of the run
-pub behind : (pages span : ℕ) (image : Boot) (log : List LogEvent) (index next : ℕ) → next ≡ index + 1 →
+pub beyond : (pages span : ℕ) (image : Boot) (log : List LogEvent) (index next : ℕ) → next ≡ index + 1 →
     (let s : Span = record { index = next; start = end_of pages span (span_of pages span image log index); events = window_of (next * span) ((next + 1) * span) log } in s)
     ≡ span_of pages span image log next
-behind pages span image log index next is =
+beyond pages span image log index next is =
     ap (λ (start : State). let s : Span = record { index = next; start = start; events = window_of (next * span) ((next + 1) * span) log } in s)
     (ends pages span image log index ∙ ap (λ (n : ℕ). state_at pages image log (n * span)) (sym is))
 
@@ -106,12 +106,12 @@ gone_on pages image log time position before =
     ∙ ap (state_at pages image log) (let e : time + (position - time) ≡ position = omega (arith, before) in e)
 
 -- a visit, by its steps and by its position
-abbrev pub behind_time : ℕ → Option ℕ → Option ℕ
-behind_time time None = None
-behind_time time (Some steps) = Some (time + steps)
+abbrev pub after_time : ℕ → Option ℕ → Option ℕ
+after_time time None = None
+after_time time (Some steps) = Some (time + steps)
 
 pub seen : (pages : ℕ) (image : Boot) (log : List LogEvent) (address time to k limit : ℕ) → time + (k + limit) ≤ to
-    → behind_time time (first_visit pages (window_of time to log) time (state_at pages image log time) address k limit)
+    → after_time time (first_visit pages (window_of time to log) time (state_at pages image log time) address k limit)
     ≡ next_visit pages image log address (time + k) limit
 unfolding first_visit next_visit
 seen pages image log address time to k zero within = refl
@@ -126,12 +126,12 @@ seen pages image log address time to k (suc limit) within =
     ]
 
 -- a search that goes on after another one
-abbrev pub or_behind : Option ℕ → Option ℕ → Option ℕ
-or_behind None later = later
-or_behind (Some found) later = Some found
+abbrev pub or_after : Option ℕ → Option ℕ → Option ℕ
+or_after None later = later
+or_after (Some found) later = Some found
 
 pub visit_split : (pages : ℕ) (image : Boot) (log : List LogEvent) (address position m n : ℕ)
-    → next_visit pages image log address position (m + n) ≡ or_behind (next_visit pages image log address position m) (next_visit pages image log address (position + m) n)
+    → next_visit pages image log address position (m + n) ≡ or_after (next_visit pages image log address position m) (next_visit pages image log address (position + m) n)
 unfolding next_visit
 visit_split pages image log address position zero n =
     ap (next_visit pages image log address position) (let e : 0 + n ≡ n = omega arith in e)
@@ -142,6 +142,6 @@ visit_split pages image log address position (suc m) n =
       | inl found ↦ rw found refl
       | inr other ↦ rw other
           (visit_split pages image log address (suc position) m n
-          ∙ ap (λ (t : ℕ). or_behind (next_visit pages image log address (suc position) m) (next_visit pages image log address t n))
+          ∙ ap (λ (t : ℕ). or_after (next_visit pages image log address (suc position) m) (next_visit pages image log address t n))
           (let e : suc position + m ≡ position + suc m = omega arith in e))
     ]

@@ -6,9 +6,9 @@ use Rattle.input_log.specs.Event.{LogEvent}
 use Rattle.r3k_word.specs.declared.layout.TheConstants.{PAGE_BYTES}
 use Rattle.r3k_machine.specs.declared.step.Done.{Done}
 use Rattle.r3k_machine.specs.State.{State}
-use Rattle.r3k_machine.specs.Step.{told}
+use Rattle.r3k_machine.specs.Step.{report}
 use Rattle.r3k_machine.specs.Run.{arriving, last_writer, later, run, stores_into, trace}
-use Rattle.r3k_machine.specs.Told.{IsPage}
+use Rattle.r3k_machine.specs.Reports.{IsPage}
 use Rattle.r3k_machine.proofs.Within.{store_within}
 use Rattle.r3k_pages.specs.Pages.{holds, page_count_of}
 use Rattle.r3k_live.specs.Record.{dirty_pages, is_dirty, stores_in}
@@ -33,7 +33,7 @@ none_past pages log time s zero page past = refl
 none_past pages log time s (suc n) page past =
     let events = arriving log (time + n) in
     let here = run pages log time s n in
-    let done = told pages events here in
+    let done = report pages events here in
     any_more (λ done. stores_in page done.stored) (trace pages log time s n) done
     ∙ or_from (is_dirty (trace pages log time s n) page) (stores_in page done.stored) (none_past pages log time s n page past)
     (step_not_past pages page done.stored past (store_within pages events here))

@@ -52,10 +52,8 @@ unfoldable pub sent_below : (pages span : ℕ) → List (Option Span) → (line 
 sent_below pages span spans line zero = 0
 sent_below pages span spans line (suc i) = sent_below pages span spans line i + length (bytes_at pages span spans line i)
 
--- the record that sent the byte at a place of the console of the first `count` records, and its place among that record's bytes of
--- the line, or none where they sent fewer
-abbrev pub IsSender : (pages span : ℕ) → List (Option Span) → (line place count : ℕ) → Option (ℕ × ℕ) → Type 0
-IsSender pages span spans line place count None = sent_below pages span spans line count ≤ place
-IsSender pages span spans line place count (Some found) =
-    (found.0 < count) × (sent_below pages span spans line (found.0) + found.1 ≡ place)
-    × (found.1 < length (bytes_at pages span spans line (found.0)))
+-- which of the first `count` records sent the byte at a place of their console, or `count` where they sent fewer
+pub record IsSender (pages span : ℕ) (spans : List (Option Span)) (line place count index : ℕ) : Type 0 where
+  pub within : index ≤ count
+  pub from : sent_below pages span spans line index ≤ place
+  pub to : index < count → place < sent_below pages span spans line (index + 1)

@@ -4,7 +4,6 @@ pub use Rattle.r3k_machine.specs.Run
 pub mod History
 pub mod Sizes
 pub mod Console
-pub mod Seeking
 pub mod Reuse
 pub mod Ends
 pub mod Sent

@@ -62,7 +62,7 @@ pub record AreOf {pages span : ℕ} (image : Boot) (log : List LogEvent) (runs :
       GoesOn pages span log runs.kept.spans (map (λ end. end.value) runs.ends.items) index
   pub known : IsKnown span runs.kept.spans (λ index. state_at pages image log (index * span)) runs.frontier
   pub patches : IsAlike runs.kept.spans 0 runs.frontier.patched (reset pages image)
-  pub agrees : Agrees pages span runs.told runs.kept.spans
+  pub agrees : Agrees pages span runs.reports runs.kept.spans
 
 -- A state that is kept is that of the run at its position, and each span before that one has a record that serves.
 pub record IsLanding (pages span : ℕ) (h : History) (spans : List (Option Span)) (position : ℕ) (state : State) : Type 0 where

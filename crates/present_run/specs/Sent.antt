@@ -1,5 +1,5 @@
 -- Bytes that were sent, by their lines (own).
-use Rattle.std.specs.Prelude.{ℕ, ◌==◌, List, Option, Some, None, if◌then◌else◌}
+use Rattle.std.specs.Prelude.{◌≡◌, ℕ, ◌+◌, ◌==◌, List, length, Option, Some, None, Result, Ok, Err, if◌then◌else◌, slice_get}
 use Rattle.std.specs.List.{filter_map}
 use Rattle.r3k_live.specs.declared.recorder.SentAt.{SentAt}
 
@@ -13,3 +13,8 @@ bytes_on line sent = filter_map (on_line line (λ one. one.byte)) sent
 
 abbrev pub steps_on : ℕ → List SentAt → List ℕ
 steps_on line sent = filter_map (on_line line (λ one. one.step)) sent
+
+-- the item at a place of a list, or how many places are left after its end
+abbrev pub Seeks : List ℕ → (place : ℕ) → Result ℕ ℕ → Type 0
+Seeks all place (Ok found) = slice_get all place ≡ Some found
+Seeks all place (Err left) = length all + left ≡ place

@@ -102,6 +102,13 @@ impl SpanIndex {
         None
     }
 
+    /// Sums up what the first `count` records sent, so that `count` and `find` need not.
+    pub(crate) fn sum_up_to(&mut self, count: u64)
+        ensures { self.new ≡ self.old }
+    {
+        self.consoles.sum_up_to(count);
+    }
+
     /// How many bytes of a line the first `count` records sent.
     pub(crate) fn count(&self, line: SerialLine, count: u64) -> u64
         ensures { (pages span : ℕ) (spans : List (Option Span)) → Agrees pages span self.now spans →
@@ -110,17 +117,18 @@ impl SpanIndex {
         self.consoles.count(line, count)
     }
 
-    /// Which of the first `count` records sent the byte at a place of a line's console, and its place among the bytes that this
-    /// record sent on the line.
-    pub(crate) fn find(&self, line: SerialLine, place: u64, count: u64) -> Option<(u64, u64)>
+    /// Which of the first `count` records sent the byte at a place of a line's console, or `count` where they sent fewer.
+    pub(crate) fn find(&self, line: SerialLine, place: u64, count: u64) -> u64
         ensures { (pages span : ℕ) (spans : List (Option Span)) → Agrees pages span self.now spans →
             IsSender pages span spans line place count result }
     {
-        let (index, rest) = self.consoles.find(line, place)?;
-        if index < count {
-            return Some((index, rest));
+        if self.count(line, count) <= place {
+            return count;
         }
-        None
+        match self.consoles.find(line, place) {
+            Some((index, _)) => index,
+            None => count,
+        }
     }
 }
 

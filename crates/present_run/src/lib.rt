@@ -13,9 +13,9 @@ mod landings;
 mod laws;
 mod present;
 mod reaching;
+mod reporting;
 mod runs;
 mod sent;
-mod telling;
 
 pub use laws::lacking_laws;
 pub use present::Present;

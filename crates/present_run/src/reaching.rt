@@ -120,7 +120,7 @@ impl<const PAGES: u32, const SPAN: u32> Present<PAGES, SPAN> {
         ensures steps { self.new.runs.live.steps ≡ self.old.runs.live.steps }
     {
         self.runs.kept.reserve(fact.index())?;
-        self.runs.told.take_in(&fact)?;
+        self.runs.reports.take_in(&fact)?;
         self.runs.frontier.run_over(&mut self.runs.kept, fact);
         Ok(())
     }
@@ -140,6 +140,7 @@ impl<const PAGES: u32, const SPAN: u32> Present<PAGES, SPAN> {
         let count = joined_by(&self.runs.ends, self.runs.again, index, &end);
         put_end(&mut self.runs.ends, index, end)?;
         join_up_to(&mut self.runs.kept, count);
+        self.runs.reports.sum_up_to(count);
         Ok(())
     }
 

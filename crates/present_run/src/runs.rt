@@ -25,7 +25,7 @@ pub(crate) struct Runs<const PAGES: u32, const SPAN: u32> {
     pub(crate) recorder: Recorder<PAGES, SPAN>,
     pub(crate) kept: Kept<PAGES, SPAN>,
     // What the records reported, by page and by line.
-    pub(crate) told: SpanIndex,
+    pub(crate) reports: SpanIndex,
     // Where the run starts, at reset.
     pub(crate) reset: Rc<Boundary<PAGES>>,
     // Where the machine stands in the run, if it does.
@@ -54,7 +54,7 @@ impl<const PAGES: u32, const SPAN: u32> Runs<PAGES, SPAN> {
             live,
             recorder: Recorder::new(alloc)?,
             kept: Kept::new(alloc),
-            told: SpanIndex::new(alloc),
+            reports: SpanIndex::new(alloc),
             reset,
             at: Some(0),
             recorded: None,

@@ -2,8 +2,7 @@
 
 ghost use Rattle.std.specs.Prelude.{◌≡◌, ℕ, ◌+◌, ◌-◌, ◌^◌, ◌<◌, ◌≤◌, ◌++◌, List, Some, length, slice_get};
 ghost use Rattle.present_run.specs.Console.{Shows, with_byte};
-ghost use Rattle.present_run.specs.Sent.{bytes_on, on_line, steps_on};
-ghost use Rattle.present_run.specs.Seeking.{IsNear, Seeks};
+ghost use Rattle.present_run.specs.Sent.{Seeks, bytes_on, on_line, steps_on};
 
 use arrayvec::ArrayVec;
 use dz_serial::SerialLine;
@@ -59,17 +58,9 @@ fn byte_on(line: SerialLine, sent: SentAt) -> Option<u8>
     None
 }
 
-/// The step that sent a byte, or how many places are left after those that were searched.
-#[derive(Clone, Copy, Debug, PartialEq, Eq)]
-pub(crate) enum Sought {
-    At(u64),
-    Behind(u64),
-}
-
-/// Searches for the byte of a line at a place, among bytes that were sent from a time on.
-pub(crate) fn seek(line: SerialLine, sent: &[SentAt], place: u64) -> Sought
-    ensures found { Seeks (steps_on line sent.now) place result }
-    ensures near { IsNear result }
+/// The step that sent the byte of a line at a place, among bytes that were sent, or how many places are left after all of these.
+pub(crate) fn seek(line: SerialLine, sent: &[SentAt], place: u64) -> Result<u32, u64>
+    ensures { Seeks (steps_on line sent.now) place result }
 {
     let mut left = place;
     for one in sent {
@@ -77,9 +68,9 @@ pub(crate) fn seek(line: SerialLine, sent: &[SentAt], place: u64) -> Sought
             continue;
         }
         if left == 0 {
-            return Sought::At(one.step as u64);
+            return Ok(one.step);
         }
         left -= 1;
     }
-    Sought::Behind(left)
+    Err(left)
 }

@@ -61,9 +61,9 @@ no_earlier start q p (u ∷ ss) s t h le low high =
             let l = is_last (end u) p ss t h.2 later in
             subst (λ x. end x ≤ end t) first.1 (omega (arith, l.after))
       ]
-      | inr behind ↦ elim b.1 [
-        | inl none ↦ absurd (stays q p ss s le behind none.0)
-        | inr later ↦ no_earlier (end u) q p ss s t h.2 le behind later
+      | inr beyond ↦ elim b.1 [
+        | inl none ↦ absurd (stays q p ss s le beyond none.0)
+        | inr later ↦ no_earlier (end u) q p ss s t h.2 le beyond later
       ]
     ]
 

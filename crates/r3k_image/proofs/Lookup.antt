@@ -25,12 +25,12 @@ pub find_other : (q a w : ℕ) (es : List (ℕ × ℕ)) → q ≢ a → find nat
 find_other q a w es e = ap (λ b. cond b (Some w) (find nat_cmp q es)) (unsigned_tied q a ∙ ne_eqb q a e)
 
 -- what is not in the first list is looked up in the second
-find_behind : (q : ℕ) (xs ys : List (ℕ × ℕ)) → find nat_cmp q xs ≡ None → find nat_cmp q (xs ++ ys) ≡ find nat_cmp q ys
-find_behind q [] ys none = refl
-find_behind q (x ∷ xs) ys none =
+find_after : (q : ℕ) (xs ys : List (ℕ × ℕ)) → find nat_cmp q xs ≡ None → find nat_cmp q (xs ++ ys) ≡ find nat_cmp q ys
+find_after q [] ys none = refl
+find_after q (x ∷ xs) ys none =
     elim (cases_eq q x.0) [
       | inl e ↦ absurd (let f : ◌≡◌ {A = Option ℕ} (Some x.1) None = sym (find_here q x.0 x.1 xs e) ∙ none in cc)
-      | inr n ↦ find_other q x.0 x.1 (xs ++ ys) n ∙ find_behind q xs ys (sym (find_other q x.0 x.1 xs n) ∙ none)
+      | inr n ↦ find_other q x.0 x.1 (xs ++ ys) n ∙ find_after q xs ys (sym (find_other q x.0 x.1 xs n) ∙ none)
     ]
 
 -- what is not in the second list is looked up in the first
@@ -78,28 +78,28 @@ none_before : (start q : ℕ) (ss : List WordsAt) → AreSegments start ss → q
 none_before start q [] h lt = refl
 none_before start q (s ∷ ss) h lt =
     let p = stand start s.address (length s.words) h.0 in
-    find_behind q (entries_from s.address s.words) (entries ss) (before q s.address s.words (omega (arith, p.after)))
+    find_after q (entries_from s.address s.words) (entries ss) (before q s.address s.words (omega (arith, p.after)))
     ∙ none_before (end_of s.address (length s.words)) q ss h.2 (omega (arith, p.after))
 
 found_by_last : (start q : ℕ) (ss : List WordsAt) → AreSegments start ss → find nat_cmp q (entries ss) ≡ option_and_then (word_in q) (last_at q ss)
 found_by_last start q [] h = refl
 found_by_last start q (s ∷ ss) h =
     let p = stand start s.address (length s.words) h.0 in
-    let behind = found_by_last (end_of s.address (length s.words)) q ss h.2 in
+    let beyond = found_by_last (end_of s.address (length s.words)) q ss h.2 in
     elim (last_cases q s ss) [
       | inl above ↦
-          find_behind q (entries_from s.address s.words) (entries ss) (before q s.address s.words above.0)
+          find_after q (entries_from s.address s.words) (entries ss) (before q s.address s.words above.0)
           ∙ none_before (end_of s.address (length s.words)) q ss h.2 (omega (arith, above.0))
           ∙ sym (ap (option_and_then (word_in q)) above.1)
       | inr here ↦ elim (cases_option (last_at q ss)) [
         | inl none ↦
-            find_front q (entries_from s.address s.words) (entries ss) (behind ∙ ap (option_and_then (word_in q)) none)
+            find_front q (entries_from s.address s.words) (entries ss) (beyond ∙ ap (option_and_then (word_in q)) none)
             ∙ inside q s.address s.words here.0
             ∙ sym (ap (option_and_then (word_in q)) (here.1 ∙ ap (λ o. Some (unwrap_or o s)) none))
         | inr some ↦
             let l = is_last (end_of s.address (length s.words)) q ss some.0 h.2 some.1 in
-            find_behind q (entries_from s.address s.words) (entries ss) (past q s.address s.words (omega (arith, l.after, l.below)))
-            ∙ behind
+            find_after q (entries_from s.address s.words) (entries ss) (past q s.address s.words (omega (arith, l.after, l.below)))
+            ∙ beyond
             ∙ ap (option_and_then (word_in q)) some.1
             ∙ sym (ap (option_and_then (word_in q)) (here.1 ∙ ap (λ o. Some (unwrap_or o s)) some.1))
       ]

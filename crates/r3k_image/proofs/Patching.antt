@@ -23,12 +23,12 @@ use Rattle.r3k_image.proofs.Inserting.{at_order, put_in_map}
 
 -- ---- a word among words
 
-put-behind : (k v : ℕ) (a : ℕ) (ws : List ℕ) (es : List (ℕ × ℕ)) → end_of a (length ws) ≤ k
+put-after : (k v : ℕ) (a : ℕ) (ws : List ℕ) (es : List (ℕ × ℕ)) → end_of a (length ws) ≤ k
     → put nat_cmp k v (entries_from a ws ++ es) ≡ entries_from a ws ++ put nat_cmp k v es
-put-behind k v a [] es le = refl
-put-behind k v a (w ∷ ws) es le =
+put-after k v a [] es le = refl
+put-after k v a (w ∷ ws) es le =
     at_order (a, w) (entries_from (a + 4) ws ++ es) k v Greater (nat_cmp_is k a Greater (omega arith))
-    ∙ ap (λ (xs : List (ℕ × ℕ)). (a, w) ∷ xs) (put-behind k v (a + 4) ws es (omega arith))
+    ∙ ap (λ (xs : List (ℕ × ℕ)). (a, w) ∷ xs) (put-after k v (a + 4) ws es (omega arith))
 
 put-inside : (k v : ℕ) (a : ℕ) (ws : List ℕ) (es : List (ℕ × ℕ)) (i : ℕ) → k ≡ a + 4 * i → i < length ws
     → put nat_cmp k v (entries_from a ws ++ es) ≡ entries_from a (set ws i v) ++ es
@@ -116,7 +116,7 @@ overwritten start (t ∷ ts) (suc n) s i k v h lt is here within fits =
     let rest = overwritten (end_of t.address (length t.words)) ts n s i k v h.2 (omega arith) is here within fits in
     let after = begins_after (end_of t.address (length t.words)) ts n s h.2 (omega arith) is in
     record {
-      words = ap (λ (xs : List (ℕ × ℕ)). entries_from t.address t.words ++ xs) rest.words ∙ sym (put-behind k v t.address t.words (words_in ts) (omega (arith, after)));
+      words = ap (λ (xs : List (ℕ × ℕ)). entries_from t.address t.words ++ xs) rest.words ∙ sym (put-after k v t.address t.words (words_in ts) (omega (arith, after)));
       stand = (h.0, h.1, rest.stand);
     }
 
@@ -144,7 +144,7 @@ extended start (t ∷ ts) zero s k v h lt is here good above =
       words = ap (λ (xs : List (ℕ × ℕ)). xs ++ words_in ts) (entries_from-append t.address t.words (v ∷ []) ∙ ap (λ (m : ℕ). entries_from t.address t.words ++ (m, v) ∷ []) place)
           ∙ append_assoc (entries_from t.address t.words) ((k, v) ∷ []) (words_in ts)
           ∙ ap (λ (xs : List (ℕ × ℕ)). entries_from t.address t.words ++ xs) one
-          ∙ sym (put-behind k v t.address t.words (words_in ts) (omega (arith, place)));
+          ∙ sym (put-after k v t.address t.words (words_in ts) (omega (arith, place)));
       stand = (stands start t.address (length (t.words ++ v ∷ [])) more, push-words t.words v good.fits h.1, subst (λ (m : ℕ). AreSegments m ts) end rest);
     } in
     subst (λ (x : WordsAt). Patched start k v (t ∷ ts) (at x.address (x.words ++ v ∷ []) ∷ ts)) (sym is) done
@@ -152,7 +152,7 @@ extended start (t ∷ ts) (suc n) s k v h lt is here good above =
     let rest = extended (end_of t.address (length t.words)) ts n s k v h.2 (omega arith) is here good (λ j d low high. above (suc j) d (omega arith) (omega arith)) in
     let after = begins_after (end_of t.address (length t.words)) ts n s h.2 (omega arith) is in
     record {
-      words = ap (λ (xs : List (ℕ × ℕ)). entries_from t.address t.words ++ xs) rest.words ∙ sym (put-behind k v t.address t.words (words_in ts) (omega (arith, after, here)));
+      words = ap (λ (xs : List (ℕ × ℕ)). entries_from t.address t.words ++ xs) rest.words ∙ sym (put-after k v t.address t.words (words_in ts) (omega (arith, after, here)));
       stand = (h.0, h.1, rest.stand);
     }
 
@@ -171,7 +171,7 @@ put_alone start (t ∷ ts) (suc n) k v h le good before above =
     let rest = put_alone (end_of t.address (length t.words)) ts n k v h.2 (omega arith) (record { aligned = good.aligned; after = end; inside = good.inside; fits = good.fits })
     (λ j d low. before (suc j) d (omega arith)) (λ j d low high. above (suc j) d (omega arith) (omega arith)) in
     record {
-      words = ap (λ (xs : List (ℕ × ℕ)). entries_from t.address t.words ++ xs) rest.words ∙ sym (put-behind k v t.address t.words (words_in ts) end);
+      words = ap (λ (xs : List (ℕ × ℕ)). entries_from t.address t.words ++ xs) rest.words ∙ sym (put-after k v t.address t.words (words_in ts) end);
       stand = (h.0, h.1, rest.stand);
     }
 
@@ -231,10 +231,10 @@ write_over k v ss n s new h good here inside is =
     let done = overwritten 0 (views ss) (n - 1) (view s) ((k - s.address) / 4) k v h here.within here.is (omega (arith, here.below, here.aligned, good.aligned)) inside good.fits in
     subst (λ (xs : List WordsAt). Patched 0 k v (views ss) xs) (ap (set (views ss) (n - 1)) (sym is) ∙ sym (map-set view ss (n - 1) new)) done
 
-pub write_behind : (k v : ℕ) (ss : List Segment) (n : ℕ) (s new : Segment) → AreSegments 0 (views ss) → IsPlaced 0 k v → Found k ss n s
+pub write_after : (k v : ℕ) (ss : List Segment) (n : ℕ) (s new : Segment) → AreSegments 0 (views ss) → IsPlaced 0 k v → Found k ss n s
     → (k - s.address) / 4 ≡ length s.words.items → view new ≡ at s.address (s.words.items ++ v ∷ [])
     → Patched 0 k v (views ss) (views (set ss (n - 1) new))
-write_behind k v ss n s new h good here ends is =
+write_after k v ss n s new h good here ends is =
     let above = all_above k ss n here.point in
     let done = extended 0 (views ss) (n - 1) (view s) k v h here.within here.is (omega (arith, here.below, here.aligned, good.aligned)) good
     (λ j d low high. above j d (omega (arith, here.some)) high) in

@@ -59,8 +59,8 @@ added_view old new next a ws e address words =
 
 pub adds_longest : (old kept new front : List Segment) (last next : Segment) (a : ℕ) (ws : List ℕ) → old ≡ front ++ last ∷ [] → kept ≡ old → new ≡ kept ++ next ∷ []
     → next.address ≡ a → next.words.items ≡ ws → 0 < length ws → end_of last.address (length last.words.items) ≢ a → AreLongest (views old) → AreLongest (views new)
-adds_longest old mid new front last next a ws was same behind address words some apart h =
-    let is : new ≡ old ++ next ∷ [] = behind ∙ ap (λ (ss : List Segment). ss ++ next ∷ []) same in
+adds_longest old mid new front last next a ws was same beyond address words some apart h =
+    let is : new ≡ old ++ next ∷ [] = beyond ∙ ap (λ (ss : List Segment). ss ++ next ∷ []) same in
     let before = old_view old front last was in
     let kept : AreLongest (views front ++ view last ∷ []) = subst AreLongest before h in
     subst AreLongest (sym (added_view old new next a ws is address words ∙ ap (λ (ss : List WordsAt). ss ++ at a ws ∷ []) before))

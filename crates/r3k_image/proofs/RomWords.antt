@@ -24,9 +24,9 @@ words_of-append zero m xs ys len =
 words_of-append (suc n) m xs ys len =
     let count : suc n + m ≡ suc (n + m) = omega arith in
     let first : word_of (xs ++ ys) ≡ word_of xs = word_of-append xs ys (omega arith) in
-    let behind : drop 4 (xs ++ ys) ≡ drop 4 xs ++ ys = drop-append-le 4 xs ys (omega arith) in
+    let beyond : drop 4 (xs ++ ys) ≡ drop 4 xs ++ ys = drop-append-le 4 xs ys (omega arith) in
     let rest : words_of (n + m) (drop 4 (xs ++ ys)) ≡ words_of n (drop 4 xs) ++ words_of m ys =
-    ap (words_of (n + m)) behind ∙ words_of-append n m (drop 4 xs) ys (omega (arith, length-drop 4 xs)) in
+    ap (words_of (n + m)) beyond ∙ words_of-append n m (drop 4 xs) ys (omega (arith, length-drop 4 xs)) in
     ap (λ k. words_of k (xs ++ ys)) count ∙ (λ i. first i ∷ rest i)
 
 -- bytes of whole words

@@ -6,9 +6,9 @@ use Rattle.std.proofs.lemmas.List.Folds.{Any-from_list_any}
 use Rattle.input_log.specs.Event.{LogEvent}
 use Rattle.r3k_machine.specs.declared.step.Done.{Done}
 use Rattle.r3k_machine.specs.State.{State}
-use Rattle.r3k_machine.specs.Step.{told}
+use Rattle.r3k_machine.specs.Step.{report}
 use Rattle.r3k_machine.specs.Run.{arriving, run, trace}
-use Rattle.r3k_machine.specs.Told.{IsPage}
+use Rattle.r3k_machine.specs.Reports.{IsPage}
 use Rattle.r3k_machine.specs.Locality.{IsApart, is_page, is_touched, touches}
 use Rattle.r3k_machine.proofs.Within.{pages_within}
 use Rattle.r3k_pages.specs.Pages.{holds, page_count_of}
@@ -32,7 +32,7 @@ step_not_past pages page done past within =
     at : (k : ℕ) → is_page page (slice_index_or done.touched k None) ≡ false
     at k =
         elim (cases_lt k (length done.touched)) [
-          | inl told ↦ not_past pages page (slice_index_or done.touched k None) past (within k None told)
+          | inl report ↦ not_past pages page (slice_index_or done.touched k None) past (within k None report)
           | inr over ↦ rw (get_or_past done.touched k None over) refl
         ]
 
@@ -40,7 +40,7 @@ none_past : (pages : ℕ) (log : List LogEvent) (time : ℕ) (s : State) (n page
 unfolding trace
 none_past pages log time s zero page past = refl
 none_past pages log time s (suc n) page past =
-    let done = told pages (arriving log (time + n)) (run pages log time s n) in
+    let done = report pages (arriving log (time + n)) (run pages log time s n) in
     any_more (touches page) (trace pages log time s n) done
     ∙ or_from (is_touched (trace pages log time s n) page) (touches page done) (none_past pages log time s n page past)
     (step_not_past pages page done past (pages_within pages (arriving log (time + n)) (run pages log time s n)))

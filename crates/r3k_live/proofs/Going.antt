@@ -7,7 +7,7 @@ use Rattle.input_log.specs.Log.{later_than, window_of}
 use Rattle.input_log.proofs.Filter.{filter-filter}
 use Rattle.r3k_machine.specs.Run.{arriving, run, trace}
 use Rattle.r3k_machine.specs.State.{State}
-use Rattle.r3k_machine.specs.Step.{next, told}
+use Rattle.r3k_machine.specs.Step.{next, report}
 use Rattle.r3k_live.specs.Going.{PassesBy}
 use Rattle.r3k_live.specs.Visits.{first_visit}
 
@@ -23,7 +23,7 @@ unfolding run
 run_more pages log time s made = ap (run pages log time s) (let e : suc made ≡ made + 1 = omega arith in e)
 
 pub trace_more : (pages : ℕ) (log : List LogEvent) (time : ℕ) (s : State) (made : ℕ)
-    → trace pages log time s made ++ told pages (arriving log (time + made)) (run pages log time s made) ∷ [] ≡ trace pages log time s (made + 1)
+    → trace pages log time s made ++ report pages (arriving log (time + made)) (run pages log time s made) ∷ [] ≡ trace pages log time s (made + 1)
 unfolding trace
 trace_more pages log time s made = ap (trace pages log time s) (let e : suc made ≡ made + 1 = omega arith in e)
 

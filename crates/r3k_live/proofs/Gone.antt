@@ -6,7 +6,7 @@ use Rattle.r3k_machine.specs.declared.step.Done.{Done}
 use Rattle.r3k_machine.specs.Run.{arriving, run, trace}
 use Rattle.r3k_machine.specs.State.{State}
 use Rattle.r3k_machine.specs.Step.{Outcome, outcome_of_instruction, outcome_of_step}
-use Rattle.r3k_machine.specs.Told.{DifferAt}
+use Rattle.r3k_machine.specs.Reports.{DifferAt}
 use Rattle.r3k_machine.specs.Quiet.{outcome_elapsed, state_elapsed}
 use Rattle.r3k_live.specs.Going.{HasGone, HasGoneFor, IsFreeFor, PassesBy}
 use Rattle.r3k_live.specs.Standing.{HasStood}

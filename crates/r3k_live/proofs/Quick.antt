@@ -9,7 +9,7 @@ use Rattle.r3k_machine.specs.declared.step.Done.{Done}
 use Rattle.r3k_machine.specs.Run.{run}
 use Rattle.r3k_machine.specs.State.{State}
 use Rattle.r3k_machine.specs.Step.{outcome_of_instruction, outcome_of_step}
-use Rattle.r3k_machine.specs.Told.{DifferAt}
+use Rattle.r3k_machine.specs.Reports.{DifferAt}
 use Rattle.r3k_machine.specs.Core.{Core}
 use Rattle.r3k_machine.specs.Flow.{with_flow}
 use Rattle.r3k_machine.specs.Quiet.{IsIndexIn, LeadsOn, outcome_elapsed, state_elapsed}

@@ -8,7 +8,7 @@ use Rattle.r3k_word.specs.Layout.{page_of_place}
 use Rattle.r3k_word.specs.declared.layout.TheConstants.{PAGE_WORDS}
 use Rattle.r3k_machine.specs.declared.step.Done.{Done}
 use Rattle.r3k_machine.specs.Run.{last_writer, later, stores_into}
-use Rattle.r3k_machine.specs.Told.{DifferAt, IsRamWord}
+use Rattle.r3k_machine.specs.Reports.{DifferAt, IsRamWord}
 use Rattle.r3k_machine.proofs.Splits.{writer_split}
 use Rattle.r3k_machine.specs.Locality.{is_page}
 use Rattle.r3k_pages.specs.Pages.{SameOutside, holds}

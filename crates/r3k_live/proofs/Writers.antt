@@ -12,7 +12,7 @@ use Rattle.std.proofs.lemmas.List.Elements.{All-append, All-map, All-nil, Contai
 use Rattle.r3k_word.specs.declared.layout.TheConstants.{PAGE_WORDS}
 use Rattle.r3k_machine.specs.declared.step.Done.{Done}
 use Rattle.r3k_machine.specs.Run.{last_writer}
-use Rattle.r3k_machine.specs.Told.{IsRamWord}
+use Rattle.r3k_machine.specs.Reports.{IsRamWord}
 use Rattle.r3k_pages.specs.Pages.{holds, page_count_of, pages_where}
 use Rattle.r3k_pages.proofs.Ascending.{kept_more}
 use Rattle.r3k_live.specs.Record.{AreWriters}

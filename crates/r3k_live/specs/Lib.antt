@@ -1,5 +1,5 @@
 pub use Rattle.r3k_machine.specs.Run
-pub use Rattle.r3k_machine.specs.Told
+pub use Rattle.r3k_machine.specs.Reports
 pub use Rattle.r3k_machine.specs.Locality
 pub use Rattle.r3k_pages.specs.Pages
 pub mod Record

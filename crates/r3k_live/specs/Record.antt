@@ -7,7 +7,7 @@ use Rattle.r3k_word.specs.declared.layout.TheConstants.{PAGE_BYTES, PAGE_WORDS}
 use Rattle.dz_serial.specs.declared.write.Sent.{Sent}
 use Rattle.r3k_machine.specs.declared.step.Done.{Done}
 use Rattle.r3k_machine.specs.Run.{last_writer}
-use Rattle.r3k_machine.specs.Told.{IsRamWord}
+use Rattle.r3k_machine.specs.Reports.{IsRamWord}
 use Rattle.r3k_machine.specs.Locality.{is_touched}
 use Rattle.r3k_pages.specs.Pages.{pages_where}
 use Rattle.r3k_live.specs.declared.recorder.SentAt.{SentAt}

@@ -7,7 +7,7 @@ ghost use Rattle.r3k_word.specs.declared.layout.TheConstants.{MAX_RAM_PAGES};
 ghost use Rattle.r3k_pages.specs.Pages.{SameOutside};
 ghost use Rattle.r3k_machine.specs.Known.{IsStop};
 ghost use Rattle.r3k_machine.specs.Reset.{reset_words};
-ghost use Rattle.r3k_machine.specs.Told.{IsPage};
+ghost use Rattle.r3k_machine.specs.Reports.{IsPage};
 ghost use Rattle.r3k_live.specs.Slots.{AreKnown, is_open, slot_of};
 
 use r3k_decode::Insn;

@@ -6,7 +6,7 @@ ghost use Rattle.r3k_pages.specs.Pages.{IsPageSet, holds, page_count_of};
 ghost use Rattle.r3k_machine.specs.declared.step.Done.{Done};
 ghost use Rattle.r3k_machine.specs.Locality.{fetched_page, is_page};
 ghost use Rattle.r3k_machine.specs.Run.{last_writer};
-ghost use Rattle.r3k_machine.specs.Told.{IsPage, IsRamWord};
+ghost use Rattle.r3k_machine.specs.Reports.{IsPage, IsRamWord};
 ghost use Rattle.r3k_live.specs.Record.{AreWriters, dirty_pages, sent_from, touched_pages, with_sent};
 ghost use Rattle.r3k_live.specs.Recording.{Records};
 

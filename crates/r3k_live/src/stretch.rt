@@ -7,7 +7,7 @@ ghost use Rattle.r3k_machine.specs.Flow.{IsStraight, with_flow};
 ghost use Rattle.r3k_machine.specs.Quiet.{IsCodePage, IsIndexIn, IsQuietFor, LeadsOn};
 ghost use Rattle.r3k_machine.specs.Run.{arriving};
 ghost use Rattle.r3k_machine.specs.State.{State};
-ghost use Rattle.r3k_machine.specs.Told.{IsPage};
+ghost use Rattle.r3k_machine.specs.Reports.{IsPage};
 ghost use Rattle.r3k_pages.specs.Pages.{holds};
 ghost use Rattle.r3k_live.specs.Going.{AreLeft, Ends, GoesOn, HasGone, HasGoneFor, IsFreeFor, IsWordAt, MayGoOn};
 ghost use Rattle.r3k_live.specs.Living.{state_of};

@@ -7,16 +7,16 @@ use Rattle.input_log.specs.Event.{LogEvent}
 use Rattle.r3k_machine.specs.declared.step.Done.{Done}
 use Rattle.r3k_machine.specs.Core.{Core}
 use Rattle.r3k_machine.specs.State.{State}
-use Rattle.r3k_machine.specs.Step.{next, told}
+use Rattle.r3k_machine.specs.Step.{next, report}
 use Rattle.r3k_machine.specs.Run.{run, trace, arriving}
 use Rattle.r3k_machine.specs.Locality.{IsApart, IsWithPages, is_touched, touches}
 use Rattle.r3k_machine.proofs.Untouched.{step_follows}
 
 pub step_elsewhere : (pages : ℕ) (events : List LogEvent) (set : ℕ → Bool) (s t : State) (other : List ℕ)
-    → IsWithPages set s other t → IsApart set (λ page. touches page (told pages events s))
-    → (told pages events t ≡ told pages events s) × IsWithPages set (next pages events s) other (next pages events t)
+    → IsWithPages set s other t → IsApart set (λ page. touches page (report pages events s))
+    → (report pages events t ≡ report pages events s) × IsWithPages set (next pages events s) other (next pages events t)
 step_elsewhere pages events set s t other w apart =
-    subst (λ (core : Core). (told pages events (record { core = core; words = t.words }) ≡ told pages events s) × IsWithPages set (next pages events s) other (next pages events (record { core = core; words = t.words })))
+    subst (λ (core : Core). (report pages events (record { core = core; words = t.words }) ≡ report pages events s) × IsWithPages set (next pages events s) other (next pages events (record { core = core; words = t.words })))
     (sym w.core) (step_follows set s.words other t.words w.words pages events s.core apart)
 
 -- what none of two parts touched
@@ -36,7 +36,7 @@ run_elsewhere pages log time set s t other zero w apart = (refl, w)
 run_elsewhere pages log time set s t other (suc n) w apart =
     let events = arriving log (time + n) in
     let here = run pages log time s n in
-    let free = both set (trace pages log time s n) (told pages events here) apart in
+    let free = both set (trace pages log time s n) (report pages events here) apart in
     let before = run_elsewhere pages log time set s t other n w free.0 in
     let step = step_elsewhere pages events set here (run pages log time t n) other before.1 free.1 in
     (ap₂ (λ (steps : List Done) (done : Done). steps ++ done ∷ []) before.0 step.0, step.1)

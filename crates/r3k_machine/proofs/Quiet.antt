@@ -150,9 +150,9 @@ load_by pages s page kind number address m =
 
 abbrev store_by : ℕ → State → ℕ → StoreKind → (address value : ℕ) → Meaning → Completion
 store_by pages s page kind address value m =
-    let told = stored_at pages (met s.core m) (stored kind (address % 4) value) m.answer in
+    let report = stored_at pages (met s.core m) (stored kind (address % 4) value) m.answer in
     completion_of_store (record { core = after_store pages (met s.core m) kind address value m.answer; words = s.words }) page
-    (words_after s.words told (stored kind (address % 4) value)) told
+    (words_after s.words report (stored kind (address % 4) value)) report
 
 -- a register that is steady on one bus is so on another one, which it is after ticks that only count
 abbrev pub StaySteady : (now later : BusState) → Type 0

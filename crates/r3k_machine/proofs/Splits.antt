@@ -9,7 +9,7 @@ use Rattle.input_log.specs.Log.{window_of}
 use Rattle.input_log.proofs.Window.{narrowed}
 use Rattle.r3k_machine.specs.declared.step.Done.{Done}
 use Rattle.r3k_machine.specs.State.{State}
-use Rattle.r3k_machine.specs.Step.{next, told}
+use Rattle.r3k_machine.specs.Step.{next, report}
 use Rattle.r3k_machine.specs.Run.{run, trace, arriving, console_of, byte_on, senders_of, with_sender, last_writer, later, stores_into}
 
 pub run_split : (pages : ℕ) (log : List LogEvent) (time : ℕ) (s : State) (m n : ℕ) → run pages log time s (m + n) ≡ run pages log (time + m) (run pages log time s m) n
@@ -25,14 +25,14 @@ trace_split pages log time s m zero = ap (trace pages log time s) (add-zero m) �
 trace_split pages log time s m (suc n) =
     ap (trace pages log time s) (let e : m + suc n ≡ suc (m + n) = omega arith in e)
     ∙ (ap₂ (λ (xs : List Done) (d : Done). xs ++ d ∷ []) (trace_split pages log time s m n)
-    (ap₂ (λ (t : ℕ) (u : State). told pages (arriving log t) u) (let e : time + (m + n) ≡ time + m + n = omega arith in e) (run_split pages log time s m n))
-    ∙ append_assoc (trace pages log time s m) (trace pages log (time + m) (run pages log time s m) n) (told pages (arriving log (time + m + n)) (run pages log (time + m) (run pages log time s m) n) ∷ []))
+    (ap₂ (λ (t : ℕ) (u : State). report pages (arriving log t) u) (let e : time + (m + n) ≡ time + m + n = omega arith in e) (run_split pages log time s m n))
+    ∙ append_assoc (trace pages log time s m) (trace pages log (time + m) (run pages log time s m) n) (report pages (arriving log (time + m + n)) (run pages log (time + m) (run pages log time s m) n) ∷ []))
 
 pub trace_count : (pages : ℕ) (log : List LogEvent) (time : ℕ) (s : State) (n : ℕ) → length (trace pages log time s n) ≡ n
 unfolding trace
 trace_count pages log time s zero = refl
 trace_count pages log time s (suc n) =
-    length-append (trace pages log time s n) (told pages (arriving log (time + n)) (run pages log time s n) ∷ [])
+    length-append (trace pages log time s n) (report pages (arriving log (time + n)) (run pages log time s n) ∷ [])
     ∙ (ap (λ (k : ℕ). k + 1) (trace_count pages log time s n) ∙ add-one n)
 
 pub console_split : (line : ℕ) (first rest : List Done) → console_of line (first ++ rest) ≡ console_of line first ++ console_of line rest
@@ -99,7 +99,7 @@ trace_within pages to log time s zero within = refl
 trace_within pages to log time s (suc n) within =
     ap₂ (λ (steps : List Done) (done : Done). steps ++ done ∷ [])
     (trace_within pages to log time s n (omega (arith, within)))
-    (ap₂ (λ (events : List LogEvent) (u : State). told pages events u)
+    (ap₂ (λ (events : List LogEvent) (u : State). report pages events u)
     (arriving_own time to (time + n) log (omega arith) (omega (arith, within)))
     (run_within pages to log time s n (omega (arith, within))))
 

@@ -31,8 +31,8 @@ use Rattle.r3k_machine.specs.Devices.{word_of_device}
 use Rattle.r3k_machine.specs.Isolated.{is_isolated}
 use Rattle.r3k_machine.specs.Locality.{touches}
 use Rattle.r3k_machine.specs.LoadStore.{loaded_at, loaded_elsewhere, loaded_over_bus, meaning_of_fetch, meaning_of_load, meaning_of_store, core_after_load, core_after_store, loaded_from, ram_word, stored_at, stored_over_bus, stored_to, word_of_place, word_or, word_read, words_after}
-use Rattle.r3k_machine.specs.Step.{Completion, Outcome, arrived, completion_of_effect, completion_of_load, completion_of_operation, completion_of_store, completion_of_word, fetching, operands_of, outcome_of_completion, outcome_of_fetch, outcome_of_interrupt_or_instruction, outcome_of_step, page_stored, sampled, ticked, told}
-use Rattle.r3k_machine.specs.Told.{IsPage}
+use Rattle.r3k_machine.specs.Step.{Completion, Outcome, arrived, completion_of_effect, completion_of_load, completion_of_operation, completion_of_store, completion_of_word, fetching, operands_of, outcome_of_completion, outcome_of_fetch, outcome_of_interrupt_or_instruction, outcome_of_step, page_stored, sampled, ticked, report}
+use Rattle.r3k_machine.specs.Reports.{IsPage}
 
 -- a page that is reported, or none
 abbrev IsIn : ℕ → Option ℕ → Type 0
@@ -177,44 +177,44 @@ word_completes pages s i here =
     ]
 
 -- what a step reports
-abbrev TellsIn : ℕ → Outcome → Type 0
-TellsIn pages outcome = IsWithin pages outcome.done
+abbrev ReportsIn : ℕ → Outcome → Type 0
+ReportsIn pages outcome = IsWithin pages outcome.done
 
-completion_in : (pages : ℕ) (s : State) (page : ℕ) (completion : Completion) → IsPage pages page → CompletesIn pages completion → TellsIn pages (outcome_of_completion s page completion)
+completion_in : (pages : ℕ) (s : State) (page : ℕ) (completion : Completion) → IsPage pages page → CompletesIn pages completion → ReportsIn pages (outcome_of_completion s page completion)
 completion_in pages s page (Err e) here there = only_fetched pages (Some page) here
 completion_in pages s page (Ok outcome) here there = there
 
-place_tells : (pages : ℕ) (s : State) (place : Option ℕ) → IfSome place (λ place. IsPage pages (page_of_place place))
-    → TellsIn pages (outcome_of_fetch pages s (word_or BusErrorFetch (word_of_place s.words place)))
-place_tells pages s None none = only_fetched pages None tt
-place_tells pages s (Some place) here =
+place_reports : (pages : ℕ) (s : State) (place : Option ℕ) → IfSome place (λ place. IsPage pages (page_of_place place))
+    → ReportsIn pages (outcome_of_fetch pages s (word_or BusErrorFetch (word_of_place s.words place)))
+place_reports pages s None none = only_fetched pages None tt
+place_reports pages s (Some place) here =
     let i : Word = record { word = slice_index s.words place; page = page_of_place place } in
     completion_in pages s i.page (completion_of_word pages s i) here (word_completes pages s i here)
 
-fetch_tells : (pages : ℕ) (s : State) (answer : Result Physical Exception) → TellsIn pages (outcome_of_fetch pages s (word_read pages s.words BusErrorFetch answer))
-fetch_tells pages s (Err e) = only_fetched pages None tt
-fetch_tells pages s (Ok physical) = place_tells pages s (place_of_word pages (physical.address / 4 * 4)) (place_in pages (physical.address / 4 * 4))
+fetch_reports : (pages : ℕ) (s : State) (answer : Result Physical Exception) → ReportsIn pages (outcome_of_fetch pages s (word_read pages s.words BusErrorFetch answer))
+fetch_reports pages s (Err e) = only_fetched pages None tt
+fetch_reports pages s (Ok physical) = place_reports pages s (place_of_word pages (physical.address / 4 * 4)) (place_in pages (physical.address / 4 * 4))
 
-turn_tells : (pages : ℕ) (s : State) → TellsIn pages (outcome_of_interrupt_or_instruction pages s)
-turn_tells pages s =
+turn_reports : (pages : ℕ) (s : State) → ReportsIn pages (outcome_of_interrupt_or_instruction pages s)
+turn_reports pages s =
     elim (cases_Bool (control.is_wanted s.core.cop0)) [
       | inl wanted ↦ rw wanted (only_fetched pages None tt)
-      | inr not_wanted ↦ rw not_wanted (fetch_tells pages (record { core = met s.core (meaning_of_fetch s.core); words = s.words }) (meaning_of_fetch s.core).answer)
+      | inr not_wanted ↦ rw not_wanted (fetch_reports pages (record { core = met s.core (meaning_of_fetch s.core); words = s.words }) (meaning_of_fetch s.core).answer)
     ]
 
-step_tells : (pages : ℕ) (events : List LogEvent) (s : State) → IsWithin pages (told pages events s)
+step_reports : (pages : ℕ) (events : List LogEvent) (s : State) → IsWithin pages (report pages events s)
 unfolding outcome_of_step
-step_tells pages events s = turn_tells pages (record { core = sampled (ticked (arrived events s.core)); words = s.words })
+step_reports pages events s = turn_reports pages (record { core = sampled (ticked (arrived events s.core)); words = s.words })
 
-pub pages_within : (pages : ℕ) (events : List LogEvent) (s : State) → All (λ page. IfSome page (IsPage pages)) (told pages events s).touched
-pages_within pages events s = (step_tells pages events s).touched
+pub pages_within : (pages : ℕ) (events : List LogEvent) (s : State) → All (λ page. IfSome page (IsPage pages)) (report pages events s).touched
+pages_within pages events s = (step_reports pages events s).touched
 
-pub store_within : (pages : ℕ) (events : List LogEvent) (s : State) → IfSome (told pages events s).stored (λ address. IsPage pages (address / PAGE_BYTES))
-store_within pages events s = at_word (told pages events s).stored (step_tells pages events s).stored
+pub store_within : (pages : ℕ) (events : List LogEvent) (s : State) → IfSome (report pages events s).stored (λ address. IsPage pages (address / PAGE_BYTES))
+store_within pages events s = at_word (report pages events s).stored (step_reports pages events s).stored
   where
     at_word : (stored : Option ℕ) → IsIn pages (page_stored stored) → IfSome stored (λ address. IsPage pages (address / PAGE_BYTES))
     at_word None here = tt
     at_word (Some address) here = here
 
-pub store_touched : (pages : ℕ) (events : List LogEvent) (s : State) → StoresInTouched (told pages events s)
-store_touched pages events s = (step_tells pages events s).among
+pub store_touched : (pages : ℕ) (events : List LogEvent) (s : State) → StoresInTouched (report pages events s)
+store_touched pages events s = (step_reports pages events s).among

@@ -30,7 +30,7 @@ pub mod Devices
 pub mod LoadStore
 pub mod Reset
 pub mod Step
-pub mod Told
+pub mod Reports
 pub mod Run
 pub mod Known
 pub mod Quiet

@@ -8,7 +8,7 @@ use Rattle.r3k_machine.specs.declared.step.Done.{Done}
 use Rattle.dz_serial.specs.declared.write.Sent.{Sent}
 use Rattle.r3k_machine.specs.State.{State}
 use Rattle.r3k_machine.specs.Reset.{reset}
-use Rattle.r3k_machine.specs.Step.{next, told}
+use Rattle.r3k_machine.specs.Step.{next, report}
 
 -- the events that take effect in the step of a time, in the order of the log
 abbrev pub arriving : List LogEvent → ℕ → List LogEvent
@@ -22,7 +22,7 @@ run pages log time s (suc n) = next pages (arriving log (time + n)) (run pages l
 -- what each of these steps reported
 unfoldable pub trace : ℕ → List LogEvent → ℕ → State → ℕ → List Done
 trace pages log time s zero = []
-trace pages log time s (suc n) = trace pages log time s n ++ told pages (arriving log (time + n)) (run pages log time s n) ∷ []
+trace pages log time s (suc n) = trace pages log time s n ++ report pages (arriving log (time + n)) (run pages log time s n) ∷ []
 
 -- the run from reset: the state at a position
 abbrev pub state_at : ℕ → Boot → List LogEvent → ℕ → State

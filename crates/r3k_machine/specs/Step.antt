@@ -226,5 +226,5 @@ outcome_of_step pages events s =
 abbrev pub next : ℕ → List LogEvent → State → State
 next pages events s = (outcome_of_step pages events s).state
 
-abbrev pub told : ℕ → List LogEvent → State → Done
-told pages events s = (outcome_of_step pages events s).done
+abbrev pub report : ℕ → List LogEvent → State → Done
+report pages events s = (outcome_of_step pages events s).done

@@ -33,7 +33,7 @@ with_entry_written core number = record core {
 abbrev pub with_found : Core → Option Found → Core
 with_found core None = record core { cop0 = control.probed core.cop0 None }
 with_found core (Some found) =
-    let told = with_several core found.several in record told { cop0 = control.probed told.cop0 (Some found.index) }
+    let report = with_several core found.several in record report { cop0 = control.probed report.cop0 (Some found.index) }
 
 abbrev pub with_probe : Core → Core
 with_probe core = with_found core (probe_of core.entries core.cop0.entry_hi)

@@ -8,7 +8,7 @@ ghost use Rattle.r3k_machine.specs.Flow.{moved};
 ghost use Rattle.r3k_machine.specs.State.{landed, with_register};
 ghost use Rattle.r3k_machine.specs.Step.{IsCompletion, branched, completion_of_word, operands_of, passed, completion_of_effect};
 ghost use Rattle.r3k_machine.specs.LoadSlot.{slot_after_load};
-ghost use Rattle.r3k_machine.specs.Told.{IsPage, IsTold};
+ghost use Rattle.r3k_machine.specs.Reports.{IsPage, IsReport};
 
 use crate::exception::Exception;
 use crate::flow::{Flow, write_register};
@@ -130,7 +130,7 @@ fn perform_effect<M: Mem>(
     ensures completes { IsCompletion result
         (record { core = core.old; words = M.words memory.old }) (record { core = core.new; words = M.words memory.new })
         (completion_of_effect M.ram (record { core = core.old; words = M.words memory.old }) page effect) }
-    ensures told { IfOk result (IsTold M.ram (M.words memory.old) (M.words memory.new)) }
+    ensures report { IfOk result (IsReport M.ram (M.words memory.old) (M.words memory.new)) }
 {
     match effect {
         Effect::Write { register, value } => {
@@ -228,7 +228,7 @@ pub(crate) fn execute_word<M: Mem>(
     ensures completes { IsCompletion result
         (record { core = core.old; words = M.words memory.old }) (record { core = core.new; words = M.words memory.new })
         (completion_of_word M.ram (record { core = core.old; words = M.words memory.old }) fetched) }
-    ensures told { IfOk result (IsTold M.ram (M.words memory.old) (M.words memory.new)) }
+    ensures report { IfOk result (IsReport M.ram (M.words memory.old) (M.words memory.new)) }
 {
     if core.is_unusable(fetched.word) {
         return Err(Exception::CoprocessorUnusable(Coprocessor::Cp0));

@@ -8,9 +8,9 @@ ghost use Rattle.r3k_machine.specs.declared.step.Done.{Done};
 ghost use Rattle.r3k_machine.specs.Core.{Core};
 ghost use Rattle.r3k_machine.specs.State.{State};
 ghost use Rattle.r3k_machine.specs.Run.{run, trace, console_of, senders_of, last_writer, later};
-ghost use Rattle.r3k_machine.specs.Step.{next, outcome_of_instruction, outcome_of_step, ticked, told, with_fall};
+ghost use Rattle.r3k_machine.specs.Step.{next, outcome_of_instruction, outcome_of_step, ticked, report, with_fall};
 ghost use Rattle.r3k_machine.specs.Quiet.{IsCodePage, IsQuick, IsQuietFor, LeadsOn, elapsed, outcome_elapsed, state_elapsed};
-ghost use Rattle.r3k_machine.specs.Told.{IsPage};
+ghost use Rattle.r3k_machine.specs.Reports.{IsPage};
 ghost use Rattle.r3k_machine.specs.Locality.{IsApart, IsWithPages, is_touched, touches};
 
 use crate::quick::CodePage;
@@ -62,16 +62,16 @@ pub fn quiet_laws()
 /// state is the same with these words in them. So it is with the trace and the end of a run. There is one such state alone.
 /// Any page that a step touches is one of the machine, and that of the word that it stores into is one that it touches.
 pub fn locality()
-    ensures pages { (pages : ℕ) (events : List LogEvent) (s : State) → All (λ page. IfSome page (IsPage pages)) (told pages events s).touched }
+    ensures pages { (pages : ℕ) (events : List LogEvent) (s : State) → All (λ page. IfSome page (IsPage pages)) (report pages events s).touched }
     ensures stored { (pages : ℕ) (events : List LogEvent) (s : State) →
-        IfSome (told pages events s).stored (λ address. IsPage pages (address / PAGE_BYTES)) }
+        IfSome (report pages events s).stored (λ address. IsPage pages (address / PAGE_BYTES)) }
     ensures stored_touched { (pages : ℕ) (events : List LogEvent) (s : State) →
-        IfSome (told pages events s).stored (λ address. IsTrue (touches (address / PAGE_BYTES) (told pages events s))) }
-    ensures told { (pages : ℕ) (events : List LogEvent) (set : ℕ → Bool) (s t : State) (other : List ℕ) →
-        IsWithPages set s other t → IsApart set (λ page. touches page (told pages events s)) →
-        told pages events t ≡ told pages events s }
+        IfSome (report pages events s).stored (λ address. IsTrue (touches (address / PAGE_BYTES) (report pages events s))) }
+    ensures report { (pages : ℕ) (events : List LogEvent) (set : ℕ → Bool) (s t : State) (other : List ℕ) →
+        IsWithPages set s other t → IsApart set (λ page. touches page (report pages events s)) →
+        report pages events t ≡ report pages events s }
     ensures next { (pages : ℕ) (events : List LogEvent) (set : ℕ → Bool) (s t : State) (other : List ℕ) →
-        IsWithPages set s other t → IsApart set (λ page. touches page (told pages events s)) →
+        IsWithPages set s other t → IsApart set (λ page. touches page (report pages events s)) →
         IsWithPages set (next pages events s) other (next pages events t) }
     ensures trace { (pages : ℕ) (log : List LogEvent) (time : ℕ) (set : ℕ → Bool) (s t : State) (other : List ℕ) (n : ℕ) →
         IsWithPages set s other t → IsApart set (is_touched (trace pages log time s n)) →

@@ -7,7 +7,7 @@ ghost use Rattle.kn02_bus.specs.Region.{region_of};
 ghost use Rattle.r3k_word.specs.Layout.{place_of_word};
 ghost use Rattle.r3k_word.specs.Word.{merged};
 ghost use Rattle.r3k_machine.specs.LoadStore.{after_load_over_bus, after_store_over_bus, core_after_load, core_after_store, fetched, lane_mask, loaded_from, loaded_over_bus, meaning_of_fetch, ram_word, stored_over_bus, stored_to, word_at, words_after, words_with};
-ghost use Rattle.r3k_machine.specs.Told.{DifferAt, IsPage, IsRamWord};
+ghost use Rattle.r3k_machine.specs.Reports.{DifferAt, IsPage, IsRamWord};
 
 use crate::address::{Physical, Segment, Use};
 use crate::exception::Exception;

@@ -4,7 +4,7 @@ ghost use Rattle.std.specs.Prelude.{◌≡◌, ℕ, ◌+◌, ◌*◌, ◌<◌, �
 ghost use Rattle.r3k_word.specs.Layout.{word_count_of};
 ghost use Rattle.r3k_word.specs.declared.layout.TheConstants.{MAX_RAM_PAGES, PAGE_WORDS};
 ghost use Rattle.r3k_machine.specs.Known.{IsKnown};
-ghost use Rattle.r3k_machine.specs.Told.{IsPage};
+ghost use Rattle.r3k_machine.specs.Reports.{IsPage};
 
 use r3k_decode::Insn;
 

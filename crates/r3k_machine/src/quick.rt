@@ -11,7 +11,7 @@ ghost use Rattle.r3k_machine.specs.Address.{meaning};
 ghost use Rattle.r3k_machine.specs.Flow.{with_flow};
 ghost use Rattle.r3k_machine.specs.Locality.{fetched_page};
 ghost use Rattle.r3k_machine.specs.Step.{completion_of_effect, outcome_of_instruction, outcome_of_step};
-ghost use Rattle.r3k_machine.specs.Told.{IsPage, IsTold};
+ghost use Rattle.r3k_machine.specs.Reports.{IsPage, IsReport};
 
 use crate::address::{KSEG0, KSEG2, Use};
 use crate::flow::Flow;
@@ -200,7 +200,7 @@ fn load_quick<M: Mem>(
     ensures ran { IfSome result (λ done.
         completion_of_effect M.ram (record { core = with_flow core.old flow.old; words = M.words memory.now }) page (Load kind register address)
         ≡ Ok (record { state = record { core = with_flow core.new flow.new; words = M.words memory.now }; done = done })) }
-    ensures within { IfSome result (IsTold M.ram (M.words memory.now) (M.words memory.now)) }
+    ensures within { IfSome result (IsReport M.ram (M.words memory.now) (M.words memory.now)) }
     ensures fetched { IfSome result (λ done. fetched_page done ≡ Some page) }
     ensures core { result ≡ None → core.new ≡ core.old }
     ensures flow { result ≡ None → flow.new ≡ flow.old }
@@ -232,7 +232,7 @@ fn load_by_kind<M: Mem>(
     ensures ran { IfSome result (λ done.
         completion_of_effect M.ram (record { core = with_flow core.old flow.old; words = M.words memory.now }) page (Load kind register address)
         ≡ Ok (record { state = record { core = with_flow core.new flow.new; words = M.words memory.now }; done = done })) }
-    ensures within { IfSome result (IsTold M.ram (M.words memory.now) (M.words memory.now)) }
+    ensures within { IfSome result (IsReport M.ram (M.words memory.now) (M.words memory.now)) }
     ensures fetched { IfSome result (λ done. fetched_page done ≡ Some page) }
     ensures core { result ≡ None → core.new ≡ core.old }
     ensures flow { result ≡ None → flow.new ≡ flow.old }
@@ -291,7 +291,7 @@ fn store_quick<M: Mem>(
     ensures ran { IfSome result (λ done.
         completion_of_effect M.ram (record { core = with_flow core.old flow.old; words = M.words memory.old }) page (Store kind address value)
         ≡ Ok (record { state = record { core = with_flow core.new flow.new; words = M.words memory.new }; done = done })) }
-    ensures within { IfSome result (IsTold M.ram (M.words memory.old) (M.words memory.new)) }
+    ensures within { IfSome result (IsReport M.ram (M.words memory.old) (M.words memory.new)) }
     ensures fetched { IfSome result (λ done. fetched_page done ≡ Some page) }
     ensures core { result ≡ None → core.new ≡ core.old }
     ensures flow { result ≡ None → flow.new ≡ flow.old }
@@ -326,7 +326,7 @@ fn store_by_kind<M: Mem>(
     ensures ran { IfSome result (λ done.
         completion_of_effect M.ram (record { core = with_flow core.old flow.old; words = M.words memory.old }) page (Store kind address value)
         ≡ Ok (record { state = record { core = with_flow core.new flow.new; words = M.words memory.new }; done = done })) }
-    ensures within { IfSome result (IsTold M.ram (M.words memory.old) (M.words memory.new)) }
+    ensures within { IfSome result (IsReport M.ram (M.words memory.old) (M.words memory.new)) }
     ensures fetched { IfSome result (λ done. fetched_page done ≡ Some page) }
     ensures core { result ≡ None → core.new ≡ core.old }
     ensures flow { result ≡ None → flow.new ≡ flow.old }
@@ -375,7 +375,7 @@ fn perform_quick<M: Mem>(
     ensures ran { IfSome result (λ done.
         completion_of_effect M.ram (record { core = with_flow core.old flow.old; words = M.words memory.old }) page effect
         ≡ Ok (record { state = record { core = with_flow core.new flow.new; words = M.words memory.new }; done = done })) }
-    ensures within { IfSome result (IsTold M.ram (M.words memory.old) (M.words memory.new)) }
+    ensures within { IfSome result (IsReport M.ram (M.words memory.old) (M.words memory.new)) }
     ensures fetched { IfSome result (λ done. fetched_page done ≡ Some page) }
     ensures core { result ≡ None → core.new ≡ core.old }
     ensures flow { result ≡ None → flow.new ≡ flow.old }
@@ -460,7 +460,7 @@ pub fn quick_step<M: Mem>(
     ensures quick { IfSome result (λ done. IsQuick M.ram (record { core = with_flow core.old flow.old; words = M.words memory.old })) }
     ensures ran { IfSome result (λ done. outcome_of_instruction M.ram (record { core = with_flow core.old flow.old; words = M.words memory.old })
         ≡ record { state = record { core = with_flow core.new flow.new; words = M.words memory.new }; done = done }) }
-    ensures within { IfSome result (IsTold M.ram (M.words memory.old) (M.words memory.new)) }
+    ensures within { IfSome result (IsReport M.ram (M.words memory.old) (M.words memory.new)) }
     ensures fetched { IfSome result (λ done. fetched_page done ≡ Some page.page) }
     ensures core { result ≡ None → core.new ≡ core.old }
     ensures flow { result ≡ None → flow.new ≡ flow.old }
@@ -482,7 +482,7 @@ pub fn quiet_step<M: Mem>(core: &mut Core, memory: &mut M, page: CodePage) -> Op
     ensures ran { IfSome result (λ done. outcome_of_step M.ram [] (record { core = core.old; words = M.words memory.old })
         ≡ record { state = record { core = core.new; words = M.words memory.new }; done = done }) }
     ensures here { IfSome result (λ done. core.old.pc / PAGE_BYTES ≡ page.number) }
-    ensures within { IfSome result (IsTold M.ram (M.words memory.old) (M.words memory.new)) }
+    ensures within { IfSome result (IsReport M.ram (M.words memory.old) (M.words memory.new)) }
     ensures core { result ≡ None → core.new ≡ core.old }
     ensures words { result ≡ None → M.words memory.new ≡ M.words memory.old }
 {

@@ -1,8 +1,8 @@
 //! One step, in its written order.
 
 ghost use Rattle.std.specs.Prelude.{◌≡◌, None};
-ghost use Rattle.r3k_machine.specs.Step.{arrived, fallen, fetching, outcome_of_instruction, outcome_of_word, interrupted, outcome_of_interrupt_or_instruction, loading, next, received, received_as, sampled, storing, ticked, told};
-ghost use Rattle.r3k_machine.specs.Told.{IsPage, IsTold};
+ghost use Rattle.r3k_machine.specs.Step.{arrived, fallen, fetching, outcome_of_instruction, outcome_of_word, interrupted, outcome_of_interrupt_or_instruction, loading, next, received, received_as, sampled, storing, ticked, report};
+ghost use Rattle.r3k_machine.specs.Reports.{IsPage, IsReport};
 
 use crate::exception::Exception;
 use crate::execute::execute_word;
@@ -120,7 +120,7 @@ impl Core {
     #[inline]
     fn interrupt(&mut self) -> Done
         ensures state { self.new ≡ interrupted self.old }
-        ensures told { result ≡ fetching None }
+        ensures report { result ≡ fetching None }
     {
         self.enter(Exception::Interrupt);
         Done::fetching(None)
@@ -141,8 +141,8 @@ pub(crate) fn run_fetched<M: Mem>(core: &mut Core, memory: &mut M, fetched: Word
     requires { IsPage M.ram fetched.page }
     ensures state { record { core = core.new; words = M.words memory.new }
         ≡ (outcome_of_word M.ram (record { core = core.old; words = M.words memory.old }) fetched).state }
-    ensures told { result ≡ (outcome_of_word M.ram (record { core = core.old; words = M.words memory.old }) fetched).done }
-    ensures within { IsTold M.ram (M.words memory.old) (M.words memory.new) result }
+    ensures report { result ≡ (outcome_of_word M.ram (record { core = core.old; words = M.words memory.old }) fetched).done }
+    ensures within { IsReport M.ram (M.words memory.old) (M.words memory.new) result }
 {
     match execute_word(core, memory, fetched) {
         Ok(done) => done,
@@ -158,8 +158,8 @@ pub(crate) fn run_fetched<M: Mem>(core: &mut Core, memory: &mut M, fetched: Word
 fn run_instruction<M: Mem>(core: &mut Core, memory: &mut M) -> Done
     ensures state { record { core = core.new; words = M.words memory.new }
         ≡ (outcome_of_instruction M.ram (record { core = core.old; words = M.words memory.old })).state }
-    ensures told { result ≡ (outcome_of_instruction M.ram (record { core = core.old; words = M.words memory.old })).done }
-    ensures within { IsTold M.ram (M.words memory.old) (M.words memory.new) result }
+    ensures report { result ≡ (outcome_of_instruction M.ram (record { core = core.old; words = M.words memory.old })).done }
+    ensures within { IsReport M.ram (M.words memory.old) (M.words memory.new) result }
 {
     match fetch(core, memory) {
         Ok(fetched) => run_fetched(core, memory, fetched),
@@ -175,9 +175,9 @@ fn run_instruction<M: Mem>(core: &mut Core, memory: &mut M) -> Done
 fn interrupt_or_run<M: Mem>(core: &mut Core, memory: &mut M) -> Done
     ensures state { record { core = core.new; words = M.words memory.new }
         ≡ (outcome_of_interrupt_or_instruction M.ram (record { core = core.old; words = M.words memory.old })).state }
-    ensures told { result
+    ensures report { result
         ≡ (outcome_of_interrupt_or_instruction M.ram (record { core = core.old; words = M.words memory.old })).done }
-    ensures within { IsTold M.ram (M.words memory.old) (M.words memory.new) result }
+    ensures within { IsReport M.ram (M.words memory.old) (M.words memory.new) result }
 {
     if core.cop0().wanted() {
         core.interrupt()
@@ -193,9 +193,9 @@ fn interrupt_or_run<M: Mem>(core: &mut Core, memory: &mut M) -> Done
 pub fn step<M: Mem>(core: &mut Core, memory: &mut M, events: &[Event]) -> Done
     ensures state { record { core = core.new; words = M.words memory.new }
         ≡ next M.ram events.now (record { core = core.old; words = M.words memory.old }) }
-    ensures told { result ≡ told M.ram events.now (record { core = core.old; words = M.words memory.old }) }
+    ensures report { result ≡ report M.ram events.now (record { core = core.old; words = M.words memory.old }) }
     // Pages and words are those of the machine, and no word but the one that it stored into differs.
-    ensures within { IsTold M.ram (M.words memory.old) (M.words memory.new) result }
+    ensures within { IsReport M.ram (M.words memory.old) (M.words memory.new) result }
 {
     core.arrive(events);
     core.tick();

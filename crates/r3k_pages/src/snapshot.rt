@@ -104,7 +104,7 @@ impl<const PAGES: u32> Snapshot<PAGES> {
         Ok(Snapshot { groups })
     }
 
-    /// Tells that the list of all words has those of all pages. Nothing runs here.
+    /// The list of all words has those of all pages. Nothing runs here.
     pub fn whole(&self)
         ensures { length self.now ≡ word_count_of PAGES }
     {

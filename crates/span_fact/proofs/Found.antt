@@ -27,7 +27,7 @@ not_found pages steps writers place at written within below other = none (last_w
         let is : (slice_index_or writers k d).place ≡ place = sym (get_or-map (λ (w : Written). w.place) writers k d place inside) ∙ found.2 in
         elim (cases_lt k at) [
           | inl before ↦ absurd (let e : ⊥ = omega (arith, is, below k d before) in e)
-          | inr behind ↦ absurd (other k d behind inside is)
+          | inr beyond ↦ absurd (other k d beyond inside is)
         ]
 
 -- places that rise do not fall

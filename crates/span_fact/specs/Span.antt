@@ -33,7 +33,7 @@ pub record Holds (pages span : ℕ) (s : Span) (end : State) (writers : List Wri
   pub within : AreWithin (s.index * span) ((s.index + 1) * span) s.events
   pub ends : end ≡ end_of pages span s
   pub written : AreWriters pages (steps_of pages span s) writers
-  pub told : sent ≡ sent_from 0 (steps_of pages span s)
+  pub report : sent ≡ sent_from 0 (steps_of pages span s)
   pub stored : dirty ≡ dirty_pages pages (steps_of pages span s)
   pub stayed : SameOutside dirty s.start.words end.words
   pub seen : touched ≡ touched_pages pages (steps_of pages span s)

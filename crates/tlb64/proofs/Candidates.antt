@@ -97,7 +97,7 @@ lowest_found entries address pid candidates left place some fits at passed match
       here = matched;
       none_before = λ i below candidate.
           none_below entries address pid candidates left place i passed is below candidate;
-      rest_behind = λ i h.
+      rest_after = λ i h.
           cleared-above left place i is.one is.none h ∙ passed.above i (omega arith);
       rest_before = λ i h. cleared-upto left place i is.one is.none h;
     }
@@ -151,7 +151,7 @@ found_one : (entries : List Entry) (sets : List ℕ) (address pid : ℕ) (m : Ma
 found_one entries sets address pid m are is none =
     lookup_one entries address pid m.place are.entry_count (first entries sets address pid m are is)
     (λ i low high. by_test _ (λ matched. none i high
-    (is.rest_behind i (omega arith) ∙ candidate entries sets address pid i are high matched)))
+    (is.rest_after i (omega arith) ∙ candidate entries sets address pid i are high matched)))
 
 found_several : (entries : List Entry) (sets : List ℕ) (address pid : ℕ) (m other : Match)
     → AreSetsOf entries sets
@@ -160,18 +160,18 @@ found_several : (entries : List Entry) (sets : List ℕ) (address pid : ℕ) (m 
     → lookup_of entries address pid ≡ found_with entries m.place true
 found_several entries sets address pid m other are is next =
     let none_upto = λ (i : ℕ) (h : i < m.place + 1). is.rest_before i (omega arith) in
-    let behind = not_below m.rest (m.place + 1) other.place none_upto next.candidate in
-    let matched_behind = λ (i : ℕ) (low : m.place + 1 ≤ i) (high : i < 64)
+    let beyond = not_below m.rest (m.place + 1) other.place none_upto next.candidate in
+    let matched_after = λ (i : ℕ) (low : m.place + 1 ≤ i) (high : i < 64)
     (matched : matches address pid (slice_index_or entries i empty_entry) ≡ true).
-    is.rest_behind i (omega arith) ∙ candidate entries sets address pid i are high matched in
+    is.rest_after i (omega arith) ∙ candidate entries sets address pid i are high matched in
     lookup_several entries address pid m.place other.place are.entry_count
     (first entries sets address pid m are is)
     (record {
-      not_before = behind;
+      not_before = beyond;
       within = next.within;
       here = next.here;
       none_between = λ i low high. by_test _ (λ matched.
-          next.none_before i high (matched_behind i low (omega (arith, next.within)) matched));
+          next.none_before i high (matched_after i low (omega (arith, next.within)) matched));
     })
 
 pub found_as : (entries : List Entry) (sets : List ℕ) (address pid : ℕ) (m : Match)

@@ -37,6 +37,6 @@ pub record IsLowestMatch (entries : List Entry) (address pid candidates : ℕ) (
   pub here : matches address pid (slice_index_or entries found.place empty_entry) ≡ true
   pub none_before : (place : ℕ) → place < found.place → bit_at candidates place ≡ 1
       → matches address pid (slice_index_or entries place empty_entry) ≡ false
-  pub rest_behind : (place : ℕ) → found.place < place
+  pub rest_after : (place : ℕ) → found.place < place
       → bit_at found.rest place ≡ bit_at candidates place
   pub rest_before : (place : ℕ) → place ≤ found.place → bit_at found.rest place ≡ 0

@@ -42,5 +42,5 @@ good_after None = None
 good_after (Some good) = if good == 0 then None else Some (good - 1)
 
 -- the bytes that a plan reports as left: none where it gives for ever
-abbrev pub told_left : Planned → Option (List ℕ)
-told_left p = if p.for_ever then None else Some p.left
+abbrev pub reported_left : Planned → Option (List ℕ)
+reported_left p = if p.for_ever then None else Some p.left

@@ -2,7 +2,7 @@
 ghost use Rattle.std.specs.Prelude.{◌≡◌, ◌⊎◌, ◌<◌, ◌≤◌, [], ◌∷◌, ◌++◌, ℕ, length, take, drop, Some, None, Ok, IfOk, IsFalse, IsTrue, MatchResult, OnErr, false, true};
 ghost use Rattle.std.specs.Io.KnownBytes.{Appends, Consumes, IsAtEnd, Keeps};
 ghost use Rattle.wb_io.specs.Calls.{call};
-ghost use Rattle.wb_io.specs.Plan.{IsUpset, given_count, good_after, left_after, taken_count, told_left};
+ghost use Rattle.wb_io.specs.Plan.{IsUpset, given_count, good_after, left_after, taken_count, reported_left};
 ghost use Rattle.wb_io.specs.declared.plan.Upset.TheVariants.{Fails, TakesNone};
 
 use crate::calls::Calls;
@@ -151,9 +151,9 @@ impl Plan {
 }
 
 impl Source for Plan {
-    ghost use Rattle.wb_io.specs.Plan.{Planned, told_left};
+    ghost use Rattle.wb_io.specs.Plan.{Planned, reported_left};
 
-    ghost left = { λ plan. told_left plan };
+    ghost left = { λ plan. reported_left plan };
 
     ghost reads = { λ plan. plan.reads };
 
@@ -177,11 +177,11 @@ impl Source for Plan {
         ensures called { self.new.reads ≡ self.old.reads ++ call (length buffer.old) result buffer.new ∷ [] }
         ensures within { IfOk result (λ count. count ≤ length buffer.old) }
         ensures gives { MatchResult result
-            (λ count. Consumes (told_left self.old) (told_left self.new) (take count buffer.new))
-            (λ _. Keeps (told_left self.old) (told_left self.new)) }
+            (λ count. Consumes (reported_left self.old) (reported_left self.new) (take count buffer.new))
+            (λ _. Keeps (reported_left self.old) (reported_left self.new)) }
         ensures rest { IfOk result (λ count. drop count buffer.new ≡ drop count buffer.old) }
         ensures end { IfOk result (λ count.
-            count ≡ 0 → 0 < length buffer.old → IsAtEnd (told_left self.new)) }
+            count ≡ 0 → 0 < length buffer.old → IsAtEnd (reported_left self.new)) }
         ensures untouched { OnErr result (buffer.new ≡ buffer.old) }
     {
         if is_upset(&mut self.good_reads) {

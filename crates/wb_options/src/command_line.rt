@@ -62,7 +62,7 @@ Replies go to standard output. A fault prints one line to standard error.
 Statuses: 0 good, also for this help; 1 a bad image, source or log; 2 a wrong line; 3 a failed read or
 write, or input that ends within the image or the log; 4 out of memory.
 
-docs/USING.md tells the commands, and what an image, a source and a log are. bin/wb takes an image and a
+docs/USING.md explains the commands, and what an image, a source and a log are. bin/wb takes an image and a
 script by name.";
 
 fn command<'a>(alloc: Global) -> Result<Command<'a>, AllocError>
@@ -84,7 +84,7 @@ fn command<'a>(alloc: Global) -> Result<Command<'a>, AllocError>
         alloc,
         "log",
         "N",
-        "How many bytes behind them the log takes, 0 to 67108864 [default: 0]",
+        "How many bytes after them the log takes, 0 to 67108864 [default: 0]",
     );
     Command::new(alloc, "r3kwb")
         .about("Boots an image, runs a script and prints its replies")

@@ -12,13 +12,13 @@ use Rattle.input_log.specs.Limits.{max_position}
 use Rattle.timeline.specs.History.{History}
 use Rattle.timeline.proofs.Plain.{word_given}
 use Rattle.timeline.specs.Query.{word_at}
-use Rattle.wb_session.specs.Memory.{places_from, place_behind, places_of}
+use Rattle.wb_session.specs.Memory.{places_from, place_after, places_of}
 
 pub places_from-zero : (pages address : ℕ) → places_from pages address 0 ≡ Some []
 unfolding places_from
 places_from-zero pages address = refl
 
-pub places_from-more : (pages address count : ℕ) → places_from pages address (count + 1) ≡ place_behind (places_from pages address count) (place_of_word pages (address + 4 * count))
+pub places_from-more : (pages address count : ℕ) → places_from pages address (count + 1) ≡ place_after (places_from pages address count) (place_of_word pages (address + 4 * count))
 unfolding places_from
 places_from-more pages address count = rw add-one refl
 
@@ -39,7 +39,7 @@ pub not_memory : (pages address word count : ℕ) (places : List ℕ) → addres
 not_memory pages address word count places e some none less = aligned pages address count None e (no_places pages address word count places some none less)
 
 -- places with one more, where all are there
-both : (front : Option (List ℕ)) (last : Option ℕ) (all : List ℕ) → place_behind front last ≡ Some all
+both : (front : Option (List ℕ)) (last : Option ℕ) (all : List ℕ) → place_after front last ≡ Some all
     → ((places : List ℕ) × (front ≡ Some places)) × ((place : ℕ) × (last ≡ Some place))
 both None last all h = absurd (true≢false (ap is_some (sym h)))
 both (Some places) None all h = absurd (true≢false (ap is_some (sym h)))

@@ -9,31 +9,31 @@ use Rattle.wb_text.specs.declared.reply.Reply.TheVariants.{Position, Registers, 
 use Rattle.wb_text.proofs.Rows.{rows_text-more}
 
 -- a text before a line changes nothing at its end
-behind : (front text : List ℕ) → EndsWithLineFeed text → EndsWithLineFeed (front ++ text)
-behind front text ends = (front ++ ends.0, ap (λ t. front ++ t) ends.1 ∙ sym (append_assoc front ends.0 (10 ∷ [])))
+beyond : (front text : List ℕ) → EndsWithLineFeed text → EndsWithLineFeed (front ++ text)
+beyond front text ends = (front ++ ends.0, ap (λ t. front ++ t) ends.1 ∙ sym (append_assoc front ends.0 (10 ∷ [])))
 
 rows_end : (registers : List ℕ) (row : ℕ) → EndsWithLineFeed (rows_text registers (row + 1))
 rows_end registers row =
     let P : List ℕ → Type 0 = EndsWithLineFeed in
-    subst P (sym (rows_text-more registers row)) (behind (rows_text registers row) (line (row_text registers (4 * row))) (row_text registers (4 * row), refl))
+    subst P (sym (rows_text-more registers row)) (beyond (rows_text registers row) (line (row_text registers (4 * row))) (row_text registers (4 * row), refl))
 
 words_end : (instruction : Bool) (address : ℕ) (words : List ℕ) (count : ℕ) → 0 < count → EndsWithLineFeed (words_text instruction address words count)
 unfolding words_text
 words_end instruction address words zero some = absurd ((let none : 0 < 0 → ⊥ = λ h. omega (arith, h) in none) some)
 words_end instruction address words (suc place) some =
     let last : List ℕ = memory_text instruction ((address + 4 * place) % 2 ^ 32) (slice_index words place) in
-    behind (words_text instruction address words place) (line last) (last, refl)
+    beyond (words_text instruction address words place) (line last) (last, refl)
 
 -- after a line, events end with a line feed, or there are none
 log_ends : (front : List ℕ) (number : ℕ) (events : List LogEvent) → EndsWithLineFeed (line front ++ events_text number events)
 unfolding events_text
 log_ends front number [] = (front, append-nil (line front))
 log_ends front number (event ∷ events) =
-    behind (line front) (events_text number (event ∷ events)) (log_ends (event_text number event) ((number + 1) % 2 ^ 64) events)
+    beyond (line front) (events_text number (event ∷ events)) (log_ends (event_text number event) ((number + 1) % 2 ^ 64) events)
 
 pub ends_with_line_feed : (reply : Reply) → HasText reply → EndsWithLineFeed (text_of reply)
 ends_with_line_feed (Position position) some = (codes "pos " ++ decimal position, refl)
-ends_with_line_feed (Registers r) some = behind (line (state_text r)) (rows_text r.registers 8) (rows_end r.registers 7)
+ends_with_line_feed (Registers r) some = beyond (line (state_text r)) (rows_text r.registers 8) (rows_end r.registers 7)
 ends_with_line_feed (Register number value) some = (value_text number value, refl)
 ends_with_line_feed (Control c) some = (control_text c, refl)
 ends_with_line_feed (Entry number hi lo) some = (entry_text number hi lo, refl)

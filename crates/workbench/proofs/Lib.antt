@@ -4,4 +4,4 @@ pub mod Fronts
 pub mod Outcomes
 pub mod Scripts
 pub mod Takes
-pub mod Telling
+pub mod Reporting

@@ -51,17 +51,17 @@ unfolding lines_of
 last_line byte kept h = lines_prefixed (byte ∷ kept) [] h ∙ prefixed_end byte kept
 
 -- the complete part of a script
-feed_behind : (byte : ℕ) (r : Bool) → r ≡ true → ((byte == 10) || r) ≡ true
-feed_behind byte true e = by_first (byte == 10)
+feed_after : (byte : ℕ) (r : Bool) → r ≡ true → ((byte == 10) || r) ≡ true
+feed_after byte true e = by_first (byte == 10)
   where
     by_first : (q : Bool) → (q || true) ≡ true
     by_first true = refl
     by_first false = refl
-feed_behind byte false e = absurd (let bad : false ≡ true = e in cc)
+feed_after byte false e = absurd (let bad : false ≡ true = e in cc)
 
 has_feed-append : (a p : List ℕ) → has_feed p ≡ true → has_feed (a ++ p) ≡ true
 has_feed-append [] p h = h
-has_feed-append (b ∷ a) p h = feed_behind b (has_feed (a ++ p)) (has_feed-append a p h)
+has_feed-append (b ∷ a) p h = feed_after b (has_feed (a ++ p)) (has_feed-append a p h)
 
 has_feed-append_none : (a p : List ℕ) → has_feed p ≡ false → has_feed (a ++ p) ≡ has_feed a
 has_feed-append_none [] p h = h

@@ -12,9 +12,9 @@ use Rattle.workbench.specs.declared.program.NoWords.TheVariants.{NoMemory, NotTe
 use Rattle.workbench.specs.Serve.{Layout, Serves}
 
 -- a text, if there is one, was written, whole or up to the first write that failed or took none of it
-abbrev pub Tells : Option (List ℕ) → List Call → Type 0
-Tells None writes = writes ≡ []
-Tells (Some text) writes = TakesAll text writes ⊎ TakesFront text writes
+abbrev pub Reports : Option (List ℕ) → List Call → Type 0
+Reports None writes = writes ≡ []
+Reports (Some text) writes = TakesAll text writes ⊎ TakesFront text writes
 
 -- what standard error gets at the end: what is wrong with the words, or the line of a fault
 abbrev pub error_text : {T : Type 0} → Result T RunFault → Option (List ℕ)
@@ -47,12 +47,12 @@ Serving pages (Ok words) result reads writes =
     ⊎ ((fault : RunFault) × (result ≡ Err fault) × IsLineFault words fault × (reads ≡ []) × (writes ≡ []))
 
 -- The program: the words are served or not, then help goes to the output, and a fault is reported on the errors.
-pub record Program (pages : ℕ) (words : Result (List (List ℕ)) NoWords) (status : ℕ) (reads writes told : List Call) : Type 0 where
+pub record Program (pages : ℕ) (words : Result (List (List ℕ)) NoWords) (status : ℕ) (reads writes reports : List Call) : Type 0 where
   pub outcome : Result (Unit {0}) RunFault
   pub served : List Call
   pub helped : List Call
   pub writes_are : writes ≡ served ++ helped
   pub serving : Serving pages words outcome reads served
-  pub help : Tells (help_text outcome) helped
-  pub error : Tells (error_text outcome) told
+  pub help : Reports (help_text outcome) helped
+  pub error : Reports (error_text outcome) reports
   pub status_is : status ≡ status_of outcome

@@ -16,8 +16,8 @@ use Rattle.workbench.specs.Runs.{ScriptRuns, max_reads}
 
 -- the answer of a reading, with its fault as one of a run
 abbrev pub with_fault : {A E : Type 0} → (E → RunFault) → Result A E → Result A RunFault
-with_fault told (Ok made) = Ok made
-with_fault told (Err fault) = Err (told fault)
+with_fault fault_of (Ok made) = Ok made
+with_fault fault_of (Err fault) = Err (fault_of fault)
 
 -- the image that bytes of a kind make, or why they make none
 abbrev pub image_of : Kind → List ℕ → Result Boot RunFault

@@ -1,7 +1,7 @@
 //! The program: it reads its line, runs the workbench over a reader and a writer, and reports how it went.
 ghost use Rattle.std.specs.Prelude.{List};
 ghost use Rattle.wb_io.specs.Calls.{Call, Reads, Writes};
-ghost use Rattle.workbench.specs.Program.{IsWithoutWords, Program, Serving, Tells, error_text, help_text, texts_of};
+ghost use Rattle.workbench.specs.Program.{IsWithoutWords, Program, Serving, Reports, error_text, help_text, texts_of};
 ghost use Rattle.timeline.specs.Sizes.{AreSizes};
 
 use crate::serving::serve;
@@ -26,11 +26,11 @@ pub fn r3kwb<R: Source, W: Sink, E: Sink>(
     output: &mut W,
     errors: &mut E,
 ) -> u8
-    ensures { (reads : List Call) × (writes : List Call) × (told : List Call)
+    ensures { (reads : List Call) × (writes : List Call) × (reports : List Call)
         × Reads (R.reads input.old) (R.reads input.new) (R.left input.old) (R.left input.new) reads
         × Writes (W.writes output.old) (W.writes output.new) (W.written output.old) (W.written output.new) writes
-        × Writes (E.writes errors.old) (E.writes errors.new) (E.written errors.old) (E.written errors.new) told
-        × Program 2048 (texts_of words.entry) result reads writes told }
+        × Writes (E.writes errors.old) (E.writes errors.new) (E.written errors.old) (E.written errors.new) reports
+        × Program 2048 (texts_of words.entry) result reads writes reports }
 {
     serve_words::<2048, 65_536, R, W, E>(alloc, words, input, output, errors)
 }
@@ -47,11 +47,11 @@ pub fn serve_words<const PAGES: u32, const SPAN: u32, R: Source, W: Sink, E: Sin
     errors: &mut E,
 ) -> u8
     requires sizes { AreSizes PAGES SPAN }
-    ensures { (reads : List Call) × (writes : List Call) × (told : List Call)
+    ensures { (reads : List Call) × (writes : List Call) × (reports : List Call)
         × Reads (R.reads input.old) (R.reads input.new) (R.left input.old) (R.left input.new) reads
         × Writes (W.writes output.old) (W.writes output.new) (W.written output.old) (W.written output.new) writes
-        × Writes (E.writes errors.old) (E.writes errors.new) (E.written errors.old) (E.written errors.new) told
-        × Program PAGES (texts_of words.entry) result reads writes told }
+        × Writes (E.writes errors.old) (E.writes errors.new) (E.written errors.old) (E.written errors.new) reports
+        × Program PAGES (texts_of words.entry) result reads writes reports }
 {
     let outcome = outcome_of::<PAGES, SPAN, R, W>(alloc, words, input, output);
     report(&outcome, output, errors);
@@ -93,11 +93,11 @@ fn without_words(alloc: Global, why: NoWords) -> RunFault
 
 // Reports a fault on `errors`, and gives help on `output`.
 fn report<W: Sink, E: Sink>(outcome: &Result<(), RunFault>, output: &mut W, errors: &mut E)
-    ensures { (helped : List Call) × (told : List Call)
+    ensures { (helped : List Call) × (reports : List Call)
         × Writes (W.writes output.old) (W.writes output.new) (W.written output.old) (W.written output.new) helped
-        × Writes (E.writes errors.old) (E.writes errors.new) (E.written errors.old) (E.written errors.new) told
-        × Tells (help_text outcome.now) helped
-        × Tells (error_text outcome.now) told }
+        × Writes (E.writes errors.old) (E.writes errors.new) (E.written errors.old) (E.written errors.new) reports
+        × Reports (help_text outcome.now) helped
+        × Reports (error_text outcome.now) reports }
 {
     match outcome {
         Ok(()) => {}

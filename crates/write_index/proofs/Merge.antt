@@ -29,7 +29,7 @@ before_or zero (suc held) = inl (omega arith)
 before_or (suc n) (suc held) =
     elim (before_or n held) [
       | inl before ↦ inl (omega (arith, before))
-      | inr behind ↦ inr (omega (arith, behind))
+      | inr beyond ↦ inr (omega (arith, beyond))
     ]
 
 -- whether a page is in a list
@@ -70,7 +70,7 @@ searched_for xs x (Err i) up found =
           let there = held_at xs x held in
           absurd (elim (before_or there.0 i) [
             | inl before ↦ let e = at.1 there.0 before in omega (arith, e, there.2)
-            | inr behind ↦ let e = at.2 there.0 behind there.1 in omega (arith, e, there.2)
+            | inr beyond ↦ let e = at.2 there.0 beyond there.1 in omega (arith, e, there.2)
           ])
       | inr none ↦ sym none
     ]
@@ -92,11 +92,11 @@ ascending_append xs ys up_xs up_ys under k within =
             let next = get_or-append_right xs ys (length xs) (k + 1) 0 refl past in
             let at = ap (slice_index ys) (let z : k + 1 - length xs ≡ 0 = omega (arith, past, last) in z) in
             omega (arith, e, here, next, at)
-        | inr behind ↦
-            let e = up_ys (k - length xs) (omega (arith, within, length-append xs ys, behind)) in
-            let here = get_or-append_right xs ys (length xs) k 0 refl behind in
+        | inr beyond ↦
+            let e = up_ys (k - length xs) (omega (arith, within, length-append xs ys, beyond)) in
+            let here = get_or-append_right xs ys (length xs) k 0 refl beyond in
             let next = get_or-append_right xs ys (length xs) (k + 1) 0 refl past in
-            let at = ap (slice_index ys) (let z : k + 1 - length xs ≡ k - length xs + 1 = omega (arith, behind) in z) in
+            let at = ap (slice_index ys) (let z : k + 1 - length xs ≡ k - length xs + 1 = omega (arith, beyond) in z) in
             omega (arith, e, here, next, at)
       ]
     ]
@@ -204,9 +204,9 @@ under_push : (pages : List ℕ) (z bound : ℕ) → ((k : ℕ) → k < length pa
 under_push pages z bound under less k within =
     elim (before_or k (length pages)) [
       | inl front ↦ let e = under k front in let here = get_or-append pages (z ∷ []) 0 k front in omega (arith, e, here, less)
-      | inr behind ↦
-          let here = get_or-append_right pages (z ∷ []) (length pages) k 0 refl behind in
-          let at = ap (slice_index (z ∷ [])) (let e : k - length pages ≡ 0 = omega (arith, within, length-append pages (z ∷ []), behind) in e) in
+      | inr beyond ↦
+          let here = get_or-append_right pages (z ∷ []) (length pages) k 0 refl beyond in
+          let at = ap (slice_index (z ∷ [])) (let e : k - length pages ≡ 0 = omega (arith, within, length-append pages (z ∷ []), beyond) in e) in
           omega (arith, here, at, less)
     ]
 

@@ -55,19 +55,19 @@ put_pair level old parents node count set both but there put union = record {
 -- without a union, since it is the first of a pair that isn't there
 pub put_alone : (level parents : List (List ℕ)) (node count : ℕ) (set : List ℕ) → IsLevelBut node count level parents
     → count / 2 ≤ node / 2 → IsLevel count (slice_set level node set) parents
-put_alone level parents node count set but behind = record {
+put_alone level parents node count set but beyond = record {
   whole = omega (arith, but.whole, length-set level node set);
-  unions = λ m within. other_unions level parents node count set but m within (λ e. absurd (omega (arith, e, within, behind)));
+  unions = λ m within. other_unions level parents node count set but m within (λ e. absurd (omega (arith, e, within, beyond)));
 }
 
-pub but_behind : (levels : List (List (List ℕ))) (node count : ℕ) → count ≤ node → IsTreeBut node count levels → IsTree count levels
-but_behind [] node count behind but = but
-but_behind (level ∷ above) node count behind but = (
+pub but_after : (levels : List (List (List ℕ))) (node count : ℕ) → count ≤ node → IsTreeBut node count levels → IsTree count levels
+but_after [] node count beyond but = but
+but_after (level ∷ above) node count beyond but = (
   record {
     whole = but.0.whole;
-    unions = λ m within. but.0.unions m within (λ e. absurd (omega (arith, e, within, behind)));
+    unions = λ m within. but.0.unions m within (λ e. absurd (omega (arith, e, within, beyond)));
   },
-  but_behind above (node / 2) (count / 2) (omega (arith, behind)) but.1,
+  but_after above (node / 2) (count / 2) (omega (arith, beyond)) but.1,
 )
 
 pub but_room : (levels : List (List (List ℕ))) (node count : ℕ) → node < count → IsTreeBut node count levels → node < length (bottom levels)
@@ -188,12 +188,12 @@ others_put held index i set old new put other =
           let here = get_or-take held old i [] within in
           let now = get_or-take (max held (index + 1)) new i [] (omega (arith, within)) in
           now ∙ (put.kept i within other ∙ sym here)
-      | inr behind ↦
-          let here = get_or_past (take held old) i [] (rw (length-take held old) (omega (arith, behind))) in
+      | inr beyond ↦
+          let here = get_or_past (take held old) i [] (rw (length-take held old) (omega (arith, beyond))) in
           elim (before_or i index) [
-            | inl between ↦ get_or-take (max held (index + 1)) new i [] (omega (arith, between)) ∙ (put.none i behind between ∙ sym here)
+            | inl between ↦ get_or-take (max held (index + 1)) new i [] (omega (arith, between)) ∙ (put.none i beyond between ∙ sym here)
             | inr past ↦
-                get_or_past (take (max held (index + 1)) new) i [] (rw (length-take (max held (index + 1)) new) (omega (arith, behind, past, other)))
+                get_or_past (take (max held (index + 1)) new) i [] (rw (length-take (max held (index + 1)) new) (omega (arith, beyond, past, other)))
                 ∙ sym here
           ]
     ]

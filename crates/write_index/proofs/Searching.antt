@@ -37,7 +37,7 @@ not_held level above end page m tree odd within pair =
             | inl first ↦ ap (λ (n : ℕ). holds (pages_at level n) page) first ∙ none.0
             | inr second ↦ ap (λ (n : ℕ). holds (pages_at level n) page) second ∙ none.1
           ]
-      | inr behind ↦ odd m (omega (arith, behind)) within
+      | inr beyond ↦ odd m (omega (arith, beyond)) within
     ]
 
 pub last_none : (levels : List (List (List ℕ))) (level : List (List ℕ)) (above : List (List (List ℕ))) (end page : ℕ) → levels ≡ level ∷ above → IsTree end levels
@@ -47,11 +47,11 @@ last_none levels level above end page is tree odd none m within =
     subst (λ levels. IsFalse (holds (pages_at (bottom levels) m) page)) (sym is)
     (not_held level above end page m (subst (λ levels. IsTree end levels) is tree) odd within (λ inside. none (m / 2) inside))
 
-behind_pair : (level : List (List ℕ)) (above : List (List (List ℕ))) (end page pair m : ℕ) → IsTree end (level ∷ above) → NoneOdd level page end
+after_pair : (level : List (List ℕ)) (above : List (List (List ℕ))) (end page pair m : ℕ) → IsTree end (level ∷ above) → NoneOdd level page end
     → ((i : ℕ) → pair < i → i < end / 2 → IsFalse (holds (pages_at (bottom above) i) page))
     → 2 * pair + 1 < m → m < end → holds (pages_at level m) page ≡ false
-behind_pair level above end page pair m tree odd rest behind within =
-    not_held level above end page m tree odd within (λ inside. rest (m / 2) (omega (arith, behind)) inside)
+after_pair level above end page pair m tree odd rest beyond within =
+    not_held level above end page m tree odd within (λ inside. rest (m / 2) (omega (arith, beyond)) inside)
 
 pub last_second : (levels : List (List (List ℕ))) (level : List (List ℕ)) (above : List (List (List ℕ))) (end page pair : ℕ) → levels ≡ level ∷ above → IsTree end levels
     → NoneOdd level page end → IsLast (bottom above) page (end / 2) (Some pair) → IsTrue (holds (pages_at level (2 * pair + 1)) page)
@@ -59,7 +59,7 @@ pub last_second : (levels : List (List (List ℕ))) (level : List (List ℕ)) (a
 last_second levels level above end page pair is tree odd last second =
     let here = subst (λ levels. IsTree end levels) is tree in
     subst (λ levels. IsLast (bottom levels) page end (Some (2 * pair + 1))) (sym is)
-    (omega (arith, last.0), second, λ m behind within. behind_pair level above end page pair m here odd last.2 behind within)
+    (omega (arith, last.0), second, λ m beyond within. after_pair level above end page pair m here odd last.2 beyond within)
 
 pub last_first : (levels : List (List (List ℕ))) (level : List (List ℕ)) (above : List (List (List ℕ))) (end page pair : ℕ) → levels ≡ level ∷ above → IsTree end levels
     → NoneOdd level page end → IsLast (bottom above) page (end / 2) (Some pair) → IsFalse (holds (pages_at level (2 * pair + 1)) page)
@@ -69,11 +69,11 @@ last_first levels level above end page pair is tree odd last second =
     subst (λ levels. IsLast (bottom levels) page end (Some (2 * pair))) (sym is) (
       omega (arith, last.0),
       first_then (holds (pages_at level (2 * pair)) page) (holds (pages_at level (2 * pair + 1)) page) (sym (here.0.unions pair last.0 page) ∙ last.1) second,
-      λ m behind within.
+      λ m beyond within.
           elim (before_or (2 * pair + 1) m) [
-            | inl further ↦ behind_pair level above end page pair m here odd last.2 further within
+            | inl further ↦ after_pair level above end page pair m here odd last.2 further within
             | inr same ↦
-                let is : m ≡ 2 * pair + 1 = omega (arith, behind, same) in
+                let is : m ≡ 2 * pair + 1 = omega (arith, beyond, same) in
                 ap (λ (n : ℕ). holds (pages_at level n) page) is ∙ second
           ],
     )
@@ -90,9 +90,9 @@ last_held sets held page before end found is last = go found last
   where
     after : (from : ℕ) → ((i : ℕ) → from ≤ i → i < end → IsFalse (holds (pages_at sets i) page)) → (i : ℕ) → from ≤ i → i < before
         → IsFalse (holds (pages_at (take held sets) i) page)
-    after from none i behind within =
+    after from none i beyond within =
         elim (before_or i held) [
-          | inl inside ↦ subst (λ (set : List ℕ). IsFalse (holds set page)) (sym (get_or-take held sets i [] inside)) (none i behind (omega (arith, is, inside, within)))
+          | inl inside ↦ subst (λ (set : List ℕ). IsFalse (holds set page)) (sym (get_or-take held sets i [] inside)) (none i beyond (omega (arith, is, inside, within)))
           | inr past ↦ subst (λ (set : List ℕ). IsFalse (holds set page)) (sym (get_or_past (take held sets) i [] (rw (length-take held sets) (omega (arith, past))))) refl
         ]
 
@@ -101,5 +101,5 @@ last_held sets held page before end found is last = go found last
     go (Some span) last = (
       omega (arith, is, last.0),
       subst (λ (set : List ℕ). IsTrue (holds set page)) (sym (get_or-take held sets span [] (omega (arith, is, last.0)))) last.1,
-      λ i behind within. after (span + 1) (λ i further. last.2 i (omega (arith, further))) i (omega (arith, behind)) within,
+      λ i beyond within. after (span + 1) (λ i further. last.2 i (omega (arith, further))) i (omega (arith, beyond)) within,
     )

@@ -28,8 +28,8 @@ loop-one-preserved c =
     ∙ length-append (steps_on line (take i sent)) (one.step ∷ [])) in
     omega (arith, long, c.loop-one.invariant, c.if-left-eq0.false)
 
-pub returns-then-left-eq0-clause-found : goal.returns-then-left-eq0-clause-found
-returns-then-left-eq0-clause-found c =
+pub returns-then-left-eq0 : goal.returns-then-left-eq0
+returns-then-left-eq0 c =
     let line = c.args.line in
     let sent = c.args.sent.now in
     let i = c.loop-one.one-index in

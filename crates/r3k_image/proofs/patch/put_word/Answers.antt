@@ -9,7 +9,7 @@ use Rattle.r3k_image.specs.declared.segment.Segment.{Segment}
 use Rattle.r3k_image.specs.Segments.{view, views}
 use Rattle.r3k_image.proofs.LongestRuns.{at}
 use Rattle.std.proofs.Math.ListN.{set}
-use Rattle.r3k_image.proofs.Patching.{Patched, Found, found, write_over, write_behind, write_first, write_apart}
+use Rattle.r3k_image.proofs.Patching.{Patched, Found, found, write_over, write_after, write_first, write_apart}
 use Rattle.r3k_image.proofs.patch.put_word.Goals as goal
 use Rattle.r3k_image.proofs.patch.put_word.Goals.{then-count-gt0+else-offset-len+else-offset-len-2, else-count-gt0}
 
@@ -53,7 +53,7 @@ returns-then-offset-len-2-clause-words c =
     let here : Found c.args.address c.args.segments.now.items c.count_up_to-count.result last =
     found c.args.address c.args.segments.now.items c.deref.result.now c.count_up_to-count.result last
     c.deref.ensures.value c.requires.stand c.count_up_to-count.ensures.parted c.count_up_to-count.ensures.bound c.if-count-gt0.true c.index_mut-segment.ensures.value in
-    (write_behind c.args.address c.args.word c.args.segments.now.items c.count_up_to-count.result last
+    (write_after c.args.address c.args.word c.args.segments.now.items c.count_up_to-count.result last
     (record { address = last.address; words = c.push.new.self }) c.requires.stand c.requires.placed here (omega (arith, last.words.ok.0)) (ap (λ ws. at last.address ws) c.in_ok-push.ensures.items)).words
 
 pub returns-then-offset-len-2-clause-stand : goal.returns-then-offset-len-2-clause-stand
@@ -62,7 +62,7 @@ returns-then-offset-len-2-clause-stand c =
     let here : Found c.args.address c.args.segments.now.items c.count_up_to-count.result last =
     found c.args.address c.args.segments.now.items c.deref.result.now c.count_up_to-count.result last
     c.deref.ensures.value c.requires.stand c.count_up_to-count.ensures.parted c.count_up_to-count.ensures.bound c.if-count-gt0.true c.index_mut-segment.ensures.value in
-    (write_behind c.args.address c.args.word c.args.segments.now.items c.count_up_to-count.result last
+    (write_after c.args.address c.args.word c.args.segments.now.items c.count_up_to-count.result last
     (record { address = last.address; words = c.push.new.self }) c.requires.stand c.requires.placed here (omega (arith, last.words.ok.0)) (ap (λ ws. at last.address ws) c.in_ok-push.ensures.items)).stand
 
 -- where the segments are as they were

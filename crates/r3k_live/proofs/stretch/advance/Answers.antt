@@ -24,7 +24,7 @@ returns-clause-goes g c = λ log from start made now left so_far.
     let here = subst (λ (n : ℕ). HasGone g.row.PAGES log from start n s c.stretch-made.new.recorder) none stretch.gone in
     let events = ap (arriving log) (sym now) ∙ (sym (left c.args.time (omega arith)) ∙ sym c.next.ensures.events) in
     let outcome : outcome_of_step g.row.PAGES c.next.result.now s ≡ record { state = t; done = c.step-done.result } =
-    λ i. record { state = sym c.step-done.ensures.state i; done = sym c.step-done.ensures.told i } in
+    λ i. record { state = sym c.step-done.ensures.state i; done = sym c.step-done.ensures.report i } in
     let gone = one_more g.row.PAGES log from start made s t c.step-done.result c.stretch-made.new.recorder c.stand.new.self here
     (ap (λ (e : List LogEvent). outcome_of_step g.row.PAGES e s) events ∙ outcome)
     (λ steps so_far. c.stand.ensures.records (steps ++ c.step-done.result ∷ []) (c.note.ensures.records steps so_far)) c.step-done.ensures.within.words in record {

@@ -12,8 +12,8 @@ returns-clause-stored c = store_within
 pub returns-clause-stored_touched : goal.returns-clause-stored_touched
 returns-clause-stored_touched c = store_touched
 
-pub returns-clause-told : goal.returns-clause-told
-returns-clause-told c = λ pages events set s t other w apart. (step_elsewhere pages events set s t other w apart).0
+pub returns-clause-report : goal.returns-clause-report
+returns-clause-report c = λ pages events set s t other w apart. (step_elsewhere pages events set s t other w apart).0
 
 pub returns-clause-next : goal.returns-clause-next
 returns-clause-next c = λ pages events set s t other w apart. (step_elsewhere pages events set s t other w apart).1

@@ -17,7 +17,7 @@ returns-clause-ran g c =
     let none = c.quiet_laws.ensures.none s in
     let word = ap (λ (n : _). outcome_of_word pages t (record { word = n; page = c.args.page.page })) (sym c.word.ensures) in
     let state = rw c.tick.ensures at c.run_fetched-done.ensures.state in
-    let done = rw c.tick.ensures at c.run_fetched-done.ensures.told in
+    let done = rw c.tick.ensures at c.run_fetched-done.ensures.report in
     let ran : outcome_of_word pages t w ≡ record { state = record { core = c.run_fetched-done.new.core; words = g.M.Mem.words c.run_fetched-done.new.memory }; done = c.run_fetched-done.result } =
     λ i. record { state = sym state i; done = sym done i } in
     ap (outcome_of_step pages []) (sym none)

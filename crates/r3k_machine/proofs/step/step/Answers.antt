@@ -9,6 +9,6 @@ returns-clause-state g c =
     let ran = (rw (c.sample.ensures, c.tick.ensures, c.arrive.ensures) at c.interrupt_or_run-done.ensures.state) in
     rw c.fall.ensures (ap {B = State} (λ (s : State). record { core = fallen s.core; words = s.words }) ran)
 
-pub returns-clause-told : goal.returns-clause-told
+pub returns-clause-report : goal.returns-clause-report
 unfolding outcome_of_step
-returns-clause-told g c = rw (c.sample.ensures, c.tick.ensures, c.arrive.ensures) at c.interrupt_or_run-done.ensures.told
+returns-clause-report g c = rw (c.sample.ensures, c.tick.ensures, c.arrive.ensures) at c.interrupt_or_run-done.ensures.report

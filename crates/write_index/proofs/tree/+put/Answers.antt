@@ -1,6 +1,6 @@
 use Rattle.std.proofs.Common.{◌/◌, slice_set, sym, subst}
 use Rattle.write_index.specs.Tree.{IsLevel, IsTree, IsTreeBut, bottom}
-use Rattle.write_index.proofs.Putting.{but_behind, but_room, put_alone, put_pair}
+use Rattle.write_index.proofs.Putting.{but_after, but_room, put_alone, put_pair}
 use Rattle.write_index.proofs.tree.+put.Goals as goal
 use Rattle.write_index.proofs.tree.+put.Goals.{else-pair-count, then-pair-count+in_ok-both+in_ok-put}
 
@@ -21,6 +21,6 @@ returns-after-pair-count-clause-tree t c =
       | else-pair-count w ↦
           subst (λ above. IsLevel count (slice_set level node c.args.set) (bottom above) × IsTree (count / 2) above) (sym w.above-is) (
             put_alone level (bottom c.in-Some.above.now) node count c.args.set but.0 w.if-pair-count.false,
-            but_behind c.in-Some.above.now (node / 2) (count / 2) w.if-pair-count.false but.1,
+            but_after c.in-Some.above.now (node / 2) (count / 2) w.if-pair-count.false but.1,
           )
     ])

@@ -11,10 +11,10 @@ put-requires-clause-tree c =
 
 pub returns-in_err-put-clause-refused : goal.returns-in_err-put-clause-refused
 returns-in_err-put-clause-refused c =
-    let behind : c.args.count ≤ c.loop-node.node = omega arith in
+    let beyond : c.args.count ≤ c.loop-node.node = omega arith in
     on_err c.from_residual.result _
     (subst (λ levels. IsTree c.args.count levels) (sym (c.in_err-put.ensures {u = tt}).same)
-    (tree_less c.loop-node.levels c.loop-node.node c.args.count behind c.loop-node.invariant.tree))
+    (tree_less c.loop-node.levels c.loop-node.node c.args.count beyond c.loop-node.invariant.tree))
 
 pub returns-clause-tree : goal.returns-clause-tree
 returns-clause-tree c =

@@ -54,7 +54,7 @@ returns-clause-bottom c =
           ap (λ (spans : List (List ℕ)). pages_at spans m) put
           ∙ (put_other before c.args.set index m other
           ∙ (c.fill.ensures.kept m within ∙ same_grown c.args.levels.now c.grow.new.levels c.args.held c.grow.ensures.grown c.requires.tree m within));
-      none = λ m behind below.
+      none = λ m beyond below.
           ap (λ (spans : List (List ℕ)). pages_at spans m) put
-          ∙ (put_other before c.args.set index m (λ e. absurd (omega (arith, e, below))) ∙ (c.in_ok-fill.ensures {u = tt}).none m behind below);
+          ∙ (put_other before c.args.set index m (λ e. absurd (omega (arith, e, below))) ∙ (c.in_ok-fill.ensures {u = tt}).none m beyond below);
     })

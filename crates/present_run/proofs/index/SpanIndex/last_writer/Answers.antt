@@ -17,9 +17,9 @@ returns-in-Some-writer_in g c =
     let here : last_writer c.args.address (steps_at g.row.PAGES g.row.SPAN spans at) ≡ Some c.in-Some-writer_in.step = cc in (
       omega (arith, last.0, c.loop-index.invariant.bound),
       here,
-      λ i behind within.
+      λ i beyond within.
           none_from g.row.PAGES g.row.SPAN index spans c.args.count c.args.address c.loop-index.before (at + 1) c.requires
-          (λ k low below. last.2 k (omega (arith, low)) below) c.loop-index.invariant.none i (omega (arith, behind)) within,
+          (λ k low below. last.2 k (omega (arith, low)) below) c.loop-index.invariant.none i (omega (arith, beyond)) within,
     )
 
 pub loop-index-preserved : goal.loop-index-preserved
@@ -31,9 +31,9 @@ loop-index-preserved g c =
     let here : last_writer c.args.address (steps_at g.row.PAGES g.row.SPAN spans at) ≡ None = cc in record {
       none = λ i low within.
           elim (cases_lt at i) [
-            | inl behind ↦
+            | inl beyond ↦
                 none_from g.row.PAGES g.row.SPAN index spans c.args.count c.args.address c.loop-index.before (at + 1) c.requires
-                (λ k low below. last.2 k (omega (arith, low)) below) c.loop-index.invariant.none i (omega (arith, behind)) within
+                (λ k low below. last.2 k (omega (arith, low)) below) c.loop-index.invariant.none i (omega (arith, beyond)) within
             | inr not ↦
                 let same : at ≡ i = omega (arith, low, not) in
                 subst (λ (k : ℕ). last_writer c.args.address (steps_at g.row.PAGES g.row.SPAN spans k) ≡ None) same here

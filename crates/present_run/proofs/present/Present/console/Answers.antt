@@ -5,7 +5,7 @@ use Rattle.r3k_machine.specs.Run.{console_of, trace_at}
 use Rattle.present_run.specs.Console.{Shows}
 use Rattle.present_run.specs.Runs.{steps_between}
 use Rattle.present_run.specs.Sent.{bytes_on}
-use Rattle.present_run.proofs.Told.{console_front}
+use Rattle.present_run.proofs.Reports.{console_front}
 use Rattle.present_run.proofs.present.Present.console.Goals as goal
 
 pub returns-clause-shown : goal.returns-clause-shown

@@ -27,7 +27,7 @@ invariant_of-self g c =
     let start : c.deref.result.now ≡ state_at pages image log (kept.valid * span) =
     c.deref.ensures ∙ ((c.in_ok-start.ensures {u = tt}).cases ∙ (c.start_of.ensures ∙ ap (λ (n : ℕ). state_at pages image log (n * span)) c.valid.ensures)) in record {
       fits = c.args.self.now.fits;
-      of = over_joined image log c.args.self.now.runs kept c.args.self.now.runs.told f (λ i. refl) refl of.agrees
+      of = over_joined image log c.args.self.now.runs kept c.args.self.now.runs.reports f (λ i. refl) refl of.agrees
           (subst (λ (o : Option ℕ). IfSome o (λ n. IsKnownAt span kept.spans n (state_at pages image log (n * span)) f)) (sym c.stand.ensures.at)
           (subst (λ (s : State). IsKnownAt span kept.spans kept.valid s f) start c.stand.ensures.known))
           (subst (λ (set : List ℕ). IsAlike kept.spans 0 set (reset pages image)) (sym c.stand.ensures.patched) of.patches) of;

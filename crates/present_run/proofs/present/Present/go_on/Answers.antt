@@ -6,7 +6,7 @@ use Rattle.r3k_machine.specs.State.{State}
 use Rattle.r3k_machine.specs.Run.{run}
 use Rattle.r3k_live.specs.Recording.{Records}
 use Rattle.present_run.proofs.Spans.{gone_on, if_some}
-use Rattle.present_run.proofs.Told.{own_steps}
+use Rattle.present_run.proofs.Reports.{own_steps}
 use Rattle.present_run.proofs.present.Present.go_on.Goals as goal
 
 pub invariant_of-self : goal.invariant_of-self

@@ -4,7 +4,7 @@ use Rattle.r3k_machine.specs.Run.{state_at}
 use Rattle.r3k_machine.specs.Reset.{reset}
 use Rattle.span_fact.specs.Span.{Span}
 use Rattle.checkpoints.specs.Kept.{Kept, span_at}
-use Rattle.present_run.specs.Index.{Agrees}
+use Rattle.present_run.specs.Index.{Agrees, Index}
 use Rattle.present_run.specs.Reuse.{span_of}
 use Rattle.present_run.specs.Runs.{AreLandings, IsAlike, IsKnown}
 use Rattle.present_run.specs.Ends.{AreEnds, GoesOn, IsJoined}
@@ -63,7 +63,8 @@ invariant_of-self-2 g c =
             (of.again index first (omega (arith, count, c.joined_by-count.ensures.more, c.valid-index.ensures, past)));
         known = subst (λ (s : List (Option Span)). IsKnown span s (λ n. state_at pages image log (n * span)) f) (sym spans) of.known;
         patches = subst (λ (s : List (Option Span)). IsAlike s 0 f.patched (reset pages image)) (sym spans) of.patches;
-        agrees = subst (λ (s : List (Option Span)). Agrees pages span c.args.self.now.runs.told s) (sym spans) of.agrees;
+        agrees = subst (λ (r : Index). Agrees pages span r now.spans) (sym c.sum_up_to.ensures)
+            (subst (λ (s : List (Option Span)). Agrees pages span c.args.self.now.runs.reports s) (sym spans) of.agrees);
       };
       landed = subst (λ (s : List (Option Span)). AreLandings pages span (record { image = image; log = log }) s c.args.self.now.landings) (sym spans) c.args.self.now.landed;
     }

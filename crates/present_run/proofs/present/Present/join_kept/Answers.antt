@@ -51,9 +51,9 @@ invariant_of-self g c =
       long = subst (λ (s : State). IfSome o (λ r. length s.words ≡ length r.start.words)) c.requires.start c.carry_over.ensures.long;
     } in record {
       fits = c.args.self.now.fits;
-      of = over_joined image log c.args.self.now.runs c.carry_over.new.kept c.args.self.now.runs.told c.carry_over.new.self
+      of = over_joined image log c.args.self.now.runs c.carry_over.new.kept c.args.self.now.runs.reports c.carry_over.new.self
           (λ i. ap (λ (s : List (Option Span)). slice_index_or s i None) c.carry_over.ensures.spans) c.carry_over.ensures.valid
-          (subst (λ (s : List (Option Span)). Agrees pages span c.args.self.now.runs.told s) (sym c.carry_over.ensures.spans) of.agrees)
+          (subst (λ (s : List (Option Span)). Agrees pages span c.args.self.now.runs.reports s) (sym c.carry_over.ensures.spans) of.agrees)
           (c.carry_over.ensures.known (λ n. state_at pages image log (n * span)) (sym c.requires.start)
           (map_ok _ _ c.carry_over.result
           (λ end is. sym (end_known pages span image log kept.valid end.value o there

@@ -22,8 +22,8 @@ pub invariant_of-self : goal.invariant_of-self
 invariant_of-self g c =
     let now = c.args.self.now in record {
       fits = now.fits;
-      of = over_kept now.inputs.image now.inputs.log now.runs c.reserve.new.self now.runs.told c.reserve.ensures.spans c.reserve.ensures.valid
-          (agrees_same g.row.PAGES g.row.SPAN now.runs.told now.runs.kept.spans c.reserve.new.self.spans c.reserve.ensures.spans now.of.agrees) now.of;
+      of = over_kept now.inputs.image now.inputs.log now.runs c.reserve.new.self now.runs.reports c.reserve.ensures.spans c.reserve.ensures.valid
+          (agrees_same g.row.PAGES g.row.SPAN now.runs.reports now.runs.kept.spans c.reserve.new.self.spans c.reserve.ensures.spans now.of.agrees) now.of;
       landed = landed_over g.row.PAGES g.row.SPAN (record { image = now.inputs.image; log = now.inputs.log }) now.runs.kept.spans c.reserve.new.self.spans now.landings
           (λ i. inl (c.reserve.ensures.spans i)) now.landed;
     }
@@ -31,7 +31,7 @@ invariant_of-self g c =
 pub invariant_of-self-in-Break-branch-2 : goal.invariant_of-self-in-Break-branch-2
 invariant_of-self-in-Break-branch-2 g c =
     let now = c.args.self.now in
-    let agrees = agrees_same g.row.PAGES g.row.SPAN now.runs.told now.runs.kept.spans c.reserve.new.self.spans c.reserve.ensures.spans now.of.agrees in record {
+    let agrees = agrees_same g.row.PAGES g.row.SPAN now.runs.reports now.runs.kept.spans c.reserve.new.self.spans c.reserve.ensures.spans now.of.agrees in record {
       fits = now.fits;
       of = over_kept now.inputs.image now.inputs.log now.runs c.reserve.new.self c.take_in.new.self c.reserve.ensures.spans c.reserve.ensures.valid
           (λ i. (c.in_err-take_in.ensures {u = tt}).same i (slice_index_or c.reserve.new.self.spans i None) (agrees i)) now.of;

@@ -2,7 +2,7 @@ use Rattle.std.proofs.Common.{ℕ, ◌*◌, ◌≤◌, Option, sym, ap, ◌∙�
 use Rattle.std.proofs.Math.Nat.{div-mul-le_self}
 use Rattle.r3k_machine.specs.Run.{last_writer, later, trace_at}
 use Rattle.present_run.specs.Runs.{steps_between}
-use Rattle.present_run.proofs.Told.{writer_front}
+use Rattle.present_run.proofs.Reports.{writer_front}
 use Rattle.present_run.proofs.present.Present.last_writer.Goals as goal
 
 pub returns-in-Some-clause-writer : goal.returns-in-Some-clause-writer

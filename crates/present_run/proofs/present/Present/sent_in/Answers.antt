@@ -2,7 +2,7 @@ use Rattle.std.proofs.Common.{ap, refl, ◌∙◌}
 use Rattle.r3k_live.specs.Record.{sent_from}
 use Rattle.present_run.specs.Reuse.{span_of}
 use Rattle.present_run.proofs.Near.{same_steps}
-use Rattle.present_run.proofs.Told.{span_steps}
+use Rattle.present_run.proofs.Reports.{span_steps}
 use Rattle.present_run.proofs.present.Present.sent_in.Goals as goal
 
 pub returns-in-Some : goal.returns-in-Some

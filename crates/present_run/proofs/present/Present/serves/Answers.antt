@@ -5,7 +5,7 @@ use Rattle.r3k_machine.specs.Run.{state_at}
 use Rattle.r3k_pages.specs.Pages.{SameOutside}
 use Rattle.span_fact.specs.Span.{end_of}
 use Rattle.checkpoints.specs.Kept.{span_at}
-use Rattle.present_run.proofs.Near.{core_behind, moved}
+use Rattle.present_run.proofs.Near.{core_after, moved}
 use Rattle.present_run.proofs.Spans.{if_some}
 use Rattle.present_run.proofs.present.Present.serves.Goals as goal
 
@@ -28,7 +28,7 @@ nearly_next-requires g c =
             omega (arith, next, c.requires.time),
             (
               subst (λ (s : State). IfSome (span_at kept before) (λ r. (end_of pages span r).core ≡ s.core)) start
-                  (core_behind pages span image log before (span_at kept before) (c.args.self.now.of.joined before (omega (arith, next)))),
+                  (core_after pages span image log before (span_at kept before) (c.args.self.now.of.joined before (omega (arith, next)))),
               subst (λ (n : ℕ). IfSome (span_at kept n) (λ s. SameOutside c.args.self.now.runs.frontier.differing s.start.words c.args.start.now.words)) (sym next)
                   (subst (λ (start : State). IfSome (span_at kept kept.valid) (λ s. SameOutside c.args.self.now.runs.frontier.differing s.start.words start.words)) (sym c.requires.start) (if_some _ c.args.self.now.runs.frontier.at c.args.self.now.runs.kept.valid c.requires.at c.args.self.now.of.known).differ),
             ),

@@ -8,7 +8,7 @@ use Rattle.present_run.specs.Runs.{steps_between}
 use Rattle.present_run.proofs.Consoles.{part_short}
 use Rattle.present_run.proofs.Joined.{few_at, later_sender, shown_enough, shows_next}
 use Rattle.present_run.proofs.Sending.{few_sent}
-use Rattle.present_run.proofs.Told.{between_count, console_front, up_to_next}
+use Rattle.present_run.proofs.Reports.{between_count, console_front, up_to_next}
 use Rattle.present_run.proofs.present.Present.shown_before.Goals as goal
 use Rattle.present_run.proofs.present.Present.shown_before.Goals.{then-loop-index-test+else-len-count, else-loop-index-test}
 

@@ -4,7 +4,7 @@ use Rattle.input_log.specs.Event.{LogEvent}
 use Rattle.r3k_machine.specs.Run.{next_visit}
 use Rattle.present_run.specs.History.{History}
 use Rattle.present_run.proofs.Pieces.{IsPiece, piece}
-use Rattle.present_run.proofs.Spans.{or_behind, visit_split}
+use Rattle.present_run.proofs.Spans.{or_after, visit_split}
 use Rattle.present_run.proofs.Stays.{stays_on}
 use Rattle.present_run.proofs.StaysOut.{none_within}
 use Rattle.present_run.proofs.Visits.{visit_end}
@@ -13,13 +13,13 @@ use Rattle.present_run.proofs.present.Present.visit.Goals as goal
 -- a search goes on after a part of it
 after_part : (pages : ℕ) (image : Boot) (log : List LogEvent) (address time to last : ℕ) (o : Option ℕ) → time ≤ to → to ≤ last
     → next_visit pages image log address time (to - time) ≡ o
-    → next_visit pages image log address time (last - time) ≡ or_behind o (next_visit pages image log address to (last - to))
+    → next_visit pages image log address time (last - time) ≡ or_after o (next_visit pages image log address to (last - to))
 after_part pages image log address time to last o before within part =
     let parts : last - time ≡ (to - time) + (last - to) = omega (arith, before, within) in
     ap (next_visit pages image log address time) parts
     ∙ (visit_split pages image log address time (to - time) (last - to)
-    ∙ (ap (λ (o : Option ℕ). or_behind o (next_visit pages image log address (time + (to - time)) (last - to))) part
-    ∙ ap (λ (t : ℕ). or_behind o (next_visit pages image log address t (last - to))) (let e : time + (to - time) ≡ to = omega (arith, before) in e)))
+    ∙ (ap (λ (o : Option ℕ). or_after o (next_visit pages image log address (time + (to - time)) (last - to))) part
+    ∙ ap (λ (t : ℕ). or_after o (next_visit pages image log address t (last - to))) (let e : time + (to - time) ≡ to = omega (arith, before) in e)))
 
 pub returns-in-Some-clause-found : goal.returns-in-Some-clause-found
 returns-in-Some-clause-found g c =

@@ -4,7 +4,7 @@ use Rattle.input_log.specs.Event.{LogEvent}
 use Rattle.r3k_machine.specs.State.{State}
 use Rattle.r3k_machine.specs.Run.{next_visit, run}
 use Rattle.r3k_live.specs.Visits.{first_visit}
-use Rattle.present_run.proofs.Spans.{behind_time, gone_on, gone_within, if_some, seen}
+use Rattle.present_run.proofs.Spans.{after_time, gone_on, gone_within, if_some, seen}
 use Rattle.present_run.proofs.present.Present.visit_in.Goals as goal
 
 pub overflow_add-self : goal.overflow_add-self
@@ -55,7 +55,7 @@ returns-in-Some-clause-found g c =
     let log = c.args.self.now.inputs.log in
     let time = c.args.time in
     let stood = if_some _ c.args.self.now.runs.at time c.requires.stands c.args.self.now.of.stands in
-    ap (behind_time time) (sym c.in-Some.is ∙ (c.visit-found.ensures.found
+    ap (after_time time) (sym c.in-Some.is ∙ (c.visit-found.ensures.found
     ∙ ap₂ (λ (events : List LogEvent) (s : State). first_visit pages events time s c.args.address 0 (c.args.last - time)) c.window.ensures.events stood))
     ∙ (seen pages image log c.args.address time c.args.last 0 (c.args.last - time) (omega (arith, c.requires.before))
     ∙ ap (λ (t : ℕ). next_visit pages image log c.args.address t (c.args.last - time)) (let e : time + 0 ≡ time = omega arith in e))
@@ -101,7 +101,7 @@ returns-in-None-clause-found g c =
     let log = c.args.self.now.inputs.log in
     let time = c.args.time in
     let stood = if_some _ c.args.self.now.runs.at time c.requires.stands c.args.self.now.of.stands in
-    ap (behind_time time) (sym c.in-None.is ∙ (c.visit-found.ensures.found
+    ap (after_time time) (sym c.in-None.is ∙ (c.visit-found.ensures.found
     ∙ ap₂ (λ (events : List LogEvent) (s : State). first_visit pages events time s c.args.address 0 (c.args.last - time)) c.window.ensures.events stood))
     ∙ (seen pages image log c.args.address time c.args.last 0 (c.args.last - time) (omega (arith, c.requires.before))
     ∙ ap (λ (t : ℕ). next_visit pages image log c.args.address t (c.args.last - time)) (let e : time + 0 ≡ time = omega arith in e))

@@ -53,5 +53,5 @@ returns-clause-of g c =
       patches =
           subst (λ (set : List ℕ). IsAlike now.spans 0 set (reset pages image)) (sym c.edit.ensures.patched)
           (subst (λ (s : List (Option Span)). IsAlike s 0 c.args.self.now.frontier.patched (reset pages image)) (sym spans) of.patches);
-      agrees = subst (λ (s : List (Option Span)). Agrees pages span c.args.self.now.told s) (sym spans) of.agrees;
+      agrees = subst (λ (s : List (Option Span)). Agrees pages span c.args.self.now.reports s) (sym spans) of.agrees;
     }

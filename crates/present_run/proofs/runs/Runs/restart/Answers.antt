@@ -32,5 +32,5 @@ returns-clause-of g c =
       known = c.patch.ensures.known span now.spans (λ n. state_at pages changed log (n * span))
           (subst (λ (s : State). IsAlike now.spans 0 c.patch.new.self.patched s) (sym (at_first pages span changed log 0 refl)) patches);
       patches = patches;
-      agrees = subst (λ (k : Kept). Agrees pages span c.args.self.now.told k.spans) (sym c.truncate_valid.ensures) of.agrees;
+      agrees = subst (λ (k : Kept). Agrees pages span c.args.self.now.reports k.spans) (sym c.truncate_valid.ensures) of.agrees;
     }

@@ -29,7 +29,7 @@ invariant_of-result g c =
       within = c.requires.within;
       ends = ends ∙ (c.run.ensures.state ∙ ap (λ (s : State). run pages events from s span) here);
       written = subst (λ (s : State). AreWriters pages (trace pages events from s span) c.in_ok-writers.field-0.items) here (c.in_ok-writers.ensures {u = tt} steps recorded);
-      told = (c.in_ok-from_slice-2.ensures {u = tt}).items ∙ (c.sent.ensures.sent steps recorded ∙ ap (λ (s : State). sent_from 0 (trace pages events from s span)) here);
+      report = (c.in_ok-from_slice-2.ensures {u = tt}).items ∙ (c.sent.ensures.sent steps recorded ∙ ap (λ (s : State). sent_from 0 (trace pages events from s span)) here);
       stayed =
           subst (λ (set : List ℕ). SameOutside set c.args.start.value.words c.in_ok-keep.field-0.value.words) (sym stored)
           (subst (λ (s : State). SameOutside (dirty_pages pages steps) s.words c.in_ok-keep.field-0.value.words) here

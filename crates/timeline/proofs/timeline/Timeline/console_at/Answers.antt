@@ -16,5 +16,5 @@ returns-clause-shown g c =
     console_given g.row.PAGES c.args.self.now.history position c.args.line c.args.from c.args.count (omega arith) (omega arith) (omega arith) (omega arith)
     ∙ sym (ap₂ answer shown.0 shown.1
     ∙ ap (λ (h : History).
-    let told = shown_of c.args.from c.args.count (console_of c.args.line (trace_at g.row.PAGES h.image h.log position)) in
-    answer told.0 told.1) (c.console.ensures.spends.history ∙ ap (λ (h : Landed). h.history) c.self.view_is))
+    let part = shown_of c.args.from c.args.count (console_of c.args.line (trace_at g.row.PAGES h.image h.log position)) in
+    answer part.0 part.1) (c.console.ensures.spends.history ∙ ap (λ (h : Landed). h.history) c.self.view_is))

@@ -11,7 +11,7 @@ use Rattle.timeline.specs.Landed.{AsksFault}
 use Rattle.r3k_machine.specs.Run.{state_at}
 use Rattle.timeline.specs.History.{History}
 use Rattle.timeline.specs.Query.{word_at}
-use Rattle.wb_session.specs.Memory.{place_behind}
+use Rattle.wb_session.specs.Memory.{place_after}
 use Rattle.wb_session.proofs.Costs.{AskedSo, asked_none, asked_one, asked_part, left_refused}
 use Rattle.wb_session.specs.Cost.{LandsOnce}
 use Rattle.wb_session.specs.Session.{Held}
@@ -52,7 +52,7 @@ loop-word-preserved g c =
       still = c.loop-word.invariant.still;
       so_far = (
         so_far.0 ++ placed.0 ∷ [],
-        places_from-more pages c.args.address word ∙ ap₂ place_behind so_far.1 placed.1,
+        places_from-more pages c.args.address word ∙ ap₂ place_after so_far.1 placed.1,
         c.push.ensures.items ∙ (ap₂ (λ (xs : List ℕ) (x : ℕ). xs ++ x ∷ []) so_far.2 value ∙ sym (map-append words so_far.0 (placed.0 ∷ []))),
       );
       len = omega (arith, c.push.ensures.len, c.loop-word.invariant.len);

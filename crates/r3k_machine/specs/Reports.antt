@@ -17,7 +17,7 @@ DifferAt None old new = new ≡ old
 DifferAt (Some address) old new = (value : ℕ) × (new ≡ slice_set old (address / 4) value)
 
 -- what is reported of a step between these words
-pub record IsTold (pages : ℕ) (old new : List ℕ) (done : Done) : Type 0 where
+pub record IsReport (pages : ℕ) (old new : List ℕ) (done : Done) : Type 0 where
   pub stored : IfSome done.stored (IsRamWord pages)
   pub words : DifferAt done.stored old new
   pub touched : All (λ page. IfSome page (IsPage pages)) done.touched

@@ -12,10 +12,10 @@ ghost use Rattle.input_log.specs.Limits.{max_position};
 ghost use Rattle.present_run.specs.Reuse.{Reaches, Spends};
 ghost use Rattle.present_run.specs.Shown.{Stays, holding_of};
 ghost use Rattle.present_run.specs.Runs.{steps_between};
-ghost use Rattle.present_run.specs.Seeking.{Seeks};
+ghost use Rattle.present_run.specs.Sent.{Seeks};
 
 use crate::present::Present;
-use crate::sent::{Shown, Sought, seek};
+use crate::sent::{Shown, seek};
 use arrayvec::ArrayVec;
 use dz_serial::SerialLine;
 use r3k_live::SentAt;
@@ -81,10 +81,10 @@ impl<const PAGES: u32, const SPAN: u32> Present<PAGES, SPAN> {
     {
         let index = self.record(position)?;
         match self.sought_before(index, line, place) {
-            Sought::At(step) => Ok(Some(step)),
-            Sought::Behind(left) => match seek(line, self.runs.recorder.sent(), left) {
-                Sought::At(step) => Ok(Some(index * SPAN as u64 + step)),
-                Sought::Behind(_) => Ok(None),
+            Ok(step) => Ok(Some(step)),
+            Err(left) => match seek(line, self.runs.recorder.sent(), left) {
+                Ok(step) => Ok(Some(index * SPAN as u64 + step as u64)),
+                Err(_) => Ok(None),
             },
         }
     }
@@ -97,7 +97,10 @@ impl<const PAGES: u32, const SPAN: u32> Present<PAGES, SPAN> {
         requires near { count * SPAN ≤ max_position }
         ensures { result ≡ last_writer address (trace_at PAGES self.now.inputs.image self.now.inputs.log (count * SPAN)) }
     {
-        let (index, step) = self.runs.told.last_writer(&self.runs.kept, count, address)?;
+        let (index, step) = self
+            .runs
+            .reports
+            .last_writer(&self.runs.kept, count, address)?;
         Some(index * SPAN as u64 + step as u64)
     }
 
@@ -120,10 +123,7 @@ impl<const PAGES: u32, const SPAN: u32> Present<PAGES, SPAN> {
         ensures from { length (console_of line (trace_at PAGES self.now.inputs.image self.now.inputs.log (result * SPAN))) ≤ place }
         ensures to { result < spans → place < length (console_of line (trace_at PAGES self.now.inputs.image self.now.inputs.log ((result + 1) * SPAN))) }
     {
-        match self.runs.told.find(line, place, spans) {
-            Some((index, _)) => index,
-            None => spans,
-        }
+        self.runs.reports.find(line, place, spans)
     }
 
     // How many bytes of a line the first `spans` spans sent.
@@ -131,7 +131,7 @@ impl<const PAGES: u32, const SPAN: u32> Present<PAGES, SPAN> {
         requires joined { spans ≤ self.now.runs.kept.valid }
         ensures { result ≡ length (console_of line (trace_at PAGES self.now.inputs.image self.now.inputs.log (spans * SPAN))) }
     {
-        self.runs.told.count(line, spans)
+        self.runs.reports.count(line, spans)
     }
 
     // What is shown of the console of a line by the steps of the first `spans` spans.
@@ -155,8 +155,8 @@ impl<const PAGES: u32, const SPAN: u32> Present<PAGES, SPAN> {
         shown
     }
 
-    // Searches the steps of the first `spans` spans for the one that sent the byte of a line at a place.
-    fn sought_before(&self, spans: u64, line: SerialLine, place: u64) -> Sought
+    // The step that sent the byte of a line at a place, in the first `spans` spans, or how many places are left after their bytes.
+    fn sought_before(&self, spans: u64, line: SerialLine, place: u64) -> Result<u64, u64>
         requires joined { spans ≤ self.now.runs.kept.valid }
         requires near { spans * SPAN ≤ max_position }
         ensures { Seeks (senders_of line 0 (trace_at PAGES self.now.inputs.image self.now.inputs.log (spans * SPAN))) place result }
@@ -164,11 +164,9 @@ impl<const PAGES: u32, const SPAN: u32> Present<PAGES, SPAN> {
         let index = self.sender_of(spans, line, place);
         let left = place - self.count_of(index, line);
         if index == spans {
-            return Sought::Behind(left);
+            return Err(left);
         }
-        match seek(line, self.sent_in(index), left) {
-            Sought::At(step) => Sought::At(index * SPAN as u64 + step),
-            Sought::Behind(left) => Sought::Behind(left),
-        }
+        let step = seek(line, self.sent_in(index), left)?;
+        Ok(index * SPAN as u64 + step as u64)
     }
 }
