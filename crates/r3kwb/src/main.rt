@@ -8,7 +8,10 @@ use workbench::{FromRead, NoWords, ToWrite, r3kwb};
 
 fn main(rt: HostRuntime) -> ExitCode {
     let arguments = arguments(&rt);
-    let words = words(&rt, &arguments);
+    let words = match &arguments {
+        Ok(arguments) => words(&rt, arguments),
+        Err(why) => Err(*why),
+    };
     let status = r3kwb(
         rt.alloc(),
         words
@@ -32,16 +35,10 @@ fn arguments(rt: &HostRuntime) -> Result<Vec<String>, NoWords> {
 }
 
 // The same as the program takes them.
-fn words<'a>(
-    rt: &HostRuntime,
-    arguments: &'a Result<Vec<String>, NoWords>,
-) -> Result<Vec<&'a str>, NoWords> {
-    match arguments {
-        Err(why) => Err(*why),
-        Ok(arguments) => arguments
-            .iter()
-            .map(|word| word.as_str())
-            .collect(rt.alloc())
-            .map_err(|_| NoWords::NoMemory),
+fn words<'a>(rt: &HostRuntime, arguments: &'a [String]) -> Result<Vec<&'a str>, NoWords> {
+    let mut words = Vec::new(rt.alloc());
+    for word in arguments {
+        words.push(word.as_str()).map_err(|_| NoWords::NoMemory)?;
     }
+    Ok(words)
 }
