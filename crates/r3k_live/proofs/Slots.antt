@@ -6,16 +6,18 @@ use Rattle.std.proofs.lemmas.List.{get_or-set_same, get_or-set_other}
 use Rattle.std.proofs.Math.ListN.{length-set}
 use Rattle.r3k_decode.specs.Operation.{Operation}
 use Rattle.r3k_word.specs.Layout.{word_count_of}
+use Rattle.r3k_word.specs.declared.layout.TheConstants.{PAGE_WORDS, ROM_PAGES}
 use Rattle.r3k_machine.specs.Known.{IsDecoded, IsKnown, IsStop}
 use Rattle.r3k_live.specs.Slots.{AreKnown, is_open, slot_of}
+use Rattle.r3k_live.specs.declared.flat.TheConstants.{SLOTS}
 
-pub slot_within : (pages page : ℕ) → page < pages + 64 → slot_of pages page < 128
+pub slot_within : (pages page : ℕ) → page < pages + ROM_PAGES → slot_of pages page < SLOTS
 slot_within pages page within = grind (arith, nat_tests)
 
-pub a_slot : (slot index : ℕ) → index < 1024 → (slot * 1024 + index) / 1024 ≡ slot
+pub a_slot : (slot index : ℕ) → index < PAGE_WORDS → (slot * PAGE_WORDS + index) / PAGE_WORDS ≡ slot
 a_slot slot index within = omega arith
 
-an_index : (slot index : ℕ) → index < 1024 → (slot * 1024 + index) % 1024 ≡ index
+an_index : (slot index : ℕ) → index < PAGE_WORDS → (slot * PAGE_WORDS + index) % PAGE_WORDS ≡ index
 an_index slot index within = omega arith
 
 -- pages that are open in one slot are one page
@@ -27,7 +29,7 @@ one_page pages opened a b same first second =
     omega (arith, both)
 
 -- where no page is open
-pub all_closed : (pages : ℕ) (words : List ℕ) (known : List Operation) (opened : List ℕ) → length known ≡ 131072 → length opened ≡ 128
+pub all_closed : (pages : ℕ) (words : List ℕ) (known : List Operation) (opened : List ℕ) → length known ≡ SLOTS * PAGE_WORDS → length opened ≡ SLOTS
     → ((slot : ℕ) → slot < length opened → slice_index opened slot ≡ 0) → AreKnown pages words known opened
 all_closed pages words known opened room slots none = record {
   room = room;
@@ -41,53 +43,53 @@ all_closed pages words known opened room slots none = record {
 -- after a word was stored into
 pub word_stored : (pages : ℕ) (words : List ℕ) (known : List Operation) (opened : List ℕ) (place value : ℕ) (stop : Operation)
     → AreKnown pages words known opened → IsStop stop → place < word_count_of pages
-    → AreKnown pages (slice_set words place value) (slice_set known (slot_of pages (place / 1024) * 1024 + place % 1024) stop) opened
+    → AreKnown pages (slice_set words place value) (slice_set known (slot_of pages (place / PAGE_WORDS) * PAGE_WORDS + place % PAGE_WORDS) stop) opened
 word_stored pages words known opened place value stop are stops within =
-    let at = slot_of pages (place / 1024) * 1024 + place % 1024 in
-    let slot_at = slot_within pages (place / 1024) (omega arith) in record {
+    let at = slot_of pages (place / PAGE_WORDS) * PAGE_WORDS + place % PAGE_WORDS in
+    let slot_at = slot_within pages (place / PAGE_WORDS) (omega arith) in record {
       room = length-set known at stop ∙ are.room;
       slots = are.slots;
       each = λ page index d page_within inside is.
-          let here = slot_of pages page * 1024 + index in
+          let here = slot_of pages page * PAGE_WORDS + index in
           elim (cases_Bool (nat_eq at here)) [
             | inl same ↦ λ other.
                 absurd (other (subst (λ (n : ℕ). IsStop (slice_index_or (slice_set known at stop) n d)) (eqb-true at here same)
                 (subst IsStop (sym (get_or-set_same known at stop d (rw are.room (omega (arith, slot_at))))) stops)))
             | inr apart ↦
                 let apart_at : ¬ (here ≡ at) = λ same. true≢false (sym (eq-eqb at here (sym same)) ∙ apart) in
-                let apart_place : ¬ (page * 1024 + index ≡ place) = λ same.
-                apart_at (ap (λ (n : ℕ). slot_of pages n * 1024 + index) (sym (a_slot page index inside) ∙ ap (λ (n : ℕ). n / 1024) same)
-                ∙ ap (λ (n : ℕ). slot_of pages (place / 1024) * 1024 + n) (sym (an_index page index inside) ∙ ap (λ (n : ℕ). n % 1024) same)) in
-                subst (λ (operation : Operation). IsKnown (slice_index (slice_set words place value) (page * 1024 + index)) operation) (sym (get_or-set_other known at here stop d apart_at))
-                (subst (λ (word : ℕ). IsKnown word (slice_index_or known here d)) (sym (get_or-set_other words place (page * 1024 + index) value 0 apart_place))
+                let apart_place : ¬ (page * PAGE_WORDS + index ≡ place) = λ same.
+                apart_at (ap (λ (n : ℕ). slot_of pages n * PAGE_WORDS + index) (sym (a_slot page index inside) ∙ ap (λ (n : ℕ). n / PAGE_WORDS) same)
+                ∙ ap (λ (n : ℕ). slot_of pages (place / PAGE_WORDS) * PAGE_WORDS + n) (sym (an_index page index inside) ∙ ap (λ (n : ℕ). n % PAGE_WORDS) same)) in
+                subst (λ (operation : Operation). IsKnown (slice_index (slice_set words place value) (page * PAGE_WORDS + index)) operation) (sym (get_or-set_other known at here stop d apart_at))
+                (subst (λ (word : ℕ). IsKnown word (slice_index_or known here d)) (sym (get_or-set_other words place (page * PAGE_WORDS + index) value 0 apart_place))
                 (are.each page index d page_within inside is))
           ];
     }
 
 -- after a word of an open page was decoded
 pub word_learned : (pages : ℕ) (words : List ℕ) (known : List Operation) (opened : List ℕ) (page index : ℕ) (operation : Operation)
-    → AreKnown pages words known opened → page < pages + 64 → index < 1024 → IsTrue (is_open pages opened page)
-    → IsDecoded (slice_index words (page * 1024 + index)) operation
-    → AreKnown pages words (slice_set known (slot_of pages page * 1024 + index) operation) opened
+    → AreKnown pages words known opened → page < pages + ROM_PAGES → index < PAGE_WORDS → IsTrue (is_open pages opened page)
+    → IsDecoded (slice_index words (page * PAGE_WORDS + index)) operation
+    → AreKnown pages words (slice_set known (slot_of pages page * PAGE_WORDS + index) operation) opened
 word_learned pages words known opened page index operation are page_within inside is decoded =
-    let at = slot_of pages page * 1024 + index in
+    let at = slot_of pages page * PAGE_WORDS + index in
     let slot_at = slot_within pages page page_within in record {
       room = length-set known at operation ∙ are.room;
       slots = are.slots;
       each = λ other i d other_within other_inside other_is.
-          let here = slot_of pages other * 1024 + i in
+          let here = slot_of pages other * PAGE_WORDS + i in
           elim (cases_Bool (nat_eq at here)) [
             | inl same ↦
                 let same_at : at ≡ here = eqb-true at here same in
                 let same_slot : slot_of pages page ≡ slot_of pages other = omega (arith, same_at, inside, other_inside) in
                 let same_index : index ≡ i = omega (arith, same_at, inside, other_inside) in
                 let same_page = one_page pages opened page other same_slot is other_is in
-                subst (λ (n : ℕ). IsKnown (slice_index words n) (slice_index_or (slice_set known at operation) here d)) (let e : page * 1024 + index ≡ other * 1024 + i = omega (arith, same_page, same_index) in e)
-                (subst (λ (n : ℕ). IsKnown (slice_index words (page * 1024 + index)) (slice_index_or (slice_set known at operation) n d)) same_at
-                (subst (λ (o : Operation). IsKnown (slice_index words (page * 1024 + index)) o) (sym (get_or-set_same known at operation d (rw are.room (omega (arith, slot_at, inside)))))
+                subst (λ (n : ℕ). IsKnown (slice_index words n) (slice_index_or (slice_set known at operation) here d)) (let e : page * PAGE_WORDS + index ≡ other * PAGE_WORDS + i = omega (arith, same_page, same_index) in e)
+                (subst (λ (n : ℕ). IsKnown (slice_index words (page * PAGE_WORDS + index)) (slice_index_or (slice_set known at operation) n d)) same_at
+                (subst (λ (o : Operation). IsKnown (slice_index words (page * PAGE_WORDS + index)) o) (sym (get_or-set_same known at operation d (rw are.room (omega (arith, slot_at, inside)))))
                 (λ _. decoded)))
             | inr apart ↦
-                subst (λ (o : Operation). IsKnown (slice_index words (other * 1024 + i)) o)
+                subst (λ (o : Operation). IsKnown (slice_index words (other * PAGE_WORDS + i)) o)
                 (sym (get_or-set_other known at here operation d (λ same. true≢false (sym (eq-eqb at here (sym same)) ∙ apart))))
                 (are.each other i d other_within other_inside other_is)
           ];
@@ -95,9 +97,9 @@ word_learned pages words known opened page index operation are page_within insid
 
 -- after a page was opened
 pub page_opened : (pages : ℕ) (words : List ℕ) (known later : List Operation) (opened : List ℕ) (page : ℕ) (stop : Operation)
-    → AreKnown pages words known opened → IsStop stop → page < pages + 64 → length later ≡ 131072
-    → ((index : ℕ) (d : Operation) → index < 1024 → slice_index_or later (slot_of pages page * 1024 + index) d ≡ stop)
-    → ((i : ℕ) (d : Operation) → ¬ (i / 1024 ≡ slot_of pages page) → slice_index_or later i d ≡ slice_index_or known i d)
+    → AreKnown pages words known opened → IsStop stop → page < pages + ROM_PAGES → length later ≡ SLOTS * PAGE_WORDS
+    → ((index : ℕ) (d : Operation) → index < PAGE_WORDS → slice_index_or later (slot_of pages page * PAGE_WORDS + index) d ≡ stop)
+    → ((i : ℕ) (d : Operation) → ¬ (i / PAGE_WORDS ≡ slot_of pages page) → slice_index_or later i d ≡ slice_index_or known i d)
     → AreKnown pages words later (slice_set opened (slot_of pages page) (page + 1))
 page_opened pages words known later opened page stop are stops page_within room there others =
     let slot = slot_of pages page in record {
@@ -106,20 +108,20 @@ page_opened pages words known later opened page stop are stops page_within room 
       each = λ other index d other_within inside is.
           elim (cases_Bool (nat_eq slot (slot_of pages other))) [
             | inl same ↦
-                subst (λ (o : Operation). IsKnown (slice_index words (other * 1024 + index)) o)
-                (sym (ap (λ (n : ℕ). slice_index_or later (n * 1024 + index) d) (sym (eqb-true slot (slot_of pages other) same)) ∙ there index d inside))
+                subst (λ (o : Operation). IsKnown (slice_index words (other * PAGE_WORDS + index)) o)
+                (sym (ap (λ (n : ℕ). slice_index_or later (n * PAGE_WORDS + index) d) (sym (eqb-true slot (slot_of pages other) same)) ∙ there index d inside))
                 (λ not. absurd (not stops))
             | inr apart ↦
                 let apart_slot : ¬ (slot_of pages other ≡ slot) = λ same. true≢false (sym (eq-eqb slot (slot_of pages other) (sym same)) ∙ apart) in
-                subst (λ (o : Operation). IsKnown (slice_index words (other * 1024 + index)) o)
-                (sym (others (slot_of pages other * 1024 + index) d (λ same. apart_slot (sym (a_slot (slot_of pages other) index inside) ∙ same))))
+                subst (λ (o : Operation). IsKnown (slice_index words (other * PAGE_WORDS + index)) o)
+                (sym (others (slot_of pages other * PAGE_WORDS + index) d (λ same. apart_slot (sym (a_slot (slot_of pages other) index inside) ∙ same))))
                 (are.each other index d other_within inside
                 (subst (λ (n : ℕ). IsTrue (nat_eq n (other + 1))) (get_or-set_other opened slot (slot_of pages other) (page + 1) 0 apart_slot) is))
           ];
     }
 
 -- that page is open
-pub is_opened : (pages : ℕ) (opened : List ℕ) (page : ℕ) → length opened ≡ 128 → page < pages + 64
+pub is_opened : (pages : ℕ) (opened : List ℕ) (page : ℕ) → length opened ≡ SLOTS → page < pages + ROM_PAGES
     → IsTrue (is_open pages (slice_set opened (slot_of pages page) (page + 1)) page)
 is_opened pages opened page slots within =
     eq-eqb (slice_index (slice_set opened (slot_of pages page) (page + 1)) (slot_of pages page)) (page + 1)

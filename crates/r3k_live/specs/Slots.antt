@@ -3,10 +3,11 @@ use Rattle.std.specs.Prelude.{◌≡◌, ℕ, ◌+◌, ◌-◌, ◌*◌, ◌%◌
 use Rattle.r3k_decode.specs.Operation.{Operation}
 use Rattle.r3k_word.specs.declared.layout.TheConstants.{PAGE_WORDS, ROM_PAGES}
 use Rattle.r3k_machine.specs.Known.{IsKnown}
+use Rattle.r3k_live.specs.declared.flat.TheConstants.{RAM_SLOTS, SLOTS}
 
--- The slot of a page: for one of RAM its number modulo 64, and for each of ROM one of its own.
+-- The slot of a page: for one of RAM its number modulo those of RAM, and for each of ROM one of its own.
 abbrev pub slot_of : (pages page : ℕ) → ℕ
-slot_of pages page = if nat_lt page pages then page % 64 else 64 + (page - pages)
+slot_of pages page = if nat_lt page pages then page % RAM_SLOTS else RAM_SLOTS + (page - pages)
 
 -- whether a page is open: its slot has one more than its number
 abbrev pub is_open : (pages : ℕ) → List ℕ → ℕ → Bool
@@ -14,7 +15,7 @@ is_open pages opened page = nat_eq (slice_index opened (slot_of pages page)) (pa
 
 -- what is kept of the words of open pages is known of them
 pub record AreKnown (pages : ℕ) (words : List ℕ) (known : List Operation) (opened : List ℕ) : Type 0 where
-  pub room : length known ≡ 131072
-  pub slots : length opened ≡ 128
+  pub room : length known ≡ SLOTS * PAGE_WORDS
+  pub slots : length opened ≡ SLOTS
   pub each : (page index : ℕ) (d : Operation) → page < pages + ROM_PAGES → index < PAGE_WORDS → IsTrue (is_open pages opened page)
       → IsKnown (slice_index words (page * PAGE_WORDS + index)) (slice_index_or known (slot_of pages page * PAGE_WORDS + index) d)

@@ -3,12 +3,13 @@
 ghost use Rattle.std.specs.Prelude.{◌≡◌, ◌+◌, ◌*◌, ◌/◌, ◌≤◌, ◌<◌, ℕ, IfOk, IsTrue, length, slice_index, slice_index_or};
 ghost use Rattle.r3k_decode.specs.Operation.{Operation};
 ghost use Rattle.r3k_word.specs.Layout.{word_count_of};
-ghost use Rattle.r3k_word.specs.declared.layout.TheConstants.{MAX_RAM_PAGES};
+ghost use Rattle.r3k_word.specs.declared.layout.TheConstants.{MAX_RAM_PAGES, PAGE_WORDS};
 ghost use Rattle.r3k_pages.specs.Pages.{SameOutside};
 ghost use Rattle.r3k_machine.specs.Known.{IsStop};
 ghost use Rattle.r3k_machine.specs.Reset.{reset_words};
 ghost use Rattle.r3k_machine.specs.Reports.{IsPage};
 ghost use Rattle.r3k_live.specs.Slots.{AreKnown, is_open, slot_of};
+ghost use Rattle.r3k_live.specs.declared.flat.TheConstants.{SLOTS};
 
 use r3k_decode::Insn;
 use r3k_image::Image;
@@ -48,7 +49,7 @@ pub struct FlatMemory<const PAGES: u32> {
 fn slot_of(ram_pages: u32, page: u32) -> usize
     requires { IsPage ram_pages page }
     ensures slot { result ≡ slot_of ram_pages page }
-    ensures within { result < 128 }
+    ensures within { result < SLOTS }
 {
     if page < ram_pages {
         (page % RAM_SLOTS) as usize
@@ -59,26 +60,26 @@ fn slot_of(ram_pages: u32, page: u32) -> usize
 
 // Slots of whose words nothing is known.
 fn unknown(alloc: Global, stop: Insn) -> Result<Vec<Insn>, AllocError>
-    ensures { IfOk result (λ known. length known.items ≡ 131072) }
+    ensures { IfOk result (λ known. length known.items ≡ SLOTS * PAGE_WORDS) }
 {
     vec![in alloc; stop; SLOTS * WORDS]
 }
 
 // Slots in which no page is open.
 fn closed(alloc: Global) -> Result<Vec<u32>, AllocError>
-    ensures long { IfOk result (λ opened. length opened.items ≡ 128) }
-    ensures none { IfOk result (λ opened. (slot : ℕ) → slot < 128 → slice_index opened.items slot ≡ 0) }
+    ensures long { IfOk result (λ opened. length opened.items ≡ SLOTS) }
+    ensures none { IfOk result (λ opened. (slot : ℕ) → slot < SLOTS → slice_index opened.items slot ≡ 0) }
 {
     vec![in alloc; 0; SLOTS]
 }
 
 // Nothing is known of the words of a slot any more.
 fn forget(known: &mut Vec<Insn>, slot: usize, stop: Insn)
-    requires room { length known.old.items ≡ 131072 }
-    requires slot { slot < 128 }
-    ensures room { length known.new.items ≡ 131072 }
-    ensures there { (index : ℕ) (d : Operation) → index < 1024 → slice_index_or known.new.items (slot * 1024 + index) d ≡ stop }
-    ensures others { (i : ℕ) (d : Operation) → ¬ (i / 1024 ≡ slot) → slice_index_or known.new.items i d ≡ slice_index_or known.old.items i d }
+    requires room { length known.old.items ≡ SLOTS * PAGE_WORDS }
+    requires slot { slot < SLOTS }
+    ensures room { length known.new.items ≡ SLOTS * PAGE_WORDS }
+    ensures there { (index : ℕ) (d : Operation) → index < PAGE_WORDS → slice_index_or known.new.items (slot * PAGE_WORDS + index) d ≡ stop }
+    ensures others { (i : ℕ) (d : Operation) → ¬ (i / PAGE_WORDS ≡ slot) → slice_index_or known.new.items i d ≡ slice_index_or known.old.items i d }
 {
     for index in 0..WORDS {
         known[slot * WORDS + index] = stop;

@@ -2,6 +2,7 @@ use Rattle.std.proofs.Common.{◌≡◌, ◌∙◌, ℕ, ◌+◌, ◌*◌, nat_e
 use Rattle.std.proofs.lemmas.Bool.{cases_Bool, eq-eqb, eqb-true, true≢false}
 use Rattle.std.proofs.lemmas.List.{get_or-set_same, get_or-set_other}
 use Rattle.std.proofs.Math.ListN.{length-set}
+use Rattle.r3k_word.specs.declared.layout.TheConstants.{PAGE_WORDS}
 use Rattle.r3k_live.proofs.flat.forget.Goals as goal
 
 pub loop-index-init : goal.loop-index-init
@@ -14,16 +15,16 @@ loop-index-init c = record {
 pub loop-index-preserved : goal.loop-index-preserved
 loop-index-preserved c =
     let items = c.loop-index.known.items in
-    let at = c.args.slot * 1024 + c.loop-index.index in record {
+    let at = c.args.slot * PAGE_WORDS + c.loop-index.index in record {
       room = length-set items at c.args.stop ∙ c.loop-index.invariant.room;
       there = λ other d below.
           elim (cases_Bool (nat_eq c.loop-index.index other)) [
             | inl same ↦
-                subst (λ (n : ℕ). slice_index_or (slice_set items at c.args.stop) (c.args.slot * 1024 + n) d ≡ c.args.stop) (eqb-true c.loop-index.index other same)
+                subst (λ (n : ℕ). slice_index_or (slice_set items at c.args.stop) (c.args.slot * PAGE_WORDS + n) d ≡ c.args.stop) (eqb-true c.loop-index.index other same)
                 (get_or-set_same items at c.args.stop d (omega (arith, c.loop-index.invariant.room, c.requires.slot, c.loop-index-test.true)))
             | inr apart ↦
                 let apart_at : ¬ (c.loop-index.index ≡ other) = λ same. true≢false (sym (eq-eqb c.loop-index.index other same) ∙ apart) in
-                get_or-set_other items at (c.args.slot * 1024 + other) c.args.stop d (λ same. apart_at (omega (arith, same)))
+                get_or-set_other items at (c.args.slot * PAGE_WORDS + other) c.args.stop d (λ same. apart_at (omega (arith, same)))
                 ∙ c.loop-index.invariant.there other d (omega (arith, below, apart_at))
           ];
       others = λ i d apart.
