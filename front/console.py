@@ -17,7 +17,7 @@ from .driver import Driver
 from .errors import Problem
 from .limits import GREATEST_POSITION, LINES
 from .log import Event, Kind
-from .saving import save
+from .saving import FORCE_WORD, save
 from .shell_edits import gap_of
 
 USAGE = "usage: bin/wb console [--log FILE] [--kind KIND] [--line L] [--speed N] IMAGE"
@@ -180,15 +180,23 @@ class Console:
         self._left = True
 
     def _save(self) -> None:
-        """Asks for a name, and saves the log."""
+        """Asks for a name until the log is saved, or none is given."""
         with _cooked():
             try:
-                name = input(f"\r\n[{len(self._driver.log):,} events; save the log as (nothing: not at all): ").strip()
-                if name:
-                    save(name, logs.write(self._driver.log))
-                    self._saved = list(self._driver.log)
-            except (Problem, EOFError, KeyboardInterrupt) as problem:
-                print(f"not saved: {problem}")
+                while answer := input(f"\r\n[{len(self._driver.log):,} events; save the log as (nothing: not at all): ").strip():
+                    try:
+                        self._save_as(answer)
+                        return
+                    except Problem as problem:
+                        print(f"not saved: {problem}")
+            except (EOFError, KeyboardInterrupt):
+                print("not saved")
+
+    def _save_as(self, answer: str) -> None:
+        """Saves the log by the name in an answer, after which `force` may stand."""
+        name = answer.removesuffix(f" {FORCE_WORD}").strip()
+        save(name, logs.write(self._driver.log), logs.LOG, name != answer, f"{name} {FORCE_WORD}")
+        self._saved = list(self._driver.log)
 
     def _tell(self, message: str) -> None:
         _write(f"\r\n[{message}]\r\n".encode())

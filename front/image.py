@@ -7,10 +7,13 @@ from typing import Optional
 
 from .errors import Problem
 from .log import is_log
+from .saving import Form
 
 MAGIC = b"R3KIMG1\n"
 ELF_MAGIC = b"\x7fELF"
 KINDS = ("rom", "image", "source", "elf")
+
+IMAGE, RAW_ROM = Form("image", (MAGIC,)), Form("raw ROM")
 
 # What GNU as understands and the source of this project does not have.
 _GNU = re.compile(rb"^\s*(?:\.(?:text|data|bss|section|globa?l|set|align|p2align|ent|asciiz?|asciz|space|byte|half|equ|include)\b"

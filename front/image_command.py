@@ -8,9 +8,10 @@ from . import loading
 from .arguments import parse
 from .boot import Boot
 from .errors import Problem
-from .saving import save
+from .image import IMAGE, RAW_ROM
+from .saving import FORCE_OPTION, Form, save
 
-USAGE = "usage: bin/wb image [--kind KIND] ELF OUT"
+USAGE = "usage: bin/wb image [--force] [--kind KIND] ELF OUT"
 
 HELP = f"""\
 {USAGE}
@@ -18,6 +19,7 @@ HELP = f"""\
 Writes what an ELF starts the machine with to the file OUT: as an image of this project where its name ends in .img,
 and else as a raw ROM, which holds words of ROM alone. In place of the ELF may stand any other image.
 
+  --force       overwrites a file OUT that is no image, or may be none
   --kind KIND   what the ELF is, where it can't be seen: elf, image, rom or source
 
 Examples:
@@ -28,17 +30,18 @@ Examples:
 
 
 def main(arguments: Sequence[str]) -> int:
-    line = parse(arguments, {"--kind": "a kind"}, USAGE, HELP, (2,))
+    line = parse(arguments, {FORCE_OPTION: "", "--kind": "a kind"}, USAGE, HELP, (2,))
     with loading.running(line) as driver:
-        save(line.words[1], content_for(line.words[1], driver.boot()))
+        form, content = file_for(line.words[1], driver.boot())
+    save(line.words[1], content, form, line.has(FORCE_OPTION))
     return 0
 
 
-def content_for(name: str, boot: Boot) -> bytes:
-    """The file of a name: a raw ROM, or an image where the name ends in .img."""
+def file_for(name: str, boot: Boot) -> tuple[Form, bytes]:
+    """What a file of a name is to be, a raw ROM, or an image where the name ends in .img; and its content."""
     if Path(name).suffix == ".img":
-        return boot.write()
+        return IMAGE, boot.write()
     content = boot.raw_rom()
     if content is None:
         raise Problem(f"{name} can't be a raw ROM: the image sets words of RAM, or byte time, unit or clock; name it .img")
-    return content
+    return RAW_ROM, content

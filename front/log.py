@@ -10,11 +10,14 @@ from typing import Iterable, Iterator, Sequence
 
 from .errors import Problem
 from .limits import EXTERNAL_LINES, GREATEST_TIME, LINES, MOST_EVENTS
+from .saving import Form
 
 # Format 1 has the time, the line and the value of an event, format 2 also the kind, and more room for the time.
 FORMAT_1, FORMAT_2 = b"R3KLOG1\n", b"R3KLOG2\n"
 _EVENT_1, _EVENT_2 = struct.Struct("<IBB"), struct.Struct("<QBBB")
 _GREATEST_TIME_1 = 0xFFFF_FFFE
+
+LOG = Form("log", (FORMAT_1, FORMAT_2))
 
 
 class Kind(IntEnum):
@@ -49,7 +52,7 @@ class Event:
 
 def is_log(content: bytes) -> bool:
     """Whether a file begins as a log does."""
-    return content.startswith((FORMAT_1, FORMAT_2))
+    return content.startswith(LOG.beginnings)
 
 
 def read(content: bytes, name: str) -> list[Event]:

@@ -8,15 +8,15 @@ from . import log as logs
 from .arguments import parse
 from .errors import Problem
 from .loading import content_of
-from .saving import save
+from .saving import FORCE_OPTION, save
 
-USAGE = "usage: bin/wb log show LOG | bin/wb log make TEXT LOG"
+USAGE = "usage: bin/wb log show LOG | bin/wb log make [--force] TEXT LOG"
 
 HELP = f"""\
 usage: bin/wb log show LOG          writes the text of a log to standard output
        bin/wb log make TEXT LOG     makes a log of a text
 
-Both take a log or a text, and - for standard input.
+Both take a log or a text, and - for standard input. A file LOG that is no log is overwritten only with --force.
 
 {logs.TEXT_HELP}
 
@@ -29,12 +29,12 @@ Example:
 
 
 def main(arguments: Sequence[str]) -> int:
-    line = parse(arguments, {}, USAGE, HELP, (2, 3))
+    line = parse(arguments, {FORCE_OPTION: ""}, USAGE, HELP, (2, 3))
     if len(line.words) == 2 and line.words[0] == "show":
         for text in logs.show(_events(line.words[1])):
             print(text)
     elif len(line.words) == 3 and line.words[0] == "make":
-        save(line.words[2], logs.write(_events(line.words[1])))
+        save(line.words[2], logs.write(_events(line.words[1])), logs.LOG, line.has(FORCE_OPTION))
     else:
         raise Problem(USAGE)
     return 0

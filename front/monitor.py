@@ -7,8 +7,8 @@ from . import log as logs, replies
 from .driver import Driver
 from .errors import Problem
 from .explain import explain
-from .image_command import content_for
-from .saving import save
+from .image_command import file_for
+from .saving import is_forced, save
 
 BY_PLACE = ("mem", "dis", "writer", "patch")  # they take a physical address
 FIRST_VIRTUAL = 0x8000_0000  # below it an address is taken for a physical one
@@ -19,7 +19,7 @@ console L F C  find L P  writer A
 log F C  add T L B  ferr T L B  wire T K V  del I  erase F T  set I B  move I T
 patch A W
 run N, starti N                    go to position N, as goto N does
-save-log FILE, save-image FILE     save the log and the image as they now stand
+save-log FILE, save-image FILE     save the log and the image as they now stand; `force` after FILE overwrites any file
 docs/USING.md describes the commands. Addresses of mem, dis, writer and patch are physical, or virtual from 0x80000000
 on.
 """
@@ -63,8 +63,8 @@ def _physical(driver: Driver, word: str) -> str:
 
 
 def _save(driver: Driver, name: str, words: Sequence[str]) -> str:
-    if len(words) != 1:
+    if not words:
         raise Problem(f"{name} wants the name of a file, without blanks")
-    content = logs.write(driver.log) if name == "save-log" else content_for(words[0], driver.boot())
-    save(words[0], content)
+    form, content = (logs.LOG, logs.write(driver.log)) if name == "save-log" else file_for(words[0], driver.boot())
+    save(words[0], content, form, is_forced(words[1:]), f"wb {name} {words[0]} force")
     return f"saved in {words[0]}\n"

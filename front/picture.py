@@ -6,6 +6,7 @@ from typing import Iterator, Optional, Sequence
 from xml.sax.saxutils import escape
 
 from .log import quoted
+from .saving import Form
 
 WIDTH = 1200
 LEFT, RIGHT = 190, 1040  # of the run
@@ -17,6 +18,8 @@ CHARACTER = 7.3  # the width of one, of a fixed width
 LETTERS = 6.6  # on average, else
 BINS = 170  # of the rows of functions
 MOST_TICKS = 9
+
+PICTURE = Form("picture of a run", (b"<svg",))
 
 BACKGROUNDS = {
     "light": {"paper": "#ffffff", "ink": "#1b1f24", "faint": "#59636e", "rule": "#d8dee4", "in": "#0969da",
@@ -32,10 +35,10 @@ BACKGROUNDS = {
 
 @dataclass(frozen=True)
 class Mark:
-    """An edit, and the step where it meets the run."""
+    """An edit, and the step where it meets the run. One that changed nothing has none."""
 
     text: str
-    time: int
+    time: Optional[int]
 
 
 @dataclass(frozen=True)
@@ -178,12 +181,14 @@ class _Drawing:
 
     def _edits(self) -> Iterator[str]:
         free = 0.0
-        for mark in sorted(self._picture.edits, key=lambda it: it.time):
-            x = self._x(mark.time)
-            yield f'<line class="edit" x1="{x:.1f}" y1="{HEAD + 20}" x2="{x:.1f}" y2="{self._bottom}"/>'
+        for mark in sorted(self._picture.edits, key=lambda it: (it.time is None, it.time)):
+            text, x = f"{mark.text} (changes nothing)", float(LEFT)
+            if mark.time is not None:
+                text, x = mark.text, self._x(mark.time)
+                yield f'<line class="edit" x1="{x:.1f}" y1="{HEAD + 20}" x2="{x:.1f}" y2="{self._bottom}"/>'
             at = max(x, free)
-            yield _text(at, HEAD + 14, mark.text, "edit fixed")
-            free = at + CHARACTER * (len(mark.text) + 2)
+            yield _text(at, HEAD + 14, text, "edit fixed")
+            free = at + CHARACTER * (len(text) + 2)
 
 
 def _style(background: Optional[str]) -> str:

@@ -13,15 +13,15 @@ from .errors import Problem
 from .limits import GREATEST_POSITION, LINES, RAM, ROM
 from .log import EDITS as LOG_EDITS
 from .log import Event, Kind
-from .picture import BACKGROUNDS, COLUMNS, Function, Lane, Mark, Picture, Stores, draw
+from .picture import BACKGROUNDS, COLUMNS, PICTURE, Function, Lane, Mark, Picture, Stores, draw
 from .progress import on_terminal
 from .states import registers_at
 from .symbols import Symbols, symbols_of
 
 USAGE = ("usage: bin/wb plot --to N [--log FILE] [--words NAME,..] [--edits 'COMMAND; ..'] "
-         "[--background light|dark] [--kind KIND] IMAGE [OUT]")
+         "[--background light|dark] [--force] [--kind KIND] IMAGE [OUT]")
 OPTIONS = {"--to": "a position", "--log": "a file", "--words": "names or addresses", "--edits": "commands",
-           "--background": "light or dark", "--kind": "a kind"}
+           "--background": "light or dark", saving.FORCE_OPTION: "", "--kind": "a kind"}
 HELP = f"""\
 {USAGE}
 
@@ -33,6 +33,7 @@ lines, the stores into the words that are named, which functions ran, and where 
   --words NAME,..     words of memory: symbols, also with a number of bytes after them, or addresses
   --edits 'LINE; ..'  edits that are made first: add, ferr, wire, del, erase, set, move, patch
   --background NAME   light or dark; without it the picture follows the page that it is on
+  --force             overwrites a file OUT that is no picture of a run
   --kind KIND         what the image is, where it can't be seen: elf, image, rom or source
   --help              this text
 
@@ -66,7 +67,7 @@ def main(arguments: Sequence[str]) -> int:
     if len(line.words) == 1:
         sys.stdout.write(text)
     else:
-        saving.save(line.words[1], text.encode())
+        saving.save(line.words[1], text.encode(), PICTURE, line.has(saving.FORCE_OPTION))
     return 0
 
 
@@ -101,8 +102,10 @@ class _Plot:
             raise Problem(f"{command} is no edit; there are {', '.join(EDITS)}")
         before = list(self._driver.log)
         self._driver.value(command)
+        if words[0] == "patch":
+            return Mark(command, 0)  # the machine starts with it
         times = _changed(before, self._driver.log)
-        return Mark(command, times[0] if times else 0)
+        return Mark(command, times[0] if times else None)
 
     # Lines
 

@@ -6,10 +6,10 @@ import re
 from . import log as logs
 from .commands import FILES, PAST, SERIAL, SHELL, command
 from .errors import Problem
-from .image_command import content_for
+from .image_command import file_for
 from .limits import GREATEST_POSITION, GREATEST_TIME, LINES
 from .log import Kind, quoted, unquoted
-from .saving import save
+from .saving import is_forced, save
 from .session import Session, counted
 from .standstill import standstill
 
@@ -152,17 +152,17 @@ def _line_and_text(session: Session, words: list[str], usage: str) -> tuple[int,
 
 # Files
 
-@command("save-log FILE", "saves the log, with all edits", FILES)
+@command("save-log FILE [force]", "saves the log, with all edits; `force` overwrites a file that is no log", FILES)
 def save_log(session: Session, words: list[str]) -> None:
-    save(words[0], logs.write(session.driver.log))
+    save(words[0], logs.write(session.driver.log), logs.LOG, is_forced(words[1:]), f"save-log {words[0]} force")
     session.saved_log = list(session.driver.log)
     session.tell(f"{counted(len(session.driver.log), 'event')} saved in {words[0]}")
 
 
-@command("save-image FILE", "saves the image, with all patches: a name that ends in .img, or a raw ROM", FILES)
+@command("save-image FILE [force]", "saves the image, with all patches: a name that ends in .img, or a raw ROM", FILES)
 def save_image(session: Session, words: list[str]) -> None:
-    content = content_for(words[0], session.driver.boot())
-    save(words[0], content)
+    form, content = file_for(words[0], session.driver.boot())
+    save(words[0], content, form, is_forced(words[1:]), f"save-image {words[0]} force")
     session.saved_patches = list(session.driver.patches)
     session.tell(f"{counted(len(content), 'byte')} saved in {words[0]}")
 

@@ -12,6 +12,7 @@ from unittest import mock
 from front import log as logs
 from front.errors import Problem
 from front.log import Event, Kind
+from front.image import IMAGE, RAW_ROM
 from front.saving import save
 from front.tests.support import ROOT
 
@@ -125,11 +126,11 @@ class Saving(unittest.TestCase):
 
     def test_whole(self) -> None:
         path = self.folder / "log"
-        save(str(path), b"one")
-        self.assertEqual(path.read_bytes(), b"one")
+        save(str(path), logs.FORMAT_1, logs.LOG)
+        self.assertEqual(path.read_bytes(), logs.FORMAT_1)
         path.chmod(0o640)
         (self.folder / "link").symlink_to(path)
-        save(str(self.folder / "link"), b"two")
+        save(str(self.folder / "link"), b"two", logs.LOG)
         self.assertEqual((path.read_bytes(), (self.folder / "link").is_symlink()), (b"two", True))
         self.assertEqual(stat.S_IMODE(path.stat().st_mode), 0o640)
         self.assertEqual(sorted(os.listdir(self.folder)), ["link", "log"])
@@ -139,12 +140,31 @@ class Saving(unittest.TestCase):
         path.write_bytes(b"what was saved")
         with mock.patch("os.fsync", side_effect=OSError(28, "No space left on device")):
             with self.assertRaisesRegex(Problem, "No space left on device"):
-                save(str(path), b"new")
+                save(str(path), b"new", logs.LOG, force=True)
         self.assertEqual(path.read_bytes(), b"what was saved")
         self.assertEqual(os.listdir(self.folder), ["log"])
         for name in ("/dev/full", str(self.folder / "no/such"), str(self.folder)):
             with self.assertRaisesRegex(Problem, "can't be written"):
-                save(name, b"x" * 10000)
+                save(name, b"x" * 10000, logs.LOG)
+
+    def test_over_files_of_its_form_alone(self) -> None:
+        """A log over a log, an image over an image; a raw ROM over itself; anything over an empty file, or by force."""
+        path = self.folder / "file"
+        contents = {"log": logs.FORMAT_2 + bytes(4), "image": b"R3KIMG1\n", "elf": b"\x7fELF", "text": b"R3K", "empty": b""}
+        allowed = {(logs.LOG, "log"), (IMAGE, "image"), (logs.LOG, "empty"), (IMAGE, "empty"), (RAW_ROM, "empty")}
+        for form in (logs.LOG, IMAGE, RAW_ROM):
+            for name, content in contents.items():
+                path.write_bytes(content)
+                if (form, name) in allowed:
+                    save(str(path), b"new", form)
+                    self.assertEqual(path.read_bytes(), b"new")
+                    continue
+                with self.assertRaisesRegex(Problem, "file is there.* `save-log x force` overwrites it"):
+                    save(str(path), b"new", form, how="save-log x force")
+                self.assertEqual(path.read_bytes(), content)
+                save(str(path), b"new", form, force=True)
+                self.assertEqual(path.read_bytes(), b"new")
+        save(str(path), b"new", RAW_ROM)
 
 
 if __name__ == "__main__":

@@ -58,6 +58,11 @@ class Commands(StubTest):
             self.assertEqual(Path(folder, "rom").read_bytes(), bytes([1, 0, 1, 0x24, 7, 0, 0, 0]))
             self.assertEqual(wire.command(f"save-log {folder}/none/log"), "E01")
             self.assertIn("can't be written", wire.notes.pop())
+            # The ROM is no log, and is overwritten only by force.
+            rom = Path(folder, "rom").read_bytes()
+            self.assertEqual(wire.command(f"save-log {folder}/rom"), "E01")
+            self.assertEqual(Path(folder, "rom").read_bytes(), rom)
+            self.assertEqual(wire.command(f"save-log {folder}/rom force"), f"saved in {folder}/rom\n")
             self.assertEqual((wire.command("save-log"), wire.command("save-image a b")), ("E01", "E01"))
 
     def test_a_run_starts_again_at_a_position(self) -> None:

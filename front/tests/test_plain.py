@@ -99,6 +99,12 @@ class Plain(unittest.TestCase):
         self.check(["image", name, "boot.img"], b"", b"", "", 0)
         self.check(["boot.img"], script, replies, "", 0)
         self.assertEqual(run(["image", name, "boot.rom"], b"", self.folder).returncode, 2)
+        self.check(["image", name, name + ".img"], b"", b"", "", 0)
+        self.check(["image", name, name + ".img"], b"", b"", "", 0)
+        (self.folder / "elf.img").write_bytes((self.folder / name).read_bytes())
+        self.check(["image", name, "elf.img"], b"", b"", "bin/wb: elf.img is there and is no image. `--force` overwrites it\n", 2)
+        self.check(["image", "--force", name, "elf.img"], b"", b"", "", 0)
+        self.check(["elf.img"], script, replies, "", 0)
         self.put("cut", (self.folder / name).read_bytes()[:70])
         self.check(["cut"], b"", b"", "bin/wb: cut ends before the end of program header 0\n", 1)
         self.check(["image", str(ROOT / "examples/echo/boot.s"), "echo.rom"], b"", b"", "", 0)
@@ -165,8 +171,12 @@ class Plain(unittest.TestCase):
         self.check(["log", "make", "-", "made"], b"oh\n", b"",
                    "bin/wb: standard input:1: 'oh' is not of the form TIME LINE 'BYTES' [GAP] [framing] or TIME LINE LEVEL wire\n", 2)
         self.assertEqual((self.folder / "made").read_bytes(), (ROOT / "examples/driver/log").read_bytes())
+        self.put("letter", b"Dear Sir")
+        self.check(["log", "make", "-", "letter"], text, b"", "bin/wb: letter is there and is no log. `--force` overwrites it\n", 2)
+        self.assertEqual((self.folder / "letter").read_bytes(), b"Dear Sir")
+        self.check(["log", "make", "-", "letter", "--force"], text, b"", "", 0)
         self.check(["log", "make", "-", "/dev/full"], text, b"", "bin/wb: /dev/full can't be written: No space left on device\n", 2)
-        self.check(["log"], b"", b"", "bin/wb: usage: bin/wb log show LOG | bin/wb log make TEXT LOG\n", 2)
+        self.check(["log"], b"", b"", "bin/wb: usage: bin/wb log show LOG | bin/wb log make [--force] TEXT LOG\n", 2)
 
 
 class Typed(unittest.TestCase):

@@ -55,6 +55,14 @@ class Plot(unittest.TestCase):
         # The run goes from 190 to 1,040, so step 128 of 256 is half of it.
         self.assertEqual(places, [615.0, 615.0])
 
+    def test_an_edit_that_changes_nothing_has_no_step(self) -> None:
+        needs_erase(self)
+        edits = "erase 300 400; erase 300 400; set 0 0x41; patch 0x200 7"
+        picture = self.plot("--to", "256", "--edits", edits, "--log", "examples/echo/log", "examples/echo/boot.s")
+        self.holds(self.texts(picture), "patch 0x200 7", *["erase 300 400 (changes nothing)"] * 2, "set 0 0x41 (changes nothing)")
+        places = [float(line.get("x1", "0")) for line in picture.iter(f"{SVG}line") if line.get("class") == "edit"]
+        self.assertEqual(places, [190.0])
+
     def test_framing_errors_and_external_lines(self) -> None:
         needs_kinds(self)
         edits = "wire 10 1 1; wire 20 1 0; ferr 70 0 0x41"
@@ -84,9 +92,16 @@ class Plot(unittest.TestCase):
 
     def test_a_file_is_written_whole_or_not_at_all(self) -> None:
         with tempfile.TemporaryDirectory() as folder:
-            out = Path(folder) / "run.svg"
-            self.assertEqual(debugger.run([debugger.WB, "plot", *LOGIN, str(out)]), "")
-            ElementTree.parse(out)
+            out, kernel = Path(folder) / "run.svg", Path(folder) / "kernel.elf"
+            for _ in range(2):
+                self.assertEqual(debugger.run([debugger.WB, "plot", *LOGIN, str(out)]), "")
+                ElementTree.parse(out)
+            kernel.write_bytes(b"\x7fELF")
+            self.assertEqual(debugger.run([debugger.WB, "plot", *LOGIN, str(kernel)]),
+                             f"bin/wb: {kernel} is there and is no picture of a run. `--force` overwrites it\n")
+            self.assertEqual(kernel.read_bytes(), b"\x7fELF")
+            self.assertEqual(debugger.run([debugger.WB, "plot", "--force", *LOGIN, str(kernel)]), "")
+            ElementTree.parse(kernel)
             self.assertIn("can't be written", debugger.run([debugger.WB, "plot", *LOGIN, f"{folder}/none/run.svg"]))
 
     def test_what_is_wrong_is_told(self) -> None:

@@ -171,6 +171,14 @@ class Echo(unittest.TestCase):
                 driver.close()
             self.talk("set 0 1")
             self.assertRegex(self.talk.session.unsaved()[0], "the log")
+            for name, command in ((image, "save-log"), (log, "save-image"), (raw, "save-image")):
+                before = Path(name).read_bytes()
+                self.talk("patch loop+0x14 0x24c60002")
+                self.assertRegex(self.talk(f"{command} {name}")[0], f"{name} is there.* `{command} {name} force` overwrites it")
+                self.assertRegex(self.talk(f"{command} {name} x")[0], "may stand `force` alone")
+                self.assertEqual(Path(name).read_bytes(), before)
+                self.assertRegex(self.talk(f"{command} {name} force")[0], "saved in")
+                self.assertNotEqual(Path(name).read_bytes(), before)
             self.assertRegex(self.talk("save-log /dev/full")[0], "No space left on device")
 
 
