@@ -32,7 +32,7 @@ class Line:
         try:
             return int(word.replace(",", ""), 0)
         except ValueError:
-            raise Problem(f"{name} wants a number, and {word} is none") from None
+            raise Problem(f"{name} wants a number, and {word[:40]} is none") from None
 
 
 def parse(arguments: Sequence[str], options: Mapping[str, str], usage: str, help_text: str, counts: Container[int]) -> Line:

@@ -147,4 +147,4 @@ class Source:
 
 def _number(word: str) -> int:
     """A number of a source; leading zeros are allowed."""
-    return int(word, 16) if word.startswith("0x") else int(word)
+    return int(word, 16) if word.startswith("0x") else int(word.lstrip("0") or "0")

@@ -9,7 +9,7 @@ import sys
 from typing import Sequence
 
 from .arguments import Shown
-from .errors import Interrupted, Problem
+from .errors import Interrupted, Problem, Unexpected
 from .loading import say
 
 # The commands, each a module of this package with a function `main` on its words.
@@ -18,10 +18,8 @@ _MODULES = {"log": "log_command", "image": "image_command"}
 
 
 def main(arguments: Sequence[str]) -> int:
-    """Runs a front end, and gives its status."""
-    for stream in (sys.stdin, sys.stdout):
-        if isinstance(stream, io.TextIOWrapper):
-            stream.reconfigure(errors="surrogateescape")
+    """Runs a front end, and gives its status. Whatever ends it is one line for the user."""
+    _open_streams()
     name, rest = "plain", list(arguments)
     if rest and rest[0] in COMMANDS:
         name = rest.pop(0)
@@ -39,13 +37,39 @@ def main(arguments: Sequence[str]) -> int:
             say(str(problem))
         return problem.status
     except BrokenPipeError:
-        # The reader of the output has ended, so nothing more can be written there.
-        os.dup2(os.open(os.devnull, os.O_WRONLY), 1)
+        _drop_output()
         return 3
     except OSError as error:
         say(f"{error.filename or 'standard input or output'}: {error.strerror}")
+        _drop_output()
         return 3
     except (KeyboardInterrupt, Interrupted):
         signal.signal(signal.SIGINT, signal.SIG_DFL)
         os.kill(os.getpid(), signal.SIGINT)
         return 130
+    except Exception as error:
+        unexpected = Unexpected(error)
+        say(str(unexpected))
+        return unexpected.status
+
+
+def _drop_output() -> None:
+    """Writes what is left of the output, or drops it where nothing can be written."""
+    try:
+        sys.stdout.flush()
+    except OSError:
+        os.dup2(os.open(os.devnull, os.O_WRONLY), 1)
+
+
+def _open_streams() -> None:
+    """Makes standard streams take and give any bytes. One that is closed fails where it is used, as a bad file does, and no other file
+    gets its number."""
+    if sys.stdin is None:
+        sys.stdin = open(os.open(os.devnull, os.O_WRONLY), closefd=False)
+    if sys.stdout is None:
+        sys.stdout = open(os.open(os.devnull, os.O_RDONLY), "w", closefd=False)
+    if sys.stderr is None:
+        sys.stderr = open(os.open(os.devnull, os.O_WRONLY), "w", closefd=False)
+    for stream in (sys.stdin, sys.stdout):
+        if isinstance(stream, io.TextIOWrapper):
+            stream.reconfigure(errors="surrogateescape")

@@ -14,7 +14,7 @@ from . import loading
 from . import log as logs
 from .arguments import parse
 from .driver import Driver
-from .errors import Problem
+from .errors import Problem, Unexpected
 from .limits import GREATEST_POSITION, LINES
 from .log import Event, Kind
 from .saving import FORCE_WORD, save
@@ -98,8 +98,11 @@ class Console:
                         self._key(key)
                     if not self._stopped:
                         self._go_on(min(now - before, 5 * _TICK))
-                except Problem as problem:
+                except OSError:
+                    raise  # nothing can be shown any more
+                except Exception as error:
                     self._stopped = True
+                    problem = error if isinstance(error, Problem) else Unexpected(error)
                     self._tell(f"{problem}; time stands, and Ctrl-] p lets it go on")
                 before = now
 

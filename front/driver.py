@@ -74,6 +74,8 @@ class Driver:
     def ask_all(self, commands: Sequence[str]) -> list[list[str]]:
         """The replies of several commands, which are under way together."""
         for words in map(words_of, commands):
+            if "\n" in "".join(words):
+                raise Problem("a command is one line")
             if words == ("quit",):
                 raise Problem("`quit` alone would end the program; the front end has its own")
             if words[:1] == ("patch",):
@@ -232,6 +234,9 @@ class Driver:
                 self.close()
                 if stop() > 1:
                     raise Interrupted() from None
+                raise
+            except BaseException:
+                self.close()  # replies are under way that nobody takes
                 raise
             if stop() or count < len(commands):
                 raise Interrupted()

@@ -1,6 +1,9 @@
 """What can go wrong, each with a message for the user."""
 from __future__ import annotations
 
+import traceback
+from pathlib import Path
+
 
 class Problem(Exception):
     """One sentence for the user about what went wrong, and the status with which a command ends for it."""
@@ -22,6 +25,15 @@ class Refused(Problem):
 
 class Ended(Problem):
     """The program ended by itself. The next question starts it anew with all edits."""
+
+
+class Unexpected(Problem):
+    """What no module foresaw, as one line with the place where it came up."""
+
+    def __init__(self, error: Exception) -> None:
+        place = traceback.extract_tb(error.__traceback__)[-1]
+        what = " ".join(f"{type(error).__name__} {error}".split())
+        super().__init__(f"a fault of bin/wb itself, at {Path(place.filename).name}:{place.lineno}: {what[:300]}", 70)
 
 
 class Interrupted(Exception):

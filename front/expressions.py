@@ -6,6 +6,7 @@ from typing import Callable, Iterable, Optional
 
 from .driver import Driver
 from .errors import Problem
+from .limits import COMMAND_BYTES
 from .log import unquoted
 from .replies import CONTROL_NAMES
 from .symbols import Symbols
@@ -51,6 +52,8 @@ def number(text: str, driver: Driver, symbols: Symbols) -> int:
 
 
 def _value(term: str, driver: Driver, symbols: Symbols) -> int:
+    if len(term) > COMMAND_BYTES:
+        raise Problem(f"{term[:16]}.. is too long for a number or a name: it has {len(term):,} characters")
     if term[0].isdigit():
         return int(term.replace(",", ""), 16 if term.startswith("0x") else 10)
     if term[0] == "'":

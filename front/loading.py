@@ -3,7 +3,7 @@ from __future__ import annotations
 
 import os
 import sys
-from contextlib import contextmanager
+from contextlib import contextmanager, suppress
 from pathlib import Path
 from typing import Iterator, Optional
 
@@ -22,9 +22,10 @@ MOST_BYTES = 67_108_864
 
 
 def say(message: str) -> None:
-    """Writes a note for the user to standard error."""
-    for line in message.splitlines():
-        print(f"bin/wb: {line}", file=sys.stderr, flush=True)
+    """Writes a note for the user to standard error, or nothing where that can't be written."""
+    with suppress(OSError):
+        for line in message.splitlines():
+            print(f"bin/wb: {line}", file=sys.stderr, flush=True)
 
 
 def check(name: str) -> Path:

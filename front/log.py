@@ -219,4 +219,4 @@ def _natural(word: str, place: str) -> int:
     try:
         return int(word, 0)
     except ValueError:
-        raise Problem(f"{place}: {word} is no number") from None
+        raise Problem(f"{place}: {word[:40]} is no number") from None

@@ -5,6 +5,7 @@ import json
 import os
 import subprocess
 import threading
+from contextlib import closing
 from typing import IO, Optional, Sequence
 
 from . import loading, program, replies
@@ -64,8 +65,10 @@ def main(arguments: Sequence[str]) -> int:
     # The program is built first, so that no typed line waits for that.
     program.build()
     with open(script, "rb") if script else open(0, "rb", closefd=False) as commands:
+        os.read(commands.fileno(), 0)  # fails at once where nothing can be read
         if any(map(line.has, ("--strict", "--echo", "--json"))):
-            return _by_replies(loading.start(image, log, on_terminal()), commands, line)
+            with closing(loading.start(image, log, on_terminal())) as driver:
+                return _by_replies(driver, commands, line)
         return _whole(image, log, log_content, commands)
 
 

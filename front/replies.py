@@ -49,7 +49,10 @@ def words_of(command: str) -> tuple[str, ...]:
 
 
 def number_of(word: str) -> Optional[int]:
-    """The number that a word of a command is, decimal or hexadecimal after 0x, as the program reads it."""
+    """The number that a word of a command is, decimal or hexadecimal after 0x, as the program reads it. No command has room for a word
+    of more bytes than a line."""
+    if len(word) > COMMAND_BYTES:
+        return None
     if re.fullmatch("0x[0-9a-fA-F]+", word):
         return int(word, 16)
     return int(word) if re.fullmatch("[0-9]+", word) else None

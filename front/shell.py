@@ -10,7 +10,7 @@ from typing import Iterator, Optional, Sequence, TextIO
 from . import expressions, loading, shell_edits, shell_moves, shell_views  # noqa: F401 - they fill the table of commands
 from .arguments import parse
 from .commands import COMMANDS, GROUPS, SHELL, SHORT, command, find, words_of
-from .errors import Ended, Interrupted, Problem, Refused
+from .errors import Ended, Interrupted, Problem, Refused, Unexpected
 from .explain import explain
 from .progress import on_terminal
 from .session import Edit, Session
@@ -102,6 +102,10 @@ class Shell:
             # Where the run was not made yet it can't be shown at once.
             session.driver.goto(min(session.driver.position, session.driver.made))
             session.tell(f"interrupted; at step {session.driver.position:,}")
+        except OSError:
+            raise  # nothing can be shown any more
+        except Exception as error:
+            session.tell(str(Unexpected(error)))
 
     def _run(self, line: str) -> None:
         name, *words = words_of(line)
