@@ -13,20 +13,25 @@ class Shown(Exception):
 
 @dataclass
 class Line:
-    """The words of an argument line that are no options, and the options with their values; an option without one has ''."""
+    """The words of an argument line that are no options, and the options with the values that each got; one without a value got ''."""
 
     words: list[str] = field(default_factory=list)
-    options: dict[str, str] = field(default_factory=dict)
+    options: dict[str, list[str]] = field(default_factory=dict)
 
     def get(self, name: str) -> Optional[str]:
-        return self.options.get(name)
+        """The value that an option got last, or None."""
+        return self.options[name][-1] if name in self.options else None
+
+    def all(self, name: str) -> list[str]:
+        """All values that an option got."""
+        return self.options.get(name, [])
 
     def has(self, name: str) -> bool:
         return name in self.options
 
     def number(self, name: str, default: int) -> int:
         """The value of an option that is a number."""
-        word = self.options.get(name)
+        word = self.get(name)
         if word is None:
             return default
         try:
@@ -56,13 +61,13 @@ def parse(arguments: Sequence[str], options: Mapping[str, str], usage: str, help
         elif not options[name]:
             if equals:
                 raise Problem(f"{name} has no value")
-            line.options[name] = ""
+            line.options[name] = [""]
         else:
             if not equals:
                 if not rest:
                     raise Problem(f"{name} wants {options[name]}")
                 value = rest.pop(0)
-            line.options[name] = value
+            line.options.setdefault(name, []).append(value)
     if line.has("--help"):
         raise Shown(help_text)
     if len(line.words) not in counts:

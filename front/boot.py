@@ -8,18 +8,23 @@ from typing import Callable, Iterator, Optional, Sequence
 from .image import MAGIC, Image
 from .limits import ROM
 
-_CLOCK = bytes([0, 0, 0, 0, 0, 0, 1, 1, 1, 0, 0x20, 6])
+# Registers 0 to 11 of the clock of a raw ROM.
+CLOCK = bytes([0, 0, 0, 0, 0, 0, 1, 1, 1, 0, 0x20, 6])
 
 
 class Boot:
     """Words by their physical addresses, as runs, and the constants of the devices."""
 
-    def __init__(self, byte_time: int = 16, unit: int = 1, clock: bytes = _CLOCK) -> None:
+    def __init__(self, byte_time: int = 16, unit: int = 1, clock: bytes = CLOCK) -> None:
         self.byte_time = byte_time
         self.unit = unit
         self.clock = clock
         self._starts: list[int] = []
         self._runs: list[bytearray] = []
+
+    def constants(self) -> tuple[int, int, bytes]:
+        """The byte time, the unit, and the clock's registers."""
+        return self.byte_time, self.unit, self.clock
 
     def word(self, address: int) -> Optional[int]:
         """The word that is set at an address, or None."""
@@ -72,7 +77,7 @@ class Boot:
 
     def raw_rom(self) -> Optional[bytes]:
         """The image as a raw ROM, or None where it sets words of RAM, or constants that a raw ROM lacks."""
-        if (self.byte_time, self.unit, self.clock) != (16, 1, _CLOCK) or any(start not in ROM for start in self._starts):
+        if self.constants() != Boot().constants() or any(start not in ROM for start in self._starts):
             return None
         made = bytearray()
         for start, run in self.runs():
@@ -114,7 +119,7 @@ class Source:
     """The places, labels and constants of a source that the program took."""
 
     def __init__(self, content: bytes) -> None:
-        self.byte_time, self.unit, self.clock = 16, 1, _CLOCK
+        self.byte_time, self.unit, self.clock = 16, 1, CLOCK
         self.places: list[int] = []
         self.labels: dict[str, int] = {}
         place = ROM.start

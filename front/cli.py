@@ -11,6 +11,7 @@ from typing import Sequence
 from .arguments import Shown
 from .errors import Interrupted, Problem, Unexpected
 from .loading import say
+from .program import about
 
 # The commands, each a module of this package with a function `main` on its words.
 COMMANDS = ("shell", "gdb", "stub", "console", "plot", "log", "image")
@@ -25,6 +26,8 @@ def main(arguments: Sequence[str]) -> int:
         name = rest.pop(0)
     try:
         try:
+            if rest == ["--version"]:
+                raise Shown(about())
             status = importlib.import_module(f".{_MODULES.get(name, name)}", __package__).main(rest)
         except Shown as shown:
             sys.stdout.write(str(shown))  # inside the try, since it may fail like any output

@@ -20,9 +20,9 @@ from .log import Event, Kind
 from .saving import FORCE_WORD, save
 from .shell_edits import gap_of
 
-USAGE = "usage: bin/wb console [--log FILE] [--kind KIND] [--line L] [--speed N] IMAGE"
+USAGE = "usage: bin/wb console [OPTIONS] [--line L] [--speed N] IMAGE"
 
-OPTIONS = {"--log": "a file", "--kind": "a kind", "--line": "a line", "--speed": "a number of steps"}
+OPTIONS = {**loading.OPTIONS, "--line": "a line", "--speed": "a number of steps"}
 
 KEYS = """\
 Ctrl-] and then:
@@ -39,11 +39,10 @@ HELP = f"""\
 
 A terminal on a serial line: what the line sends is shown, and what is typed arrives there and becomes part of the log.
 
-  --log FILE    what happens at the lines besides
-  --kind KIND   what the image is, where it can't be seen: elf, image, rom or source
-  --line L      the serial line, 0 to 3; without it 0
-  --speed N     steps a second; without it 1,000,000
-  --help        this text
+{loading.OPTIONS_HELP}\
+  --line L        the serial line, 0 to 3; without it 0
+  --speed N       steps a second; without it 1,000,000
+  --help          this text
 
 {KEYS}
 Example:

@@ -2,16 +2,16 @@
 from __future__ import annotations
 
 import struct
-from dataclasses import dataclass
+from dataclasses import dataclass, replace
 from typing import Iterator, NamedTuple
 
 from .boot import Boot
 from .errors import Problem
-from .image import ELF_MAGIC, Image
+from .image import ELF_MAGIC, Image, SymbolFile
 from .limits import RAM, RESET_PC, ROM
 
 _MIPS = 8
-_EXECUTABLE = 2
+_EXECUTABLE, _SHARED = 2, 3
 _MAPPED_END = 0x8000_0000  # virtual addresses below it are mapped by translation entries
 _LOAD = 1
 _SYMBOL_TABLE = 2
@@ -73,13 +73,20 @@ class _Section(NamedTuple):
 
 def read(content: bytes, name: str) -> Elf:
     """Reads an ELF file, or refuses it with the reason."""
-    return _Reader(content, name).read()
+    return _Reader(content, name, (_EXECUTABLE,)).read()
+
+
+def symbols(file: SymbolFile) -> Iterator[Symbol]:
+    """The symbols of an ELF, which may be one that is linked to be moved, at their addresses with the offset."""
+    for symbol in _Reader(file.content, file.name, (_EXECUTABLE, _SHARED)).read().symbols:
+        yield replace(symbol, address=symbol.address + file.offset & 0xFFFF_FFFF)
 
 
 class _Reader:
-    def __init__(self, content: bytes, name: str) -> None:
+    def __init__(self, content: bytes, name: str, kinds: tuple[int, ...]) -> None:
         self.content = content
         self.name = name
+        self.kinds = kinds
 
     def read(self) -> Elf:
         self._check_machine()
@@ -87,7 +94,7 @@ class _Reader:
          _, program_size, program_count, section_size, section_count, _) = self._unpack(_HEADER, 16, "its header")
         if machine != _MIPS:
             raise self._problem(f"is for machine {machine} of ELF's list, not for MIPS ({_MIPS})")
-        if kind != _EXECUTABLE:
+        if kind not in self.kinds:
             raise self._problem("has no fixed addresses yet: link it, without PIE (ld -static -no-pie -Ttext 0xbfc00000)")
         if program_count and program_size < _PROGRAM_HEADER.size or section_count and section_size < _SECTION_HEADER.size:
             raise self._problem("has headers that are too small")
@@ -158,6 +165,13 @@ def _symbol(fields: tuple, names: bytes) -> Iterator[Symbol]:
 def image_of(content: bytes, name: str) -> tuple[Image, list[str]]:
     """The image that an ELF file makes, and notes for the user."""
     elf = read(content, name)
+    boot, notes = placed(elf, name)
+    notes += begin(boot, elf.entry, name)
+    return Image(name, "image", boot.write(), (SymbolFile(name, content),)), notes
+
+
+def placed(elf: Elf, name: str) -> tuple[Boot, list[str]]:
+    """What the segments of an ELF set, and notes for the user."""
     boot, notes = Boot(), []
     for address, run in _runs(elf, name):
         boot.put(address, run)
@@ -167,10 +181,15 @@ def image_of(content: bytes, name: str) -> tuple[Image, list[str]]:
                          "at the virtual one nothing is mapped at reset")
     if elf.architecture:
         notes.append(f"{name} was compiled for a later MIPS, whose instructions the R3000 may lack: compile it with -march=r3000")
-    if boot.word(ROM.start) is None:
-        _jump_to_entry(boot, elf.entry, name)
-        notes.append(f"{name} has nothing at the reset vector {RESET_PC:#010x}: a jump to its entry {elf.entry:#010x} was put there")
-    return Image(name, "image", boot.write(), content), notes
+    return boot, notes
+
+
+def begin(boot: Boot, entry: int, name: str) -> list[str]:
+    """Puts a jump to an entry where the machine begins, if nothing is there. Gives notes for the user."""
+    if boot.word(ROM.start) is not None:
+        return []
+    _jump_to_entry(boot, entry, name)
+    return [f"{name} has nothing at the reset vector {RESET_PC:#010x}: a jump to its entry {entry:#010x} was put there"]
 
 
 def _runs(elf: Elf, name: str) -> list[tuple[int, bytes]]:

@@ -22,17 +22,16 @@ from .symbols import symbols_of
 DEBUGGER = "gdb-multiarch"
 IN_GDB = Path(__file__).resolve().parent / "in_gdb.py"
 
-USAGE = "usage: bin/wb gdb [--log FILE] [--kind KIND] [--through] IMAGE [GDB-ARGUMENTS]"
+USAGE = "usage: bin/wb gdb [OPTIONS] [--through] IMAGE [GDB-ARGUMENTS]"
 HELP = f"""\
 {USAGE}
 
 gdb on the run of an image, forward and back. What stands after the image is gdb's own. In gdb `wb LINE` asks the
 workbench, and `wb help` says what; docs/DEBUGGING.md describes the rest.
 
-  --log FILE    what happens at the serial and external lines
-  --kind KIND   what the image is, where it can't be seen: elf, image, rom or source
-  --through     single steps run exceptions whole, with their handlers
-  --help        this text
+{loading.OPTIONS_HELP}\
+  --through       single steps run exceptions whole, with their handlers
+  --help          this text
 
 Example:
 
@@ -51,7 +50,7 @@ def main(arguments: Sequence[str]) -> int:
     """Runs gdb, and gives its status."""
     count = _stub_words(arguments)
     line = parse(arguments[:count], stub.OPTIONS, USAGE, HELP, range(1, count + 1))
-    image = loading.image(line.words[0], line.get("--kind"))
+    image = loading.booted(line)
     debugger = shutil.which(DEBUGGER)
     if debugger is None:
         raise Problem(f"{DEBUGGER} is not installed; on Debian: apt-get install {DEBUGGER}")
@@ -67,10 +66,15 @@ def main(arguments: Sequence[str]) -> int:
 
 @contextmanager
 def _symbols(image: Image) -> Iterator[list[str]]:
-    """The words that give gdb an ELF: the image, or a file with names for an image that is none."""
-    if image.elf:
+    """The words that give gdb ELFs: that of the image and others with symbols, or a file with names where there is none."""
+    first, *others = image.elves or (None,)
+    if first and first.offset:
+        first, others = None, list(image.elves)
+    added = [word for file in others
+             for word in ("-ex", f"add-symbol-file {shlex.quote(file.name)} -readnow -o {file.offset:#x}")]
+    if first:
         # Without --readnow gdb finds no lines of assembler sources.
-        yield ["--readnow", "--directory", str(Path(image.name).resolve().parent), image.name]
+        yield ["--readnow", "--directory", str(Path(first.name).resolve().parent), first.name, *added]
         return
     symbols = symbols_of(image)
     names = {KSEG0: "ram", RESET_PC: "reset"}
@@ -78,7 +82,7 @@ def _symbols(image: Image) -> Iterator[list[str]]:
     with tempfile.TemporaryDirectory() as folder:
         file = Path(folder, Path(image.name).name)
         file.write_bytes(symbol_file.content((name, address) for address, name in names.items()))
-        yield [str(file)]
+        yield [str(file), *added]
 
 
 def _stub_words(arguments: Sequence[str]) -> int:

@@ -3,7 +3,6 @@ from __future__ import annotations
 
 import re
 from dataclasses import dataclass
-from typing import Optional
 
 from .errors import Problem
 from .log import is_log
@@ -21,13 +20,23 @@ _GNU = re.compile(rb"^\s*(?:\.(?:text|data|bss|section|globa?l|set|align|p2align
 
 
 @dataclass(frozen=True)
+class SymbolFile:
+    """An ELF that has symbols of an image, and what is added to their addresses."""
+
+    name: str
+    content: bytes
+    offset: int = 0
+
+
+@dataclass(frozen=True)
 class Image:
-    """A boot image as the program takes it: of kind rom, image or source. `elf` is the ELF that it was made of."""
+    """A boot image as the program takes it: of kind rom, image or source. Its symbols are those of ELFs: of the one that it was made
+    of, which is the first, and of others."""
 
     name: str
     kind: str
     content: bytes
-    elf: Optional[bytes] = None
+    elves: tuple[SymbolFile, ...] = ()
 
 
 def kind_of(name: str, content: bytes) -> str:

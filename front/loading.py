@@ -2,23 +2,37 @@
 from __future__ import annotations
 
 import os
+import re
 import sys
 from contextlib import contextmanager, suppress
+from dataclasses import replace
 from pathlib import Path
 from typing import Iterator, Optional
 
-from . import elf
+from . import board, elf
 from . import log as logs
 from .arguments import Line
 from .driver import Driver
 from .errors import Ended, Problem
-from .image import HOW_TO_LINK, KINDS, Image, is_gnu_source, kind_of
+from .image import HOW_TO_LINK, KINDS, Image, SymbolFile, is_gnu_source, kind_of
 from .image import MAGIC as IMAGE_MAGIC
 from .program import build
 from .progress import TerminalProgress
 
 # The most bytes that the program takes for an image or a log.
 MOST_BYTES = 67_108_864
+
+# The options of every front end that boots an image: what is booted, and how.
+OPTIONS = {"--log": "a file", "--kind": "a kind", "--symbols": "a file", **board.OPTIONS}
+
+OPTIONS_HELP = """\
+  --log FILE      what happens at the serial and external lines
+  --kind KIND     what the image is, where it can't be seen: elf, image, rom or source
+  --symbols FILE  an ELF that has symbols of the image; may come several times. FILE@N adds N to their addresses
+  --unit N        a second of the clock is 8192 * N steps; without it N is 1, or what the image says
+  --byte-time N   a byte takes N ticks to be sent; without it 16, or what the image says
+  --clock TIME    the clock starts at 'YY-MM-DD HH:MM:SS', or with the 12 numbers of its registers 0 to 11
+"""
 
 
 def say(message: str) -> None:
@@ -59,6 +73,37 @@ def image(name: str, kind: Optional[str] = None) -> Image:
     return made
 
 
+def booted(line: Line, name: Optional[str] = None) -> Image:
+    """The image that an argument line boots, its first word or one of another name, with the options that the line has for it."""
+    made = image(line.words[0] if name is None else name, line.get("--kind"))
+    added = tuple(map(_symbol_file, line.all("--symbols")))
+    return replace(board.constants_of(line).put_on(made), elves=made.elves + added)
+
+
+def boot_words(line: Line) -> list[str]:
+    """The words that say what an argument line boots, and how: with them another line boots the same."""
+    return [word for name in OPTIONS for value in line.all(name) for word in (name, value)] + line.words[:1]
+
+
+def _symbol_file(text: str) -> SymbolFile:
+    """The ELF that is named, with the number after `@`."""
+    name, offset = name_and_number(text)
+    file = SymbolFile(name, content_of(name), offset or 0)
+    list(elf.symbols(file))  # a file that is none is refused here
+    return file
+
+
+def name_and_number(text: str) -> tuple[str, Optional[int]]:
+    """A name of a file, and the number that stands after it and an `@`. A file may also have this in its name."""
+    match = re.fullmatch(r"(.+)@(0x[0-9a-fA-F]{1,16}|[0-9][0-9,]{0,20})", text, re.DOTALL)
+    if not match or Path(text).exists():
+        return text, None
+    number = int(match[2].replace(",", ""), 0)
+    if number >= 1 << 32:
+        raise Problem(f"{text}: {match[2]} is no address: they are below 0x100000000")
+    return match[1], number
+
+
 def start(made: Image, log: Optional[str], report: Optional[TerminalProgress] = None) -> Driver:
     """A driver on an image, with the log in a file."""
     content = content_of(log) if log is not None else b""
@@ -73,7 +118,7 @@ def start(made: Image, log: Optional[str], report: Optional[TerminalProgress] = 
 @contextmanager
 def running(line: Line, report: Optional[TerminalProgress] = None) -> Iterator[Driver]:
     """A driver on the image that is the first word of an argument line, with the log of its option. It is closed at the end."""
-    driver = start(image(line.words[0], line.get("--kind")), line.get("--log"), report)
+    driver = start(booted(line), line.get("--log"), report)
     try:
         yield driver
     finally:

@@ -15,21 +15,20 @@ from .image import Image
 from .loading import say
 from .progress import on_terminal
 
-USAGE = "usage: bin/wb [--log FILE] IMAGE [SCRIPT]"
+USAGE = "usage: bin/wb [OPTIONS] IMAGE [SCRIPT]"
 
-HELP = """\
+HELP = f"""\
 usage: bin/wb [OPTIONS] IMAGE [SCRIPT]
        bin/wb COMMAND ..
 
 Boots an image and answers the commands of a script, or without one those that are typed.
 An IMAGE is an ELF, an image of this project, a raw ROM, or this project's source (.s).
 
-  --log FILE    what happens at the serial and external lines
-  --kind KIND   what the image is: elf, image, rom or source
-  --strict      end with status 5 at the first command that is refused
-  --echo        show each command before its reply
-  --json        one JSON object a reply
-  --help        this text
+{loading.OPTIONS_HELP}  --strict        end with status 5 at the first command that is refused
+  --echo          show each command before its reply
+  --json          one JSON object a reply
+  --help          this text
+  --version       the checksums of the program and of its sources, and the toolchain that proved and built it
 
 The other commands, each with its own --help:
 
@@ -39,7 +38,7 @@ The other commands, each with its own --help:
   bin/wb console IMAGE      a terminal on a serial line
   bin/wb plot --to N IMAGE  a picture of a run
   bin/wb log show FILE      a log as text, and `log make` back
-  bin/wb image ELF OUT      an ELF as an image or a raw ROM
+  bin/wb image ELF .. OUT   ELFs and other files as one image or a raw ROM
 
 Examples:
 
@@ -51,14 +50,14 @@ Examples:
 The commands of a script, such as goto, regs, mem, writer and patch, are on the page docs/USING.md.
 """
 
-OPTIONS = {"--log": "a file", "--kind": "a kind", "--strict": "", "--echo": "", "--json": ""}
+OPTIONS = {**loading.OPTIONS, "--strict": "", "--echo": "", "--json": ""}
 
 STRICT_STATUS = 5
 
 
 def main(arguments: Sequence[str]) -> int:
     line = parse(arguments, OPTIONS, USAGE, HELP, (1, 2))
-    image = loading.image(line.words[0], line.get("--kind"))
+    image = loading.booted(line)
     log = line.get("--log")
     log_content = loading.content_of(log) if log is not None else b""
     script = loading.check(line.words[1]) if len(line.words) == 2 else None

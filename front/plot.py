@@ -18,10 +18,10 @@ from .progress import on_terminal
 from .states import registers_at
 from .symbols import Symbols, symbols_of
 
-USAGE = ("usage: bin/wb plot --to N [--log FILE] [--words NAME,..] [--edits 'COMMAND; ..'] "
-         "[--background light|dark] [--force] [--kind KIND] IMAGE [OUT]")
-OPTIONS = {"--to": "a position", "--log": "a file", "--words": "names or addresses", "--edits": "commands",
-           "--background": "light or dark", saving.FORCE_OPTION: "", "--kind": "a kind"}
+USAGE = ("usage: bin/wb plot --to N [OPTIONS] [--words NAME,..] [--edits 'COMMAND; ..'] "
+         "[--background light|dark] [--force] IMAGE [OUT]")
+OPTIONS = {**loading.OPTIONS, "--to": "a position", "--words": "names or addresses", "--edits": "commands",
+           "--background": "light or dark", saving.FORCE_OPTION: ""}
 HELP = f"""\
 {USAGE}
 
@@ -29,14 +29,13 @@ One picture of a run, as SVG, in OUT or on standard output: the bytes at each se
 lines, the stores into the words that are named, which functions ran, and where edits met the run.
 
   --to N              the run's end
-  --log FILE          what happens at the serial and external lines
   --words NAME,..     words of memory: symbols, also with a number of bytes after them, or addresses
   --edits 'LINE; ..'  edits that are made first: add, ferr, wire, del, erase, set, move, patch
   --background NAME   light or dark; without it the picture follows the page that it is on
   --force             overwrites a file OUT that is no picture of a run
-  --kind KIND         what the image is, where it can't be seen: elf, image, rom or source
   --help              this text
 
+{loading.OPTIONS_HELP}
 Example:
 
   bin/wb plot --to 130000 --log examples/login/log --words session+32 examples/login/login.elf login.svg

@@ -16,9 +16,9 @@ from .progress import on_terminal
 from .session import Edit, Session
 from .symbols import symbols_of
 
-USAGE = "usage: bin/wb shell [--log FILE] [--kind KIND] [--echo] IMAGE [SCRIPT]"
+USAGE = "usage: bin/wb shell [OPTIONS] [--echo] IMAGE [SCRIPT]"
 
-OPTIONS = {"--log": "a file", "--kind": "a kind", "--echo": ""}
+OPTIONS = {**loading.OPTIONS, "--echo": ""}
 
 HELP = f"""\
 {USAGE}
@@ -26,10 +26,9 @@ HELP = f"""\
 A debugger on the run of an image: with line editing, history and completion on a terminal, or with the lines of a
 script. Addresses are virtual. An ELF gives names of addresses, and so do the labels of a source.
 
-  --log FILE    what happens at the serial and external lines
-  --kind KIND   what the image is, where it can't be seen: elf, image, rom or source
-  --echo        show each line of a script before what it shows
-  --help        this text
+{loading.OPTIONS_HELP}\
+  --echo          show each line of a script before what it shows
+  --help          this text
 
 Example:
 

@@ -15,18 +15,17 @@ from .replies import number_of
 from .rsp import PACKET_BYTES, Link
 from .travel import Watch
 
-USAGE = "usage: bin/wb stub [--log FILE] [--kind KIND] [--through] IMAGE"
-OPTIONS = {"--log": "a file", "--kind": "a kind", "--through": ""}
+USAGE = "usage: bin/wb stub [OPTIONS] [--through] IMAGE"
+OPTIONS = {**loading.OPTIONS, "--through": ""}
 HELP = f"""\
 {USAGE}
 
 Serves a debugger by gdb's remote serial protocol, on standard input and output. `bin/wb gdb` starts gdb on it;
 docs/DEBUGGING.md says what another debugger needs.
 
-  --log FILE    what happens at the serial and external lines
-  --kind KIND   what the image is, where it can't be seen: elf, image, rom or source
-  --through     single steps run exceptions whole, with their handlers
-  --help        this text
+{loading.OPTIONS_HELP}\
+  --through       single steps run exceptions whole, with their handlers
+  --help          this text
 
 Example, in gdb:
 

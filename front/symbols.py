@@ -58,12 +58,11 @@ _UNSIZED = 0x1000
 
 
 def symbols_of(image: Image) -> Symbols:
-    """The symbols of the ELF that an image was made of, or the labels of a source."""
-    if image.elf is not None:
-        return Symbols(elf.read(image.elf, image.name).symbols)
+    """The symbols of the ELFs of an image, and the labels of a source."""
+    found = [symbol for file in image.elves for symbol in elf.symbols(file)]
     if image.kind == "source":
-        return Symbols(Symbol(name, _virtual(place), 0, "other") for name, place in Source(image.content).labels.items())
-    return Symbols()
+        found += (Symbol(name, _virtual(place), 0, "other") for name, place in Source(image.content).labels.items())
+    return Symbols(found)
 
 
 def _virtual(place: int) -> int:

@@ -4,13 +4,14 @@ from __future__ import annotations
 import random
 import struct
 import unittest
+from dataclasses import replace
 from typing import Sequence
 
 from front import elf
 from front.boot import Boot, Source, boot_of
 from front.elf import Symbol
 from front.errors import Problem
-from front.image import Image, kind_of
+from front.image import Image, SymbolFile, kind_of
 from front.symbols import Symbols, symbols_of
 
 # Where the parts of a made ELF stand.
@@ -141,6 +142,17 @@ class Names(unittest.TestCase):
                        symbols=[("start", 0xBFC0_0000, 8, 2), ("$L1", 0xBFC0_0004, 0, 0), (".text", 0xBFC0_0000, 0, 3)])
         image, _ = elf.image_of(content, "x.elf")
         self.assertEqual(symbols_of(image).names(), ["start"])
+
+    def test_of_several(self) -> None:
+        """Those of the image's own ELF, and of others, which may be linked to be moved, at their offsets."""
+        rom = [(0xBFC0_0000, 0xBFC0_0000, bytes(4), 4)]
+        own = made(rom, symbols=[("start", 0xBFC0_0000, 4, 2)])
+        moved = made(rom, symbols=[("module", 0x100, 4, 2), ("start", 0, 4, 2)], kind=3)
+        image, _ = elf.image_of(own, "own.elf")
+        image = replace(image, elves=(*image.elves, SymbolFile("moved.elf", moved, 0x8000_2000)))
+        names = symbols_of(image)
+        self.assertEqual([names.address(it) for it in ("start", "module")], [0xBFC0_0000, 0x8000_2100])
+        self.assertEqual(names.name(0x8000_2000), "start")
 
     def test_of_a_source(self) -> None:
         source = Source(b"# c\n\n.bytetime 0x20\n.unit 007\n.clock 1 2 3 4 5 6 7 8 9 10 0x20 6\nfirst: # begins\n\tj first\r\n"
