@@ -10,7 +10,7 @@ import threading
 from contextlib import contextmanager
 from copy import deepcopy
 from dataclasses import replace
-from typing import Any, Callable, Iterator, Optional, Sequence
+from typing import Any, Callable, Iterator, Optional, Sequence, Tuple
 
 from . import replies
 from .boot import Boot, boot_of
@@ -31,6 +31,10 @@ _MOVES = frozenset(("pos", "goto", "step", "back", "visit"))
 _QUERIES = frozenset(("regs", "reg", "cp0", "tlb", "where", "mem", "dis", "console", "find", "writer", "visit"))
 
 
+# Where a long run begins, and where it ends if that is known.
+Way = Tuple[int, Optional[int]]
+
+
 class Driver:
     """The workbench. A refusal raises Refused, a program that died Ended, and Ctrl-C in a turn Interrupted."""
 
@@ -49,6 +53,7 @@ class Driver:
         # How far the run was made under the image and log as they stand.
         self.made = 0
         self._runs = 0
+        self._way: Optional[Way] = None
 
     @classmethod
     def start(cls, image: Image, log: Sequence[Event] = (), *, report: Optional[TerminalProgress] = None,
@@ -324,24 +329,30 @@ class Driver:
             for _ in self._replies(self._started(), commands):
                 pass
             self.made = piece
-            self.tell(piece - begin, furthest - begin)
+            self.tell(piece, (begin, furthest))
         self.made = max(self.made, furthest)
 
     @contextmanager
-    def long_run(self) -> Iterator[None]:
-        """What is shown of a run inside it is removed at the end of the outermost one."""
+    def long_run(self, begin: Optional[int] = None, end: Optional[int] = None) -> Iterator[None]:
+        """A run from one position to another, or without an end. The outermost one that has a begin is shown, and what is shown
+        is removed at the end of the outermost one of all."""
+        outer = self._way
         self._runs += 1
+        if outer is None and begin is not None:
+            self._way = begin, end
         try:
             yield
         finally:
+            self._way = outer
             self._runs -= 1
             if self.report and not self._runs:
                 self.report.close()
 
-    def tell(self, done: int, total: int) -> None:
-        """Shows how far a long run is."""
+    def tell(self, position: int, way: Optional[Way] = None) -> None:
+        """Shows how far a long run is, or a piece of it where nothing is known of the whole."""
         if self.report:
-            self.report(done, total)
+            begin, end = self._way or way or (position, None)
+            self.report(position, begin, end)
 
 
 def _moves(command: str) -> bool:

@@ -20,8 +20,8 @@ _TERM = re.compile(r"0x[0-9a-fA-F]+|[0-9][0-9,]*|'(?:[^'\\]|\\.)+'|[&$]?[A-Za-z_
 
 HELP = """\
 Wherever a number may stand: 4096, 40,017, 0x1000, 'a', the name of a register (sp, r29, pc, hi, epc), of a symbol
-(main), `pos` for the position, and sums and differences of these: main+0x78, sp-16. A name is a symbol if there is
-one, or else a register; $NAME is always the register, and &NAME the symbol."""
+(main), `pos` for the position, `last` for the step of the log's last event, and sums and differences of these: main+0x78,
+sp-16. A name is a symbol if there is one, or else a register; $NAME is always the register, and &NAME the symbol."""
 
 
 def register_number(word: str) -> Optional[int]:
@@ -30,8 +30,8 @@ def register_number(word: str) -> Optional[int]:
 
 
 def names() -> Iterable[str]:
-    """All names of registers, and `pos`."""
-    return [*REGISTERS, *(f"r{number}" for number in range(32)), "pc", "hi", "lo", *CONTROL_NAMES, "pos"]
+    """All names of registers, `pos` and `last`."""
+    return [*REGISTERS, *(f"r{number}" for number in range(32)), "pc", "hi", "lo", *CONTROL_NAMES, "pos", "last"]
 
 
 def number(text: str, driver: Driver, symbols: Symbols) -> int:
@@ -76,6 +76,8 @@ def _register(name: str, driver: Driver) -> Optional[int]:
     """The value of a register at the position."""
     if name == "pos":
         return driver.position
+    if name == "last":
+        return driver.log[-1].time if driver.log else 0
     if name in CONTROL_NAMES:
         return driver.control()[name]
     kept: dict[str, Callable[[], int]] = {

@@ -5,6 +5,7 @@ import shlex
 import shutil
 import signal
 import subprocess
+import sys
 import tempfile
 from contextlib import contextmanager
 from pathlib import Path
@@ -55,7 +56,8 @@ def main(arguments: Sequence[str]) -> int:
     if debugger is None:
         raise Problem(f"{DEBUGGER} is not installed; on Debian: apt-get install {DEBUGGER}")
     build()
-    command = shlex.join([str(ROOT / "bin/wb"), "stub", *arguments[:count]])
+    progress = ["--progress"] if sys.stdout.isatty() else []
+    command = shlex.join([str(ROOT / "bin/wb"), "stub", *progress, *arguments[:count]])
     words = [debugger, "-q", *(word for setting in SETTINGS for word in ("-iex", setting))]
     # A Ctrl-C is gdb's alone.
     signal.signal(signal.SIGINT, lambda number, frame: None)

@@ -38,8 +38,10 @@ Numbers may be expressions without blanks: wb writer &session.length, wb goto $p
     def invoke(self, line: str, from_terminal: bool) -> None:
         name, *words = line.split() or ["help"]
         bits = 32 if name in BY_ADDRESS else 64
-        numbers = words if name.startswith("save-") else [as_number(word, bits) for word in words]
+        numbers = words if name.startswith("save-") or words[:1] and words[0].startswith("last+") else [as_number(word, bits) for word in words]
         gdb.execute(" ".join(["monitor", name, *numbers]))
+        if name == "until":
+            gdb.execute("continue")
         if name in MOVES_OR_EDITS:
             flush()
             gdb.execute("frame")

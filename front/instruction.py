@@ -8,7 +8,10 @@ LOADS = range(0x20, 0x27)  # major opcodes
 STORES = range(0x28, 0x2F)
 COPROCESSOR_0 = 0x10
 
+MOVE_FROM, MOVE_TO = 0, 4  # mfc0 and mtc0, in bits 25 to 21
 RETURN = 0x4200_0010  # rfe
+WRITE_ENTRY = 0x4200_0002  # tlbwi
+ENTRIES = (0x4200_0001, WRITE_ENTRY, 0x4200_0008)  # tlbr, tlbwi, tlbp
 
 
 def next_word(driver: Driver, registers: Registers) -> int:

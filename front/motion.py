@@ -1,22 +1,26 @@
 """Runs and steps both ways as gdb asks for them, and the replies that say where they stopped."""
 from __future__ import annotations
 
+from dataclasses import replace
 from typing import Callable
 
 from . import output, through, travel
 from .driver import Driver
-from .errors import Interrupted
+from .errors import Interrupted, Problem
+from .idle import IDLE_STEPS
 from .limits import GREATEST_POSITION
+from .progress import TerminalProgress
 from .rsp import PACKET_BYTES, Link
 from .travel import Reason, Stop, Stops
 
-TRAP, INTERRUPTED = b"T05", b"T02"
+TRAP, INTERRUPTED, STOPPED = b"T05", b"T02", b"T00"
 REPLIES = {
     Reason.BEGIN: b"T05replaylog:begin;",
     Reason.END: b"T05replaylog:end;",
-    Reason.STUCK: b"T05replaylog:end;",
-    Reason.WAITING: b"T05replaylog:end;",
+    Reason.LIMIT: STOPPED,
+    Reason.IDLE: STOPPED,
     Reason.INTERRUPTED: INTERRUPTED,
+    **{reason: b"T05replaylog:end;" for reason in travel.STILL},
 }
 
 
@@ -29,6 +33,8 @@ class Motion:
         self._link = link
         self._exceptions_whole = exceptions_whole
         self._transcript = output.Transcript()
+        self.end = GREATEST_POSITION  # of the next run
+        self.idle = IDLE_STEPS
         self._told = 0  # what was sent before this position has been shown
         self._moving = False
         self._interrupted = False  # the debugger wants the present move to end
@@ -39,7 +45,15 @@ class Motion:
         return self._interrupted
 
     def go_on(self) -> bytes:
-        return self._forward(lambda: travel.forward(self._driver, self.stops, self._pause))
+        end, self.end = self.end, GREATEST_POSITION
+        stops = replace(self.stops, end=end, idle=self.idle)
+        return self._forward(lambda: travel.forward(self._driver, stops, self._pause))
+
+    def go_until(self, position: int) -> None:
+        """Lets the next run end at a position at the latest."""
+        if not self._driver.position < position <= GREATEST_POSITION:
+            raise Problem(f"position {position:,} is not ahead: this is {self._driver.position:,}")
+        self.end = position
 
     def leave(self, addresses: range) -> bytes:
         return self._forward(lambda: travel.leave(self._driver, addresses, self.stops, self._pause))
@@ -53,11 +67,24 @@ class Motion:
     def step_back(self) -> bytes:
         return self._backward(self._one_step_back)
 
+    def show_progress(self) -> None:
+        """Shows in the debugger's console how far long runs are."""
+        self._driver.report = TerminalProgress(_Console(self))
+
     def say(self, text: bytes) -> None:
         """Shows a text in the debugger's console."""
+        if text and self._driver.report:
+            self._driver.report.clear()
+        self.write(text)
+
+    def write(self, text: bytes) -> None:
         half = PACKET_BYTES // 2 - 1
         for first in range(0, len(text), half):
             self._link.send(b"O" + text[first:first + half].hex().encode())
+
+    @property
+    def is_moving(self) -> bool:
+        return self._moving
 
     def _one_step(self) -> Stop:
         here = self._driver.position
@@ -118,6 +145,21 @@ class Motion:
     def _reply(self, stop: Stop) -> bytes:
         if stop.watch:
             return b"T05watch:%x;" % stop.watch.address
-        if stop.reason in (Reason.STUCK, Reason.WAITING):
-            self.say(f"\n[From position {stop.position:,} on the program {stop.reason.value}.]\n".encode())
+        if stop.reason in (*travel.STILL, Reason.IDLE):
+            note = stop.note().replace("from step", "From position").replace("nothing was", "Nothing was")
+            self.say(f"\n[{note}.]\n".encode())
         return REPLIES.get(stop.reason, TRAP)
+
+
+class _Console:
+    """The debugger's console as a stream. It takes text only while a run goes on."""
+
+    def __init__(self, motion: Motion) -> None:
+        self._motion = motion
+
+    def write(self, text: str) -> None:
+        if self._motion.is_moving:
+            self._motion.write(text.encode())
+
+    def flush(self) -> None:
+        pass

@@ -3,39 +3,60 @@ from __future__ import annotations
 
 import sys
 import time
-from typing import Optional, TextIO
+from typing import Optional, Protocol
 
 # A run that takes less is not worth a line.
-_PATIENCE = 0.3
-_INTERVAL = 0.1
+_PATIENCE = 1.0
+_INTERVAL = 0.2
+
+
+class Stream(Protocol):
+    """What shows text on a terminal."""
+
+    def write(self, text: str, /) -> object: ...
+
+    def flush(self) -> object: ...
 
 
 class TerminalProgress:
-    """Shows steps, steps a second, and what is left. `close` takes the line away."""
+    """Shows the position, steps a second, and what is left where that is known. `close` takes the line away."""
 
-    def __init__(self, stream: TextIO) -> None:
+    def __init__(self, stream: Stream) -> None:
         self._stream = stream
         self._began: Optional[float] = None
+        self._first = 0
         self._shown = 0.0
 
-    def __call__(self, done: int, total: int) -> None:
+    def __call__(self, position: int, begin: int, end: Optional[int]) -> None:
         now = time.monotonic()
         if self._began is None:
-            self._began = now
+            self._began, self._first = now, position
         took = now - self._began
         if took < _PATIENCE or now - self._shown < _INTERVAL:
             return
         self._shown = now
-        speed = done / took
-        left = f", {(total - done) / speed:.0f} s left" if speed else ""
-        self._stream.write(f"\r\x1b[K{done:,} of {total:,} steps, {speed / 1e6:.0f} million a second{left}")
+        self._stream.write(f"\r\x1b[K{progress(position, begin, end, abs(position - self._first) / took)}")
         self._stream.flush()
 
-    def close(self) -> None:
+    def clear(self) -> None:
+        """Makes room for something else. The line comes again."""
         if self._shown:
             self._stream.write("\r\x1b[K")
             self._stream.flush()
-        self._began, self._shown = None, 0.0
+        self._shown = 0.0
+
+    def close(self) -> None:
+        self.clear()
+        self._began = None
+
+
+def progress(position: int, begin: int, end: Optional[int], speed: float) -> str:
+    """How far a run is, and at which speed in steps a second."""
+    shown = f"position {position:,}, {speed / 1e6:.0f} million steps a second"
+    if end is None or end == begin:
+        return shown
+    left = f", {abs(end - position) / speed:.0f} s left" if speed else ""
+    return f"{shown}, {100 * abs(position - begin) // abs(end - begin)}% of the way{left}"
 
 
 def on_terminal() -> Optional[TerminalProgress]:

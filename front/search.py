@@ -20,7 +20,7 @@ def next_visit(driver: Driver, addresses: Collection[int], limit: int) -> Option
     """The least position above the present one, at most `limit` beyond it, whose PC is one of the addresses."""
     begin = driver.position
     end = min(begin + limit, GREATEST_POSITION)
-    with _search(driver) as tell:
+    with _search(driver, end) as tell:
         # With one address the search ends where it is found. Of several, the nearest one is wanted.
         for low, high in _forward(begin, end, WINDOWS if len(addresses) > 1 else WINDOWS[-1:]):
             nearest = high + 1
@@ -28,21 +28,21 @@ def next_visit(driver: Driver, addresses: Collection[int], limit: int) -> Option
                 nearest = _visit(driver, address, low, nearest - 1) or nearest
             if nearest <= high:
                 return nearest
-            tell(high - begin, end - begin)
+            tell(high)
     return None
 
 
 def last_visit(driver: Driver, addresses: Collection[int], lowest: int) -> Optional[int]:
     """The greatest position below the present one, and not below `lowest`, whose PC is one of the addresses."""
     begin = driver.position
-    with _search(driver) as tell:
+    with _search(driver, lowest) as tell:
         for low, high in _backward(lowest, begin):
             last = 0 if low == 0 and RESET_PC in addresses else None
             for address in addresses:
                 last = _last_visit(driver, address, low - 1 if last is None else last, high) or last
             if last is not None:
                 return last
-            tell(begin - low, begin - lowest)
+            tell(low)
     return None
 
 
@@ -57,12 +57,12 @@ def first_store(driver: Driver, physical_word: int, limit: int) -> Optional[int]
         step = driver.writer(physical_word).step
         return step if step is not None and step >= begin else None
 
-    with _search(driver) as tell:
+    with _search(driver, end) as tell:
         for low, high in _forward(begin, end, WINDOWS):
             found = last_before(high)
             if found is not None:
                 return _first(last_before, low, found)
-            tell(high - begin, end - begin)
+            tell(high)
     return None
 
 
@@ -72,11 +72,11 @@ def last_store(driver: Driver, physical_word: int) -> Optional[int]:
 
 
 @contextmanager
-def _search(driver: Driver) -> Iterator[Callable[[int, int], None]]:
-    """Brings the driver back to its position, and shows how far the search is."""
+def _search(driver: Driver, end: int) -> Iterator[Callable[[int], None]]:
+    """Brings the driver back to its position, and shows how far the search is on its way to an end."""
     position = driver.position
     try:
-        with driver.long_run():
+        with driver.long_run(position, end):
             yield driver.tell
     finally:
         driver.goto(position)

@@ -9,6 +9,7 @@ from typing import Callable, Iterator, Optional
 from . import expressions
 from .driver import Driver
 from .errors import Problem
+from .idle import IDLE_STEPS
 from .limits import RAM, ROM
 from .log import Event
 from .symbols import Symbols
@@ -38,6 +39,16 @@ class Edit:
     patches: list[tuple[int, int]]
 
 
+@dataclass(frozen=True)
+class Paused:
+    """An `expect` that paused at a position, and from which place of the line on it looks for its text."""
+
+    line: int
+    text: bytes
+    first: int
+    position: int
+
+
 @dataclass
 class Session:
     """A debugger on one run. `tell` takes what is shown, line by line."""
@@ -49,6 +60,8 @@ class Session:
     edits: list[Edit] = field(default_factory=list)
     # Of each line, the steps over which a text was typed last; what is typed within them goes on after it.
     typed: dict[int, range] = field(default_factory=dict)
+    idle: int = IDLE_STEPS
+    paused: Optional[Paused] = None
     saved_log: list[Event] = field(default_factory=list)
     saved_patches: list[tuple[int, int]] = field(default_factory=list)
 

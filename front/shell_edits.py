@@ -6,11 +6,12 @@ import re
 from . import log as logs
 from .commands import FILES, PAST, SERIAL, SHELL, command
 from .errors import Problem
+from .idle import Idleness
 from .image_command import file_for
 from .limits import GREATEST_POSITION, GREATEST_TIME, LINES
 from .log import Kind, quoted, unquoted
 from .saving import is_forced, save
-from .session import Session, counted
+from .session import Paused, Session, counted
 from .standstill import standstill
 
 # Typed bytes are at least this many steps apart, and twice the time that the serial part takes to send one. So a program that
@@ -108,16 +109,20 @@ def expect(session: Session, words: list[str]) -> None:
     line, text, limit = _line_and_text(session, words, "expect [L] 'TEXT' [K]")
     driver, here = session.driver, session.driver.position
     end = min(here + limit, GREATEST_POSITION) if limit else GREATEST_POSITION
-    first = driver.sent(line)
+    paused = session.paused
+    # What goes on where it paused looks at all that was sent since it began.
+    first = paused.first if paused and (paused.line, paused.text, paused.position) == (line, text, here) else driver.sent(line)
+    session.paused = None
     try:
-        with driver.long_run():
+        with driver.long_run(here, end if limit else None):
             why = _run_until(session, line, first, text, end)
     except BaseException:
         driver.goto(here)
         raise
     if why:
         sent = driver.console(line, first)
-        driver.goto(here)
+        if not session.paused:
+            driver.goto(here)
         raise Problem(f"line {line} did not send {quoted(text)}: {why}. It sent {quoted(sent[-200:]) if sent else 'nothing'}")
     session.show_position()
 
@@ -125,9 +130,10 @@ def expect(session: Session, words: list[str]) -> None:
 def _run_until(session: Session, line: int, first: int, text: bytes, end: int) -> str:
     """Goes on until a line sent a text from place `first` on, or says why it did not."""
     driver = session.driver
-    start, sent = driver.position, b""
+    idleness = Idleness(driver, session.idle if end == GREATEST_POSITION else 0)
+    sent = driver.console(line, first)
     while driver.position < end:
-        driver.goto(min(driver.position + _PIECE, end))
+        driver.goto(idleness.piece(min(driver.position + _PIECE, end)))
         sent += driver.console(line, first + len(sent))
         place = sent.find(text)
         if place >= 0:
@@ -135,8 +141,12 @@ def _run_until(session: Session, line: int, first: int, text: bytes, end: int) -
             return ""
         still = standstill(driver)
         if still:
-            return f"at step {driver.position:,} the program {still.value}"
-        driver.tell(driver.position - start, end - start)
+            return f"at step {driver.position:,} the program {still.kind.value}"
+        if idleness.is_over():
+            session.paused = Paused(line, text, first, driver.position)
+            return (f"up to step {driver.position:,} nothing was sent for {session.idle:,} steps, and the log has no more events; "
+                    "the same line goes on, and `idle N` changes that number")
+        driver.tell(driver.position)
     return f"that was looked for up to step {end:,}"
 
 

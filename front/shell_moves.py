@@ -7,6 +7,7 @@ from . import memory, travel
 from .commands import MOVES, STOPS, command
 from .driver import Driver
 from .errors import Problem
+from .limits import GREATEST_POSITION
 from .log import quoted
 from .search import next_visit
 from .session import Mark, Session, counted
@@ -50,10 +51,12 @@ def visit(session: Session, words: list[str]) -> None:
             raise Problem(f"{nowhere} in the next {counted(limit, 'step')}")
     else:
         here = driver.position
-        stop = _travel(session, travel.forward, Stops({address}))
+        stop = _travel(session, travel.forward, Stops({address}, idle=session.idle))
+        if stop.reason is Reason.IDLE:
+            raise Problem(f"{nowhere} up to step {stop.position:,}: {_idle(stop, 'visit')}")
         if stop.reason is not Reason.BREAKPOINT:
             driver.goto(here)
-            raise Problem(f"{nowhere}: {_reason(session, stop)}")
+            raise Problem(f"{nowhere}: {stop.note()}")
         found = stop.position
     driver.goto(found)
     session.show_position()
@@ -116,9 +119,32 @@ def delete(session: Session, words: list[str]) -> None:
     session.marks = [it for it in session.marks if number is not None and it.number != number]
 
 
-@command("continue", "goes on to the next breakpoint or watch", STOPS)
+@command("continue [N]", "goes on to the next breakpoint or watch, at most N steps", STOPS)
 def continue_(session: Session, words: list[str]) -> None:
-    _show_stop(session, _travel(session, travel.forward, _stops(session)), after=1)
+    here = session.driver.position
+    _go_on(session, min(here + session.number(words[0]), GREATEST_POSITION) if words else GREATEST_POSITION)
+
+
+@command("until N", "goes on to position N, or the next breakpoint or watch: until 40,000, until last+1,000", STOPS)
+def until(session: Session, words: list[str]) -> None:
+    _go_on(session, session.number(words[0]))
+
+
+def _go_on(session: Session, end: int) -> None:
+    here = session.driver.position
+    if not here < end <= GREATEST_POSITION:
+        raise Problem(f"position {end:,} is not ahead: this is {here:,}, and the greatest one is {GREATEST_POSITION:,}")
+    _show_stop(session, _travel(session, travel.forward, _stops(session, end)), after=1)
+
+
+@command("idle [N]", "pauses long runs after N steps in which nothing is sent or to come, or shows N; 0 for never", STOPS)
+def idle(session: Session, words: list[str]) -> None:
+    if words:
+        session.idle = session.number(words[0])
+    if session.idle:
+        session.tell(f"long runs pause after {counted(session.idle, 'step')} in which nothing is sent and no event is to come")
+    else:
+        session.tell("long runs don't pause")
 
 
 @command("reverse-continue", "goes back to the last breakpoint or watch", STOPS)
@@ -126,8 +152,9 @@ def reverse_continue(session: Session, words: list[str]) -> None:
     _show_stop(session, _travel(session, travel.backward, _stops(session)), after=0)
 
 
-def _stops(session: Session) -> Stops:
-    return Stops({it.address for it in session.marks if not it.watch}, {it.watch for it in session.marks if it.watch})
+def _stops(session: Session, end: int = GREATEST_POSITION) -> Stops:
+    return Stops({it.address for it in session.marks if not it.watch}, {it.watch for it in session.marks if it.watch},
+                 end, session.idle)
 
 
 def _travel(session: Session, go: Callable[[Driver, Stops, travel.Pause], Stop], stops: Stops) -> Stop:
@@ -154,20 +181,18 @@ def _show_stop(session: Session, stop: Stop, after: int) -> None:
     if stop.watch:
         session.driver.goto(stop.position + after)
         _show_change(session, stop.watch, stop.position)
+    elif stop.reason is Reason.BREAKPOINT:
+        pc = session.driver.registers().pc
+        mark = next(it for it in session.marks if not it.watch and it.address == pc)
+        session.tell(f"{mark.number}: {mark.text}")
     else:
-        session.tell(_reason(session, stop))
+        session.tell(_idle(stop, "continue") if stop.reason is Reason.IDLE else stop.note())
     session.show_position()
 
 
-def _reason(session: Session, stop: Stop) -> str:
-    """Why the run stopped where it is."""
-    if stop.reason is Reason.BREAKPOINT:
-        pc = session.driver.registers().pc
-        mark = next(it for it in session.marks if not it.watch and it.address == pc)
-        return f"{mark.number}: {mark.text}"
-    if stop.reason in (Reason.STUCK, Reason.WAITING):
-        return f"from step {stop.position:,} on the program {stop.reason.value}"
-    return f"that is {stop.reason.value}"
+def _idle(stop: Stop, command: str) -> str:
+    """Why a run pauses that does nothing, and how it goes on."""
+    return f"{stop.note()}: `{command}` goes on, and `idle N` changes that number"
 
 
 def _show_change(session: Session, watched: Watch, step: int) -> None:

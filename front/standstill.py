@@ -1,9 +1,11 @@
-"""Where a run stands still: it goes round in a loop that changes nothing, for ever or until a byte arrives.
+"""Where a run stands still: it comes to the same state again and again, for ever or until something arrives.
 
-That is exact. It holds where a turn leaves the processor as it was; no step of it takes an exception, changes a word
-of memory, or has to do with the control registers; no interrupt can come; and its loads are from memory, or from the
-serial part once what that shows can't change before a byte arrives. A loop that reads the clock, or that counts in
-memory, does not stand still.
+That is exact. It holds where after a turn all is as before that its steps look at: the processor, the control registers but
+Random, the translation entries, and memory. What else the machine has can't count: no step of the turn reads Random, the lines of
+devices in Cause, or a device, but for the serial part once what that shows can't change before a byte arrives; none stores into a
+device; caches are not isolated; and where devices can interrupt, they are quiet until the next event of the log. So a loop stands
+still that an interrupt of the serial part will leave, and so do faults in empty ROM. A loop that reads the clock, that the clock
+interrupts, or that counts in memory, does not.
 """
 from __future__ import annotations
 
@@ -11,17 +13,23 @@ from dataclasses import dataclass
 from enum import Enum
 from typing import Optional
 
-from . import instruction
+from . import instruction, search
 from .driver import Driver
 from .limits import GREATEST_POSITION, RAM, ROM
 from .log import Kind
-from .replies import Registers
-from .states import registers_at, replies_at
+from .replies import Registers, memory
+from .states import registers_at
 
-TURN = 1024  # the longest turn that is looked at, in steps
+TURN = 1024  # the most that a turn may take to be seen: an asked state counts 1
 BATCH = 16  # states that are asked for together
+ASKED = 4  # what a question besides counts, as the program runs some steps again for it
+EMPTY = 64  # empty words of ROM are passed over where there are at least so many
 
-INTERRUPTS_ON, DEVICE_MASK, ISOLATED = 0x1, 0xC00, 0x1_0000  # bits of Status
+INTERRUPTS_ON, BOARD_MASK, CLOCK_MASK, ISOLATED = 0x1, 0x400, 0x800, 0x1_0000  # bits of Status
+LINES = 0xFC00  # of Cause, which follow the devices
+RANDOM, CAUSE = 1, 13  # numbers of control registers
+VECTORS = (0x8000_0080, 0xBFC0_0180)  # where interrupts lead, before and after the boot code has its way
+SECOND = 8192  # units of the clock
 
 # Of a word, by each load; lwl and lwr count as none.
 SHOWN = {0x20: 0xFF, 0x21: 0xFFFF, 0x23: 0xFFFF_FFFF, 0x24: 0xFF, 0x25: 0xFFFF}
@@ -36,31 +44,30 @@ class Standstill(Enum):
 
     STUCK = "goes round in a loop that nothing can leave"
     WAITING = "waits for a byte, and the log has no more"
+    LISTENING = "goes round in a loop that only an interrupt from outside can leave, and the log has no more events"
+    # That the clock has no other interrupt shows in a second without one; what its alarm is set to does not show.
+    ALARM = "goes round in a loop that only an alarm of the clock can leave, as the log has no more events"
 
 
 @dataclass(frozen=True)
 class Quiet:
-    """That a run stands still up to a step, where a byte arrives, or for ever; and whether it waits for one."""
+    """That a run stands still up to a step, where something arrives, or for ever, and what it would then be said to do; and the
+    steps of a turn, where it does more than go round: it takes exceptions, or changes what it sets right again."""
 
     end: int
-    waits: bool
+    kind: Standstill
+    turn: Optional[int] = None
 
 
-def standstill(driver: Driver, turn: int = TURN) -> Optional[Standstill]:
+def standstill(driver: Driver, turn: int = TURN) -> Optional[Quiet]:
     """Whether the run stands still for ever from the position on, which stays."""
     found = quiet(driver, turn)
-    if found is None or found.end < GREATEST_POSITION:
-        return None
-    return Standstill.WAITING if found.waits else Standstill.STUCK
+    return found if found and found.end == GREATEST_POSITION else None
 
 
 def quiet(driver: Driver, turn: int) -> Optional[Quiet]:
-    """How long the run stands still from the position on, which stays, in a loop whose turns have at most `turn`
-    steps."""
+    """How long the run stands still from the position on, which stays, in a loop whose turns take at most `turn` to be seen."""
     start = driver.position
-    status = driver.control()["status"]
-    if status & ISOLATED or status & INTERRUPTS_ON and status & DEVICE_MASK:
-        return None
     try:
         return _Loop(driver).judge(turn)
     finally:
@@ -73,84 +80,195 @@ class _Loop:
     def __init__(self, driver: Driver) -> None:
         self._driver = driver
         self._start = driver.position
+        self._control = _control(driver)
         self._states = [driver.registers()]
+        self._passed = 0  # steps through empty ROM, whose states are not asked for
+        self._cost = 1
         self._words: dict[int, int] = {}  # the instructions, by their addresses
         self._places: dict[int, Optional[int]] = {}  # the physical addresses of loads and stores
+        self._first_words: dict[int, int] = {}  # what the words that are stored to hold at the first state
+        self._changed: set[int] = set()  # those that hold something else
+        self._known = {_key(self._states[0])}  # the states since the last step that changed more than the processor
         self._asks_serial = False
         self._unready = False  # the serial part was seen not to be ready: it may be later
+        self._listens = False  # devices may interrupt
+        self._hears_clock = False  # the clock too
+        self._is_deep = False  # a step changes more than the processor
+        self._maps = False  # a step sets a translation entry
 
     def judge(self, most: int) -> Optional[Quiet]:
+        if not self._can_take(self._control["status"]):
+            return None
         turn = self._turn(most)
         if not turn:
             return None
-        if not self._asks_serial:
-            return Quiet(GREATEST_POSITION, waits=False)
-        if self._unready and not self._stays(turn, self._driver.boot().byte_time + 1):
+        shown = turn if self._is_deep else None
+        if not self._asks_serial and not self._listens:
+            return Quiet(GREATEST_POSITION, Standstill.STUCK, shown)
+        if (self._unready or self._listens) and not self._stays(turn, self._driver.boot().byte_time + 1):
             return None
-        # No loop that stands still sees an external line.
-        arrives = (event.time for event in self._driver.log if event.time >= self._start and event.kind != Kind.WIRE)
+        if self._hears_clock and not self._has_quiet_second():
+            return None
+        # A loop that takes no interrupts sees no external line.
+        arrives = (event.time for event in self._driver.log
+                   if event.time >= self._start and (self._listens or event.kind != Kind.WIRE))
         end = next(arrives, GREATEST_POSITION)
-        # A step that meets a byte says nothing of the steps before it.
-        return Quiet(end, waits=True) if self._start + len(self._states) - 1 <= end else None
+        # A step that meets an event says nothing of the steps before it.
+        kind = (Standstill.ALARM if self._hears_clock else Standstill.WAITING if self._asks_serial else Standstill.LISTENING)
+        return Quiet(end, kind, shown) if self._here <= end else None
+
+    @property
+    def _here(self) -> int:
+        """The position of the last state."""
+        return self._start + self._passed + len(self._states) - 1
 
     def _turn(self, most: int) -> Optional[int]:
         """The steps of a turn, if the first state comes again. It does not if another state comes again before it."""
-        known = {_key(self._states[0])}
-        while len(self._states) <= most:
-            at = len(self._states)
-            if not self._follow():
+        while self._cost <= most:
+            for after in self._ahead():
+                if not self._keeps(after):
+                    return None
+                self._states.append(after)
+                if after == self._states[0] and self._is_all_as_before():
+                    return self._here - self._start
+                if _key(after) in self._known:
+                    return None
+                self._known.add(_key(after))
+            if not self._pass_over_empty():
                 return None
-            for number, state in enumerate(self._states[at:], at):
-                if _key(state) in known:
-                    return number if state == self._states[0] else None
-                known.add(_key(state))
         return None
 
     def _stays(self, turn: int, steps: int) -> bool:
         """Whether the turns are the same for this many steps. After them each line has sent its byte, and is ready or
         never will be."""
-        while len(self._states) <= steps:
-            if not self._follow():
-                return False
-        return self._states[turn:] == self._states[:-turn]
+        while not self._passed and len(self._states) <= steps:
+            for after in self._ahead():
+                if not self._keeps(after):
+                    return False
+                self._states.append(after)
+        return not self._passed and self._states[turn:] == self._states[:-turn]
 
-    def _follow(self) -> bool:
-        """Takes more steps, and reports whether all of them keep what they must."""
-        known = len(self._states)
-        first = self._start + known
+    def _has_quiet_second(self) -> bool:
+        """Whether no interrupt comes in the next second of the clock: then there comes none but of an alarm."""
+        self._driver.goto(self._start)
+        return search.next_visit(self._driver, VECTORS, SECOND * self._driver.boot().unit + 1) is None
+
+    def _ahead(self) -> list[Registers]:
+        """The states of the next steps."""
+        self._cost += BATCH
+        first = self._here + 1
         if first + BATCH > GREATEST_POSITION:
-            return False
-        self._states += registers_at(self._driver, range(first, first + BATCH))
-        return all(self._keeps(step) for step in range(known - 1, len(self._states) - 1))
+            self._cost += TURN
+            return []
+        return registers_at(self._driver, range(first, first + BATCH))
 
-    def _keeps(self, step: int) -> bool:
-        before, after = self._states[step], self._states[step + 1]
+    def _is_all_as_before(self) -> bool:
+        """Whether at the last state all but the processor is as at the first one."""
+        if self._changed:
+            return False
+        self._ask_at(self._here)
+        if _control(self._driver) != self._control:
+            return False
+        return not self._maps or _entries(self._driver, self._here) == _entries(self._driver, self._start)
+
+    def _pass_over_empty(self) -> bool:
+        """Passes over empty ROM, up to shortly before its end, or before where the first state was. What comes after the same
+        number of steps as there are words has taken no exception."""
+        state = self._states[-1]
+        recent = self._states[-BATCH:-1]
+        if self._listens or not _is_in_rom(state.pc) or any(self._words.get(it.pc) != 0 for it in recent):
+            return True
+        count = _empty_words(self._driver, state.pc & 0x1FFF_FFFF) - 1
+        first = self._states[0].pc
+        if state.pc < first <= state.pc + 4 * count:
+            count = (first - state.pc) // 4 - 1
+        if state.next_pc != state.pc + 4 or count < EMPTY or self._here + count >= GREATEST_POSITION:
+            return True
+        self._passed += count - 1
+        self._states += registers_at(self._driver, [self._here + 1])
+        self._begin_anew()
+        return self._states[-1].pc == state.pc + 4 * count
+
+    # Steps
+
+    def _keeps(self, after: Registers) -> bool:
+        """Whether the step from the last state to `after` keeps what it must."""
+        before = self._states[-1]
         if after.pc != before.next_pc:
-            return False  # an exception
+            return not self._listens and self._can_go_on()
         word = self._word(before)
         code = instruction.code(word)
+        if code == instruction.COPROCESSOR_0:
+            return self._can_do(word) and self._can_go_on()
         if code not in instruction.LOADS and code not in instruction.STORES:
-            return code != instruction.COPROCESSOR_0
+            return True
         address = instruction.address(word, before)
         if address not in self._places:
+            self._ask_at(self._here)
             self._places[address] = self._driver.physical(address)
         place = self._places[address]
         if place is None:
             return False
-        return self._stores(step, place) if code in instruction.STORES else self._loads(word, place, after)
+        return self._stores(place) if code in instruction.STORES else self._loads(word, place, after)
+
+    def _ask_at(self, position: int) -> None:
+        self._cost += ASKED
+        self._driver.goto(position)
 
     def _word(self, state: Registers) -> int:
         if state.pc not in self._words:
-            self._words[state.pc] = instruction.next_word(self._driver, state)
+            if _is_in_rom(state.pc):
+                self._words[state.pc] = self._driver.boot().word(state.pc & 0x1FFF_FFFF) or 0
+            else:
+                self._ask_at(self._here)
+                self._words[state.pc] = instruction.next_word(self._driver, state)
         return self._words[state.pc]
 
-    def _stores(self, step: int, place: int) -> bool:
-        """Whether a store leaves its word as it was."""
+    def _can_do(self, word: int) -> bool:
+        """Whether an instruction of coprocessor 0 neither reads nor uses what counts by itself."""
+        self._maps |= word == instruction.WRITE_ENTRY
+        if word in instruction.ENTRIES or word == instruction.RETURN:
+            return True
+        move, register = word >> 21 & 31, word >> 11 & 31
+        return move == instruction.MOVE_TO or move == instruction.MOVE_FROM and register not in (RANDOM, CAUSE)
+
+    def _can_go_on(self) -> bool:
+        """Whether the machine can be compared after a step that may change how it takes addresses and interrupts."""
+        self._is_deep = True
+        self._begin_anew()
+        self._places = {address: place for address, place in self._places.items() if _is_unmapped(address)}
+        self._words = {address: word for address, word in self._words.items() if _is_unmapped(address)}
+        self._ask_at(self._here + 1)
+        return self._can_take(self._driver.control()["status"])
+
+    def _can_take(self, status: int) -> bool:
+        """Whether with this Status loads and stores reach memory. Notes which devices may interrupt."""
+        if status & INTERRUPTS_ON:
+            self._listens |= bool(status & (BOARD_MASK | CLOCK_MASK))
+            self._hears_clock |= bool(status & CLOCK_MASK)
+        return not status & ISOLATED
+
+    def _begin_anew(self) -> None:
+        """States that were known say nothing of the rest, as a step changed more than the processor."""
+        self._known.clear()
+
+    def _stores(self, place: int) -> bool:
+        """Notes what a store changes."""
         if place not in RAM:
             return place in ROM
-        here = self._start + step
-        before, after = replies_at(self._driver, (here, here + 1), f"mem {place & ~3} 1")
-        return before == after
+        word, here = place & ~3, self._here
+        self._cost += ASKED
+        lines = self._driver.values([f"goto {here}", f"mem {word} 1", f"goto {here + 1}", f"mem {word} 1"])
+        before, after = memory(lines[1])[0], memory(lines[3])[0]
+        if before != after:
+            self._is_deep = True
+            self._begin_anew()
+            self._words = {at: it for at, it in self._words.items() if _is_unmapped(at) and at & 0x1FFF_FFFF != word}
+        if after == self._first_words.setdefault(word, before):
+            self._changed.discard(word)
+        else:
+            self._changed.add(word)
+        return True
 
     def _loads(self, word: int, place: int, after: Registers) -> bool:
         """Whether a load will always give what it gives here."""
@@ -167,3 +285,35 @@ class _Loop:
 
 def _key(state: Registers) -> tuple[object, ...]:
     return state.pc, state.next_pc, state.hi, state.lo, state.delay, state.load, *state.general
+
+
+def _control(driver: Driver) -> dict[str, int]:
+    """The control registers, but for Random, which counts in each step, and the lines of devices."""
+    control = driver.control()
+    return {**control, "random": 0, "cause": control["cause"] & ~LINES}
+
+
+def _entries(driver: Driver, position: int) -> list[list[str]]:
+    """The translation entries at a position."""
+    driver.goto(position)
+    return driver.values([f"tlb {number}" for number in range(64)])
+
+
+def _is_unmapped(address: int) -> bool:
+    """Whether an address leads to the same place always."""
+    return 0x8000_0000 <= address < 0xC000_0000
+
+
+def _is_in_rom(address: int) -> bool:
+    return _is_unmapped(address) and address & 0x1FFF_FFFF in ROM
+
+
+def _empty_words(driver: Driver, place: int) -> int:
+    """How many words of ROM from a place on are 0. No step changes ROM."""
+    for start, run in driver.boot().runs():
+        begin = max(start, place)
+        content = run[begin - start:]
+        rest = content.lstrip(b"\0")
+        if rest:
+            return (begin + len(content) - len(rest) - place) // 4
+    return (ROM.stop - place) // 4

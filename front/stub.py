@@ -11,12 +11,12 @@ from .driver import Driver
 from .errors import Problem
 from .limits import RAM, ROM
 from .motion import TRAP, Motion
-from .replies import number_of
+from .replies import number_of, words_of
 from .rsp import PACKET_BYTES, Link
 from .travel import Watch
 
-USAGE = "usage: bin/wb stub [OPTIONS] [--through] IMAGE"
-OPTIONS = {**loading.OPTIONS, "--through": ""}
+USAGE = "usage: bin/wb stub [OPTIONS] [--through] [--progress] IMAGE"
+OPTIONS = {**loading.OPTIONS, "--through": "", "--progress": ""}
 HELP = f"""\
 {USAGE}
 
@@ -25,6 +25,7 @@ docs/DEBUGGING.md says what another debugger needs.
 
 {loading.OPTIONS_HELP}\
   --through       single steps run exceptions whole, with their handlers
+  --progress      shows how far long runs are, for a debugger on a terminal
   --help          this text
 
 Example, in gdb:
@@ -62,6 +63,9 @@ class Stub:
         self._ended = False
         self._places: dict[int, int] = {}  # where watched addresses led last
         driver.wants_stop = self._motion.wants_stop
+
+    def show_progress(self) -> None:
+        self._motion.show_progress()
 
     def serve(self) -> None:
         """Answers until the debugger goes."""
@@ -238,8 +242,23 @@ class Stub:
 
     def _command(self, rest: bytes) -> bytes:
         line = _from_digits(rest).decode("utf-8", "replace")
-        self._motion.say(monitor.answer(self._driver, line).encode())
+        name, *words = words_of(line) or [""]
+        if name in ("until", "idle"):
+            self._bound(name, words)
+        else:
+            self._motion.say(monitor.answer(self._driver, line).encode())
         return OK
+
+    def _bound(self, name: str, words: Sequence[str]) -> None:
+        """Sets where the next run is to end, N or N steps after the last event, or after how many idle steps runs pause."""
+        last, plus, word = words[0].rpartition("last+") if len(words) == 1 else ("", "", "")
+        number = number_of(word)
+        if number is None or last or plus and name == "idle":
+            raise Problem(f"usage: {name} N" + (" or until last+N" if name == "until" else ""))
+        if name == "until":
+            self._motion.go_until(number + (self._driver.log[-1].time if plus and self._driver.log else 0))
+        else:
+            self._motion.idle = number
 
 
 Answer = Callable[[Stub, bytes], bytes]
@@ -294,5 +313,8 @@ def main(arguments: Sequence[str]) -> int:
     """Serves one debugger on standard input and output."""
     line = parse(arguments, OPTIONS, USAGE, HELP, (1,))
     with loading.running(line) as driver:
-        Stub(driver, Link(sys.stdin.fileno(), sys.stdout.fileno()), exceptions_whole=line.has("--through")).serve()
+        stub = Stub(driver, Link(sys.stdin.fileno(), sys.stdout.fileno()), exceptions_whole=line.has("--through"))
+        if line.has("--progress"):
+            stub.show_progress()
+        stub.serve()
     return 0

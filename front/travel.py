@@ -9,6 +9,7 @@ from typing import Callable, Optional
 from . import memory, search
 from .driver import Driver
 from .errors import Interrupted
+from .idle import IDLE_STEPS, Idleness
 from .limits import GREATEST_POSITION
 from .standstill import TURN, Quiet, Standstill, quiet, standstill
 from .states import registers_at
@@ -35,9 +36,16 @@ class Reason(Enum):
     STEPPED = "the end of a step"
     BEGIN = "the begin of the run"
     END = "the greatest position"
+    LIMIT = "the position to which it was to go"
+    IDLE = "nothing sent, and nothing to come"
     STUCK = Standstill.STUCK.value
     WAITING = Standstill.WAITING.value
+    LISTENING = Standstill.LISTENING.value
+    ALARM = Standstill.ALARM.value
     INTERRUPTED = "Ctrl-C"
+
+
+STILL = (Reason.STUCK, Reason.WAITING, Reason.LISTENING, Reason.ALARM)
 
 
 @dataclass(frozen=True)
@@ -61,20 +69,33 @@ class Watch:
 
 @dataclass
 class Stops:
-    """Where a run is to stop: at addresses of instructions, and where bytes are changed."""
+    """Where a run is to stop: at addresses of instructions, and where bytes are changed. One that goes on stops at position `end`
+    at the latest. Without that it stops after `idle` steps in which it does nothing, if that is not 0."""
 
     breakpoints: set[int] = field(default_factory=set)
     watches: set[Watch] = field(default_factory=set)
+    end: int = GREATEST_POSITION
+    idle: int = IDLE_STEPS
 
 
 @dataclass(frozen=True)
 class Stop:
     """Where a run stops, and why. For a watch `position` is the step that changes its bytes: the change shows one
-    further on."""
+    further on. `steps` are those in which nothing was done, or those of a turn of a standstill that does more than go round."""
 
     reason: Reason
     position: int
     watch: Optional[Watch] = None
+    steps: Optional[int] = None
+
+    def note(self) -> str:
+        """What is said of a stop that is neither a breakpoint nor a watch."""
+        if self.reason in STILL:
+            turn = f"; every {self.steps:,} steps all is as before, but Random and the clock" if self.steps else ""
+            return f"from step {self.position:,} on the program {self.reason.value}{turn}"
+        if self.reason is Reason.IDLE:
+            return f"nothing was sent in the last {self.steps:,} steps, and the log has no more events"
+        return f"that is {self.reason.value}"
 
 
 def forward(driver: Driver, stops: Stops, pause: Pause) -> Stop:
@@ -117,20 +138,25 @@ def _at(driver: Driver, stop: Stop) -> Stop:
 
 def _forward(driver: Driver, stops: Stops, pause: Pause) -> Stop:
     start, length = driver.position, FIRST_PIECE
-    while True:
-        here = driver.position
-        stop, end = _first(driver, stops, here, min(here + length, GREATEST_POSITION))
-        if stop:
-            return stop
-        driver.goto(end)
-        if end == GREATEST_POSITION:
-            return Stop(Reason.END, end)
-        if pause():
-            return Stop(Reason.INTERRUPTED, end)
-        stop = _standstill(driver, start, min(length // STEPS_A_STATE, TURN))
-        if stop:
-            return stop
-        length = min(4 * length, LONGEST_PIECE)
+    idleness = Idleness(driver, stops.idle if stops.end == GREATEST_POSITION else 0)
+    with driver.long_run(start, stops.end if stops.end < GREATEST_POSITION else None):
+        while True:
+            here = driver.position
+            stop, end = _first(driver, stops, here, idleness.piece(min(here + length, stops.end)))
+            if stop:
+                return stop
+            driver.goto(end)
+            driver.tell(end)
+            if end == stops.end:
+                return Stop(Reason.LIMIT if end < GREATEST_POSITION else Reason.END, end)
+            if pause():
+                return Stop(Reason.INTERRUPTED, end)
+            stop = _standstill(driver, start, min(length // STEPS_A_STATE, TURN))
+            if stop:
+                return stop
+            if idleness.is_over():
+                return Stop(Reason.IDLE, end, steps=stops.idle)
+            length = min(4 * length, LONGEST_PIECE)
 
 
 def _leave(driver: Driver, addresses: range, stops: Stops, pause: Pause) -> Stop:
@@ -202,7 +228,7 @@ def _first_change(driver: Driver, watch: Watch, start: int, end: int) -> tuple[O
             return start, start
         driver.goto(start)
         still = quiet(driver, QUIET_TURN) if idle in QUIET_AFTER else None
-        start = min(still.end, end) if still else start + 1
+        start = min(still.end, end) if still and not still.turn else start + 1
     return None, start
 
 
@@ -219,7 +245,7 @@ def _last_change(driver: Driver, watch: Watch, lowest: int, end: int, pause: Pau
             return end
         driver.goto(end)
         still = quiet(driver, QUIET_TURN) if idle % IDLE_STORES in QUIET_AFTER else None
-        if still:
+        if still and not still.turn:
             end = _begin(driver, lowest, still, QUIET_TURN)
         if pause():
             raise Interrupted
@@ -229,8 +255,19 @@ def _last_change(driver: Driver, watch: Watch, lowest: int, end: int, pause: Pau
 def _standstill(driver: Driver, low: int, turn: int) -> Optional[Stop]:
     """The first position, not below `low`, from which the run stands still for ever, if it does so from the present
     one on."""
-    kind, still = standstill(driver, turn), quiet(driver, turn)
-    return Stop(Reason(kind.value), _begin(driver, low, still, turn)) if kind and still else None
+    still = standstill(driver, turn)
+    if still and still.kind is Standstill.ALARM and still == _quiet_at(driver, low, turn):
+        return None  # that is known already, and the run goes on to an alarm
+    return Stop(Reason(still.kind.value), _begin(driver, low, still, 2 * turn + TURN), steps=still.turn) if still else None
+
+
+def _quiet_at(driver: Driver, position: int, turn: int) -> Optional[Quiet]:
+    here = driver.position
+    try:
+        driver.goto(position)
+        return quiet(driver, turn)
+    finally:
+        driver.goto(here)
 
 
 def _begin(driver: Driver, low: int, still: Quiet, turn: int) -> int:
@@ -238,8 +275,7 @@ def _begin(driver: Driver, low: int, still: Quiet, turn: int) -> int:
     high = driver.position
     while low < high:
         middle = (low + high) // 2
-        driver.goto(middle)
-        if quiet(driver, turn) == still:
+        if _quiet_at(driver, middle, turn) == still:
             high = middle
         else:
             low = middle + 1

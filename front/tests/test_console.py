@@ -179,7 +179,7 @@ class Shell(unittest.TestCase):
         terminal.type(b"\x03")
         terminal.until(b"wb 0> ")
         terminal.type(b"goto 4294967295\r")
-        terminal.until(b"million a second")
+        terminal.until(b"million steps a second")
         terminal.type(b"\x03")
         terminal.until(b"interrupted")
         terminal.until(b"> ")

@@ -7,6 +7,7 @@ import signal
 import threading
 import time
 import unittest
+from typing import Optional
 from unittest import mock
 
 from front import driver as drivers
@@ -290,8 +291,8 @@ class LongRuns(unittest.TestCase):
             shown: list[tuple[int, int]] = []
             closed = 0
 
-            def __call__(self, done: int, total: int) -> None:
-                self.shown.append((done, total))
+            def __call__(self, position: int, begin: int, end: Optional[int]) -> None:
+                self.shown.append((position, begin))
 
             def close(self) -> None:
                 self.closed += 1
@@ -303,11 +304,11 @@ class LongRuns(unittest.TestCase):
             driver = Driver.start(rom(words), report=progress)  # type: ignore[arg-type]
             driver.goto(end)
             state = driver.registers()
-            self.assertEqual([done for done, _ in progress.shown], [it * drivers.SPAN for it in (1, 2, 3, 4, 5)])
+            self.assertEqual(progress.shown, [(it * drivers.SPAN, 0) for it in (1, 2, 3, 4, 5)])
             progress.shown.clear()
             driver.add(3 * drivers.SPAN + 9, 0, 1)
             self.assertEqual(driver.registers(), state)
-            self.assertEqual([done for done, _ in progress.shown], [drivers.SPAN - 9, 2 * drivers.SPAN - 9])
+            self.assertEqual(progress.shown, [(it * drivers.SPAN, 3 * drivers.SPAN + 9) for it in (4, 5)])
         plain = start(rom(words))
         plain.goto(end)
         self.assertEqual(plain.registers(), state)

@@ -139,6 +139,16 @@ class Echo(unittest.TestCase):
         self.assertRegex(talk("expect 'zz'")[0], "did not send 'zz': at step .* waits for a byte, .*It sent nothing")
         self.assertRegex(talk("goto 10", "expect 'zz' 30")[1], "up to step 40. It sent nothing")
 
+    def test_going_on_up_to_a_position(self) -> None:
+        """The second byte arrives in step 200, and its turn is at the breakpoint in step 213."""
+        talk = self.talk
+        self.assertEqual(talk("continue 100"), ["that is the position to which it was to go", "step 100, loop+0xc: sll r7, r6, 16"])
+        self.assertEqual(talk("break loop+0x18", "until last+5")[1:],
+                         ["that is the position to which it was to go", "step 205, next: j 0xbfc01000 <loop>"])
+        self.assertEqual(talk("until last+1,000")[-1], "step 213, loop+0x18: sw r0, 260(r8)")
+        self.assertRegex(talk("until 213")[0], "position 213 is not ahead: this is 213")
+        self.assertRegex(talk("continue 0")[0], "not ahead")
+
     def test_refusals(self) -> None:
         for line, said in (
                 ("mem 0x100", "0x00000100 leads nowhere at this position: .* missing or not valid. .* at 0x80000100"),
@@ -180,6 +190,27 @@ class Echo(unittest.TestCase):
                 self.assertRegex(self.talk(f"{command} {name} force")[0], "saved in")
                 self.assertNotEqual(Path(name).read_bytes(), before)
             self.assertRegex(self.talk("save-log /dev/full")[0], "No space left on device")
+
+
+class Pauses(unittest.TestCase):
+    def test_a_run_that_does_nothing(self) -> None:
+        """The greeting has 10 bytes, which are sent some 30 steps apart, so that an `expect` pauses before most of them."""
+        talk = Talk("login", "login.elf", log=False)
+        self.addCleanup(talk.driver.close)
+        self.assertEqual(talk("idle 12"), ["long runs pause after 12 steps in which nothing is sent and no event is to come"])
+        count = 0
+        while not talk("expect 'password'")[0].startswith("step"):
+            count += 1
+            self.assertRegex(talk.said[0], "line 0 did not send 'password': up to step .* nothing was sent for 12 steps, and the log "
+                             "has no more events; the same line goes on, and `idle N` changes that number. It sent ")
+        self.assertGreater(count, 10)
+        self.assertEqual(talk.driver.console(0), b"password")
+        self.assertRegex(talk("continue")[0], "^nothing was sent in the last 12 steps, .*: `continue` goes on, ")
+        self.assertRegex(talk("visit 0x80000000")[0], "does not come to 0x80000000 up to step .*: nothing was sent .*: `visit` goes on")
+        here = talk.driver.position
+        self.assertRegex(talk("expect 'x' 9")[0], f"was looked for up to step {here + 9:,}. It sent nothing")
+        self.assertEqual((talk("idle 0"), talk.driver.position), (["long runs don't pause"], here))
+        self.assertRegex(talk("continue")[0], "waits for a byte")
 
 
 class Views(unittest.TestCase):
@@ -239,7 +270,7 @@ class Help(unittest.TestCase):
         for name in ("pos goto step back visit regs reg cp0 tlb where mem dis console find writer log add del set move patch quit "
                      "break watch continue reverse-continue type expect save-log save-image undo").split():
             self.assertRegex(said, rf"(?m)^  {name}( |$)")
-        self.assertEqual(talk("help continue"), ["continue: goes on to the next breakpoint or watch (short: c)"])
+        self.assertEqual(talk("help continue"), ["continue [N]: goes on to the next breakpoint or watch, at most N steps (short: c)"])
         self.assertRegex(talk("help numbers")[0], "Wherever a number may stand")
         self.assertEqual(talk("", "# a comment"), [])
         talk.driver.close()

@@ -5,11 +5,14 @@ import random
 import unittest
 from typing import Optional, Sequence
 
+from front import travel
 from front.driver import Driver
+from front.limits import GREATEST_POSITION
 from front.log import Event, Kind
 from front.replies import memory, registers
 from front.standstill import Quiet, Standstill, quiet, standstill
 from front.tests.support import DATA, needs_kinds, random_rom, rom, start
+from front.travel import Reason, Stops
 
 STEPS = 600
 LOOKED_AT = 100
@@ -22,6 +25,14 @@ POLL = [0x8C230000, 0, 0x1000FFFD, 0]
 AWAIT_READY = [0x8C230000, 0, 0x00032400, 0x0481FFFC, 0]
 # beq r0, r0, itself; nop
 END = [0x1000FFFF, 0]
+# lui r29, 0xa000; sw r2, 0(r29); addiu r2, r2, 1; sw r2, 0(r29); addiu r2, r2, -1; beq r0, r0, back; nop
+CHANGES = [0x3C1DA000, 0xAFA20000, 0x24420001, 0xAFA20000, 0x2442FFFF, 0x1000FFFB, 0]
+# lui r1, 0x40; ori r1, r1, 0x0401; mtc0 r1, c12: devices of the board may interrupt, or after `HEARS_CLOCK` the clock
+HEARS_BOARD, HEARS_CLOCK = ([0x3C010040, 0x34210001 | lines, 0x40816000] for lines in (0x400, 0x800))
+# lui r8, 0xbfe8; addiu r9, r0, 0x2c; sw r9, 40(r8); addiu r9, r0, 0x46; sw r9, 44(r8): an interrupt each 512 steps
+TICKS = [0x3C08BFE8, 0x2409002C, 0xAD090028, 0x24090046, 0xAD09002C]
+# lui r26, 0xbfe8; lw r26, 48(r26); mfc0 r26, c14; nop; jr r26; rfe
+HANDLER = [0x3C1ABFE8, 0x8F5A0030, 0x401A7000, 0, 0x03400008, 0x42000010]
 
 
 class Stands(unittest.TestCase):
@@ -34,7 +45,7 @@ class Stands(unittest.TestCase):
         driver.goto(position)
         found = standstill(driver, LOOKED_AT)
         self.assertEqual(driver.position, position)
-        return found
+        return found.kind if found else None
 
     def test_it_is_what_all_states_say(self) -> None:
         source = random.Random(7)
@@ -47,9 +58,14 @@ class Stands(unittest.TestCase):
             for position in source.sample(range(STEPS - 4 * LOOKED_AT), 5):
                 rest = states[position:]
                 turn = next((it for it in range(1, LOOKED_AT) if rest[it] == rest[0]), None)
-                expected = turn and all(state[1] == rest[0][1] for state in rest) and rest[turn:] == rest[:-turn]
-                self.assertEqual(self.stands(driver, position), Standstill.STUCK if expected else None)
-                still += bool(expected)
+                changes = any(state[1] != rest[0][1] for state in rest)
+                self.assertEqual(turn and rest[turn:] == rest[:-turn], turn and True)
+                driver.goto(position)
+                found = standstill(driver, LOOKED_AT)
+                # A turn that changes memory takes more to be seen than its states.
+                if found or turn and not changes:
+                    self.assertEqual(found, Quiet(GREATEST_POSITION, Standstill.STUCK, turn if changes else None))
+                still += bool(found)
         self.assertGreater(still, 5)
 
     def test_a_line_that_will_never_be_ready(self) -> None:
@@ -73,7 +89,7 @@ class Stands(unittest.TestCase):
         self.assertEqual([self.stands(driver, it) for it in (20, 90, 91)], [None, None, Standstill.WAITING])
         # Up to the byte nothing changes. Of a position shortly before it that is not known.
         driver.goto(20)
-        self.assertEqual(quiet(driver, LOOKED_AT), Quiet(90, waits=True))
+        self.assertEqual(quiet(driver, LOOKED_AT), Quiet(90, Standstill.WAITING))
         driver.goto(80)
         self.assertIsNone(quiet(driver, LOOKED_AT))
 
@@ -90,10 +106,56 @@ class Stands(unittest.TestCase):
         driver = self.driver([0x3C01BFE8, *POLL])
         self.assertIsNone(self.stands(driver, 20))
 
+    def test_a_turn_that_changes_memory_and_sets_it_right(self) -> None:
+        driver = self.driver([*CHANGES])
+        # The word is 0 at position 1, before any store, and 1 at position 7.
+        self.assertEqual([self.stands(driver, it) for it in (1, 2, 3)], [None] + [Standstill.STUCK] * 2)
+        self.assertEqual(standstill(driver, LOOKED_AT), Quiet(GREATEST_POSITION, Standstill.STUCK, 6))
+        # addiu r2, r2, -2: what is stored is another value in each turn
+        counts = [*CHANGES]
+        counts[4] -= 1
+        self.assertIsNone(self.stands(self.driver(counts), 20))
+
+    def test_faults_in_empty_rom(self) -> None:
+        """jr r0, and the fetch at address 0 takes an exception in step 2. The handler's 65,440 words are empty, and after the last
+        one the fetch takes one again, in step 65,443: from there on a turn has 65,441 steps."""
+        driver = self.driver([8, 0])
+        driver.goto(100_000)
+        self.assertEqual(standstill(driver, LOOKED_AT), Quiet(GREATEST_POSITION, Standstill.STUCK, 65_441))
+        driver.goto(0)
+        stop = travel.forward(driver, Stops(), lambda: False)
+        self.assertEqual((stop.reason, stop.position, stop.steps), (Reason.STUCK, 65_444, 65_441))
+
     def test_a_loop_that_an_interrupt_may_leave(self) -> None:
-        # lui r1, 0x40; ori r1, r1, 0x0401; mtc0 r1, c12: the lines of devices are looked at
-        driver = self.driver([0x3C010040, 0x34210401, 0x40816000, *END])
-        self.assertIsNone(self.stands(driver, 20))
+        driver = self.driver([*HEARS_BOARD, *END])
+        self.assertEqual(self.stands(driver, 20), Standstill.LISTENING)
+        driver.add(1000, 0, 1)
+        driver.goto(20)
+        self.assertEqual(quiet(driver, LOOKED_AT), Quiet(1000, Standstill.LISTENING))
+        needs_kinds(self)
+        driver.add(500, 0, 1, Kind.WIRE)
+        self.assertEqual(quiet(driver, LOOKED_AT), Quiet(500, Standstill.LISTENING))
+
+    def test_a_loop_that_the_clock_may_leave(self) -> None:
+        driver = self.driver([*HEARS_CLOCK, *END])
+        self.assertEqual(self.stands(driver, 20), Standstill.ALARM)
+        self.assertIsNone(self.stands(self.driver([*TICKS, *HEARS_CLOCK, *END]), 20))
+        # A run that began in such a loop goes on, for the alarm, up to where it pauses.
+        stop = travel.forward(driver, Stops(idle=100_000), lambda: False)
+        self.assertEqual((stop.reason, stop.position), (Reason.IDLE, 100_020))
+
+    def test_an_end_and_a_pause(self) -> None:
+        """The byte of step 90 is none that the program takes, and nothing is sent."""
+        program = [*TICKS, *HEARS_CLOCK, *END]
+        driver = self.driver([*program, *[0] * (0x180 // 4 - len(program)), *HANDLER], [Event(90, 0, 1)])
+        stop = travel.forward(driver, Stops(idle=70_000), lambda: False)
+        self.assertEqual((stop.reason, stop.position, stop.steps), (Reason.IDLE, 70_091, 70_000))
+        stop = travel.forward(driver, Stops(idle=70_000), lambda: False)
+        self.assertEqual((stop.reason, stop.position), (Reason.IDLE, 140_091))
+        stop = travel.forward(driver, Stops(idle=100, end=140_300), lambda: False)
+        self.assertEqual((stop.reason, stop.position), (Reason.LIMIT, 140_300))
+        stop = travel.forward(driver, Stops({0xBFC0_0180}, idle=100, end=150_000), lambda: False)
+        self.assertEqual(stop.reason, Reason.BREAKPOINT)
 
 
 if __name__ == "__main__":
