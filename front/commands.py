@@ -38,8 +38,9 @@ COMMANDS: dict[str, Command] = {}
 # The groups of the help, in order.
 MOVES, STOPS = "Moving", "Stops"
 HOLDS, BEFORE = "What the machine holds", "What happened before"
-SERIAL, PAST, FILES, SHELL = "The serial lines", "The past", "Files", "The shell"
-GROUPS = (MOVES, STOPS, HOLDS, BEFORE, SERIAL, PAST, FILES, SHELL)
+SERIAL, CHECKS = "The serial lines", "Checks, for scripts"
+PAST, FILES, SHELL = "The past", "Files", "The shell"
+GROUPS = (MOVES, STOPS, HOLDS, BEFORE, SERIAL, CHECKS, PAST, FILES, SHELL)
 
 # Short names, as gdb has them.
 SHORT = {"s": "step", "si": "step", "rs": "back", "rsi": "back", "c": "continue", "rc": "reverse-continue", "b": "break",
@@ -65,7 +66,7 @@ def find(name: str) -> Command:
         return COMMANDS[found[0]]
     if found:
         raise Problem(f"{name} may be {', '.join(found)}")
-    raise Problem(f"there is no command {name}; `help` lists them")
+    raise Problem(f"there is no command {name[:40]}; `help` lists them")
 
 
 _WORD = re.compile(r"""(?:'(?:[^'\\]|\\.)*'|"(?:[^"\\]|\\.)*"|[^\s'"])+|['"].*""")

@@ -63,7 +63,7 @@ def main(arguments: Sequence[str]) -> int:
     serial, speed = line.number("--line", 0), line.number("--speed", 1_000_000)
     if not 0 <= serial < LINES or speed < 1:
         raise Problem(f"a line is 0 to {LINES - 1}, and a speed at least 1 step a second")
-    if not (sys.stdin.isatty() and sys.stdout.isatty()):
+    if not all(it and it.isatty() for it in (sys.stdin, sys.stdout)):
         raise Problem("console wants a terminal; scripts have `type` and `expect` of bin/wb shell")
     with loading.running(line) as driver:
         print(f"line {serial}, {speed:,} steps a second; Ctrl-] ? shows the keys")

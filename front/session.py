@@ -60,7 +60,8 @@ class Session:
     edits: list[Edit] = field(default_factory=list)
     # Of each line, the steps over which a text was typed last; what is typed within them goes on after it.
     typed: dict[int, range] = field(default_factory=dict)
-    idle: int = IDLE_STEPS
+    idle: int = IDLE_STEPS  # after so many steps in which nothing happens long runs pause
+    limit: int = 0  # so many steps an `expect` goes on
     paused: Optional[Paused] = None
     saved_log: list[Event] = field(default_factory=list)
     saved_patches: list[tuple[int, int]] = field(default_factory=list)

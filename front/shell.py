@@ -12,13 +12,16 @@ from .arguments import parse
 from .commands import COMMANDS, GROUPS, SHELL, SHORT, command, find, words_of
 from .errors import Ended, Interrupted, Problem, Refused, Unexpected
 from .explain import explain
+from .expressions import shortened
 from .progress import on_terminal
 from .session import Edit, Session
 from .symbols import symbols_of
 
-USAGE = "usage: bin/wb shell [OPTIONS] [--echo] IMAGE [SCRIPT]"
+USAGE = "usage: bin/wb shell [OPTIONS] [--echo] [--strict] IMAGE [SCRIPT]"
 
-OPTIONS = {**loading.OPTIONS, "--echo": ""}
+OPTIONS = {**loading.OPTIONS, "--echo": "", "--strict": ""}
+
+FAILED = 5  # the status of a strict script that fails
 
 HELP = f"""\
 {USAGE}
@@ -28,6 +31,7 @@ script. Addresses are virtual. An ELF gives names of addresses, and so do the la
 
 {loading.OPTIONS_HELP}\
   --echo          show each line of a script before what it shows
+  --strict        end with status 5 at the first line that is refused or fails
   --help          this text
 
 Example:
@@ -42,7 +46,7 @@ def main(arguments: Sequence[str]) -> int:
     script = open(loading.check(line.words[1]), encoding="utf-8", errors="surrogateescape") if len(line.words) == 2 else None
     with loading.running(line, on_terminal()) as driver:
         session = Session(driver, symbols_of(driver.image), saved_log=list(driver.log))
-        return Shell(session).run(script, line.has("--echo"))
+        return Shell(session).run(script, line.has("--echo"), line.has("--strict"))
 
 
 class Shell:
@@ -53,19 +57,22 @@ class Shell:
         self._left = False
         self._warned = False
 
-    def run(self, script: Optional[TextIO], echo: bool = False) -> int:
-        """Runs the lines of a script, or those that are typed."""
-        is_typed = script is None and sys.stdin.isatty()
-        lines = self._typed() if is_typed else iter(script or sys.stdin)
+    def run(self, script: Optional[TextIO], echo: bool = False, strict: bool = False) -> int:
+        """Runs the lines of a script, or those that are typed, and gives the status. A strict script ends at a line that fails."""
+        source = script or sys.stdin  # which is None where it is closed
+        is_typed = script is None and source is not None and source.isatty()
         if is_typed:
             _begin_readline(self._session)
             self.do("pos")
-        for line in lines:
+        for number, line in enumerate(self._typed() if is_typed else source or (), 1):
             line = line.strip()
             if echo and line:
                 print(f"> {line}", flush=True)
-            self.do(line)
+            is_done = self.do(line)
             sys.stdout.flush()
+            if strict and not is_done:
+                loading.say(f"{getattr(source, 'name', 'standard input')}:{number}: {shortened(line)}")
+                return FAILED
             if self._left:
                 break
         return 0
@@ -78,19 +85,20 @@ class Shell:
             except KeyboardInterrupt:
                 print()
                 continue
-            except EOFError:
+            except (EOFError, OSError):
                 print()
                 yield "quit"
                 if self._left:
                     return
 
-    def do(self, line: str) -> None:
-        """Runs a line, and shows what goes wrong."""
+    def do(self, line: str) -> bool:
+        """Runs a line, and shows what goes wrong. Gives whether all went well."""
         if not line or line.startswith("#"):
-            return
+            return True
         session = self._session
         try:
             self._run(line)
+            return True
         except Refused as refused:
             session.tell(f"refused: {explain(refused, session.driver)}")
         except Ended as ended:
@@ -105,6 +113,7 @@ class Shell:
             raise  # nothing can be shown any more
         except Exception as error:
             session.tell(str(Unexpected(error)))
+        return False
 
     def _run(self, line: str) -> None:
         name, *words = words_of(line)

@@ -4,12 +4,14 @@ from __future__ import annotations
 import re
 
 from . import log as logs
-from .commands import FILES, PAST, SERIAL, SHELL, command
+from .commands import CHECKS, FILES, PAST, SERIAL, SHELL, command
 from .errors import Problem
+from .expressions import closed, condition
 from .idle import Idleness
 from .image_command import file_for
 from .limits import GREATEST_POSITION, GREATEST_TIME, LINES
 from .log import Kind, quoted, unquoted
+from .replies import refusal_of
 from .saving import is_forced, save
 from .session import Paused, Session, counted
 from .standstill import standstill
@@ -108,6 +110,7 @@ def gap_of(byte_time: int) -> int:
 def expect(session: Session, words: list[str]) -> None:
     line, text, limit = _line_and_text(session, words, "expect [L] 'TEXT' [K]")
     driver, here = session.driver, session.driver.position
+    limit = limit or session.limit
     end = min(here + limit, GREATEST_POSITION) if limit else GREATEST_POSITION
     paused = session.paused
     # What goes on where it paused looks at all that was sent since it began.
@@ -125,6 +128,33 @@ def expect(session: Session, words: list[str]) -> None:
             driver.goto(here)
         raise Problem(f"line {line} did not send {quoted(text)}: {why}. It sent {quoted(sent[-200:]) if sent else 'nothing'}")
     session.show_position()
+
+
+@command("limit [N]", "lets `expect` go on at most N steps where it has no K, or shows N; 0 for no limit", SERIAL)
+def limit_(session: Session, words: list[str]) -> None:
+    if words:
+        session.limit = session.number(words[0])
+    session.tell(f"`expect` goes on at most {counted(session.limit, 'step')}" if session.limit else "`expect` has no limit")
+
+
+@command("assert CONDITION ..", "fails where a condition does not hold: assert v0 == 5, assert [length] < 32, assert pc == main",
+         CHECKS)
+def assert_(session: Session, words: list[str]) -> None:
+    text = " ".join(words)
+    why = condition(closed(words)).check(session.driver, session.symbols)
+    if why:
+        raise Problem(f"it does not hold that {text}: {why}")
+    session.tell("that holds")
+
+
+@command("assert-console [L] 'TEXT'", "fails where line L, or 0, did not send TEXT before this position", CHECKS)
+def assert_console(session: Session, words: list[str]) -> None:
+    line, text, _ = _line_and_text(session, words, "assert-console [L] 'TEXT'")
+    sent = session.driver.console(line)
+    if text not in sent:
+        raise Problem(f"line {line} did not send {quoted(text)} before this position. "
+                      f"It sent {quoted(sent[-200:]) if sent else 'nothing'}")
+    session.tell("that was sent")
 
 
 def _run_until(session: Session, line: int, first: int, text: bytes, end: int) -> str:
@@ -179,5 +209,9 @@ def save_image(session: Session, words: list[str]) -> None:
 
 @command("wb LINE ..", "gives a line to the workbench as it is, with physical addresses, and shows its reply", SHELL, edits=True)
 def wb(session: Session, words: list[str]) -> None:
-    for line in session.driver.ask(" ".join(words)):
-        session.tell(line)
+    line = " ".join(words)
+    lines = session.driver.ask(line)
+    if refusal_of(line, lines):
+        raise Problem(lines[0])
+    for it in lines:
+        session.tell(it)

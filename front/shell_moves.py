@@ -69,6 +69,8 @@ def break_(session: Session, words: list[str]) -> None:
     address = session.number(words[0])
     if address % 4:
         raise Problem(f"{address:#x} is no multiple of 4, where instructions stand")
+    if not 0 <= address < 1 << 32:
+        raise Problem(f"{address:#x} is no address: they are below 0x100000000")
     _put(session, Mark(_free(session), f"breakpoint at {session.address(address)}", address))
 
 

@@ -180,6 +180,8 @@ def log(session: Session, words: list[str]) -> None:
     count = session.number(words[1]) if len(words) > 1 else _EVENTS
     next_one = next((number for number, it in enumerate(events) if it.time >= here), len(events))
     first = session.number(words[0]) if words else max(0, min(next_one - count // 2, len(events) - count))
+    if first < 0 or count < 0:
+        raise Problem("the number of an event, and how many are shown, are 0 or more")
     session.tell(f"{counted(len(events), 'event')}, {next_one:,} before this position")
     for number, it in enumerate(events[first:first + count], first):
         session.tell(f"{number:6}: step {it.time:,}, {_what(it)}, {distance(it.time, here)}")

@@ -2,6 +2,7 @@
 from __future__ import annotations
 
 import os
+import random
 import signal
 import tempfile
 import time
@@ -122,6 +123,23 @@ class Console(unittest.TestCase):
         events = logs.read(Path(self.log).read_bytes(), self.log)
         self.assertEqual([(it.kind, it.line, it.byte) for it in events],
                          [(Kind.WIRE, 1, 1), (Kind.WIRE, 1, 0), (Kind.WIRE, 2, 1), (Kind.FRAMING, 0, 0)])
+
+    def test_random_keys(self) -> None:
+        """Time stands most of the while. A key that would save, leave or go back is left out."""
+        source = random.Random(8)
+        terminal = Terminal("console", "--speed", "1000", LOGIN)
+        terminal.until(b"password: ")
+        for _ in range(60):
+            keys = bytes(source.randrange(256) for _ in range(40))
+            for left_out in (b"\x1ds", b"\x1dq", b"\x1d"):
+                keys = keys.replace(left_out, b"\x1d?" if left_out == b"\x1d" else b"")
+            terminal.type(keys)
+        terminal.type(b"\x1dp")
+        terminal.until(b"time stands")
+        terminal.type(b"\x1dp" + QUIT)
+        terminal.until(b"save the log")
+        terminal.type(b"\r")
+        self.assertEqual(terminal.end(), 0)
 
     def test_killed_program(self) -> None:
         """What was typed is there after the program died."""

@@ -2,12 +2,16 @@
 from __future__ import annotations
 
 import os
+import random
+import subprocess
 import tempfile
+import time
 import unittest
 from pathlib import Path
 
 from front import expressions, loading
 from front import log as logs
+from front.commands import COMMANDS
 from front.driver import Driver
 from front.errors import Problem
 from front.log import Event, Kind
@@ -211,6 +215,82 @@ class Pauses(unittest.TestCase):
         self.assertRegex(talk("expect 'x' 9")[0], f"was looked for up to step {here + 9:,}. It sent nothing")
         self.assertEqual((talk("idle 0"), talk.driver.position), (["long runs don't pause"], here))
         self.assertRegex(talk("continue")[0], "waits for a byte")
+
+
+class Scripts(unittest.TestCase):
+    def run_script(self, *lines: str, image: str = "examples/login/login.elf", strict: bool = True) -> subprocess.CompletedProcess[str]:
+        words = [str(ROOT / "bin/wb"), "shell", *(["--strict"] if strict else []), image]
+        return subprocess.run(words, input="".join(f"{it}\n" for it in lines), cwd=ROOT, capture_output=True, text=True)
+
+    def test_the_example_passes(self) -> None:
+        script = (ROOT / "examples/login/check.wb").read_text().splitlines()
+        self.assertEqual(self.run_script(*script).returncode, 0)
+        # With a backspace before, the name runs on into the line: that is the program's fault.
+        at = script.index("type 'sesame\\r'")
+        done = self.run_script(*script[:at], "type '\\bsesame\\r'", *script[at + 1:])
+        self.assertEqual((done.returncode, done.stderr), (5, f"bin/wb: <stdin>:{at + 2}: expect 'Welcome, operator.\\r\\n'\n"))
+
+    def test_a_strict_script_ends_where_it_fails(self) -> None:
+        for line, said in (("frob", "there is no command frob"), ("expect 'zz'", "did not send 'zz'"), ("expect 'password' 100", "up to"),
+                           ("assert pc == 0", "it does not hold that pc == 0: pc is 0xbfc00000 (3,217,031,168)"),
+                           ("assert v0", "it does not hold that v0: v0 is 0"), ("assert [sp", "a ] is missing"), ("assert", "usage"),
+                           ("assert 1 < 2 < 3", "is no condition"), ("assert-console 'w'", "line 0 did not send 'w'"),
+                           ("assert [0] == 1", "leads to no memory"), ("del 0", "refused"), ("wb frob", "error 2 Syntax"),
+                           ("step 9,,9,x", "missing")):
+            done = self.run_script(line, "step")
+            self.assertEqual((done.returncode, done.stderr), (5, f"bin/wb: <stdin>:1: {line}\n"), line)
+            self.assertIn(said, done.stdout)
+            self.assertNotIn("step 1, start", done.stdout)
+        done = self.run_script("frob", "assert v0", "step", strict=False)
+        self.assertEqual((done.returncode, done.stdout.splitlines()[-1]), (0, "step 1, start+0x4: addiu r29, r29, 4096"))
+
+    def test_conditions(self) -> None:
+        """Memory of the image: its first word is 0x3c1d8001, lui r29, 0x8001."""
+        holds = ("pc == start", "[pc] == 0x3c1d8001", "half[pc+2]==0x3c1d", "byte[pc] <= 1", "pc != 0", "1 >= 1", "2>1", "pos < 1",
+                 "[0xbfc00000+4-4] - 1 != [pc]", "'a' == 97", "pc")
+        done = self.run_script(*(f"assert {it}" for it in holds))
+        self.assertEqual((done.returncode, done.stdout), (0, "that holds\n" * len(holds)))
+
+    def test_a_closed_input(self) -> None:
+        for front in ("shell", "console"):
+            done = subprocess.run(f"bin/wb {front} examples/login/login.elf <&-", shell=True, cwd=ROOT, capture_output=True, text=True)
+            self.assertNotIn("Traceback", done.stderr)
+            self.assertEqual(done.returncode, 0 if front == "shell" else 2)
+
+    def test_numbers_of_many_digits(self) -> None:
+        long = "9" * 5000
+        done = self.run_script(f"goto {long}", f"print 0x{'f' * 5000}", f"wb goto {long}", f"goto {long}+1", f"add {long} 0 0", "goto 0xffffffffffffffff",
+                               "x" * 5000, "goto 3", strict=False)
+        self.assertEqual((done.returncode, done.stderr, done.stdout.splitlines()[-1][:7]), (0, "", "step 3,"))
+        self.assertEqual(done.stdout.count("is too large: numbers are below 2^64"), 4)
+
+
+class Damage(unittest.TestCase):
+    """Random lines, of words that the shell has and of others: each is answered, and the session goes on."""
+
+    def test_random_lines(self) -> None:
+        source = random.Random(5)
+        talk = Talk("login", "login.elf")
+        self.addCleanup(talk.driver.close)
+        places = ["0", "7", "70,000", "0x80001000", "0xbfc00000", "start", "session+8", "pc", "$sp", "last", "'x'", "[pc]", "byte[sp-1]",
+                  "9" * 4400, "0x" + "f" * 70, "-1", "pos-9", "1099511627776", "[[[", "]", "+", "''", "'\\q'", "\0", "\udc80", "é", ",", "=="]
+        commands = [it for it in COMMANDS if it not in ("save-log", "save-image", "save", "quit")]
+        talk("idle 5,000", "limit 5,000")
+        for _ in range(400):
+            line = " ".join([source.choice(commands) if source.random() < 0.9 else source.choice(places),
+                             *(source.choice(places) for _ in range(source.randrange(4)))])
+            if source.random() < 0.2:
+                at = source.randrange(len(line) + 1)
+                line = line[:at] + chr(source.randrange(1, 256)) + line[at + 1:]
+            if not line.split()[:1] or line.split()[0] in ("idle", "limit", "i", "l", "q"):
+                continue
+            end = time.monotonic() + 0.02  # then comes Ctrl-C
+            talk.driver.wants_stop = lambda: time.monotonic() > end
+            self.assertNotIn("inside the shell", "\n".join(talk(line.strip())), line)
+            talk.driver.wants_stop = lambda: False
+            if talk.driver.position > 200_000:
+                talk("goto 100")
+        self.assertRegex(talk("goto 10")[-1], "step 10, ")
 
 
 class Views(unittest.TestCase):

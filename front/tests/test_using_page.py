@@ -46,7 +46,7 @@ class Page(unittest.TestCase):
         self.assertIn(walk[0], (ROOT / "README.md").read_text())
 
     def test_there_are_some(self) -> None:
-        self.assertEqual([words[0] for words, _ in blocks()], ["shell", "shell", "log", "log", "log"])
+        self.assertEqual([words[0] for words, _ in blocks()], ["shell", "shell", "shell", "log", "log", "log"])
 
 
 if __name__ == "__main__":
