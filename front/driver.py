@@ -73,6 +73,8 @@ class Driver:
 
     def ask_all(self, commands: Sequence[str]) -> list[list[str]]:
         """The replies of several commands, which are under way together."""
+        if any("\n" in command for command in commands):
+            raise Problem("a command is one line")
         for words in map(words_of, commands):
             if words == ("quit",):
                 raise Problem("`quit` alone would end the program; the front end has its own")

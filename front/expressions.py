@@ -4,6 +4,7 @@ from __future__ import annotations
 import re
 from typing import Callable, Iterable, Optional
 
+from . import places
 from .driver import Driver
 from .errors import Problem
 from .log import unquoted
@@ -12,15 +13,16 @@ from .symbols import Symbols
 
 REGISTERS = ("zero at v0 v1 a0 a1 a2 a3 t0 t1 t2 t3 t4 t5 t6 t7 "
              "s0 s1 s2 s3 s4 s5 s6 s7 t8 t9 k0 k1 gp sp fp ra").split()
+_MOST_DIGITS = 64
 _NUMBERS = {name: number for number, name in enumerate(REGISTERS)}
 _NUMBERS.update({f"r{number}": number for number in range(32)}, s8=30)
 
-_TERM = re.compile(r"0x[0-9a-fA-F]+|[0-9][0-9,]*|'(?:[^'\\]|\\.)+'|[&$]?[A-Za-z_.][\w.$]*")
+_TERM = re.compile(r"0x[0-9a-fA-F]+|[0-9]{1,3}(?:,[0-9]{3})+(?![0-9,])|[0-9]+(?![0-9,])|'(?:[^'\\]|\\.)+'|[&$]?[A-Za-z_.][\w.$]*")
 
 HELP = """\
 Wherever a number may stand: 4096, 40,017, 0x1000, 'a', the name of a register (sp, r29, pc, hi, epc), of a symbol
 (main), `pos` for the position, and sums and differences of these: main+0x78, sp-16. A name is a symbol if there is
-one, or else a register; $NAME is always the register, and &NAME the symbol."""
+one, or else a register; $NAME is always the register, and &NAME the symbol. """ + places.HELP
 
 
 def register_number(word: str) -> Optional[int]:
@@ -35,10 +37,14 @@ def names() -> Iterable[str]:
 
 def number(text: str, driver: Driver, symbols: Symbols) -> int:
     """The number that a text means at the position."""
+    if text.startswith(places.PHYSICAL):
+        return places.always_at(number(text[len(places.PHYSICAL):], driver, symbols))
     total, at, sign = 0, 0, 1
     while True:
         term = _TERM.match(text, at)
         if not term:
+            if "," in text[at:]:
+                raise Problem(f"{text} is no number: a comma stands before three digits, as in 40,024")
             raise Problem(f"{text} is no number and no name; `help numbers` says what may stand there")
         total += sign * _value(term[0], driver, symbols)
         at = term.end()
@@ -52,6 +58,8 @@ def number(text: str, driver: Driver, symbols: Symbols) -> int:
 
 def _value(term: str, driver: Driver, symbols: Symbols) -> int:
     if term[0].isdigit():
+        if len(term) > _MOST_DIGITS:
+            raise Problem(f"a number of {len(term):,} digits is too large for anything here")
         return int(term.replace(",", ""), 16 if term.startswith("0x") else 10)
     if term[0] == "'":
         content = unquoted(term[1:-1])
@@ -71,7 +79,7 @@ def _value(term: str, driver: Driver, symbols: Symbols) -> int:
 
 def _register(name: str, driver: Driver) -> Optional[int]:
     """The value of a register at the position."""
-    if name == "pos":
+    if name in ("pos", "position"):
         return driver.position
     if name in CONTROL_NAMES:
         return driver.control()[name]

@@ -10,7 +10,7 @@ from .limits import GREATEST_POSITION
 from .rsp import PACKET_BYTES, Link
 from .travel import Reason, Stop, Stops
 
-TRAP, INTERRUPTED = b"T05", b"T02"
+TRAP, INTERRUPTED, ARRIVED = b"T05", b"T02", b"T00"
 REPLIES = {
     Reason.BEGIN: b"T05replaylog:begin;",
     Reason.END: b"T05replaylog:end;",
@@ -52,6 +52,19 @@ class Motion:
 
     def step_back(self) -> bytes:
         return self._backward(self._one_step_back)
+
+    def obey(self, command: Callable[[], str]) -> bytes:
+        """A command that goes on by itself, and gives what it shows."""
+        self._told = self._driver.position
+        self._moving = True
+        try:
+            shown = command()
+            reply = INTERRUPTED if self._interrupted else ARRIVED
+        finally:
+            self._moving = self._interrupted = False
+        self._tell(self._driver.position)
+        self.say(shown.encode("utf-8", "surrogateescape"))
+        return reply
 
     def say(self, text: bytes) -> None:
         """Shows a text in the debugger's console."""

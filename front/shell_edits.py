@@ -167,6 +167,12 @@ def save_image(session: Session, words: list[str]) -> None:
     session.tell(f"{counted(len(content), 'byte')} saved in {words[0]}")
 
 
+@command("unsaved", "shows what was edited and is not saved", FILES)
+def unsaved(session: Session, words: list[str]) -> None:
+    for it in session.unsaved():
+        session.tell(f"not saved: {it}")
+
+
 @command("wb LINE ..", "gives a line to the workbench as it is, with physical addresses, and shows its reply", SHELL, edits=True)
 def wb(session: Session, words: list[str]) -> None:
     for line in session.driver.ask(" ".join(words)):

@@ -5,14 +5,14 @@ import re
 import sys
 from typing import Callable, Optional, Sequence
 
-from . import loading, memory, monitor, target
+from . import loading, memory, monitor, places, target
 from .arguments import parse
-from .driver import Driver
 from .errors import Problem
 from .limits import RAM, ROM
 from .motion import TRAP, Motion
-from .replies import number_of
 from .rsp import PACKET_BYTES, Link
+from .session import Session, counted
+from .symbols import symbols_of
 from .travel import Watch
 
 USAGE = "usage: bin/wb stub [--log FILE] [--kind KIND] [--through] IMAGE"
@@ -38,6 +38,8 @@ FEATURES = (b"PacketSize=%x;QStartNoAckMode+;qXfer:features:read+;ReverseStep+;R
 OK, FAILED, NOT_KNOWN, GONE = b"OK", b"E01", b"", b"W00"
 CODE, CODE_IN_HARDWARE, WRITE = range(3)  # of the kinds of breakpoints and watches; the others watch reads
 
+NEXT_RUN = "next-run "  # of `monitor`: the next continue runs the line after it, so that it is shown and ended as a run is
+
 WATCHED = 256  # bytes of a watch at most
 
 NOT_WRITTEN = ("registers can't be written: they follow from the image and the log, which can be edited. "
@@ -51,9 +53,10 @@ class Malformed(Exception):
 class Stub:
     """Answers packets, one by one."""
 
-    def __init__(self, driver: Driver, link: Link, *, exceptions_whole: bool = False,
+    def __init__(self, session: Session, link: Link, *, exceptions_whole: bool = False,
                  tell: Callable[[str], None] = loading.say) -> None:
-        self._driver = driver
+        self._session = session
+        self._driver = driver = session.driver
         self._link = link
         self._tell = tell  # for the sentences that gdb doesn't show: it shows what a stub writes to standard error
         self._motion = Motion(driver, link, exceptions_whole=exceptions_whole)
@@ -62,6 +65,7 @@ class Stub:
         self._killed = False  # the debugger may start the run again
         self._ended = False
         self._places: dict[int, int] = {}  # where watched addresses led last
+        self._next_run = ""  # a line of `monitor` that the next continue runs
         driver.wants_stop = self._motion.wants_stop
 
     def serve(self) -> None:
@@ -85,6 +89,11 @@ class Stub:
             self._tell(str(problem))
             return FAILED
         except Malformed:
+            return FAILED
+        except OSError:
+            raise
+        except Exception as error:  # a fault of this program must not cost the session with its edits
+            self._tell(f"a fault in the stub, {type(error).__name__}: {error}; the session goes on")
             return FAILED
 
     # What the stub is
@@ -147,7 +156,8 @@ class Stub:
         address, count = _numbers(rb"(\w+),(\w+)", place)
         if count != len(content):
             raise Malformed
-        memory.write(self._driver, address, content)
+        with self._session.editing(f"a write of {counted(len(content), 'byte')} at {address:#010x}"):
+            memory.write(self._driver, address, content)
         return OK
 
     # Where a run is to stop
@@ -176,11 +186,12 @@ class Stub:
 
     def _watch(self, address: int, size: int) -> Watch:
         """A watch at a virtual address. Where that leads nowhere now it is watched where it led before."""
-        place = self._driver.physical(address)
+        leads = self._driver.physical(address)
+        place = places.physical(self._driver, address) if leads is not None else self._places.get(address)
         if place is None:
-            place = self._places.get(address)
-        if place is None or not all(it in RAM or it in ROM for it in (place, place + size - 1)):
-            raise Problem(f"no memory stands at 0x{address:08x} at position {self._driver.position:,}")
+            raise Problem(f"it can't be watched yet: {places.why_nowhere(self._driver, address)}")
+        if not (place + size - 1 in RAM or place + size - 1 in ROM):
+            raise Problem(f"no memory stands at {address + size - 1:#010x}")
         if size > WATCHED or address % memory.PAGE + size > memory.PAGE:
             raise Problem(f"a watch has at most {WATCHED:,} bytes, all in one page: watch a part of it")
         self._places[address] = place
@@ -189,7 +200,12 @@ class Stub:
     # Runs
 
     def _continue(self, rest: bytes) -> bytes:
-        return self._from_here(rest, self._motion.go_on)
+        return self._from_here(rest, self._go_on)
+
+    def _go_on(self) -> bytes:
+        """A run to the next stop, or to where a line of `monitor` goes on to."""
+        line, self._next_run = self._next_run, ""
+        return self._motion.obey(lambda: monitor.answer(self._session, line)) if line else self._motion.go_on()
 
     def _step(self, rest: bytes) -> bytes:
         return self._from_here(rest, self._motion.step)
@@ -213,7 +229,7 @@ class Stub:
         """The first action of a list: there is one thread, so there is one action."""
         action = rest.split(b";")[0].split(b":")[0]
         if action[:1] in (b"c", b"C"):
-            return self._motion.go_on()
+            return self._go_on()
         if action[:1] in (b"s", b"S"):
             return self._motion.step()
         first, end = _numbers(rb"r(\w+),(\w+)", action)
@@ -222,10 +238,7 @@ class Stub:
     def _run(self, rest: bytes) -> bytes:
         """Starts again, at the position that is the first word after the file's name."""
         words = [_from_digits(word).decode("latin-1") for word in rest.split(b";")[1:]]
-        position = number_of(words[0]) if words else 0
-        if position is None:
-            raise Problem(f"{words[0]} is no position")
-        self._driver.goto(position)
+        self._driver.goto(self._session.number(words[0]) if words else 0)
         self._killed = False
         return TRAP
 
@@ -238,8 +251,11 @@ class Stub:
         return OK
 
     def _command(self, rest: bytes) -> bytes:
-        line = _from_digits(rest).decode("utf-8", "replace")
-        self._motion.say(monitor.answer(self._driver, line).encode())
+        line = _from_digits(rest).decode("utf-8", "surrogateescape")
+        if line.startswith(NEXT_RUN):
+            self._next_run = line[len(NEXT_RUN):]
+        else:
+            self._motion.say(monitor.answer(self._session, line).encode("utf-8", "surrogateescape"))
         return OK
 
 
@@ -295,5 +311,6 @@ def main(arguments: Sequence[str]) -> int:
     """Serves one debugger on standard input and output."""
     line = parse(arguments, OPTIONS, USAGE, HELP, (1,))
     with loading.running(line) as driver:
-        Stub(driver, Link(sys.stdin.fileno(), sys.stdout.fileno()), exceptions_whole=line.has("--through")).serve()
+        session = Session(driver, symbols_of(driver.image), saved_log=list(driver.log))
+        Stub(session, Link(sys.stdin.fileno(), sys.stdout.fileno()), exceptions_whole=line.has("--through")).serve()
     return 0

@@ -99,7 +99,7 @@ class Memory(StubTest):
 
     def test_a_write_is_whole_or_not_at_all(self) -> None:
         wire = self.wire([0])
-        self.refusals(wire, ("Ma07ffffc,8:0102030405060708", "no RAM or ROM stands at 0xa0800000"))
+        self.refusals(wire, ("Ma07ffffc,8:0102030405060708", "0xa0800000 leads to the physical address 0x00800000, where no memory is"))
         self.dialog(wire, ("ma07ffffc,4", "00000000"), ("Xbfc00000,0:", "OK"))
 
 
@@ -112,7 +112,7 @@ class Runs(StubTest):
     def test_a_step_beyond_the_end(self) -> None:
         needs_erase(self)
         wire = self.wire(COUNTER)
-        wire.command("goto 1099511627775")
+        wire.command("wb goto 1099511627775")
         self.assertEqual(wire.ask("s"), "T05replaylog:end;")
 
     def test_breakpoints_go_both_ways(self) -> None:
@@ -183,9 +183,10 @@ class Runs(StubTest):
         wire = self.wire(ECHO)
         self.refusals(wire, ("Z3,a0000100,4", "reads can't be watched"), ("Z4,a0000100,4", "reads can't be watched"),
                       ("Z0,bfc01002,4", "a multiple of 4"), ("Z0,100000000,4", "of 32 bits"),
-                      ("Z2,bfe00000,4", "no memory stands at 0xbfe00000"),
-                      ("Z2,400000,4", "no memory stands at 0x00400000"),
-                      ("Z2,a07ffffe,4", "no memory stands at 0xa07ffffe"),
+                      ("Z2,bfe00000,4", "0xbfe00000 leads to the physical address 0x1fe00000, where no memory is"),
+                      ("Z2,400000,4", "it can't be watched yet: 0x00400000 leads nowhere at this position: no translation entry has its page. "
+                       "It leads to memory at positions where an entry maps its page 0x00400, mostly in user mode"),
+                      ("Z2,a07ffffe,4", "no memory stands at 0xa0800001"),
                       ("Z2,a0000000,101", "at most 256 bytes"), ("Z2,a0000ffe,4", "all in one page"))
         self.dialog(wire, ("Z0,bfc01000", "E01"), ("Zx,1,1", "E01"), ("z0,bfc01000,4", "OK"), ("z2,400000,4", "OK"))
 
@@ -278,18 +279,18 @@ class Hostile(StubTest):
         wire = self.wire(ECHO, TYPED)
         wire.command("goto 256")
         wire.command("del 1")
-        wire.command("patch 0x200 7")
+        wire.command("patch p:0x200 7")
         assert wire.driver._program
         process = wire.driver._program._process
         os.kill(process.pid, signal.SIGKILL)
         process.wait()
         self.refusals(wire, ("g", "the program was ended by SIGKILL"))
-        self.assertEqual([wire.command(it) for it in ("pos", "writer 0x104", "mem 0x200 1")],
-                         ["pos 256\n", "writer 81\n", "0x00000200 0x00000007\n"])
+        self.assertEqual([wire.command(it) for it in ("wb pos", "wb writer 0x104", "mem 0xa0000200 1")],
+                         ["pos 256\n", "writer 81\n", "0xa0000200: 0x00000007  |....|\n"])
 
     def test_the_reads_of_the_program_are_used_up(self) -> None:
         wire = self.wire_on(start(rom(COUNTER), most_reads=40))
-        wire.command("patch 0x1fc00004 0x24420003")
+        wire.command("patch p:0x1fc00004 0x24420003")
         for position in range(1, 60):
             self.stops(wire, ("s", "T05", position))
         # After 58 steps the addiu of steps 1, 5 .. 57 was made 15 times.
