@@ -29,7 +29,7 @@ def flush() -> None:
 
 def asked(line: str) -> str:
     """What the stub shows for a line of `monitor`. Where it refuses, that is an error."""
-    shown = gdb.execute(f"monitor {line}", to_string=True)
+    shown = gdb.execute(f"monitor {line}", to_string=True) or ""
     done, refused, reason = f"\n{shown}".partition(f"\n{REFUSED}")
     if refused:
         gdb.write(f"{done[1:]}\n" if done else "")
@@ -92,7 +92,7 @@ class BeforeQuit(gdb.Command):
 
     def invoke(self, line: str, from_terminal: bool) -> None:
         try:
-            unsaved = gdb.execute("monitor unsaved", to_string=True).replace("(save-", "(wb save-")
+            unsaved = asked("unsaved").replace("(save-", "(wb save-")
         except gdb.error:
             return  # there is no run
         if unsaved and unsaved != self._said and os.isatty(0):
