@@ -7,7 +7,7 @@ import re
 
 import gdb
 
-AS_THEY_ARE = ("expect", "help", "save-image", "save-log", "symbols", "type", "wb")  # their words are no numbers
+AS_THEY_ARE = ("expect", "help", "load", "save-image", "save-log", "symbols", "type", "wb")  # their words are no numbers
 RUNS = ("expect",)  # they go on, and are run as `continue` is
 REFUSED = "refused: "  # begins what the stub says where it can't do a thing
 
@@ -83,6 +83,32 @@ Numbers may be expressions without blanks: wb writer &session.length, wb goto $p
             gdb.execute("frame")
 
 
+class Load(gdb.Command):
+    """Loads a program that was built anew: load [FILE]. Without FILE it is the present one, and its symbols are read again.
+The log and all else stay, and the run is at position 0."""
+
+    def __init__(self) -> None:
+        super().__init__("load", gdb.COMMAND_FILES, gdb.COMPLETE_FILENAME)
+
+    def invoke(self, line: str, from_terminal: bool) -> None:
+        present = gdb.current_progspace().filename
+        name = os.path.abspath(line.strip()) if line.strip() else present
+        if name is None:
+            raise gdb.GdbError("load wants a file: load FILE")
+        asked("goto 0")
+        gdb.write(asked(f"load {name}"))
+        if name == present:
+            gdb.execute(f"file {name}", to_string=True)
+        flush()
+
+
+def name_the_jump() -> None:
+    """Gives the jump at the reset vector a symbol, which `file` takes away."""
+    file = os.environ.get("BEZHAKKOM_JUMP")
+    if file:
+        gdb.execute(f"add-symbol-file {file}", to_string=True)
+
+
 class BeforeQuit(gdb.Command):
     """Says what was edited and is not saved, before gdb quits. A second `quit` leaves without it."""
 
@@ -114,9 +140,11 @@ def hook(command: str, line: str) -> None:
 
 
 Workbench()
+Load()
 BeforeQuit()
+name_the_jump()
 hook("hook-quit", "before-quit")
-hook("hookpost-load", "python flush()")
+hook("hookpost-file", "python name_the_jump()")
 for start in "run", "start", "starti":
     # gdb would start at the position of an earlier `starti N` again.
     hook(f"hook-{start}", "set args")

@@ -5,7 +5,7 @@ import os
 import sys
 from contextlib import contextmanager
 from pathlib import Path
-from typing import Iterator, Optional
+from typing import Callable, Iterator, Optional
 
 from . import elf
 from . import log as logs
@@ -44,8 +44,8 @@ def content_of(name: str) -> bytes:
     return path.read_bytes()
 
 
-def image(name: str, kind: Optional[str] = None) -> Image:
-    """The image in a file. Its kind is given, or else seen from its bytes and its name."""
+def image(name: str, kind: Optional[str] = None, tell: Callable[[str], None] = say) -> Image:
+    """The image in a file. Its kind is given, or else seen from its bytes and its name. `tell` takes notes for the user."""
     content = content_of(name)
     if kind not in (None, *KINDS):
         raise Problem(f"{kind} is no kind of image; there are {', '.join(KINDS)}")
@@ -54,7 +54,7 @@ def image(name: str, kind: Optional[str] = None) -> Image:
         return Image(name, kind, content)
     made, notes = elf.image_of(content, name)
     for note in notes:
-        say(note)
+        tell(note)
     return made
 
 

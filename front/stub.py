@@ -5,7 +5,7 @@ import re
 import sys
 from typing import Callable, Optional, Sequence
 
-from . import loading, memory, monitor, places, target
+from . import elf, loading, memory, monitor, places, target
 from .arguments import parse
 from .errors import Problem
 from .limits import RAM, ROM
@@ -65,6 +65,7 @@ class Stub:
         self._killed = False  # the debugger may start the run again
         self._ended = False
         self._places: dict[int, int] = {}  # where watched addresses led last
+        self._loaded = False  # memory was written since the last run
         self._next_run = ""  # a line of `monitor` that the next continue runs
         driver.wants_stop = self._motion.wants_stop
 
@@ -138,9 +139,22 @@ class Stub:
     def _set_register(self, rest: bytes) -> bytes:
         _numbers(rb"(\w+)=(\w+)", rest)
         number, _, value = rest.partition(b"=")
-        if value.lower() != self._register(number):
+        if value.lower() == self._register(number):
+            return OK
+        if int(number, 16) != target.NUMBERS["pc"] or not self._loaded or self._driver.position:
             raise Problem(NOT_WRITTEN)
+        self._begin_at(int.from_bytes(_from_digits(value), "little"))
         return OK
+
+    def _begin_at(self, entry: int) -> None:
+        """Takes the PC that gdb sets at the end of `load`. The machine begins at the reset vector all the same, from where the
+        image's jump to the entry leads on, if it has one."""
+        places.physical(self._driver, entry)
+        vector = range(ROM.start, ROM.start + 16, 4)
+        words = [self._driver.boot().word(place) for place in vector]
+        high, low = (words[0] or 0) & 0xFFFF, (words[1] or 0) & 0xFFFF
+        if tuple(words) == elf.jump_to(high << 16 | low):
+            self._driver.values([f"patch {place} {word}" for place, word in zip(vector, elf.jump_to(entry))])
 
     def _read(self, rest: bytes) -> bytes:
         address, count = _numbers(rb"(\w+),(\w+)", rest)
@@ -158,6 +172,7 @@ class Stub:
             raise Malformed
         with self._session.editing(f"a write of {counted(len(content), 'byte')} at {address:#010x}"):
             memory.write(self._driver, address, content)
+        self._loaded = True
         return OK
 
     # Where a run is to stop
@@ -214,6 +229,7 @@ class Stub:
         """A move. The debugger must not give an address to begin at."""
         if rest:
             raise Problem(NOT_WRITTEN)
+        self._loaded = False
         return move()
 
     def _continue_back(self, rest: bytes) -> bytes:
@@ -227,6 +243,7 @@ class Stub:
 
     def _resume(self, rest: bytes) -> bytes:
         """The first action of a list: there is one thread, so there is one action."""
+        self._loaded = False
         action = rest.split(b";")[0].split(b":")[0]
         if action[:1] in (b"c", b"C"):
             return self._go_on()

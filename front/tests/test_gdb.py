@@ -114,7 +114,7 @@ class Login(GdbTest):
             " R8   bfc00470 80001030 80001030 80001030 00000000 00000000 00000000 00000000 ",
             " R24  00000000 00000000 00000000 00000000 00000000 80010fd0 00000000 bfc00274 ",
             "      00400000 00000000 00000000 00000000 00000000 bfc00258 ",
-            "       <unavl>  <unavl> ",
+            "      00000000 00000000 ",
             "position: 0x9c58",
             "      bfc0025c 00000000 00000000 00000000 00000000 00001700 00000000 00000000 ")
 
@@ -221,6 +221,67 @@ class Typed(unittest.TestCase):
         shown = terminal.until(b"`quit` again leaves without it.")
         self.assertIn(b"not saved: the log (wb save-log FILE)", shown)
         self.type(terminal, "quit")
+        self.assertEqual(terminal.end(), 0)
+
+
+class Kernel(GdbTest):
+    """A kernel in RAM, built by gcc. The third word of its loop counts in r8, by one in each turn of 4 steps."""
+
+    COMPILER = "mipsel-linux-gnu-gcc"
+    SOURCE = """
+            .set noreorder
+            .globl start
+            .ent start
+    start:  lui $9, %hi(count)
+    loop:   addiu $8, $8, STEP
+            sw $8, %lo(count)($9)
+            b loop
+            nop
+            .end start
+            .data
+            .word 1, 2, 3
+            .bss
+    count:  .word 0
+            .space 16
+    """
+
+    def setUp(self) -> None:
+        if not shutil.which(self.COMPILER):
+            self.skipTest(f"{self.COMPILER} is not installed")
+        folder = tempfile.TemporaryDirectory()
+        self.addCleanup(folder.cleanup)
+        self.folder = Path(folder.name)
+        self.elf = str(self.folder / "kernel.elf")
+        self.build(1)
+
+    def build(self, step: int) -> None:
+        source = self.folder / "kernel.S"
+        source.write_text(self.SOURCE.replace("STEP", str(step)))
+        subprocess.run([self.COMPILER, "-march=r3000", "-mfp32", "-EL", "-mno-abicalls", "-fno-pic", "-g", "-nostdlib", "-static",
+                        "-Wl,-Ttext,0x80010000,-e,start,--build-id=none", "-o", self.elf, str(source)], check=True)
+
+    def gdb(self, *commands: str) -> list[str]:
+        line = [debugger.WB, "gdb", self.elf, *debugger.PLAIN, "-batch", *(word for command in commands for word in ("-ex", command))]
+        return debugger.run(line).splitlines()
+
+    def test_the_jump_at_reset_has_a_name(self) -> None:
+        shown = "\n".join(self.gdb("stepi", f"file {self.elf}", "stepi", "info all-registers"))
+        self.assertEqual(shown.count("a jump to its entry 0x80010000 was put there"), 1)
+        self.assertEqual(re.findall(r"0xbfc0000\w in reset", shown), [f"0xbfc0000{at} in reset" for at in "048"])
+        self.assertNotIn("find the start of the function", shown)
+        self.assertIn("\n f31: 0x00000000 flt: 0", shown)
+        self.assertIn("\nposition: 0x2\n", shown)
+
+    def test_build_and_load(self) -> None:
+        terminal = Terminal("gdb", self.elf, *debugger.PLAIN)
+        terminal.until(b"(0) ")
+        terminal.type(b"starti 46\nprint $r8\n")  # the fourth jump's step, the one before the loop, and 40 steps of it
+        terminal.until(b"$1 = 11\r")
+        self.build(3)
+        terminal.type(f"file {self.elf}\nload\n".encode())
+        self.assertIn(b"1 word of the image changed", terminal.until(b"(0) "))
+        terminal.type(b"starti 46\nprint $r8\nquit\n")
+        terminal.until(b"$2 = 33\r")
         self.assertEqual(terminal.end(), 0)
 
 

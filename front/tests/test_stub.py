@@ -24,7 +24,7 @@ class Registers(StubTest):
         self.assertEqual(everything[:8 * 32], "0" * 8 * 32)
         self.assertEqual(everything[8 * PC:8 * PC + 8], "0000c0bf")
         self.assertEqual(everything[8 * STATUS:8 * STATUS + 8], "00004000")
-        self.dialog(wire, ("p25", "0000c0bf"), ("p20", "00004000"), ("p26", "xxxxxxxx"), ("p49", "0400c0bf"),
+        self.dialog(wire, ("p25", "0000c0bf"), ("p20", "00004000"), ("p26", "00000000"), ("p49", "0400c0bf"),
                     ("pffff", "E01"),
                     ("p", "E01"))
 
@@ -101,6 +101,25 @@ class Memory(StubTest):
         wire = self.wire([0])
         self.refusals(wire, ("Ma07ffffc,8:0102030405060708", "0xa0800000 leads to the physical address 0x00800000, where no memory is"))
         self.dialog(wire, ("ma07ffffc,4", "00000000"), ("Xbfc00000,0:", "OK"))
+
+
+class Load(StubTest):
+    """gdb writes a program, and then the PC."""
+
+    def test_the_pc_is_taken_after_a_write_at_reset(self) -> None:
+        wire = self.wire(COUNTER)
+        self.refusals(wire, ("P25=0400c0bf", "registers can't be written"))
+        self.dialog(wire, ("Ma0000200,4:01020304", "OK"), ("P25=00020080", "OK"), ("p25", "0000c0bf"))
+        self.refusals(wire, ("P25=00004000", "0x00400000 leads nowhere"), ("P24=00000001", "registers can't be written"))
+        self.stops(wire, ("s", "T05", 1), ("bs", "T05", 0))
+        self.refusals(wire, ("P25=00020080", "registers can't be written"))
+
+    def test_a_jump_at_reset_leads_to_the_new_entry(self) -> None:
+        # lui r26, 0x8001; ori r26, r26, 0; jr r26; sll: the fourth step is the delay slot, and then comes 0x80010000.
+        wire = self.wire([0x3C1A8001, 0x375A0000, 0x03400008, 0])
+        self.dialog(wire, ("M80020004,4:00000000", "OK"), ("P25=04000280", "OK"))
+        wire.command("goto 4")
+        self.dialog(wire, ("p25", "04000280"))
 
 
 class Runs(StubTest):
