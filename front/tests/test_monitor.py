@@ -77,7 +77,8 @@ class Commands(StubTest):
             ("erase 5 4", "refused: both steps are 0 to 1,099,511,627,775, and the first is not above the second\n"),
             ("quit", "refused: gdb has its own `quit`\n"), ("continue", "refused: gdb has its own `continue`\n"),
             ("goto " + "9" * 5000, "refused: a number of 5,000 digits is too large for anything here\n"),
-            ("undo", "refused: there is no edit to take back\n"))
+            ("undo", "refused: there is no edit to take back\n"),
+            ("visit 2 9", "refused: 2 is no multiple of 4; the word that it is in is at 0x0\n"))
         for line, reason in (("mem 0xbfe00000 1", "no memory is"), ("add 5 4 0", "a line is 0 to 3"),
                              ("goto 1099511627776", "a position is 0 to")):
             self.assertRegex(wire.command(line), f"^refused: .*{reason}")

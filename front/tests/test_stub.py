@@ -7,13 +7,18 @@ from __future__ import annotations
 import os
 import random
 import signal
+import time
 import unittest
+import unittest.mock
 
 from front import target
+from front.commands import COMMANDS
 from front.log import Event
+from front.stub import ANSWERS
 from front.tests.support import needs_erase, rom, start
 from front.tests.wire import COUNTER, ECHO, TYPED, StubTest
 
+FUZZED = 3  # seconds
 PC, STATUS = 37, 32  # the numbers that gdb gives registers of a MIPS processor
 
 
@@ -285,14 +290,37 @@ class Hostile(StubTest):
         # The program stands still, so that each run ends at once.
         wire = self.wire([0x1000FFFF, 0])
         source = random.Random(1)
-        begins = ["q", "qRcmd,", "qXfer:features:read:", "v", "vCont", "vRun;", "vKill", "g", "G", "p", "P", "m", "M",
-                  "X", "Z",
-                  "z", "b", "c", "s", "H", "?"]
-        for _ in range(300):
-            characters = source.choices("0123456789abcdef,;:=.cs+ \x00\x7f", k=source.randrange(12))
-            wire.ask(source.choice(begins) + "".join(characters))
-        wire.command("goto 0")
-        self.dialog(wire, ("g", wire.ask("g")), ("mbfc00000,4", "ffff0010"))
+        begins = [begin.decode() for begin in ANSWERS if begin not in (b"D", b"k")]
+        # Without those that write files, and moves to steps as far away as an address is.
+        names = [it for it in COMMANDS if not it.startswith(("save", "load", "goto", "step", "back", "visit", "wb"))]
+        words = [*names, "goto 1,000", "step 1", "back 1,", "visit 0xbfc00000 9", "wb pos", *"0 1 7 0xbfc00000 p:0x0 p:0x1fc00004 -1 1, 1,000 99999999999999999999 pc pos $sp 'a' 'b\\r' ' \" \n \0 \xff ;".split(" ")]
+        wire.command("patch p:0x100 7")
+        end = time.monotonic() + FUZZED
+        while time.monotonic() < end:
+            if source.random() < 0.5:
+                characters = source.choices("0123456789abcdef,;:=.cs+ \n\x00\x7f", k=source.randrange(12))
+                wire.ask(source.choice(begins) + "".join(characters))
+            else:
+                line = " ".join(source.choices(words, k=source.randrange(5)))
+                wire.ask("qRcmd," + (source.choice(["", "", "next-run "]) + line).encode().hex())
+        self.assertTrue(wire.serves())
+        self.assertEqual([it for it in wire.notes if "a fault in the stub" in it], [])
+        wire.command("wb goto 0")
+        self.dialog(wire, ("g", wire.ask("g")))
+
+    def test_a_newline_in_a_command(self) -> None:
+        wire = self.wire(ECHO, TYPED)
+        for line in ("wb goto 5\ngoto 6", "type '\n' 5\n", "\n", "wb 'a\nb'"):
+            wire.command(line)
+        self.assertEqual(wire.command("wb 'a\nb'"), "refused: a command is one line\n")
+        self.assertEqual(wire.command("wb log 0 1"), "log 3\n0 0 0 0x0a\n")
+
+    def test_a_fault_of_the_stub_costs_nothing(self) -> None:
+        wire = self.wire(ECHO, TYPED)
+        wire.command("del 1")
+        with unittest.mock.patch("front.memory.read", side_effect=ZeroDivisionError("here")):
+            self.refusals(wire, ("mbfc00000,4", "a fault in the stub, ZeroDivisionError: here; the session goes on"))
+        self.assertEqual(wire.command("wb log 0 2"), "log 1\n0 70 0 0x41\n")
 
     def test_a_program_that_dies_is_started_again_with_all_edits(self) -> None:
         wire = self.wire(ECHO, TYPED)
