@@ -2,6 +2,7 @@
 from __future__ import annotations
 
 import re
+from contextlib import nullcontext
 from dataclasses import dataclass
 from typing import Callable
 
@@ -67,6 +68,15 @@ def find(name: str) -> Command:
     if found:
         raise Problem(f"{name} may be {', '.join(found)}")
     raise Problem(f"there is no command {name[:40]}; `help` lists them")
+
+
+def run(session: Session, line: str) -> None:
+    """Runs the line of a command."""
+    name, *words = words_of(line)
+    found = find(name)
+    found.check(words)
+    with session.editing(line) if found.edits else nullcontext():
+        found.run(session, words)
 
 
 _WORD = re.compile(r"""(?:'(?:[^'\\]|\\.)*'|"(?:[^"\\]|\\.)*"|[^\s'"])+|['"].*""")

@@ -78,6 +78,8 @@ class Driver:
 
     def ask_all(self, commands: Sequence[str]) -> list[list[str]]:
         """The replies of several commands, which are under way together."""
+        if any("\n" in command for command in commands):
+            raise Problem("a command is one line")
         for words in map(words_of, commands):
             if "\n" in "".join(words):
                 raise Problem("a command is one line")

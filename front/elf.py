@@ -224,6 +224,11 @@ def physical_of(address: int) -> int:
     return address & 0x1FFF_FFFF if 0x8000_0000 <= address < 0xC000_0000 else address
 
 
+def jump_to(entry: int) -> tuple[int, int, int, int]:
+    """The words of a jump: lui r26; ori r26, r26; jr r26; sll."""
+    return 0x3C1A_0000 | entry >> 16, 0x375A_0000 | entry & 0xFFFF, 0x0340_0008, 0
+
+
 def _jump_to_entry(boot: Boot, entry: int, name: str) -> None:
     """Puts a jump to the entry at the reset vector, where nothing else is."""
     nothing = f"{name} has nothing at the reset vector {RESET_PC:#010x}"
@@ -232,7 +237,7 @@ def _jump_to_entry(boot: Boot, entry: int, name: str) -> None:
                       "link it to 0x80010000 or so (ld -Ttext 0x80010000)", 1)
     if entry % 4 or boot.word(physical_of(entry)) is None:
         raise Problem(f"{nothing}, and at its entry {entry:#010x} there is no instruction", 1)
-    jump = (0x3C1A_0000 | entry >> 16, 0x375A_0000 | entry & 0xFFFF, 0x0340_0008, 0)  # lui r26; ori r26, r26; jr r26; sll
+    jump = jump_to(entry)
     places = [ROM.start + 4 * it for it in range(len(jump))]
     if any(boot.word(it) is not None for it in places):
         raise Problem(f"{nothing}, and no room for a jump to its entry there", 1)

@@ -7,7 +7,7 @@ import re
 from dataclasses import dataclass
 from typing import Callable, Iterable, Optional, Sequence
 
-from . import memory
+from . import memory, places
 from .driver import Driver
 from .errors import Problem
 from .limits import COMMAND_BYTES
@@ -17,10 +17,11 @@ from .symbols import Symbols
 
 REGISTERS = ("zero at v0 v1 a0 a1 a2 a3 t0 t1 t2 t3 t4 t5 t6 t7 "
              "s0 s1 s2 s3 s4 s5 s6 s7 t8 t9 k0 k1 gp sp fp ra").split()
+_MOST_DIGITS = 64
 _NUMBERS = {name: number for number, name in enumerate(REGISTERS)}
 _NUMBERS.update({f"r{number}": number for number in range(32)}, s8=30)
 
-_TERM = re.compile(r"0x[0-9a-fA-F]+|[0-9][0-9,]*|'(?:[^'\\]|\\.)+'|[&$]?[A-Za-z_.][\w.$]*")
+_TERM = re.compile(r"0x[0-9a-fA-F]+|[0-9]{1,3}(?:,[0-9]{3})+(?![0-9,])|[0-9]+(?![0-9,])|'(?:[^'\\]|\\.)+'|[&$]?[A-Za-z_.][\w.$]*")
 _OPENED = re.compile(r"(byte|half|)\[")
 _SIZES = {"byte": 1, "half": 2, "": 4}
 _DEEPEST = 16  # brackets within each other
@@ -30,8 +31,10 @@ _MOST_DIGITS = 64  # zeros before a number count too
 
 HELP = """\
 Wherever a number may stand: 4096, 40,017, 0x1000, 'a', the name of a register (sp, r29, pc, hi, epc), of a symbol
-(main), `pos` for the position, `last` for the step of the log's last event, and sums and differences of these: main+0x78,
-sp-16. [A] is the word of memory at address A, half[A] two bytes and byte[A] one: [sp+16], byte[[line]+3]. A name is a symbol if there is one, or else a register; $NAME is always the register, and &NAME the symbol."""
+(main), `pos` for the position, `last` for the step of the log's last event, and sums and differences of these:
+main+0x78, sp-16. [A] is the word of memory at address A, half[A] two bytes and byte[A] one: [sp+16], byte[[line]+3].
+A name is a symbol if there is one, or else a register; $NAME is always the register, and &NAME the symbol.
+""" + places.HELP
 
 
 def register_number(word: str) -> Optional[int]:
@@ -116,7 +119,10 @@ class _Reader:
         self._depth = 0
 
     def total(self) -> int:
-        """A sum, up to what is no part of it."""
+        """A sum, up to what is no part of it. One after `p:` is a physical address, and gives a virtual one."""
+        if self.rest.startswith(places.PHYSICAL):
+            self.rest = self.rest[len(places.PHYSICAL):]
+            return places.always_at(self.total())
         total, sign = 0, 1
         while True:
             total += sign * self._term()
@@ -131,6 +137,8 @@ class _Reader:
         if opened:
             return self._in_memory(opened)
         if not term:
+            if "," in self.rest:
+                raise Problem(f"{shortened(self._text)} is no number: a comma stands before three digits, as in 40,024")
             raise Problem(f"{shortened(self._text)} is no number and no name; `help numbers` says what may stand there")
         self.rest = self.rest[term.end():]
         return _number(term[0], self._driver, self._symbols)
@@ -147,7 +155,8 @@ class _Reader:
         self.rest = self.rest[1:]
         self._depth -= 1
         size = _SIZES[opened[1]]
-        content = memory.read(self._driver, address, size) if 0 <= address < 1 << 32 else b""
+        places.physical(self._driver, address)
+        content = memory.read(self._driver, address, size)
         if len(content) < size:
             raise Problem(f"{address:#010x} leads to no memory at this position")
         return int.from_bytes(content, "little")
@@ -186,7 +195,7 @@ def _natural(term: str) -> int:
 
 def _register(name: str, driver: Driver) -> Optional[int]:
     """The value of a register at the position."""
-    if name == "pos":
+    if name in ("pos", "position"):
         return driver.position
     if name == "last":
         return driver.log[-1].time if driver.log else 0

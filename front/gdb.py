@@ -1,18 +1,19 @@
 """`bin/wb gdb`: gdb on the stub, with the settings that it needs."""
 from __future__ import annotations
 
+import os
 import shlex
 import shutil
 import signal
 import subprocess
 import sys
 import tempfile
-from contextlib import contextmanager
 from pathlib import Path
-from typing import Iterator, Sequence
+from typing import Sequence
 
 from . import loading, stub, symbol_file
 from .arguments import parse
+from .elf import jump_to
 from .errors import Problem
 from .image import Image
 from .limits import RESET_PC
@@ -22,6 +23,8 @@ from .symbols import symbols_of
 
 DEBUGGER = "gdb-multiarch"
 IN_GDB = Path(__file__).resolve().parent / "in_gdb.py"
+
+JUMP = "BEZHAKKOM_JUMP"  # names the file of the jump's symbol for what runs in gdb
 
 USAGE = "usage: bin/wb gdb [OPTIONS] [--through] IMAGE [GDB-ARGUMENTS]"
 HELP = f"""\
@@ -51,7 +54,8 @@ def main(arguments: Sequence[str]) -> int:
     """Runs gdb, and gives its status."""
     count = _stub_words(arguments)
     line = parse(arguments[:count], stub.OPTIONS, USAGE, HELP, range(1, count + 1))
-    image = loading.booted(line)
+    # The notes are the stub's to give.
+    image = loading.booted(line, tell=lambda note: None)
     debugger = shutil.which(DEBUGGER)
     if debugger is None:
         raise Problem(f"{DEBUGGER} is not installed; on Debian: apt-get install {DEBUGGER}")
@@ -61,13 +65,13 @@ def main(arguments: Sequence[str]) -> int:
     words = [debugger, "-q", *(word for setting in SETTINGS for word in ("-iex", setting))]
     # A Ctrl-C is gdb's alone.
     signal.signal(signal.SIGINT, lambda number, frame: None)
-    with _symbols(image) as symbols:
-        words += [*symbols, "-ex", f"target extended-remote | {command}", "-x", str(IN_GDB), *arguments[count:]]
-        return subprocess.call(words)
+    with tempfile.TemporaryDirectory() as folder:
+        words += [*_symbols(image, Path(folder)), "-x", str(IN_GDB), "-ex", f"target extended-remote | {command}"]
+        environment = {**os.environ, JUMP: str(_jump(image, Path(folder)))}
+        return subprocess.call([*words, *arguments[count:]], env=environment)
 
 
-@contextmanager
-def _symbols(image: Image) -> Iterator[list[str]]:
+def _symbols(image: Image, folder: Path) -> list[str]:
     """The words that give gdb ELFs: that of the image and others with symbols, or a file with names where there is none."""
     first, *others = image.elves or (None,)
     if first and first.offset:
@@ -76,15 +80,23 @@ def _symbols(image: Image) -> Iterator[list[str]]:
              for word in ("-ex", f"add-symbol-file {shlex.quote(file.name)} -readnow -o {file.offset:#x}")]
     if first:
         # Without --readnow gdb finds no lines of assembler sources.
-        yield ["--readnow", "--directory", str(Path(first.name).resolve().parent), first.name, *added]
-        return
+        return ["--readnow", "--directory", str(Path(first.name).resolve().parent), first.name, *added]
     symbols = symbols_of(image)
     names = {KSEG0: "ram", RESET_PC: "reset"}
     names |= {address: name for name in symbols.names() if (address := symbols.address(name)) is not None}
-    with tempfile.TemporaryDirectory() as folder:
-        file = Path(folder, Path(image.name).name)
-        file.write_bytes(symbol_file.content((name, address) for address, name in names.items()))
-        yield [str(file), *added]
+    file = folder / Path(image.name).name
+    file.write_bytes(symbol_file.content((name, address) for address, name in names.items()))
+    return [str(file), *added]
+
+
+def _jump(image: Image, folder: Path) -> str:
+    """The name of a file that names the jump at the reset vector, if an ELF has none there, or ''. Where there is no name gdb
+    looks for the begin of a function, and says at each stop that it found none."""
+    if not image.elves or symbols_of(image).at(RESET_PC):
+        return ""
+    file = folder / "reset"
+    file.write_bytes(symbol_file.content([("reset", RESET_PC)], rom=4 * len(jump_to(0)), ram=0))
+    return str(file)
 
 
 def _stub_words(arguments: Sequence[str]) -> int:

@@ -1,12 +1,19 @@
-"""Runs inside gdb, where `bin/wb gdb` loads it: the command `wb`, and a prompt that shows the position."""
+"""Runs inside gdb, where `bin/wb gdb` loads it: the command `wb`, a prompt that shows the position, and a word before gdb
+quits without what was edited."""
 from __future__ import annotations
 
+import os
 import re
 
 import gdb
 
-MOVES_OR_EDITS = ("goto", "step", "back", "visit", "run", "starti", "add", "ferr", "wire", "del", "erase", "set", "move", "patch")
-BY_ADDRESS = ("where", "mem", "dis", "writer", "visit", "patch")  # their first number is an address
+AS_THEY_ARE = ("expect", "help", "load", "save-image", "save-log", "symbols", "type", "until", "wb")  # their words are no numbers
+RUNS = ("expect", "until")  # they go on, and are run as `continue` is
+REFUSED = "refused: "  # begins what the stub says where it can't do a thing
+
+NUMBER = re.compile(r"\d[\w,]*")
+IN_GROUPS = re.compile(r"(?<![\w.,])\d{1,3}(?:,\d{3})+(?![\w,])")
+BY_ADDRESS = (gdb.TYPE_CODE_ARRAY, gdb.TYPE_CODE_STRUCT, gdb.TYPE_CODE_UNION, gdb.TYPE_CODE_FUNC)
 
 
 def flush() -> None:
@@ -20,12 +27,38 @@ def flush() -> None:
             watch.enabled = True
 
 
-def as_number(word: str, bits: int) -> str:
-    """A word of a command: a number stays, and anything else is an expression of gdb's, without blanks. gdb extends addresses by
-    their sign."""
-    if re.fullmatch(r"\d\w*", word):
+def asked(line: str) -> str:
+    """What the stub shows for a line of `monitor`. Where it refuses, that is an error."""
+    shown = gdb.execute(f"monitor {line}", to_string=True) or ""
+    done, refused, reason = f"\n{shown}".partition(f"\n{REFUSED}")
+    if refused:
+        gdb.write(f"{done[1:]}\n" if done else "")
+        raise gdb.GdbError(reason.rstrip())
+    return shown
+
+
+def as_number(word: str) -> str:
+    """A word of a command: a number stays, and anything else is an expression of gdb's, without blanks."""
+    if word.startswith("p:"):
+        return "p:" + as_number(word[2:])
+    if NUMBER.fullmatch(word):
         return word
-    return str(int(gdb.parse_and_eval(word)) & (1 << bits) - 1)
+    plain = IN_GROUPS.sub(lambda it: it[0].replace(",", ""), word)
+    if "," in plain:
+        raise gdb.GdbError(f"{word} is no number: a comma stands before three digits, as in 40,024")
+    try:
+        value = gdb.parse_and_eval(plain)
+        if value.type.strip_typedefs().code in BY_ADDRESS:
+            value = value.address
+        return str(int(value) & ((1 << 8 * value.type.sizeof) - 1))
+    except gdb.error as error:
+        raise gdb.GdbError(f"{word}: {error}") from None
+
+
+def here() -> tuple:
+    """The position and the PC."""
+    frame = gdb.newest_frame()
+    return int(frame.read_register("position")), int(frame.read_register("pc"))
 
 
 class Workbench(gdb.Command):
@@ -37,14 +70,60 @@ Numbers may be expressions without blanks: wb writer &session.length, wb goto $p
 
     def invoke(self, line: str, from_terminal: bool) -> None:
         name, *words = line.split() or ["help"]
-        bits = 32 if name in BY_ADDRESS else 64
-        numbers = words if name.startswith("save-") or words[:1] and words[0].startswith("last+") else [as_number(word, bits) for word in words]
-        gdb.execute(" ".join(["monitor", name, *numbers]))
-        if name == "until":
+        if name not in AS_THEY_ARE:
+            line = " ".join([name, *map(as_number, words)])
+        if name in RUNS:
+            asked(f"next-run {line}")
             gdb.execute("continue")
-        if name in MOVES_OR_EDITS:
-            flush()
+            return
+        before = here()
+        gdb.write(asked(line))
+        flush()
+        if here() != before:
             gdb.execute("frame")
+
+
+class Load(gdb.Command):
+    """Loads a program that was built anew: load [FILE]. Without FILE it is the present one, and its symbols are read again.
+The log and all else stay, and the run is at position 0."""
+
+    def __init__(self) -> None:
+        super().__init__("load", gdb.COMMAND_FILES, gdb.COMPLETE_FILENAME)
+
+    def invoke(self, line: str, from_terminal: bool) -> None:
+        present = gdb.current_progspace().filename
+        name = os.path.abspath(line.strip()) if line.strip() else present
+        if name is None:
+            raise gdb.GdbError("load wants a file: load FILE")
+        asked("goto 0")
+        gdb.write(asked(f"load {name}"))
+        if name == present:
+            gdb.execute(f"file {name}", to_string=True)
+        flush()
+
+
+def name_the_jump() -> None:
+    """Gives the jump at the reset vector a symbol, which `file` takes away."""
+    file = os.environ.get("BEZHAKKOM_JUMP")
+    if file:
+        gdb.execute(f"add-symbol-file {file}", to_string=True)
+
+
+class BeforeQuit(gdb.Command):
+    """Says what was edited and is not saved, before gdb quits. A second `quit` leaves without it."""
+
+    def __init__(self) -> None:
+        super().__init__("before-quit", gdb.COMMAND_OBSCURE)
+        self._said = ""
+
+    def invoke(self, line: str, from_terminal: bool) -> None:
+        try:
+            unsaved = asked("unsaved").replace("(save-", "(wb save-")
+        except gdb.error:
+            return  # there is no run
+        if unsaved and unsaved != self._said and os.isatty(0):
+            self._said = unsaved
+            raise gdb.GdbError(f"{unsaved}`quit` again leaves without it.")
 
 
 def prompt(current_prompt: str) -> str:
@@ -55,12 +134,19 @@ def prompt(current_prompt: str) -> str:
         return current_prompt
 
 
-def forget_arguments(event: object) -> None:
-    """Makes the position of `run N` and `starti N` count for one start only: gdb would take it for the next one too."""
-    gdb.execute("set args")
+def hook(command: str, line: str) -> None:
+    """Lets gdb run a line with a command, as `help define` says."""
+    gdb.execute(f"define {command}\n{line}\nend")
 
 
 Workbench()
+Load()
+BeforeQuit()
+name_the_jump()
+hook("hook-quit", "before-quit")
+hook("hookpost-file", "python name_the_jump()")
+for start in "run", "start", "starti":
+    # gdb would start at the position of an earlier `starti N` again.
+    hook(f"hook-{start}", "set args")
 gdb.prompt_hook = prompt
 gdb.events.memory_changed.connect(lambda event: flush())
-gdb.events.stop.connect(forget_arguments)

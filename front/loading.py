@@ -7,7 +7,7 @@ import sys
 from contextlib import contextmanager, suppress
 from dataclasses import replace
 from pathlib import Path
-from typing import Iterator, Optional
+from typing import Callable, Iterator, Optional
 
 from . import board, elf
 from . import log as logs
@@ -59,8 +59,8 @@ def content_of(name: str) -> bytes:
     return path.read_bytes()
 
 
-def image(name: str, kind: Optional[str] = None) -> Image:
-    """The image in a file. Its kind is given, or else seen from its bytes and its name."""
+def image(name: str, kind: Optional[str] = None, tell: Callable[[str], None] = say) -> Image:
+    """The image in a file. Its kind is given, or else seen from its bytes and its name. `tell` takes notes for the user."""
     content = content_of(name)
     if kind not in (None, *KINDS):
         raise Problem(f"{kind} is no kind of image; there are {', '.join(KINDS)}")
@@ -69,13 +69,13 @@ def image(name: str, kind: Optional[str] = None) -> Image:
         return Image(name, kind, content)
     made, notes = elf.image_of(content, name)
     for note in notes:
-        say(note)
+        tell(note)
     return made
 
 
-def booted(line: Line, name: Optional[str] = None) -> Image:
+def booted(line: Line, name: Optional[str] = None, tell: Callable[[str], None] = say) -> Image:
     """The image that an argument line boots, its first word or one of another name, with the options that the line has for it."""
-    made = image(line.words[0] if name is None else name, line.get("--kind"))
+    made = image(line.words[0] if name is None else name, line.get("--kind"), tell)
     added = tuple(map(_symbol_file, line.all("--symbols")))
     return replace(board.constants_of(line).put_on(made), elves=made.elves + added)
 

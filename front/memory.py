@@ -4,6 +4,7 @@ from __future__ import annotations
 
 from typing import Iterator
 
+from . import places
 from .driver import Driver
 from .errors import Problem
 from .limits import RAM, ROM
@@ -44,13 +45,11 @@ def write(driver: Driver, address: int, content: bytes) -> None:
 
 def _writable(driver: Driver, virtual: int) -> int:
     """The physical address of a place that can be changed, or a refusal."""
-    place = driver.physical(virtual)
-    if place is None or not (place in RAM or place in ROM):
-        raise Problem(f"no RAM or ROM stands at 0x{virtual:08x} here")
+    place = places.physical(driver, virtual)
     if place in RAM and driver.position:
         raise Problem(f"RAM can't be written at position {driver.position:,}: it follows from the image and the log, "
                       "which can be edited. At position 0 a write changes the image, as "
-                      f"`patch 0x{place & ~3:08x} WORD` does anywhere")
+                      f"`patch 0x{virtual & ~3:08x} WORD` does anywhere")
     return place
 
 

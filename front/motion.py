@@ -7,18 +7,17 @@ from typing import Callable
 from . import output, through, travel
 from .driver import Driver
 from .errors import Interrupted, Problem
-from .idle import IDLE_STEPS
 from .limits import GREATEST_POSITION
 from .progress import TerminalProgress
 from .rsp import PACKET_BYTES, Link
 from .travel import Reason, Stop, Stops
 
-TRAP, INTERRUPTED, STOPPED = b"T05", b"T02", b"T00"
+TRAP, INTERRUPTED, ARRIVED = b"T05", b"T02", b"T00"
 REPLIES = {
     Reason.BEGIN: b"T05replaylog:begin;",
     Reason.END: b"T05replaylog:end;",
-    Reason.LIMIT: STOPPED,
-    Reason.IDLE: STOPPED,
+    Reason.LIMIT: ARRIVED,
+    Reason.IDLE: ARRIVED,
     Reason.INTERRUPTED: INTERRUPTED,
     **{reason: b"T05replaylog:end;" for reason in travel.STILL},
 }
@@ -33,8 +32,7 @@ class Motion:
         self._link = link
         self._exceptions_whole = exceptions_whole
         self._transcript = output.Transcript()
-        self.end = GREATEST_POSITION  # of the next run
-        self.idle = IDLE_STEPS
+        self._end = GREATEST_POSITION  # of the next run
         self._told = 0  # what was sent before this position has been shown
         self._moving = False
         self._interrupted = False  # the debugger wants the present move to end
@@ -44,16 +42,17 @@ class Motion:
         self._interrupted = self._moving and (self._interrupted or self._link.interrupted())
         return self._interrupted
 
-    def go_on(self) -> bytes:
-        end, self.end = self.end, GREATEST_POSITION
-        stops = replace(self.stops, end=end, idle=self.idle)
+    def go_on(self, idle: int) -> bytes:
+        """A run to the next stop, which pauses after idle steps."""
+        stops = replace(self.stops, end=self._end, idle=idle)
+        self._end = GREATEST_POSITION
         return self._forward(lambda: travel.forward(self._driver, stops, self._pause))
 
     def go_until(self, position: int) -> None:
         """Lets the next run end at a position at the latest."""
         if not self._driver.position < position <= GREATEST_POSITION:
             raise Problem(f"position {position:,} is not ahead: this is {self._driver.position:,}")
-        self.end = position
+        self._end = position
 
     def leave(self, addresses: range) -> bytes:
         return self._forward(lambda: travel.leave(self._driver, addresses, self.stops, self._pause))
@@ -70,6 +69,19 @@ class Motion:
     def show_progress(self) -> None:
         """Shows in the debugger's console how far long runs are."""
         self._driver.report = TerminalProgress(_Console(self))
+
+    def obey(self, command: Callable[[], str]) -> bytes:
+        """A command that goes on by itself, and gives what it shows."""
+        self._told = self._driver.position
+        self._moving = True
+        try:
+            shown = command()
+            reply = INTERRUPTED if self._interrupted else ARRIVED
+        finally:
+            self._moving = self._interrupted = False
+        self._tell(self._driver.position)
+        self.say(shown.encode("utf-8", "surrogateescape"))
+        return reply
 
     def say(self, text: bytes) -> None:
         """Shows a text in the debugger's console."""

@@ -6,16 +6,16 @@ from collections import Counter
 from dataclasses import dataclass
 from typing import Optional, Sequence
 
-from . import loading, replies, saving, search
+from . import expressions, loading, places, replies, saving, search
 from .arguments import parse
 from .driver import Driver
 from .errors import Problem
-from .limits import GREATEST_POSITION, LINES, RAM, ROM
+from .limits import GREATEST_POSITION, LINES
 from .log import EDITS as LOG_EDITS
 from .log import Event, Kind
 from .picture import BACKGROUNDS, COLUMNS, PICTURE, Function, Lane, Mark, Picture, Stores, draw
 from .progress import on_terminal
-from .states import registers_at
+from .states import registers_at, replies_at
 from .symbols import Symbols, symbols_of
 
 USAGE = ("usage: bin/wb plot --to N [OPTIONS] [--words NAME,..] [--edits 'COMMAND; ..'] "
@@ -29,7 +29,8 @@ One picture of a run, as SVG, in OUT or on standard output: the bytes at each se
 lines, the stores into the words that are named, which functions ran, and where edits met the run.
 
   --to N              the run's end
-  --words NAME,..     words of memory: symbols, also with a number of bytes after them, or addresses
+  --words NAME,..     words of memory: symbols, also with a number of bytes after them, or addresses: virtual ones,
+                      or p:0x1000 for a physical one
   --edits 'LINE; ..'  edits that are made first: add, ferr, wire, del, erase, set, move, patch
   --background NAME   light or dark; without it the picture follows the page that it is on
   --force             overwrites a file OUT that is no picture of a run
@@ -134,17 +135,32 @@ class _Plot:
     # Words
 
     def word(self, name: str) -> _Word:
-        """A word of memory, by a symbol with a number of bytes after it, or by an address."""
-        symbol, _, offset = name.partition("+")
-        address = self._symbols.address(symbol)
-        number = replies.number_of(symbol) if address is None else address
-        distance = replies.number_of(offset or "0")
-        if number is None or distance is None:
-            raise Problem(f"there is no word {name}")
-        place = self._driver.physical(number + distance) if number + distance >= 0x8000_0000 else number + distance
-        if place is None or not (place in RAM or place in ROM):
-            raise Problem(f"no memory stands at {name}")
+        """A word of memory, by its address as the shell takes it."""
+        try:
+            address = expressions.number(name, self._driver, self._symbols)
+        except Problem as problem:
+            raise Problem(f"there is no word {name}: {problem}") from None
+        position = self._mapped(address)
+        self._driver.goto(position)
+        place = places.physical(self._driver, address)
+        if position != self._end:
+            loading.say(f"{name} is the word that {address:#010x} leads to at position {position:,}; at the end it leads nowhere")
         return _Word(name, place & ~3)
+
+    def _mapped(self, address: int) -> int:
+        """The end, where an address leads somewhere then, or else the last position that is looked at where it does."""
+        self._driver.goto(self._end)
+        if self._driver.physical(address) is not None:
+            return self._end
+        looked_at = self._samples()
+        found = [replies.where(lines).physical for lines in replies_at(self._driver, looked_at, f"where {address}")]
+        mapped = [position for position, place in zip(looked_at, found) if place is not None]
+        if mapped:
+            return mapped[-1]
+        self._driver.goto(self._end)
+        which = "positions of the run" if len(looked_at) == self._end else f"positions that were looked at, of {self._end:,}"
+        raise Problem(f"{address:#010x} is mapped at none of {len(looked_at):,} {which}. At the end "
+                      f"{places.why_nowhere(self._driver, address)}")
 
     def _stores(self, word: _Word) -> Stores:
         """The last store of each column into a word, and what the word holds after it."""
@@ -164,8 +180,8 @@ class _Plot:
 
     def _functions(self) -> tuple[list[Function], bool]:
         """Which function the PC was in, at all positions or at samples of them; the other functions are shown together."""
-        exact = self._end <= SAMPLES
-        positions = range(self._end) if exact else [self._end * sample // SAMPLES for sample in range(SAMPLES)]
+        positions = self._samples()
+        exact = len(positions) == self._end
         names = [self._function(state.pc) for state in registers_at(self._driver, positions)]
         shares = Counter(names)
         shown = [name for name, _ in shares.most_common(FUNCTIONS)]
@@ -174,6 +190,10 @@ class _Plot:
         if rest:
             rows[f"{len(shares) - len(shown)} others"] = rest
         return [Function(name, at, len(at) / len(names)) for name, at in rows.items()], exact
+
+    def _samples(self) -> Sequence[int]:
+        """All positions before the end, or, where there are very many, some at equal distances."""
+        return range(self._end) if self._end <= SAMPLES else [self._end * sample // SAMPLES for sample in range(SAMPLES)]
 
     def _function(self, counter: int) -> str:
         found = self._symbols.at(counter)

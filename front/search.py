@@ -112,12 +112,13 @@ def _visit(driver: Driver, address: int, low: int, high: int) -> Optional[int]:
     if low >= high:
         return None
     driver.goto(low)
-    return _position(driver.ask(f"visit {address} {high - low}"))
+    command = f"visit {address} {high - low}"
+    return position_of(command, driver.ask(command))
 
 
-def _position(lines: Sequence[str]) -> Optional[int]:
+def position_of(command: str, lines: Sequence[str]) -> Optional[int]:
     """The position that a visit came to, or None where there was none."""
-    refusal = replies.refusal_of("visit", lines)
+    refusal = replies.refusal_of(command, lines)
     if refusal is None:
         return replies.last_number(lines)
     if refusal.name == "NotFound":

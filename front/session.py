@@ -6,11 +6,10 @@ from contextlib import contextmanager
 from dataclasses import dataclass, field
 from typing import Callable, Iterator, Optional
 
-from . import expressions
+from . import expressions, places
 from .driver import Driver
 from .errors import Problem
 from .idle import IDLE_STEPS
-from .limits import RAM, ROM
 from .log import Event
 from .symbols import Symbols
 from .travel import Watch
@@ -71,19 +70,7 @@ class Session:
 
     def physical(self, address: int) -> int:
         """The physical address that a virtual one leads to at the position, in RAM or ROM."""
-        if not 0 <= address < 1 << 32:
-            raise Problem(f"{address:#x} is no address: they are below 0x100000000")
-        place = self.driver.physical(address)
-        if place is not None and (place in RAM or place in ROM):
-            return place
-        if place is not None:
-            raise Problem(f"{address:#010x} leads to the physical address {place:#010x}, where no memory is: "
-                          "RAM is 8 MiB from 0x80000000, ROM 256 KiB from 0xbfc00000")
-        hint = ""
-        if address in RAM or address in ROM:
-            base = 0xA000_0000 if address in ROM else 0x8000_0000
-            hint = f". The word with that physical address is at {base + address:#010x}"
-        raise Problem(f"{address:#010x} leads nowhere at this position: {UNMAPPED[self.driver.where(address).kind]}{hint}")
+        return places.physical(self.driver, address)
 
     def word_at(self, text: str) -> tuple[int, int]:
         """The virtual and the physical address of the word that a text names."""
@@ -151,18 +138,22 @@ class Session:
 
     # Edits
 
+    @contextmanager
+    def editing(self, line: str) -> Iterator[None]:
+        """Keeps what stood before, where a line edits, so that it can be taken back."""
+        driver = self.driver
+        log, patches = list(driver.log), list(driver.patches)
+        try:
+            yield
+        finally:
+            if driver.log != log or driver.patches != patches:
+                self.edits.append(Edit(line, log, patches))
+
     def unsaved(self) -> list[str]:
         """What was edited and is not saved."""
         log = ["the log (save-log FILE)"] if self.driver.log != self.saved_log else []
         image = ["the image (save-image FILE)"] if self.driver.patches != self.saved_patches else []
         return log + image
-
-
-UNMAPPED = {
-    "adel": "it is an address error, as the machine is in user mode",
-    "refill": "no translation entry has its page",
-    "tlbl": "its translation entry is missing or not valid",
-}
 
 
 def counted(count: int, name: str) -> str:

@@ -5,16 +5,16 @@ import atexit
 import os
 import sys
 from pathlib import Path
-from typing import Iterator, Optional, Sequence, TextIO
+from typing import Container, Iterator, Optional, Sequence, TextIO
 
 from . import expressions, loading, shell_edits, shell_moves, shell_views  # noqa: F401 - they fill the table of commands
 from .arguments import parse
-from .commands import COMMANDS, GROUPS, SHELL, SHORT, command, find, words_of
+from .commands import COMMANDS, GROUPS, SHELL, SHORT, command, find, run, words_of
 from .errors import Ended, Interrupted, Problem, Refused, Unexpected
 from .explain import explain
 from .expressions import shortened
 from .progress import on_terminal
-from .session import Edit, Session
+from .session import Session
 from .symbols import symbols_of
 
 USAGE = "usage: bin/wb shell [OPTIONS] [--echo] [--strict] IMAGE [SCRIPT]"
@@ -116,22 +116,10 @@ class Shell:
         return False
 
     def _run(self, line: str) -> None:
-        name, *words = words_of(line)
-        if name in ("quit", "q"):
+        if words_of(line)[0] in ("quit", "q"):
             self._quit()
-            return
-        found = find(name)
-        found.check(words)
-        if not found.edits:
-            found.run(self._session, words)
-            return
-        log, patches = list(self._session.driver.log), list(self._session.driver.patches)
-        try:
-            found.run(self._session, words)
-        finally:
-            driver = self._session.driver
-            if driver.log != log or driver.patches != patches:
-                self._session.edits.append(Edit(line, log, patches))
+        else:
+            run(self._session, line)
 
     def _quit(self) -> None:
         """Leaves. With unsaved edits on a terminal, it takes a second `quit`."""
@@ -162,12 +150,15 @@ def quit_(session: Session, words: list[str]) -> None:
     raise AssertionError("the shell leaves by itself")
 
 
-def help_text() -> str:
-    """All commands, by their groups."""
-    width = max(len(it.usage) for it in COMMANDS.values())
+def help_text(left_out: Container[str] = ()) -> str:
+    """All commands but those that are left out, by their groups."""
+    shown = [it for it in COMMANDS.values() if it.name not in left_out]
+    width = max(len(it.usage) for it in shown)
     parts = []
     for group in GROUPS:
-        lines = [f"  {it.usage:{width}}  {it.text}" for it in COMMANDS.values() if it.group == group]
+        lines = [f"  {it.usage:{width}}  {it.text}" for it in shown if it.group == group]
+        if not lines:
+            continue
         parts.append("\n".join([f"{group}:", *lines]))
     text = "\n\n".join(parts)
     return f"{text}\n\n{expressions.HELP}\nThe beginning of a name is enough where it is that of one command alone.\n"

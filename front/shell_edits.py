@@ -4,6 +4,7 @@ from __future__ import annotations
 import re
 
 from . import log as logs
+from . import reloading
 from .commands import CHECKS, FILES, PAST, SERIAL, SHELL, command
 from .errors import Problem
 from .expressions import closed, condition
@@ -205,6 +206,20 @@ def save_image(session: Session, words: list[str]) -> None:
     save(words[0], content, form, is_forced(words[1:]), f"save-image {words[0]} force")
     session.saved_patches = list(session.driver.patches)
     session.tell(f"{counted(len(content), 'byte')} saved in {words[0]}")
+
+
+@command("load [FILE]", "starts the machine with another ELF, or with the same one built anew; the log and the position stay", FILES,
+         edits=True)
+def load(session: Session, words: list[str]) -> None:
+    name = words[0] if words else session.driver.image.name
+    session.tell(f"{counted(reloading.load(session, name), 'word')} of the image changed by {name}")
+    session.saved_patches = list(session.driver.patches)
+
+
+@command("unsaved", "shows what was edited and is not saved", FILES)
+def unsaved(session: Session, words: list[str]) -> None:
+    for it in session.unsaved():
+        session.tell(f"not saved: {it}")
 
 
 @command("wb LINE ..", "gives a line to the workbench as it is, with physical addresses, and shows its reply", SHELL, edits=True)

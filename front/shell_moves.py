@@ -139,7 +139,7 @@ def _go_on(session: Session, end: int) -> None:
     _show_stop(session, _travel(session, travel.forward, _stops(session, end)), after=1)
 
 
-@command("idle [N]", "pauses long runs after N steps in which nothing is sent or to come, or shows N; 0 for never", STOPS)
+@command("idle [N]", "pauses long runs after N steps in which nothing is sent or to come, or shows N; 0 for never", MOVES)
 def idle(session: Session, words: list[str]) -> None:
     if words:
         session.idle = session.number(words[0])

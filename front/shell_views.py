@@ -7,7 +7,8 @@ from .errors import Problem
 from .expressions import REGISTERS, register_number
 from .limits import LINES, WORDS
 from .log import Event, Kind
-from .session import UNMAPPED, Session, counted, distance
+from .places import UNMAPPED
+from .session import Session, counted, distance
 
 _CODES = {0: "interrupt", 1: "store to a page that is not dirty", 2: "no entry for a load or fetch", 3: "no entry for a store",
           4: "address error of a load or fetch", 5: "address error of a store", 6: "bus error of a fetch",

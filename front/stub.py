@@ -5,14 +5,14 @@ import re
 import sys
 from typing import Callable, Optional, Sequence
 
-from . import loading, memory, monitor, target
+from . import elf, loading, memory, monitor, places, target
 from .arguments import parse
-from .driver import Driver
 from .errors import Problem
 from .limits import RAM, ROM
 from .motion import TRAP, Motion
-from .replies import number_of, words_of
 from .rsp import PACKET_BYTES, Link
+from .session import Session, counted
+from .symbols import symbols_of
 from .travel import Watch
 
 USAGE = "usage: bin/wb stub [OPTIONS] [--through] [--progress] IMAGE"
@@ -38,6 +38,8 @@ FEATURES = (b"PacketSize=%x;QStartNoAckMode+;qXfer:features:read+;ReverseStep+;R
 OK, FAILED, NOT_KNOWN, GONE = b"OK", b"E01", b"", b"W00"
 CODE, CODE_IN_HARDWARE, WRITE = range(3)  # of the kinds of breakpoints and watches; the others watch reads
 
+NEXT_RUN = "next-run "  # of `monitor`: the next continue runs the line after it, so that it is shown and ended as a run is
+
 WATCHED = 256  # bytes of a watch at most
 
 NOT_WRITTEN = ("registers can't be written: they follow from the image and the log, which can be edited. "
@@ -51,9 +53,10 @@ class Malformed(Exception):
 class Stub:
     """Answers packets, one by one."""
 
-    def __init__(self, driver: Driver, link: Link, *, exceptions_whole: bool = False,
+    def __init__(self, session: Session, link: Link, *, exceptions_whole: bool = False,
                  tell: Callable[[str], None] = loading.say) -> None:
-        self._driver = driver
+        self._session = session
+        self._driver = driver = session.driver
         self._link = link
         self._tell = tell  # for the sentences that gdb doesn't show: it shows what a stub writes to standard error
         self._motion = Motion(driver, link, exceptions_whole=exceptions_whole)
@@ -62,6 +65,8 @@ class Stub:
         self._killed = False  # the debugger may start the run again
         self._ended = False
         self._places: dict[int, int] = {}  # where watched addresses led last
+        self._loaded = False  # memory was written since the last run
+        self._next_run = ""  # a line of `monitor` that the next continue runs
         driver.wants_stop = self._motion.wants_stop
 
     def show_progress(self) -> None:
@@ -88,6 +93,11 @@ class Stub:
             self._tell(str(problem))
             return FAILED
         except Malformed:
+            return FAILED
+        except OSError:
+            raise
+        except Exception as error:  # a fault of this program must not cost the session with its edits
+            self._tell(f"a fault in the stub, {type(error).__name__}: {error}; the session goes on")
             return FAILED
 
     # What the stub is
@@ -132,9 +142,22 @@ class Stub:
     def _set_register(self, rest: bytes) -> bytes:
         _numbers(rb"(\w+)=(\w+)", rest)
         number, _, value = rest.partition(b"=")
-        if value.lower() != self._register(number):
+        if value.lower() == self._register(number):
+            return OK
+        if int(number, 16) != target.NUMBERS["pc"] or not self._loaded or self._driver.position:
             raise Problem(NOT_WRITTEN)
+        self._begin_at(int.from_bytes(_from_digits(value), "little"))
         return OK
+
+    def _begin_at(self, entry: int) -> None:
+        """Takes the PC that gdb sets at the end of `load`. The machine begins at the reset vector all the same, from where the
+        image's jump to the entry leads on, if it has one."""
+        places.physical(self._driver, entry)
+        vector = range(ROM.start, ROM.start + 16, 4)
+        words = [self._driver.boot().word(place) for place in vector]
+        high, low = (words[0] or 0) & 0xFFFF, (words[1] or 0) & 0xFFFF
+        if tuple(words) == elf.jump_to(high << 16 | low):
+            self._driver.values([f"patch {place} {word}" for place, word in zip(vector, elf.jump_to(entry))])
 
     def _read(self, rest: bytes) -> bytes:
         address, count = _numbers(rb"(\w+),(\w+)", rest)
@@ -150,7 +173,9 @@ class Stub:
         address, count = _numbers(rb"(\w+),(\w+)", place)
         if count != len(content):
             raise Malformed
-        memory.write(self._driver, address, content)
+        with self._session.editing(f"a write of {counted(len(content), 'byte')} at {address:#010x}"):
+            memory.write(self._driver, address, content)
+        self._loaded = True
         return OK
 
     # Where a run is to stop
@@ -179,11 +204,12 @@ class Stub:
 
     def _watch(self, address: int, size: int) -> Watch:
         """A watch at a virtual address. Where that leads nowhere now it is watched where it led before."""
-        place = self._driver.physical(address)
+        leads = self._driver.physical(address)
+        place = places.physical(self._driver, address) if leads is not None else self._places.get(address)
         if place is None:
-            place = self._places.get(address)
-        if place is None or not all(it in RAM or it in ROM for it in (place, place + size - 1)):
-            raise Problem(f"no memory stands at 0x{address:08x} at position {self._driver.position:,}")
+            raise Problem(f"it can't be watched yet: {places.why_nowhere(self._driver, address)}")
+        if not (place + size - 1 in RAM or place + size - 1 in ROM):
+            raise Problem(f"no memory stands at {address + size - 1:#010x}")
         if size > WATCHED or address % memory.PAGE + size > memory.PAGE:
             raise Problem(f"a watch has at most {WATCHED:,} bytes, all in one page: watch a part of it")
         self._places[address] = place
@@ -192,7 +218,12 @@ class Stub:
     # Runs
 
     def _continue(self, rest: bytes) -> bytes:
-        return self._from_here(rest, self._motion.go_on)
+        return self._from_here(rest, self._go_on)
+
+    def _go_on(self) -> bytes:
+        """A run to the next stop, or to where a line of `monitor` goes on to."""
+        line, self._next_run = self._next_run, ""
+        return self._motion.obey(lambda: monitor.answer(self._session, line)) if line else self._motion.go_on(self._session.idle)
 
     def _step(self, rest: bytes) -> bytes:
         return self._from_here(rest, self._motion.step)
@@ -201,6 +232,7 @@ class Stub:
         """A move. The debugger must not give an address to begin at."""
         if rest:
             raise Problem(NOT_WRITTEN)
+        self._loaded = False
         return move()
 
     def _continue_back(self, rest: bytes) -> bytes:
@@ -214,9 +246,10 @@ class Stub:
 
     def _resume(self, rest: bytes) -> bytes:
         """The first action of a list: there is one thread, so there is one action."""
+        self._loaded = False
         action = rest.split(b";")[0].split(b":")[0]
         if action[:1] in (b"c", b"C"):
-            return self._motion.go_on()
+            return self._go_on()
         if action[:1] in (b"s", b"S"):
             return self._motion.step()
         first, end = _numbers(rb"r(\w+),(\w+)", action)
@@ -225,10 +258,7 @@ class Stub:
     def _run(self, rest: bytes) -> bytes:
         """Starts again, at the position that is the first word after the file's name."""
         words = [_from_digits(word).decode("latin-1") for word in rest.split(b";")[1:]]
-        position = number_of(words[0]) if words else 0
-        if position is None:
-            raise Problem(f"{words[0]} is no position")
-        self._driver.goto(position)
+        self._driver.goto(self._session.number(words[0]) if words else 0)
         self._killed = False
         return TRAP
 
@@ -241,24 +271,29 @@ class Stub:
         return OK
 
     def _command(self, rest: bytes) -> bytes:
-        line = _from_digits(rest).decode("utf-8", "replace")
-        name, *words = words_of(line) or [""]
-        if name in ("until", "idle"):
-            self._bound(name, words)
+        line = _from_digits(rest).decode("utf-8", "surrogateescape")
+        if not line.startswith(NEXT_RUN):
+            self._say(monitor.answer(self._session, line))
+            return OK
+        line = line[len(NEXT_RUN):]
+        if line.split()[:1] == ["until"]:
+            self._say(self._until(line.split()[1:]))
         else:
-            self._motion.say(monitor.answer(self._driver, line).encode())
+            self._next_run = line
         return OK
 
-    def _bound(self, name: str, words: Sequence[str]) -> None:
-        """Sets where the next run is to end, N or N steps after the last event, or after how many idle steps runs pause."""
-        last, plus, word = words[0].rpartition("last+") if len(words) == 1 else ("", "", "")
-        number = number_of(word)
-        if number is None or last or plus and name == "idle":
-            raise Problem(f"usage: {name} N" + (" or until last+N" if name == "until" else ""))
-        if name == "until":
-            self._motion.go_until(number + (self._driver.log[-1].time if plus and self._driver.log else 0))
-        else:
-            self._motion.idle = number
+    def _say(self, text: str) -> None:
+        self._motion.say(text.encode("utf-8", "surrogateescape"))
+
+    def _until(self, words: Sequence[str]) -> str:
+        """Lets the next run end at a position, or says why that can't be."""
+        try:
+            if len(words) != 1:
+                raise Problem("usage: until N")
+            self._motion.go_until(self._session.number(words[0]))
+        except Problem as problem:
+            return f"{monitor.REFUSED}{problem}\n"
+        return ""
 
 
 Answer = Callable[[Stub, bytes], bytes]
@@ -313,7 +348,8 @@ def main(arguments: Sequence[str]) -> int:
     """Serves one debugger on standard input and output."""
     line = parse(arguments, OPTIONS, USAGE, HELP, (1,))
     with loading.running(line) as driver:
-        stub = Stub(driver, Link(sys.stdin.fileno(), sys.stdout.fileno()), exceptions_whole=line.has("--through"))
+        session = Session(driver, symbols_of(driver.image), saved_log=list(driver.log))
+        stub = Stub(session, Link(sys.stdin.fileno(), sys.stdout.fileno()), exceptions_whole=line.has("--through"))
         if line.has("--progress"):
             stub.show_progress()
         stub.serve()

@@ -24,8 +24,8 @@ _IN_ROM, _IN_RAM = 1, 2  # sections
 _Section = Tuple[str, int, int, int, int, int, int, int, int]
 
 
-def content(names: Iterable[tuple[str, int]]) -> bytes:
-    """The file of names with their virtual addresses."""
+def content(names: Iterable[tuple[str, int]], rom: int = len(ROM), ram: int = len(RAM)) -> bytes:
+    """The file of names with their virtual addresses, in so many bytes of ROM and of RAM."""
     strings = bytearray(b"\0")
     symbols = bytearray(_SYMBOL.size)
     for name, address in names:
@@ -36,8 +36,8 @@ def content(names: Iterable[tuple[str, int]]) -> bytes:
     start = _HEADER.size
     sections: list[_Section] = [
         ("", 0, 0, 0, 0, 0, 0, 0, 0),
-        (".rom", _NO_BITS, _ALLOCATED | _RUN, RESET_PC, start, len(ROM), 0, 0, 4),
-        (".ram", _NO_BITS, _ALLOCATED | _RUN | _WRITTEN, KSEG0, start, len(RAM), 0, 0, 4),
+        (".rom", _NO_BITS, _ALLOCATED | _RUN, RESET_PC, start, rom, 0, 0, 4),
+        (".ram", _NO_BITS, _ALLOCATED | _RUN | _WRITTEN, KSEG0, start, ram, 0, 0, 4),
         (".symtab", _SYMBOLS, 0, 0, start, len(symbols), 4, 1, 4),
         (".strtab", _STRINGS, 0, 0, start + len(symbols), len(strings) + len(titles), 0, 0, 1),
     ]

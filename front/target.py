@@ -1,7 +1,7 @@
 """The registers as gdb knows them: their order, the target description, and their bytes.
 
 gdb wants the features of a MIPS processor, the floating-point unit among them, which this machine lacks: its registers
-have no value. The project's own feature has what a MIPS description has no name for.
+are 0, as gdb ends a list at one that has no value. The project's own feature has what a MIPS description has no name for.
 """
 
 from __future__ import annotations
@@ -44,21 +44,20 @@ def _register(name: str) -> str:
 
 
 def values(driver: Driver) -> dict[str, int]:
-    """All registers that have a value at the position, each by the name that the description gives it."""
+    """All registers at the position, each by the name that the description gives it."""
     registers = driver.registers()
     load_register, load_value = registers.load or (0, 0)
     own = {"position": driver.position, "nextpc": registers.next_pc, "delay": int(registers.delay),
            "loadreg": load_register,
            "loadval": load_value}
     others = {"pc": registers.pc, "hi": registers.hi, "lo": registers.lo}
-    return {**dict(zip(GENERAL, registers.general)), **driver.control(), **others, **own}
+    return {**dict.fromkeys(FLOATING, 0), **dict(zip(GENERAL, registers.general)), **driver.control(), **others, **own}
 
 
 def text(registers: dict[str, int], number: int) -> bytes:
-    """The hexadecimal digits of a register, low byte first, or `x` where it has no value."""
+    """The hexadecimal digits of a register, low byte first."""
     name = NAMES[number]
-    size, value = BITS.get(name, 32) // 8, registers.get(name)
-    return b"xx" * size if value is None else value.to_bytes(size, "little").hex().encode()
+    return registers[name].to_bytes(BITS.get(name, 32) // 8, "little").hex().encode()
 
 
 def all_text(registers: dict[str, int]) -> bytes:

@@ -33,6 +33,15 @@ class Terminal:
         before, _, self._shown = self._shown.partition(wanted)
         return before + wanted
 
+    def press(self, key: bytes, wanted: bytes) -> bytes:
+        """What is shown up to a text, while a key is pressed again and again. gdb overhears Ctrl-C while it handles a stop."""
+        end = time.monotonic() + PATIENCE
+        while wanted not in self._shown and time.monotonic() < end:
+            self.type(key)
+            for _ in range(5):
+                self._read()
+        return self.until(wanted)
+
     def _read(self) -> bool:
         if not select.select([self._terminal], [], [], 0.1)[0]:
             return True

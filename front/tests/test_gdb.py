@@ -6,6 +6,7 @@ run."""
 from __future__ import annotations
 
 import os
+import re
 import shutil
 import signal
 import subprocess
@@ -18,6 +19,7 @@ from typing import Sequence
 from front.tests import debugger
 from front.tests.debugger import batch
 from front.tests.support import needs_erase
+from front.tests.terminal import Terminal
 
 POSITION = 'printf "at %d\\n", $position'
 
@@ -112,28 +114,51 @@ class Login(GdbTest):
             " R8   bfc00470 80001030 80001030 80001030 00000000 00000000 00000000 00000000 ",
             " R24  00000000 00000000 00000000 00000000 00000000 80010fd0 00000000 bfc00274 ",
             "      00400000 00000000 00000000 00000000 00000000 bfc00258 ",
-            "       <unavl>  <unavl> ",
+            "      00000000 00000000 ",
             "position: 0x9c58",
             "      bfc0025c 00000000 00000000 00000000 00000000 00001700 00000000 00000000 ")
 
     def test_an_edit(self) -> None:
         lines = self.batch("continue", "wb del 2", POSITION, "wb goto 0", "continue", POSITION, "wb log 0 3")
-        self.holds(lines, "Sorry, operatorsesame.", "log 9", "at 110960", "pos 0", "Welcome, operator.",
-                   "1 30000 0 0x08",
-                   "2 50000 0 0x73")
+        self.holds(lines, "Sorry, operatorsesame.", "9 events left", "at 110960", "step 0, start: lui r29, 0x8001",
+                   "Welcome, operator.", "     1: step 30,000, line 0, 0x08, 80,915 steps ago",
+                   "     2: step 50,000, line 0, 0x73 's', 60,915 steps ago")
 
     def test_expressions_in_a_command(self) -> None:
         lines = self.batch("starti 60000", "wb writer &session.length", "wb goto $position-9971",
                            "wb mem session.user+4 1",
                            "frame")
-        self.holds(lines, "writer 50031", "pos 50029", "47\t            session.line[session.length] = c;",
-                   "0x00001004 0x726f7461")
+        self.holds(lines, "step 50,031, read_line+0x94, 9,969 steps ago: sw r3, 32(r4)",
+                   "step 50,029, read_line+0x8c: sb r2, 9(r5)", "47\t            session.line[session.length] = c;",
+                   "0x80001004 <session+0x4>: 0x726f7461  |ator|")
+
+    def test_a_wrong_word_gets_one_line(self) -> None:
+        lines = self.batch("starti 60,000", "wb goto 40,024", POSITION, "wb del 1,2", "wb erase 20,000 30,0", "wb goto", "wb goto nothing",
+                           "wb help goto", "wb writer session", "wb writer &session.length", "wb mem p:0x1000 1", "wb mem p:&session 1",
+                           "wb mem 0xc0000000 1", "wb mem 0x1000 1", "wb frob")
+        self.assertEqual(lines[4:-1], [
+            "step 40,024, read_line+0x30: sw r3, 32(r2)", "#0  0xbfc00258 in read_line () at login.c:44",
+            "44\t            session.length--;", "at 40024",
+            "1,2 is no number: a comma stands before three digits, as in 40,024",
+            "30,0 is no number: a comma stands before three digits, as in 40,024",
+            "usage: goto N", 'nothing: No symbol "nothing" in current context.', "goto N: goes to position N",
+            # `session`, a structure, is taken for its address.
+            "step 14, copy+0x10, 40,010 steps ago: sw r12, 0(r9)",
+            "step 30,024, read_line+0x30, 10,000 steps ago: sw r3, 32(r2)", "0x80001000 <session>: 0x7265706f  |oper|",
+            "no memory stands at the physical address 0x80001000: RAM is 8 MiB from 0x80000000 (physical 0), "
+            "ROM 256 KiB from 0xbfc00000 (physical 0x1fc00000)",
+            "0xc0000000 leads nowhere at this position: its translation entry is missing or not valid. It leads to memory at "
+            "positions where an entry maps its page 0xc0000",
+            "0x00001000 leads nowhere at this position: no translation entry has its page. It leads to memory at positions where "
+            "an entry maps its page 0x00001, mostly in user mode. The word with that physical address is at 0x80001000, which is "
+            "p:0x1000", "there is no command frob; `help` lists them"])
 
     def test_an_expression_of_a_far_step(self) -> None:
         needs_erase(self)
         lines = self.batch("starti 20000", "wb add $position+0x100000000 0 65", "wb log 10 1",
                            "wb erase $position $position+0xffffffff", "wb log 0 1")
-        self.holds(lines, "event 10", "10 4294987296 0 0x41", "log 1", "0 4294987296 0 0x41")
+        self.holds(lines, "event 10", "    10: step 4,294,987,296, line 0, 0x41 'A', 4,294,967,296 steps ahead", "1 event left",
+                   "     0: step 4,294,987,296, line 0, 0x41 'A', 4,294,967,296 steps ahead")
 
     def test_what_cannot_be_done_says_why(self) -> None:
         lines = self.batch("break send", "continue", "print $v0 = 5", "print session.length = 3",
@@ -155,6 +180,109 @@ class Login(GdbTest):
     def test_start_and_kill(self) -> None:
         lines = self.batch("run 40000", "start", POSITION, "kill", "run", POSITION)
         self.holds(lines, "Sorry, operatorsesame.", "at 112", "[Inferior 1 (Remote target) killed]", "at 110960")
+
+
+class Typed(unittest.TestCase):
+    """gdb on a terminal."""
+
+    def gdb(self, *options: str) -> Terminal:
+        terminal = Terminal("gdb", *options, *debugger.PLAIN)
+        terminal.until(b"(0) ")
+        return terminal
+
+    def type(self, terminal: Terminal, *lines: str) -> None:
+        for line in lines:
+            terminal.type(line.encode() + b"\n")
+
+    def test_commands_of_a_breakpoint_that_go_on(self) -> None:
+        # read_line is entered after the 10 characters of the prompt, and again after the answer.
+        terminal = self.gdb("--log", "examples/login/log", "examples/login/login.elf")
+        self.type(terminal, "break read_line", "commands", "silent", 'printf "at %d\\n", $position', "continue", "end", "continue")
+        shown = terminal.until(b"(110,960) ")
+        self.assertEqual(re.findall(rb"at (\d+)\r", shown), [b"368", b"110947"])
+        self.type(terminal, "starti 40,024", "starti")
+        terminal.until(b"(40,024) ")
+        terminal.until(b"(0) ")
+        self.type(terminal, "quit")
+        self.assertEqual(terminal.end(), 0)
+
+    def test_a_run_with_such_commands_is_ended(self) -> None:
+        terminal = self.gdb("--log", "examples/driver/log", "examples/driver/boot.s")
+        self.type(terminal, "break *0xbfc00180", "commands", "silent", "continue", "end", "continue")
+        terminal.until(b"[serial line 3]")
+        terminal.press(b"\x03", b"SIGINT")
+        self.type(terminal, "print 6 * 7", "quit")
+        terminal.until(b"= 42")
+        self.assertEqual(terminal.end(), 0)
+
+    def test_what_is_not_saved_is_told_before_gdb_quits(self) -> None:
+        terminal = self.gdb("examples/login/login.elf")
+        self.type(terminal, "wb add 1,000 0 65", "quit")
+        shown = terminal.until(b"`quit` again leaves without it.")
+        self.assertIn(b"not saved: the log (wb save-log FILE)", shown)
+        self.type(terminal, "quit")
+        self.assertEqual(terminal.end(), 0)
+
+
+class Kernel(GdbTest):
+    """A kernel in RAM, built by gcc. The third word of its loop counts in r8, by one in each turn of 4 steps."""
+
+    COMPILER = "mipsel-linux-gnu-gcc"
+    SOURCE = """
+            .set noreorder
+            .globl start
+            .ent start
+    start:  lui $9, %hi(count)
+    loop:   addiu $8, $8, STEP
+            sw $8, %lo(count)($9)
+            b loop
+            nop
+            .end start
+            .data
+            .word 1, 2, 3
+            .bss
+    count:  .word 0
+            .space 16
+    """
+
+    def setUp(self) -> None:
+        if not shutil.which(self.COMPILER):
+            self.skipTest(f"{self.COMPILER} is not installed")
+        folder = tempfile.TemporaryDirectory()
+        self.addCleanup(folder.cleanup)
+        self.folder = Path(folder.name)
+        self.elf = str(self.folder / "kernel.elf")
+        self.build(1)
+
+    def build(self, step: int) -> None:
+        source = self.folder / "kernel.S"
+        source.write_text(self.SOURCE.replace("STEP", str(step)))
+        subprocess.run([self.COMPILER, "-march=r3000", "-mfp32", "-EL", "-mno-abicalls", "-fno-pic", "-g", "-nostdlib", "-static",
+                        "-Wl,-Ttext,0x80010000,-e,start,--build-id=none", "-o", self.elf, str(source)], check=True)
+
+    def gdb(self, *commands: str) -> list[str]:
+        line = [debugger.WB, "gdb", self.elf, *debugger.PLAIN, "-batch", *(word for command in commands for word in ("-ex", command))]
+        return debugger.run(line).splitlines()
+
+    def test_the_jump_at_reset_has_a_name(self) -> None:
+        shown = "\n".join(self.gdb("stepi", f"file {self.elf}", "stepi", "info all-registers"))
+        self.assertEqual(shown.count("a jump to its entry 0x80010000 was put there"), 1)
+        self.assertEqual(re.findall(r"0xbfc0000\w in reset", shown), [f"0xbfc0000{at} in reset" for at in "048"])
+        self.assertNotIn("find the start of the function", shown)
+        self.assertIn("\n f31: 0x00000000 flt: 0", shown)
+        self.assertIn("\nposition: 0x2\n", shown)
+
+    def test_build_and_load(self) -> None:
+        terminal = Terminal("gdb", self.elf, *debugger.PLAIN)
+        terminal.until(b"(0) ")
+        terminal.type(b"starti 46\nprint $r8\n")  # the fourth jump's step, the one before the loop, and 40 steps of it
+        terminal.until(b"$1 = 11\r")
+        self.build(3)
+        terminal.type(f"file {self.elf}\nload\n".encode())
+        self.assertIn(b"1 word of the image changed", terminal.until(b"(0) "))
+        terminal.type(b"starti 46\nprint $r8\nquit\n")
+        terminal.until(b"$2 = 33\r")
+        self.assertEqual(terminal.end(), 0)
 
 
 class Driver(GdbTest):
@@ -250,12 +378,13 @@ class Missing(GdbTest):
 
 
 class Reads(GdbTest):
-    STUB = ("import sys; sys.path.insert(0, '.'); from front import loading, rsp, stub; from front.driver import Driver; "
+    STUB = ("import sys; sys.path.insert(0, '.'); from front import loading, rsp, session, stub, symbols; "
+            "from front.driver import Driver; "
             "driver = Driver.start(loading.image('examples/login/login.elf'), most_reads=100); "
-            "stub.Stub(driver, rsp.Link(0, 1)).serve(); driver.close()")
+            "stub.Stub(session.Session(driver, symbols.Symbols()), rsp.Link(0, 1)).serve(); driver.close()")
 
     def test_the_program_is_started_again(self) -> None:
-        commands = [f"target remote | {sys.executable} -B -c \"{self.STUB}\"", "monitor patch 0x200 7", "stepi 112", POSITION,
+        commands = [f"target remote | {sys.executable} -B -c \"{self.STUB}\"", "monitor patch p:0x200 7", "stepi 112", POSITION,
                     "reverse-stepi 12", POSITION, "x/xw 0x80000200"]
         line = [debugger.DEBUGGER, "-q", *debugger.PLAIN, "-iex", "set osabi none", "-batch", "examples/login/login.elf",
                 *(word for command in commands for word in ("-ex", command))]

@@ -63,6 +63,14 @@ class Plot(unittest.TestCase):
         places = [float(line.get("x1", "0")) for line in picture.iter(f"{SVG}line") if line.get("class") == "edit"]
         self.assertEqual(places, [190.0])
 
+    def test_words_of_a_user_program(self) -> None:
+        """The program's only store to 0x00500000, which is the physical 0x11000, is made in step 30."""
+        for name in "0x00500000", "p:0x11000":
+            texts = self.texts(self.plot("--to", "100", "--words", name, "examples/user-mode/boot.s"))
+            self.holds(texts, name, "0x0000002a")
+        shown = debugger.run([debugger.WB, "plot", "--to", "20", "--words", "0x500000", "examples/user-mode/boot.s"])
+        self.assertIn("0x00500000 is mapped at none of 20 positions of the run. At the end 0x00500000 leads nowhere", shown)
+
     def test_framing_errors_and_external_lines(self) -> None:
         needs_kinds(self)
         edits = "wire 10 1 1; wire 20 1 0; ferr 70 0 0x41"
@@ -110,7 +118,9 @@ class Plot(unittest.TestCase):
                 (["--to", "0", *LOGIN[2:]], "from 1 to"),
                 (["--background", "red", *LOGIN], "there is no background red"),
                 (["--words", "nothing", *LOGIN], "there is no word nothing"),
-                (["--words", "0x1fe00000", *LOGIN], "no memory stands at 0x1fe00000"),
+                (["--words", "p:0x1fe00000", *LOGIN], "no memory stands at the physical address 0x1fe00000"),
+                (["--words", "0xbfe00000", *LOGIN], "0xbfe00000 leads to the physical address 0x1fe00000, where no memory is"),
+                (["--words", "0x1000", *LOGIN], "0x00001000 is mapped at none of "),
                 (["--edits", "goto 5", *LOGIN], "goto 5 is no edit"),
                 (["--edits", "del 99", *LOGIN], "error 4 NoEvent")):
             self.assertIn(reason, debugger.run([debugger.WB, "plot", *words]))

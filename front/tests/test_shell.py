@@ -235,7 +235,7 @@ class Scripts(unittest.TestCase):
                            ("assert pc == 0", "it does not hold that pc == 0: pc is 0xbfc00000 (3,217,031,168)"),
                            ("assert v0", "it does not hold that v0: v0 is 0"), ("assert [sp", "a ] is missing"), ("assert", "usage"),
                            ("assert 1 < 2 < 3", "is no condition"), ("assert-console 'w'", "line 0 did not send 'w'"),
-                           ("assert [0] == 1", "leads to no memory"), ("del 0", "refused"), ("wb frob", "error 2 Syntax"),
+                           ("assert [0] == 1", "leads nowhere"), ("del 0", "refused"), ("wb frob", "error 2 Syntax"),
                            ("step 9,,9,x", "missing")):
             done = self.run_script(line, "step")
             self.assertEqual((done.returncode, done.stderr), (5, f"bin/wb: <stdin>:1: {line}\n"), line)

@@ -7,13 +7,18 @@ from __future__ import annotations
 import os
 import random
 import signal
+import time
 import unittest
+import unittest.mock
 
 from front import target
+from front.commands import COMMANDS
 from front.log import Event
+from front.stub import ANSWERS
 from front.tests.support import needs_erase, rom, start
 from front.tests.wire import COUNTER, ECHO, TYPED, StubTest
 
+FUZZED = 3  # seconds
 PC, STATUS = 37, 32  # the numbers that gdb gives registers of a MIPS processor
 
 
@@ -24,7 +29,7 @@ class Registers(StubTest):
         self.assertEqual(everything[:8 * 32], "0" * 8 * 32)
         self.assertEqual(everything[8 * PC:8 * PC + 8], "0000c0bf")
         self.assertEqual(everything[8 * STATUS:8 * STATUS + 8], "00004000")
-        self.dialog(wire, ("p25", "0000c0bf"), ("p20", "00004000"), ("p26", "xxxxxxxx"), ("p49", "0400c0bf"),
+        self.dialog(wire, ("p25", "0000c0bf"), ("p20", "00004000"), ("p26", "00000000"), ("p49", "0400c0bf"),
                     ("pffff", "E01"),
                     ("p", "E01"))
 
@@ -99,8 +104,27 @@ class Memory(StubTest):
 
     def test_a_write_is_whole_or_not_at_all(self) -> None:
         wire = self.wire([0])
-        self.refusals(wire, ("Ma07ffffc,8:0102030405060708", "no RAM or ROM stands at 0xa0800000"))
+        self.refusals(wire, ("Ma07ffffc,8:0102030405060708", "0xa0800000 leads to the physical address 0x00800000, where no memory is"))
         self.dialog(wire, ("ma07ffffc,4", "00000000"), ("Xbfc00000,0:", "OK"))
+
+
+class Load(StubTest):
+    """gdb writes a program, and then the PC."""
+
+    def test_the_pc_is_taken_after_a_write_at_reset(self) -> None:
+        wire = self.wire(COUNTER)
+        self.refusals(wire, ("P25=0400c0bf", "registers can't be written"))
+        self.dialog(wire, ("Ma0000200,4:01020304", "OK"), ("P25=00020080", "OK"), ("p25", "0000c0bf"))
+        self.refusals(wire, ("P25=00004000", "0x00400000 leads nowhere"), ("P24=00000001", "registers can't be written"))
+        self.stops(wire, ("s", "T05", 1), ("bs", "T05", 0))
+        self.refusals(wire, ("P25=00020080", "registers can't be written"))
+
+    def test_a_jump_at_reset_leads_to_the_new_entry(self) -> None:
+        # lui r26, 0x8001; ori r26, r26, 0; jr r26; sll: the fourth step is the delay slot, and then comes 0x80010000.
+        wire = self.wire([0x3C1A8001, 0x375A0000, 0x03400008, 0])
+        self.dialog(wire, ("M80020004,4:00000000", "OK"), ("P25=04000280", "OK"))
+        wire.command("goto 4")
+        self.dialog(wire, ("p25", "04000280"))
 
 
 class Runs(StubTest):
@@ -112,7 +136,7 @@ class Runs(StubTest):
     def test_a_step_beyond_the_end(self) -> None:
         needs_erase(self)
         wire = self.wire(COUNTER)
-        wire.command("goto 1099511627775")
+        wire.command("wb goto 1099511627775")
         self.assertEqual(wire.ask("s"), "T05replaylog:end;")
 
     def test_breakpoints_go_both_ways(self) -> None:
@@ -183,9 +207,10 @@ class Runs(StubTest):
         wire = self.wire(ECHO)
         self.refusals(wire, ("Z3,a0000100,4", "reads can't be watched"), ("Z4,a0000100,4", "reads can't be watched"),
                       ("Z0,bfc01002,4", "a multiple of 4"), ("Z0,100000000,4", "of 32 bits"),
-                      ("Z2,bfe00000,4", "no memory stands at 0xbfe00000"),
-                      ("Z2,400000,4", "no memory stands at 0x00400000"),
-                      ("Z2,a07ffffe,4", "no memory stands at 0xa07ffffe"),
+                      ("Z2,bfe00000,4", "0xbfe00000 leads to the physical address 0x1fe00000, where no memory is"),
+                      ("Z2,400000,4", "it can't be watched yet: 0x00400000 leads nowhere at this position: no translation entry has its page. "
+                       "It leads to memory at positions where an entry maps its page 0x00400, mostly in user mode"),
+                      ("Z2,a07ffffe,4", "no memory stands at 0xa0800001"),
                       ("Z2,a0000000,101", "at most 256 bytes"), ("Z2,a0000ffe,4", "all in one page"))
         self.dialog(wire, ("Z0,bfc01000", "E01"), ("Zx,1,1", "E01"), ("z0,bfc01000,4", "OK"), ("z2,400000,4", "OK"))
 
@@ -265,31 +290,54 @@ class Hostile(StubTest):
         # The program stands still, so that each run ends at once.
         wire = self.wire([0x1000FFFF, 0])
         source = random.Random(1)
-        begins = ["q", "qRcmd,", "qXfer:features:read:", "v", "vCont", "vRun;", "vKill", "g", "G", "p", "P", "m", "M",
-                  "X", "Z",
-                  "z", "b", "c", "s", "H", "?"]
-        for _ in range(300):
-            characters = source.choices("0123456789abcdef,;:=.cs+ \x00\x7f", k=source.randrange(12))
-            wire.ask(source.choice(begins) + "".join(characters))
-        wire.command("goto 0")
-        self.dialog(wire, ("g", wire.ask("g")), ("mbfc00000,4", "ffff0010"))
+        begins = [begin.decode() for begin in ANSWERS if begin not in (b"D", b"k")]
+        # Without those that write files, and moves to steps as far away as an address is.
+        names = [it for it in COMMANDS if not it.startswith(("save", "load", "goto", "step", "back", "visit", "wb"))]
+        words = [*names, "goto 1,000", "step 1", "back 1,", "visit 0xbfc00000 9", "wb pos", *"0 1 7 0xbfc00000 p:0x0 p:0x1fc00004 -1 1, 1,000 99999999999999999999 pc pos $sp 'a' 'b\\r' ' \" \n \0 \xff ;".split(" ")]
+        wire.command("patch p:0x100 7")
+        end = time.monotonic() + FUZZED
+        while time.monotonic() < end:
+            if source.random() < 0.5:
+                characters = source.choices("0123456789abcdef,;:=.cs+ \n\x00\x7f", k=source.randrange(12))
+                wire.ask(source.choice(begins) + "".join(characters))
+            else:
+                line = " ".join(source.choices(words, k=source.randrange(5)))
+                wire.ask("qRcmd," + (source.choice(["", "", "next-run "]) + line).encode().hex())
+        self.assertTrue(wire.serves())
+        self.assertEqual([it for it in wire.notes if "a fault in the stub" in it], [])
+        wire.command("wb goto 0")
+        self.dialog(wire, ("g", wire.ask("g")))
+
+    def test_a_newline_in_a_command(self) -> None:
+        wire = self.wire(ECHO, TYPED)
+        for line in ("wb goto 5\ngoto 6", "type '\n' 5\n", "\n", "wb 'a\nb'"):
+            wire.command(line)
+        self.assertEqual(wire.command("wb 'a\nb'"), "refused: a command is one line\n")
+        self.assertEqual(wire.command("wb log 0 1"), "log 3\n0 0 0 0x0a\n")
+
+    def test_a_fault_of_the_stub_costs_nothing(self) -> None:
+        wire = self.wire(ECHO, TYPED)
+        wire.command("del 1")
+        with unittest.mock.patch("front.memory.read", side_effect=ZeroDivisionError("here")):
+            self.refusals(wire, ("mbfc00000,4", "a fault in the stub, ZeroDivisionError: here; the session goes on"))
+        self.assertEqual(wire.command("wb log 0 2"), "log 1\n0 70 0 0x41\n")
 
     def test_a_program_that_dies_is_started_again_with_all_edits(self) -> None:
         wire = self.wire(ECHO, TYPED)
         wire.command("goto 256")
         wire.command("del 1")
-        wire.command("patch 0x200 7")
+        wire.command("patch p:0x200 7")
         assert wire.driver._program
         process = wire.driver._program._process
         os.kill(process.pid, signal.SIGKILL)
         process.wait()
         self.refusals(wire, ("g", "the program was ended by SIGKILL"))
-        self.assertEqual([wire.command(it) for it in ("pos", "writer 0x104", "mem 0x200 1")],
-                         ["pos 256\n", "writer 81\n", "0x00000200 0x00000007\n"])
+        self.assertEqual([wire.command(it) for it in ("wb pos", "wb writer 0x104", "mem 0xa0000200 1")],
+                         ["pos 256\n", "writer 81\n", "0xa0000200: 0x00000007  |....|\n"])
 
     def test_the_reads_of_the_program_are_used_up(self) -> None:
         wire = self.wire_on(start(rom(COUNTER), most_reads=40))
-        wire.command("patch 0x1fc00004 0x24420003")
+        wire.command("patch p:0x1fc00004 0x24420003")
         for position in range(1, 60):
             self.stops(wire, ("s", "T05", position))
         # After 58 steps the addiu of steps 1, 5 .. 57 was made 15 times.

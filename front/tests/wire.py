@@ -9,7 +9,9 @@ from typing import Optional, Sequence
 from front.driver import Driver
 from front.log import Event
 from front.rsp import Link
+from front.session import Session
 from front.stub import Stub
+from front.symbols import symbols_of
 from front.tests.support import rom, start
 
 TIMEOUT = 30
@@ -41,7 +43,8 @@ class Wire:
         self._ours, self._theirs = socket.socketpair()
         self._ours.settimeout(TIMEOUT)
         self._unread = b""
-        stub = Stub(driver, Link(self._theirs.fileno(), self._theirs.fileno()), exceptions_whole=exceptions_whole,
+        session = Session(driver, symbols_of(driver.image), saved_log=list(driver.log))
+        stub = Stub(session, Link(self._theirs.fileno(), self._theirs.fileno()), exceptions_whole=exceptions_whole,
                     tell=self.notes.append)
         self._thread = threading.Thread(target=self._serve, args=(stub,), daemon=True)
         self._thread.start()
@@ -102,14 +105,14 @@ class Wire:
         return reply.decode("latin-1")
 
     def command(self, line: str) -> str:
-        """What `monitor LINE` shows; an error of it is `E01`."""
+        """What `monitor LINE` shows."""
         kept, self.console = self.console, b""
         reply = self.ask("qRcmd," + line.encode().hex())
         shown, self.console = self.console, kept
         return shown.decode() if reply == "OK" else reply
 
     def position(self) -> int:
-        return int(self.command("pos").split()[1])
+        return int(self.command("wb pos").split()[1])
 
 
 class StubTest(unittest.TestCase):
