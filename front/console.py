@@ -10,7 +10,7 @@ import tty
 from contextlib import contextmanager
 from typing import Iterator, Sequence
 
-from . import loading
+from . import loading, saved
 from . import log as logs
 from .arguments import parse
 from .driver import Driver
@@ -65,7 +65,7 @@ def main(arguments: Sequence[str]) -> int:
         raise Problem(f"a line is 0 to {LINES - 1}, and a speed at least 1 step a second")
     if not all(it and it.isatty() for it in (sys.stdin, sys.stdout)):
         raise Problem("console wants a terminal; scripts have `type` and `expect` of bin/wb shell")
-    with loading.running(line) as driver:
+    with saved.running(line) as driver:
         print(f"line {serial}, {speed:,} steps a second; Ctrl-] ? shows the keys")
         Console(driver, serial, speed).run()
     return 0

@@ -52,6 +52,7 @@ class Driver:
         self._program: Optional[Program] = None
         # How far the run was made under the image and log as they stand.
         self.made = 0
+        self.journal: list[str] = []  # the edits that were made, as commands
         self._runs = 0
         self._way: Optional[Way] = None
 
@@ -273,6 +274,8 @@ class Driver:
         if not reply or replies.is_refusal(reply[0]):
             return
         name, numbers = words[0], [number_of(word) or 0 for word in words[1:]]
+        if name in EDITS or name == "patch":
+            self.journal.append(" ".join(words))
         if name in _MOVES:
             self.position = program.position
         elif name == "erase":

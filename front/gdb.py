@@ -11,7 +11,7 @@ import tempfile
 from pathlib import Path
 from typing import Sequence
 
-from . import loading, stub, symbol_file
+from . import loading, saved, stub, symbol_file
 from .arguments import parse
 from .elf import jump_to
 from .errors import Problem
@@ -54,8 +54,6 @@ def main(arguments: Sequence[str]) -> int:
     """Runs gdb, and gives its status."""
     count = _stub_words(arguments)
     line = parse(arguments[:count], stub.OPTIONS, USAGE, HELP, range(1, count + 1))
-    # The notes are the stub's to give.
-    image = loading.booted(line, tell=lambda note: None)
     debugger = shutil.which(DEBUGGER)
     if debugger is None:
         raise Problem(f"{DEBUGGER} is not installed; on Debian: apt-get install {DEBUGGER}")
@@ -65,7 +63,9 @@ def main(arguments: Sequence[str]) -> int:
     words = [debugger, "-q", *(word for setting in SETTINGS for word in ("-iex", setting))]
     # A Ctrl-C is gdb's alone.
     signal.signal(signal.SIGINT, lambda number, frame: None)
-    with tempfile.TemporaryDirectory() as folder:
+    with saved.opened(line, tell=lambda note: None) as found, tempfile.TemporaryDirectory() as folder:
+        # The notes are the stub's to give.
+        image = loading.booted(found.line, tell=lambda note: None)
         words += [*_symbols(image, Path(folder)), "-x", str(IN_GDB), "-ex", f"target extended-remote | {command}"]
         environment = {**os.environ, JUMP: str(_jump(image, Path(folder)))}
         return subprocess.call([*words, *arguments[count:]], env=environment)

@@ -7,7 +7,7 @@ import re
 
 import gdb
 
-AS_THEY_ARE = ("expect", "help", "load", "save-image", "save-log", "symbols", "type", "until", "wb")  # their words are no numbers
+AS_THEY_ARE = ("arrive", "assert", "assert-console", "expect", "help", "load", "save", "save-image", "save-log", "symbols", "type", "until", "wb")  # their words are no numbers
 RUNS = ("expect", "until")  # they go on, and are run as `continue` is
 REFUSED = "refused: "  # begins what the stub says where it can't do a thing
 

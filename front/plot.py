@@ -6,7 +6,7 @@ from collections import Counter
 from dataclasses import dataclass
 from typing import Optional, Sequence
 
-from . import expressions, loading, places, replies, saving, search
+from . import expressions, loading, places, replies, saved, saving, search
 from .arguments import parse
 from .driver import Driver
 from .errors import Problem
@@ -58,7 +58,7 @@ def main(arguments: Sequence[str]) -> int:
     background = line.get("--background")
     if background not in (None, *BACKGROUNDS):
         raise Problem(f"there is no background {background}; there are {' and '.join(BACKGROUNDS)}")
-    with loading.running(line, on_terminal()) as driver:
+    with saved.running(line, on_terminal()) as driver:
         plot = _Plot(driver, symbols_of(driver.image), end)
         edits = plot.edits((line.get("--edits") or "").split(";"))
         words = [plot.word(name) for name in (line.get("--words") or "").split(",") if name]

@@ -11,6 +11,7 @@ from .driver import Driver
 from .errors import Problem
 from .idle import IDLE_STEPS
 from .log import Event
+from .saved import Origin, lines_of_edit
 from .symbols import Symbols
 from .travel import Watch
 
@@ -31,11 +32,12 @@ class Mark:
 
 @dataclass(frozen=True)
 class Edit:
-    """What stood before an edit, and the line that made it."""
+    """What stood before an edit, the line that made it, and the commands that this was for the workbench."""
 
     line: str
     log: list[Event]
     patches: list[tuple[int, int]]
+    made: list[str]
 
 
 @dataclass(frozen=True)
@@ -62,6 +64,7 @@ class Session:
     idle: int = IDLE_STEPS  # after so many steps in which nothing happens long runs pause
     limit: int = 0  # so many steps an `expect` goes on
     paused: Optional[Paused] = None
+    origin: Optional[Origin] = None
     saved_log: list[Event] = field(default_factory=list)
     saved_patches: list[tuple[int, int]] = field(default_factory=list)
 
@@ -142,12 +145,32 @@ class Session:
     def editing(self, line: str) -> Iterator[None]:
         """Keeps what stood before, where a line edits, so that it can be taken back."""
         driver = self.driver
-        log, patches = list(driver.log), list(driver.patches)
+        log, patches, count = list(driver.log), list(driver.patches), len(driver.journal)
         try:
             yield
         finally:
             if driver.log != log or driver.patches != patches:
-                self.edits.append(Edit(line, log, patches))
+                self.edits.append(Edit(line, log, patches, driver.journal[count:]))
+
+    def made_again(self) -> list[str]:
+        """Lines that make the edits, stops, settings and the position again, from the log and the image before the first edit."""
+        lines = [line for edit in self.edits for line in lines_of_edit(edit.line, edit.made)]
+        lines.append(f"goto {self.driver.position:,}")
+        for mark in self.marks:
+            at = mark.address
+            if mark.watch and self.driver.physical(at) != mark.watch.place:
+                at = places.always_at(mark.watch.place)  # its page is mapped elsewhere here
+            lines.append(f"watch {self._named(at)} {mark.watch.size}" if mark.watch else f"break {self._named(at)}")
+        settings = (("idle", self.idle, IDLE_STEPS), ("limit", self.limit, 0))
+        return lines + [f"{name} {value:,}" for name, value, usual in settings if value != usual]
+
+    def _named(self, address: int) -> str:
+        """An address by a name that means it alone."""
+        name = self.symbols.name(address)
+        try:
+            return name if name and self.number(name) == address else f"{address:#010x}"
+        except Problem:
+            return f"{address:#010x}"
 
     def unsaved(self) -> list[str]:
         """What was edited and is not saved."""

@@ -7,7 +7,7 @@ import sys
 from pathlib import Path
 from typing import Container, Iterator, Optional, Sequence, TextIO
 
-from . import expressions, loading, shell_edits, shell_moves, shell_views  # noqa: F401 - they fill the table of commands
+from . import expressions, loading, saved, shell_edits, shell_moves, shell_views  # noqa: F401 - they fill the table of commands
 from .arguments import parse
 from .commands import COMMANDS, GROUPS, SHELL, SHORT, command, find, run, words_of
 from .errors import Ended, Interrupted, Problem, Refused, Unexpected
@@ -44,9 +44,11 @@ Example:
 def main(arguments: Sequence[str]) -> int:
     line = parse(arguments, OPTIONS, USAGE, HELP + help_text(), (1, 2))
     script = open(loading.check(line.words[1]), encoding="utf-8", errors="surrogateescape") if len(line.words) == 2 else None
-    with loading.running(line, on_terminal()) as driver:
-        session = Session(driver, symbols_of(driver.image), saved_log=list(driver.log))
-        return Shell(session).run(script, line.has("--echo"), line.has("--strict"))
+    with saved.opened(line) as found, loading.running(found.line, on_terminal()) as driver:
+        session = Session(driver, symbols_of(driver.image), origin=found.origin)
+        shell = Shell(session)
+        shell.open(found.commands)
+        return shell.run(script, line.has("--echo"), line.has("--strict"))
 
 
 class Shell:
@@ -56,6 +58,19 @@ class Shell:
         self._session = session
         self._left = False
         self._warned = False
+
+    def open(self, commands: Sequence[str]) -> None:
+        """Runs the lines of a session. What they show is not shown again; those that fail are."""
+        session = self._session
+        tell = session.tell
+        for line in commands:
+            said: list[str] = []
+            session.tell = said.append
+            is_done = self.do(line.strip())
+            session.tell = tell
+            if not is_done:
+                tell("\n".join([f"the session's line `{line}` fails:", *said]))
+        session.saved_log, session.saved_patches = list(session.driver.log), list(session.driver.patches)
 
     def run(self, script: Optional[TextIO], echo: bool = False, strict: bool = False) -> int:
         """Runs the lines of a script, or those that are typed, and gives the status. A strict script ends at a line that fails."""
@@ -211,6 +226,6 @@ class _Completer:
         words = before.split()
         if not words or words == ["help"]:
             return [it for it in COMMANDS if it.startswith(text)]
-        if words[0].startswith("save-"):
+        if words[0].startswith("save"):
             return sorted(str(it) + ("/" if it.is_dir() else "") for it in Path(text).parent.glob(Path(text).name + "*"))
         return sorted(it for it in {*self._session.symbols.names(), *expressions.names()} if text and it.startswith(text))

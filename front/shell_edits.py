@@ -1,10 +1,11 @@
 """Commands of the shell that edit the past, and save what was edited."""
 from __future__ import annotations
 
+import os
 import re
 
 from . import log as logs
-from . import reloading
+from . import reloading, saved
 from .commands import CHECKS, FILES, PAST, SERIAL, SHELL, command
 from .errors import Problem
 from .expressions import closed, condition
@@ -37,6 +38,16 @@ def add(session: Session, words: list[str]) -> None:
 def ferr(session: Session, words: list[str]) -> None:
     time, line, byte = map(session.number, words)
     session.tell(f"event {session.driver.add(time, line, byte, Kind.FRAMING)}")
+
+
+@command("arrive T L 'TEXT' [GAP] [framing]", "lets TEXT arrive at line L from step T on, GAP steps apart or all at once", PAST,
+         edits=True)
+def arrive(session: Session, words: list[str]) -> None:
+    numbers = [str(session.number(it)) for it in (*words[:2], *(it for it in words[3:] if it != "framing"))]
+    text = " ".join([*numbers[:2], words[2], *numbers[2:], *(it for it in words[3:] if it == "framing")])
+    events = logs.make([text], "arrive")
+    session.driver.values([it.command for it in events])
+    session.tell(f"{counted(len(events), 'byte')} from step {events[0].time:,} to step {events[-1].time:,}" if events else "no byte")
 
 
 @command("wire T K V", "gives external line K the level V in step T", PAST, edits=True)
@@ -214,6 +225,21 @@ def load(session: Session, words: list[str]) -> None:
     name = words[0] if words else session.driver.image.name
     session.tell(f"{counted(reloading.load(session, name), 'word')} of the image changed by {name}")
     session.saved_patches = list(session.driver.patches)
+
+
+@command("save FILE [whole] [force]", "saves the session: image, log, edits, stops and position; `whole` packs the image in",
+         FILES)
+def save_(session: Session, words: list[str]) -> None:
+    if session.origin is None:
+        raise Problem("a session is saved by what has opened an image")
+    name, *rest = words
+    is_whole = "whole" in rest[:1]
+    events = session.edits[0].log if session.edits else session.driver.log
+    folder = os.path.dirname(os.path.abspath(name))
+    text = saved.text_of(session.origin, folder, events, session.made_again(), is_whole)
+    save(name, text.encode("utf-8", "surrogateescape"), saved.FORM, is_forced(rest[is_whole:]), f"save {name} force")
+    session.saved_log, session.saved_patches = list(session.driver.log), list(session.driver.patches)
+    session.tell(f"the session is saved in {name}; `bin/wb shell {name}` opens it")
 
 
 @command("unsaved", "shows what was edited and is not saved", FILES)

@@ -5,7 +5,7 @@ import re
 import sys
 from typing import Callable, Optional, Sequence
 
-from . import elf, loading, memory, monitor, places, target
+from . import elf, loading, memory, monitor, places, saved, target
 from .arguments import parse
 from .errors import Problem
 from .limits import RAM, ROM
@@ -344,11 +344,21 @@ def _from_digits(digits: bytes) -> bytes:
     return bytes.fromhex(digits.decode())
 
 
+def open_session(session: Session, commands: Sequence[str]) -> None:
+    """Makes what a session made, but breakpoints and watches, which a debugger has by itself."""
+    for command in commands:
+        said = "" if command.startswith(("break ", "watch ")) else monitor.answer(session, command)
+        if monitor.REFUSED in said:
+            loading.say(f"the session's line `{command}` fails: {said.strip()}")
+    session.saved_log, session.saved_patches = list(session.driver.log), list(session.driver.patches)
+
+
 def main(arguments: Sequence[str]) -> int:
     """Serves one debugger on standard input and output."""
     line = parse(arguments, OPTIONS, USAGE, HELP, (1,))
-    with loading.running(line) as driver:
-        session = Session(driver, symbols_of(driver.image), saved_log=list(driver.log))
+    with saved.opened(line) as found, loading.running(found.line) as driver:
+        session = Session(driver, symbols_of(driver.image), origin=found.origin, saved_log=list(driver.log))
+        open_session(session, found.commands)
         stub = Stub(session, Link(sys.stdin.fileno(), sys.stdout.fileno()), exceptions_whole=line.has("--through"))
         if line.has("--progress"):
             stub.show_progress()

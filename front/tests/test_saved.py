@@ -1,0 +1,151 @@
+"""Sessions in a file: what is saved is opened again, in each front end."""
+from __future__ import annotations
+
+import re
+import shutil
+import subprocess
+import tempfile
+import unittest
+from pathlib import Path
+
+from front import saved
+from front.log import Event
+from front.tests.support import ROOT
+
+LOGIN = "examples/login/login.elf"
+LINES = ("goto 90,000", "type 'ab' 700", "del 2", "move 0 19,000", "patch main+4 0x24040001", "add pos+5 1 'z'", "undo", "ferr 99,000 0 1",
+         "wire 50 1 1", "break read_line", "watch session+8 1", "delete 1", "watch session+0x20", "break 0xbfc00200", "idle 7,000,000",
+         "goto 55,555")
+# What tells one session from another.
+SHOWN = ("log 0 99", "stops", "pos", "idle", "mem 0xbfc00350 4", "console", "regs", "writer session+8")
+
+
+def shell(*words: str, lines: tuple[str, ...] = (), folder: Path = ROOT) -> "subprocess.CompletedProcess[str]":
+    return subprocess.run([str(ROOT / "bin/wb"), "shell", *words], input="".join(f"{it}\n" for it in lines), cwd=folder,
+                          capture_output=True, text=True)
+
+
+class Saved(unittest.TestCase):
+    def setUp(self) -> None:
+        folder = tempfile.TemporaryDirectory()
+        self.addCleanup(folder.cleanup)
+        self.folder = Path(folder.name)
+        self.file = str(self.folder / "walk.session")
+
+    def save(self, *words: str, image: str = LOGIN, options: tuple[str, ...] = ("--log", "examples/login/log")) -> list[str]:
+        """Saves a session, and gives what it shows."""
+        line = " ".join(["save", self.file, *words])
+        done = shell(*options, image, lines=(*LINES, line, "unsaved", *SHOWN))
+        said = done.stdout.splitlines()
+        at = said.index(f"the session is saved in {self.file}; `bin/wb shell {self.file}` opens it")
+        return said[at + 1:]
+
+    @staticmethod
+    def plain(said: list[str]) -> list[str]:
+        """Without the numbers of stops, which are given anew."""
+        return [re.sub(r"^\d: (?=watch|break)", "", it) for it in said]
+
+    def test_what_is_saved_is_opened(self) -> None:
+        before = self.save()
+        done = shell(self.file, lines=("unsaved", *SHOWN))
+        self.assertEqual((self.plain(done.stdout.splitlines()), done.stderr), (self.plain(before), ""))
+        self.assertIn("   100: "[:2], before[1])
+        # All edits can be taken back, down to the log and the image that were there.
+        done = shell(self.file, lines=(*["undo"] * 6, "undo", "wb log 0 3", "mem main+4 1"))
+        said = done.stdout.splitlines()
+        self.assertEqual([it.partition(":")[0] for it in said[:6]], ["taken back"] * 6)
+        self.assertEqual(said[6:11], ["there is no edit to take back", "log 10", "0 20000 0 0x78", "1 30000 0 0x08", "2 40000 0 0x08"])
+        self.assertNotIn("0x24040001", said[-1])
+
+    def test_it_can_be_read(self) -> None:
+        self.save()
+        text = Path(self.file).read_text()
+        self.assertTrue(text.startswith("bezhakkom session 1\n"))
+        for line in ("log 20000 0 'x\\b\\bsesame\\r' 10000", "# type 'ab' 700", "arrive 90000 0 'ab' 700", "del 2", "move 0 19000",
+                     "wb patch 0x1fc00358 0x24040001", "goto 55,555", "watch session+0x8 1", "break receive", "idle 7,000,000"):
+            self.assertIn(f"\n{line}\n", text)
+        self.assertNotIn("'z'", text)
+
+    def test_one_whole_is_opened_elsewhere(self) -> None:
+        before = self.save("whole")
+        elsewhere = self.folder / "elsewhere"
+        elsewhere.mkdir()
+        moved = shutil.move(self.file, elsewhere)
+        done = shell(moved, lines=("unsaved", *SHOWN), folder=elsewhere)
+        self.assertEqual((self.plain(done.stdout.splitlines()), done.stderr), (self.plain(before), ""))
+        # One that is saved again has all it needs too.
+        done = shell(moved, lines=(f"save {self.file}",), folder=elsewhere)
+        done = shell(self.file, lines=SHOWN, folder=elsewhere)
+        self.assertEqual(self.plain(done.stdout.splitlines()), self.plain(before))
+        Path(self.file).write_text(Path(self.file).read_text().replace("\neN", "\n!N"))
+        done = shell(self.file)
+        self.assertEqual((done.returncode, done.stderr), (2, f"bin/wb: {self.file}: the content of login.elf is damaged\n"))
+
+    def test_an_image_that_changed(self) -> None:
+        image = self.folder / "a b.elf"
+        shutil.copy(ROOT / LOGIN, image)
+        self.save(image=str(image), options=())
+        self.assertIn("\nimage a b.elf\n", Path(self.file).read_text())
+        content = image.read_bytes()
+        image.write_bytes(content.replace(b"Welcome", b"Goodbye"))
+        done = shell(self.file, lines=("pos",))
+        self.assertEqual(done.stderr, f"bin/wb: {image} is not as it was when {self.file} was saved: what it shows may differ\n")
+        self.assertRegex(done.stdout, "step 55,555, ")
+        image.unlink()
+        self.assertEqual(shell(self.file).stderr, f"bin/wb: there is no file {image}\n")
+
+    def test_options_and_other_files(self) -> None:
+        self.save(image="examples/login/login.rom", options=("--symbols", LOGIN, "--unit", "3", "--byte-time", "20"))
+        text = Path(self.file).read_text()
+        self.assertRegex(text, "\noption --symbols .*login.elf\n")
+        self.assertIn("\noption --unit 3\n", text)
+        done = shell(self.file, lines=("print main", "type 'x' ", "save-image " + str(self.folder / "i.img")))
+        self.assertIn("<main>", done.stdout)
+        content = (self.folder / "i.img").read_bytes()
+        self.assertEqual((content[8:12], content[12:16]), (bytes([20, 0, 0, 0]), bytes([3, 0, 0, 0])))
+
+    def test_files_that_are_no_sessions(self) -> None:
+        other = self.folder / "kernel.elf"
+        other.write_bytes(b"\x7fELF")
+        done = shell(LOGIN, lines=(f"save {other}", f"save {other} force", "save", "save a b c d", "save /no/such/folder/x"))
+        said = done.stdout.splitlines()
+        self.assertIn(f"`save {other} force` overwrites it", said[0])
+        self.assertRegex(said[1], "is saved")
+        self.assertRegex(said[2], "usage")
+        self.assertRegex(said[-1], "can't be written")
+        for text, wanted in (("bezhakkom session 1\n\n", "names no image"), ("bezhakkom session 2\n", "of a later version"),
+                             ("bezhakkom session 1\nbreak 7\n", ":2: there is no line `break` in the head"),
+                             ("bezhakkom session 1\nimage x\nlog what\n\n", "is not of the form TIME LINE")):
+            Path(self.file).write_text(text)
+            done = shell(self.file)
+            self.assertEqual((done.returncode, done.stderr.count("\n")), (2, 1), done.stderr)
+            self.assertIn(wanted, done.stderr)
+        self.save()
+        done = shell("--log", "examples/login/log", self.file)
+        self.assertIn("is a session, which has its own log", done.stderr)
+
+    def test_a_line_that_fails(self) -> None:
+        self.save()
+        Path(self.file).write_text(Path(self.file).read_text() + "break nowhere\nadd 7 0 'q'\n")
+        said = shell(self.file, lines=("wb log 0 1",)).stdout.splitlines()
+        self.assertEqual(said[:2], ["the session's line `break nowhere` fails:", "there is no symbol and no register nowhere"])
+        self.assertEqual(said[-1], "0 7 0 0x71")
+
+    def test_the_plot_takes_sessions(self) -> None:
+        self.save()
+        picture = str(self.folder / "x.svg")
+        subprocess.run([str(ROOT / "bin/wb"), "plot", "--to", "60000", self.file, picture], cwd=ROOT, check=True)
+        self.assertIn("<svg", Path(picture).read_text())
+
+    def test_edits_as_lines(self) -> None:
+        for made, lines in ((["add 5 0 65", "add 9 0 0x42", "add 13 0 67"], ["arrive 5 0 'ABC' 4"]), (["ferr 5 1 0"], ["arrive 5 1 '\\x00' framing"]),
+                            (["wire 5 1 0"], ["wire 5 1 0"]), (["add 5 0 65", "add 5 1 65"], ["add 5 0 65", "add 5 1 65"]),
+                            (["add 5 0 65", "add 5 0 66"], ["arrive 5 0 'AB'"]), (["add 5 0 65", "del 3"], ["add 5 0 65", "del 3"]),
+                            (["erase 5 9"], ["erase 5 9"]), (["patch 256 1"], ["wb patch 0x00000100 0x00000001"])):
+            self.assertEqual(saved.lines_of_edit("typed", made), ["# typed", *lines])
+        opened = saved.Opened(None, None, ["# x", "arrive 5 0 'AB' 4", "goto 1,000", "wb patch 0x100 1", "break main"])  # type: ignore[arg-type]
+        self.assertEqual(opened.edits(), [Event(5, 0, 65).command, Event(9, 0, 66).command, "goto 1000", "patch 0x100 1"])
+
+
+if __name__ == "__main__":
+    unittest.main()
