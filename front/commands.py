@@ -7,6 +7,7 @@ from dataclasses import dataclass
 from typing import Callable
 
 from .errors import Problem
+from .habits import translated
 from .session import Session
 
 Run = Callable[[Session, "list[str]"], None]
@@ -71,8 +72,8 @@ def find(name: str) -> Command:
 
 
 def run(session: Session, line: str) -> None:
-    """Runs the line of a command."""
-    name, *words = words_of(line)
+    """Runs the line of a command, or what the shell has for a line of gdb's."""
+    name, *words = words_of(translated(line))
     found = find(name)
     found.check(words)
     with session.editing(line) if found.edits else nullcontext():

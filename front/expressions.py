@@ -23,6 +23,7 @@ _NUMBERS.update({f"r{number}": number for number in range(32)}, s8=30)
 
 _TERM = re.compile(r"0x[0-9a-fA-F]+|[0-9]{1,3}(?:,[0-9]{3})+(?![0-9,])|[0-9]+(?![0-9,])|'(?:[^'\\]|\\.)+'|[&$]?[A-Za-z_.][\w.$]*")
 _OPENED = re.compile(r"(byte|half|)\[")
+_PART = re.compile(r"[&*]*([A-Za-z_]\w*)(?:\.|->|\[)[\w.\[\]>-]*")
 _SIZES = {"byte": 1, "half": 2, "": 4}
 _DEEPEST = 16  # brackets within each other
 
@@ -49,11 +50,24 @@ def names() -> Iterable[str]:
 
 def number(text: str, driver: Driver, symbols: Symbols) -> int:
     """The number that a text means at the position."""
+    _refuse_types(text, symbols)
     reader = _Reader(text, driver, symbols)
     total = reader.total()
     if reader.rest:
         raise Problem(f"in {shortened(text)} a + or - is missing after {shortened(text[:-len(reader.rest)])}")
     return total
+
+
+def _refuse_types(text: str, symbols: Symbols) -> None:
+    """Refuses a part of a variable by the name that C has for it."""
+    part = _PART.match(text)
+    address = symbols.address(part[1]) if part else None
+    if not part or address is None or symbols.address(part[0].lstrip("&*")) is not None:
+        return
+    found = symbols.at(address)
+    size = f" of {found[0].size:,} bytes" if found and found[0].size else ""
+    raise Problem(f"{shortened(text)} is C, whose types the shell does not know. {part[1]} is at {address:#010x}{size}: name the part by its "
+                  f"distance, as in {part[1]}+4, and for `watch` its size after that. gdb shows the address: print &{text.lstrip('&*')}")
 
 
 @dataclass(frozen=True)

@@ -131,7 +131,7 @@ class Shell:
         return False
 
     def _run(self, line: str) -> None:
-        if words_of(line)[0] in ("quit", "q"):
+        if words_of(line)[0] in ("quit", "q", "exit"):
             self._quit()
         else:
             run(self._session, line)

@@ -14,6 +14,7 @@ from front import log as logs
 from front.commands import COMMANDS
 from front.driver import Driver
 from front.errors import Problem
+from front.habits import translated
 from front.log import Event, Kind
 from front.session import Session, distance
 from front.shell import Shell
@@ -236,7 +237,7 @@ class Scripts(unittest.TestCase):
                            ("assert v0", "it does not hold that v0: v0 is 0"), ("assert [sp", "a ] is missing"), ("assert", "usage"),
                            ("assert 1 < 2 < 3", "is no condition"), ("assert-console 'w'", "line 0 did not send 'w'"),
                            ("assert [0] == 1", "leads nowhere"), ("del 0", "refused"), ("wb frob", "error 2 Syntax"),
-                           ("step 9,,9,x", "missing")):
+                           ("step 9,,9,x", "a comma stands before three digits")):
             done = self.run_script(line, "step")
             self.assertEqual((done.returncode, done.stderr), (5, f"bin/wb: <stdin>:1: {line}\n"), line)
             self.assertIn(said, done.stdout)
@@ -265,6 +266,42 @@ class Scripts(unittest.TestCase):
         self.assertEqual(done.stdout.count("is too long for a number or a name"), 4)
         self.assertEqual(self.run_script("goto 0x10000000000000000", strict=False).stdout,
                          "0x10000000000000000 is too large: numbers are below 2^64\n")
+
+
+class Habits(unittest.TestCase):
+    """What somebody types who comes from gdb. Addresses are those of `nm`, and words those of `objdump`."""
+
+    def test_lines_that_have_others(self) -> None:
+        for line, wanted in (
+                ("b main", "b main"), ("break *0xbfc00228", "break 0xbfc00228"), ("b *main+4", "b main+4"), ("hbreak main", "break main"),
+                ("watch *0x80001000", "watch 0x80001000 4"), ("watch *(char *)0x80001008", "watch 0x80001008 1"),
+                ("watch -l *(unsigned short*)session", "watch session 2"), ("watch session+8 1", "watch session+8 1"),
+                ("info registers", "regs"), ("i r pc", "reg pc"), ("info b", "stops"), ("info symbol pc", "print pc"),
+                ("x/4wx 0x80001000", "mem 0x80001000 4"), ("x /2g sp", "mem sp 4"), ("x/9xb sp", "mem sp 3"), ("x/3h sp", "mem sp 2"),
+                ("x/8i $pc", "dis $pc 8"), ("x/s session", "mem session 4"), ("x sp 2", "x sp 2"), ("p $pc", "print $pc"),
+                ("p/x $pc", "print $pc"), ("p *main", "print [main]"), ("print *(char*)main", "print byte[main]"),
+                ("stepi 2", "step 2"), ("monitor goto 5", "goto 5"), ("disassemble main", "dis main"), ("set 0 'x'", "set 0 'x'")):
+            self.assertEqual(translated(line).replace("p ", "print ", 1) if line[:2] == "p " else translated(line), wanted, line)
+
+    def test_lines_that_have_none(self) -> None:
+        talk = Talk("login", "login.elf", log=False)
+        self.addCleanup(talk.driver.close)
+        for line, said in (
+                ("watch session.length", "is C, whose types the shell does not know. session is at 0x80001000 of 36 bytes: .* print &session.length"),
+                ("watch session->user", "session\\+4, and for `watch` its size"), ("p session[3]", "session is at 0x80001000"),
+                ("bt", "`bin/wb gdb` has `bt`"), ("next", "`visit pc\\+8` at a call"), ("finish", "`visit ra`"), ("run", "`goto 0`"),
+                ("list", "no source lines"), ("info locals", "`info` of registers"), ("break login.c:42", "is a line"),
+                ("break main if v0 == 1", "no conditions"), ("set var x = 1", "`patch A W`"), ("tbreak main", "`bin/wb gdb` has them")):
+            self.assertRegex(talk(line)[0], said, line)
+
+    def test_in_the_shell(self) -> None:
+        talk = Talk("login", "login.elf", log=False)
+        self.addCleanup(talk.driver.close)
+        self.assertEqual(talk("b *main+4", "c", "x/2i $pc", "p *start", "info b", "rc", "si"), [
+            "1: breakpoint at 0xbfc00358 <main+0x4>", "1: breakpoint at 0xbfc00358 <main+0x4>", "step 113, main+0x4: sw r31, 20(r29)",
+            "=> 0xbfc00358 <main+0x4>: 0xafbf0014  sw r31, 20(r29)", "   0xbfc0035c <main+0x8>: 0x3c02bfe0  lui r2, 0xbfe0",
+            "[start] = 0x3c1d8001  1,008,566,273", "1: breakpoint at 0xbfc00358 <main+0x4>", "that is the begin of the run",
+            "step 0, start: lui r29, 0x8001", "step 1, start+0x4: addiu r29, r29, 4096"])
 
 
 class Damage(unittest.TestCase):
