@@ -22,6 +22,7 @@ from .log import write as write_log
 from .progress import TerminalProgress
 from .program import Program, reads_of
 from .replies import Registers, Where, Writer, number_of, words_of
+from .visits import Visits
 
 # A run to a far position is made in pieces of this many steps, between which it is shown, or ended.
 PIECE = 64 * SPAN
@@ -52,6 +53,7 @@ class Driver:
         self._program: Optional[Program] = None
         # How far the run was made under the image and log as they stand.
         self.made = 0
+        self.visits = Visits()
         self.journal: list[str] = []  # the edits that were made, as commands
         self._runs = 0
         self._way: Optional[Way] = None
@@ -208,6 +210,7 @@ class Driver:
         if None in words.values():
             # The program can't take a word out of the image again.
             self.close()
+            self.visits.forget()
             self._boot = deepcopy(self._original)
             for address, word in patches:
                 self._boot.patch(address, word)
@@ -280,13 +283,14 @@ class Driver:
             self.position = program.position
         elif name == "erase":
             erased = range(*numbers)
-            self.made = min([self.made, *(it.time for it in self.log if it.time in erased)])
+            self._changed(min((it.time for it in self.log if it.time in erased), default=GREATEST_POSITION))
             self.log[:] = [it for it in self.log if it.time not in erased]
         elif name in EDITS:
             self._mirror_edit(name, numbers, replies.last_number(reply))
         elif name == "patch":
             self.patches.append((numbers[0], numbers[1]))
             self.made = 0
+            self.visits.forget()
             self.boot().patch(numbers[0], numbers[1])
 
     def _mirror_edit(self, name: str, numbers: list[int], told: int) -> None:
@@ -301,8 +305,13 @@ class Driver:
             changed = self.log.pop(numbers[0])
             if name == "move":
                 self.log.insert(told, replace(changed, time=numbers[1]))
-                self.made = min(self.made, numbers[1])
-        self.made = min(self.made, changed.time)
+                self._changed(numbers[1])
+        self._changed(changed.time)
+
+    def _changed(self, step: int) -> None:
+        """The log was changed from a step on: what it shows is another one from the next position on."""
+        self.made = min(self.made, step)
+        self.visits.cut(step)
 
     # Long runs
 

@@ -108,12 +108,15 @@ def _backward(begin: int, end: int) -> Iterator[tuple[int, int]]:
 
 
 def _visit(driver: Driver, address: int, low: int, high: int) -> Optional[int]:
-    """The least position above `low`, up to `high`, whose PC is the address."""
-    if low >= high:
-        return None
+    """The least position above `low`, up to `high`, whose PC is the address. What was searched before is not searched again."""
+    known, low = driver.visits.first(address, low, high)
+    if known is not None or low >= high:
+        return known
     driver.goto(low)
     command = f"visit {address} {high - low}"
-    return position_of(command, driver.ask(command))
+    found = position_of(command, driver.ask(command))
+    driver.visits.note(address, low, high, found)
+    return found
 
 
 def position_of(command: str, lines: Sequence[str]) -> Optional[int]:
