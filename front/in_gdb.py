@@ -91,7 +91,8 @@ The log and all else stay, and the run is at position 0."""
         super().__init__("load", gdb.COMMAND_FILES, gdb.COMPLETE_FILENAME)
 
     def invoke(self, line: str, from_terminal: bool) -> None:
-        present = gdb.current_progspace().filename
+        space = gdb.current_progspace()
+        present = space.filename if space else None
         name = os.path.abspath(line.strip()) if line.strip() else present
         if name is None:
             raise gdb.GdbError("load wants a file: load FILE")

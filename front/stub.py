@@ -33,8 +33,8 @@ Example, in gdb:
   target extended-remote | bin/wb stub --log examples/login/log examples/login/login.elf
 """
 
-FEATURES = (b"PacketSize=%x;QStartNoAckMode+;qXfer:features:read+;ReverseStep+;ReverseContinue+;vContSupported+"
-            % PACKET_BYTES)
+FEATURES = (b"PacketSize=%x;QStartNoAckMode+;qXfer:features:read+;ReverseStep+;ReverseContinue+;vContSupported+;"
+            b"ConditionalBreakpoints+" % PACKET_BYTES)
 OK, FAILED, NOT_KNOWN, GONE = b"OK", b"E01", b"", b"W00"
 CODE, CODE_IN_HARDWARE, WRITE = range(3)  # of the kinds of breakpoints and watches; the others watch reads
 
@@ -61,7 +61,7 @@ class Stub:
         self._tell = tell  # for the sentences that gdb doesn't show: it shows what a stub writes to standard error
         self._motion = Motion(driver, link, exceptions_whole=exceptions_whole)
         self._steps_ranges = not exceptions_whole
-        self._breakpoints: set[tuple[int, int]] = set()  # kinds and addresses
+        self._breakpoints: dict[tuple[int, int], list[bytes]] = {}  # conditions by kinds and addresses
         self._killed = False  # the debugger may start the run again
         self._ended = False
         self._places: dict[int, int] = {}  # where watched addresses led last
@@ -178,26 +178,35 @@ class Stub:
     # Where a run is to stop
 
     def _insert(self, rest: bytes) -> bytes:
-        kind, address, size = _numbers(rb"(\w),(\w+),(\w+)", rest)
+        place, *more = rest.split(b";")
+        kind, address, size = _numbers(rb"(\w),(\w+),(\w+)", place)
         if kind in (CODE, CODE_IN_HARDWARE):
             if address % 4 or address >= 1 << 32:
                 raise Problem(f"no instruction stands at 0x{address:08x}: an address is a multiple of 4, of 32 bits")
-            self._breakpoints.add((kind, address))
+            self._breakpoints[kind, address] = [it for part in more for it in _expressions(part)]
+            self._set_breakpoints()
         elif kind == WRITE:
             self._motion.stops.watches.add(self._watch(address, size))
         else:
             raise Problem("reads can't be watched, as the workbench notes stores alone: use `watch`")
-        self._motion.stops.breakpoints = {address for _, address in self._breakpoints}
         return OK
 
     def _remove(self, rest: bytes) -> bytes:
         kind, address, size = _numbers(rb"(\w),(\w+),(\w+)", rest)
         stops = self._motion.stops
-        self._breakpoints.discard((kind, address))
-        stops.breakpoints = {address for _, address in self._breakpoints}
+        self._breakpoints.pop((kind, address), None)
+        self._set_breakpoints()
         stops.watches = {watch for watch in stops.watches if kind != WRITE or (watch.address, watch.size) != (address,
                                                                                                               size)}
         return OK
+
+    def _set_breakpoints(self) -> None:
+        """Gives the run its breakpoints. Of the two kinds at one address either stops it."""
+        stops = self._motion.stops
+        stops.breakpoints = {address for _, address in self._breakpoints}
+        plain = {address for (_, address), expressions in self._breakpoints.items() if not expressions}
+        stops.conditions = {address: [it for kind in (CODE, CODE_IN_HARDWARE) for it in self._breakpoints.get((kind, address), [])]
+                            for address in stops.breakpoints - plain}
 
     def _watch(self, address: int, size: int) -> Watch:
         """A watch at a virtual address. Where that leads nowhere now it is watched where it led before."""
@@ -316,6 +325,16 @@ def _numbers(form: bytes, text: bytes) -> list[int]:
     if not match or not all(re.fullmatch(rb"[0-9a-fA-F]{1,16}", word) for word in match.groups()):
         raise Malformed
     return [int(word, 16) for word in match.groups()]
+
+
+def _expressions(text: bytes) -> list[bytes]:
+    """The agent expressions of a breakpoint: each stands after its size."""
+    if not re.fullmatch(rb"(?:X[0-9a-fA-F]{1,8},[0-9a-fA-F]*)*", text):
+        raise Malformed
+    found = [(int(size, 16), _from_digits(digits)) for size, digits in re.findall(rb"X([0-9a-fA-F]+),([0-9a-fA-F]*)", text)]
+    if any(size != len(code) for size, code in found):
+        raise Malformed
+    return [code for _, code in found]
 
 
 def _from_digits(digits: bytes) -> bytes:

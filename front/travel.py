@@ -6,7 +6,8 @@ from enum import Enum
 from itertools import count
 from typing import Callable, Optional
 
-from . import memory, search
+from . import conditions, memory, search
+from .conditions import Conditions
 from .driver import Driver
 from .errors import Interrupted
 from .limits import GREATEST_POSITION
@@ -61,10 +62,11 @@ class Watch:
 
 @dataclass
 class Stops:
-    """Where a run is to stop: at addresses of instructions, and where bytes are changed."""
+    """Where a run is to stop: at addresses of instructions, some with conditions, and where bytes are changed."""
 
     breakpoints: set[int] = field(default_factory=set)
     watches: set[Watch] = field(default_factory=set)
+    conditions: Conditions = field(default_factory=dict)
 
 
 @dataclass(frozen=True)
@@ -165,7 +167,7 @@ def _backward(driver: Driver, stops: Stops, pause: Pause, otherwise: Stop) -> St
             stop, lowest = Stop(Reason.WATCH, step, watch), step + 1
     driver.goto(start)
     if stops.breakpoints:
-        found = search.last_visit(driver, stops.breakpoints, lowest)
+        found = conditions.last_hit(driver, stops.breakpoints, stops.conditions, lowest)
         if found is not None:
             stop = Stop(Reason.BREAKPOINT, found)
     return stop
@@ -176,7 +178,7 @@ def _first(driver: Driver, stops: Stops, start: int, end: int) -> tuple[Optional
     stop = None
     driver.goto(start)
     if stops.breakpoints and start < end:
-        found = search.next_visit(driver, stops.breakpoints, end - start)
+        found = conditions.next_hit(driver, stops.breakpoints, stops.conditions, end - start)
         if found is not None:
             stop, end = Stop(Reason.BREAKPOINT, found), found
     for watch in stops.watches:
