@@ -2,10 +2,11 @@
 from __future__ import annotations
 
 import re
+import signal
 import sys
 from typing import Callable, Optional, Sequence
 
-from . import elf, loading, memory, monitor, places, target
+from . import elf, listening, loading, memory, monitor, places, target
 from .arguments import parse
 from .errors import Problem
 from .limits import RAM, ROM
@@ -15,17 +16,20 @@ from .session import Session, counted
 from .symbols import symbols_of
 from .travel import Watch
 
-USAGE = "usage: bin/wb stub [--log FILE] [--kind KIND] [--through] IMAGE"
+USAGE = "usage: bin/wb stub [--log FILE] [--kind KIND] [--through] [--listen HOST:PORT] IMAGE"
 OPTIONS = {"--log": "a file", "--kind": "a kind", "--through": ""}
 HELP = f"""\
 {USAGE}
 
-Serves a debugger by gdb's remote serial protocol, on standard input and output. `bin/wb gdb` starts gdb on it;
-docs/DEBUGGING.md says what another debugger needs.
+Serves a debugger by gdb's remote serial protocol, on standard input and output, or at a port. `bin/wb gdb` starts gdb
+on it; docs/DEBUGGING.md says what another debugger needs.
 
   --log FILE    what happens at the serial and external lines
   --kind KIND   what the image is, where it can't be seen: elf, image, rom or source
   --through     single steps run exceptions whole, with their handlers
+  --listen HOST:PORT
+                takes debuggers at a port, one at a time. Without HOST it can be reached from this machine alone; with
+                port 0 a free one is taken
   --help        this text
 
 Example, in gdb:
@@ -344,9 +348,34 @@ def _from_digits(digits: bytes) -> bytes:
 
 
 def main(arguments: Sequence[str]) -> int:
-    """Serves one debugger on standard input and output."""
-    line = parse(arguments, OPTIONS, USAGE, HELP, (1,))
+    """Serves one debugger on standard input and output, or debuggers at a port."""
+    line = parse(arguments, {**OPTIONS, "--listen": "HOST:PORT"}, USAGE, HELP, (1,))
+    whole, where = line.has("--through"), line.get("--listen")
     with loading.running(line) as driver:
         session = Session(driver, symbols_of(driver.image), saved_log=list(driver.log))
-        Stub(session, Link(sys.stdin.fileno(), sys.stdout.fileno()), exceptions_whole=line.has("--through")).serve()
+        if where is None:
+            Stub(session, Link(sys.stdin.fileno(), sys.stdout.fileno()), exceptions_whole=whole).serve()
+        else:
+            _listen(session, where, whole)
     return 0
+
+
+def _listen(session: Session, where: str, exceptions_whole: bool) -> None:
+    """Serves debuggers until Ctrl-C."""
+    if not listening.is_loopback(where):
+        loading.say("whoever reaches this port can write files as you, by `monitor save-log FILE`")
+    # Not the default one, under which Ctrl-C would end a run alone.
+    signal.signal(signal.SIGINT, _interrupt)
+    try:
+        for connection in listening.debuggers(where, loading.say):
+            try:
+                Stub(session, Link(connection.fileno(), connection.fileno()), exceptions_whole=exceptions_whole).serve()
+            except ConnectionError:
+                pass  # as if it had left
+    except KeyboardInterrupt:
+        for it in session.unsaved():
+            loading.say(f"not saved: {it}")
+
+
+def _interrupt(number: int, frame: object) -> None:
+    raise KeyboardInterrupt

@@ -4,9 +4,10 @@ from __future__ import annotations
 import random
 import unittest
 
-from front import agent, conditions
+from front import agent, conditions, replies
 from front.agent import Failed, Known
 from front.limits import RESET_PC
+from front.states import replies_at
 from front.tests.support import DATA, random_rom, rom, start, states
 
 END = 300  # positions that are looked at one by one
@@ -74,7 +75,7 @@ class Hits(unittest.TestCase):
             driver = start(rom(words))
             self.addCleanup(driver.close)
             seen = states(driver, END)
-            stored = [driver.words(DATA, 4) for position in range(END) if driver.goto(position) is None]
+            stored = [replies.memory(lines) for lines in replies_at(driver, range(END), f"mem {DATA} 4")]
             addresses = [RESET_PC + 4 * it for it in source.sample(range(len(words)), 4)] + [RESET_PC]
             wanted, place = source.randrange(-4, 9), source.randrange(4)
             equal = number(wanted) + bytes((EQUAL,)) + END_OF
@@ -89,7 +90,7 @@ class Hits(unittest.TestCase):
                 return of_address.get(state.pc, False)
 
             even = POSITION + number(1) + bytes((AND, NOT)) + END_OF if wanted < 4 else number(0) + END_OF
-            having = {addresses[0]: [], addresses[4]: [even], addresses[1]: [of_register], addresses[2]: [of_memory],
+            having: dict[int, list[bytes]] = {addresses[0]: [], addresses[4]: [even], addresses[1]: [of_register], addresses[2]: [of_memory],
                       addresses[3]: [of_memory, odd]}
             if len(having) < 5:
                 continue  # the word at reset is one of the four
