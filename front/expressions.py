@@ -22,7 +22,8 @@ _TERM = re.compile(r"0x[0-9a-fA-F]+|[0-9]{1,3}(?:,[0-9]{3})+(?![0-9,])|[0-9]+(?!
 HELP = """\
 Wherever a number may stand: 4096, 40,017, 0x1000, 'a', the name of a register (sp, r29, pc, hi, epc), of a symbol
 (main), `pos` for the position, and sums and differences of these: main+0x78, sp-16. A name is a symbol if there is
-one, or else a register; $NAME is always the register, and &NAME the symbol. """ + places.HELP
+one, or else a register; $NAME is always the register, and &NAME the symbol.
+""" + places.HELP
 
 
 def register_number(word: str) -> Optional[int]:

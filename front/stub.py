@@ -233,7 +233,9 @@ class Stub:
     def _go_on(self) -> bytes:
         """A run to the next stop, or to where a line of `monitor` goes on to."""
         line, self._next_run = self._next_run, ""
-        return self._motion.obey(lambda: monitor.answer(self._session, line)) if line else self._motion.go_on()
+        if not line:
+            return self._motion.go_on()
+        return self._motion.obey(lambda: monitor.refusal(self._session, line, lambda shown: None))
 
     def _step(self, rest: bytes) -> bytes:
         return self._from_here(rest, self._motion.step)
@@ -269,7 +271,7 @@ class Stub:
         """Starts again, at the position that is the first word after the file's name."""
         words = [_from_digits(word).decode("latin-1") for word in rest.split(b";")[1:]]
         self._driver.goto(self._session.number(words[0]) if words else 0)
-        self._killed = False
+        self._killed, self._next_run = False, ""
         return TRAP
 
     def _kill(self, rest: bytes) -> bytes:
