@@ -139,9 +139,8 @@ class Driver:
 
     def physical(self, virtual: int) -> Optional[int]:
         """The physical address that a virtual one leads to, or None. kseg0 and kseg1 lead on in user mode too."""
-        if 0x8000_0000 <= virtual < 0xC000_0000:
-            return virtual & 0x1FFF_FFFF
-        return self.where(virtual).physical
+        place = unmapped(virtual)
+        return place if place is not None else self.where(virtual).physical
 
     # What happened before
 
@@ -367,6 +366,11 @@ class Driver:
         if self.report:
             begin, end = self._way or way or (position, None)
             self.report(position, begin, end)
+
+
+def unmapped(virtual: int) -> Optional[int]:
+    """The physical address that an address of kseg0 or kseg1 always leads to, or None for one that entries map."""
+    return virtual & 0x1FFF_FFFF if 0x8000_0000 <= virtual < 0xC000_0000 else None
 
 
 def _moves(command: str) -> bool:

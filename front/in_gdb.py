@@ -4,6 +4,7 @@ from __future__ import annotations
 
 import os
 import re
+from typing import Optional
 
 import gdb
 
@@ -11,6 +12,7 @@ AS_THEY_ARE = ("arrive", "assert", "assert-console", "expect", "help", "load", "
 RUNS = ("expect", "until")  # they go on, and are run as `continue` is
 REFUSED = "refused: "  # begins what the stub says where it can't do a thing
 
+QUOTES = frozenset("'\"")
 NUMBER = re.compile(r"\d[\w,]*")
 IN_GROUPS = re.compile(r"(?<![\w.,])\d{1,3}(?:,\d{3})+(?![\w,])")
 BY_ADDRESS = (gdb.TYPE_CODE_ARRAY, gdb.TYPE_CODE_STRUCT, gdb.TYPE_CODE_UNION, gdb.TYPE_CODE_FUNC)
@@ -29,7 +31,10 @@ def flush() -> None:
 
 def asked(line: str) -> str:
     """What the stub shows for a line of `monitor`. Where it refuses, that is an error."""
-    shown = gdb.execute(f"monitor {line}", to_string=True) or ""
+    try:
+        shown = gdb.execute(f"monitor {line}", to_string=True) or ""
+    except gdb.error as error:
+        raise gdb.GdbError(str(error)) from None
     done, refused, reason = f"\n{shown}".partition(f"\n{REFUSED}")
     if refused:
         gdb.write(f"{done[1:]}\n" if done else "")
@@ -55,10 +60,13 @@ def as_number(word: str) -> str:
         raise gdb.GdbError(f"{word}: {error}") from None
 
 
-def here() -> tuple:
-    """The position and the PC."""
-    frame = gdb.newest_frame()
-    return int(frame.read_register("position")), int(frame.read_register("pc"))
+def here() -> Optional[tuple[int, int]]:
+    """The position and the PC, where there is a run."""
+    try:
+        frame = gdb.newest_frame()
+        return int(frame.read_register("position")), int(frame.read_register("pc"))
+    except gdb.error:
+        return None
 
 
 class Workbench(gdb.Command):
@@ -69,8 +77,9 @@ Numbers may be expressions without blanks: wb writer &session.length, wb goto $p
         super().__init__("wb", gdb.COMMAND_RUNNING)
 
     def invoke(self, line: str, from_terminal: bool) -> None:
-        name, *words = line.split() or ["help"]
-        if name not in AS_THEY_ARE:
+        line = line or "help"
+        name, *words = line.split()
+        if name not in AS_THEY_ARE and not QUOTES.intersection(line):
             line = " ".join([name, *map(as_number, words)])
         if name in RUNS:
             asked(f"next-run {line}")
@@ -91,7 +100,8 @@ The log and all else stay, and the run is at position 0."""
         super().__init__("load", gdb.COMMAND_FILES, gdb.COMPLETE_FILENAME)
 
     def invoke(self, line: str, from_terminal: bool) -> None:
-        present = gdb.current_progspace().filename
+        space = gdb.current_progspace()
+        present = space.filename if space else None
         name = os.path.abspath(line.strip()) if line.strip() else present
         if name is None:
             raise gdb.GdbError("load wants a file: load FILE")
@@ -119,7 +129,7 @@ class BeforeQuit(gdb.Command):
     def invoke(self, line: str, from_terminal: bool) -> None:
         try:
             unsaved = asked("unsaved").replace("(save-", "(wb save-")
-        except gdb.error:
+        except gdb.GdbError:
             return  # there is no run
         if unsaved and unsaved != self._said and os.isatty(0):
             self._said = unsaved
@@ -128,10 +138,8 @@ class BeforeQuit(gdb.Command):
 
 def prompt(current_prompt: str) -> str:
     """The prompt, with the position where there is a run."""
-    try:
-        return f"({int(gdb.newest_frame().read_register('position')):,}) "
-    except gdb.error:
-        return current_prompt
+    now = here()
+    return f"({now[0]:,}) " if now else current_prompt
 
 
 def hook(command: str, line: str) -> None:

@@ -16,7 +16,7 @@ def read(driver: Driver, address: int, count: int) -> bytes:
     """The bytes from a virtual address on, up to the first gap in memory. Devices are not read, since that would change
     them."""
     content = bytearray()
-    for virtual, size in _pieces(address, count):
+    for virtual, size in pieces(address, count):
         place = driver.physical(virtual)
         if place is None or not (place in RAM or place in ROM):
             break
@@ -36,7 +36,7 @@ def write(driver: Driver, address: int, content: bytes) -> None:
     image sets."""
     words: dict[int, int] = {}
     done = 0
-    for virtual, size in _pieces(address, len(content)):
+    for virtual, size in pieces(address, len(content)):
         place = _writable(driver, virtual)
         words |= _patched(driver, place, content[done:done + size])
         done += size
@@ -58,12 +58,12 @@ def _patched(driver: Driver, place: int, content: bytes) -> dict[int, int]:
     first, end = place & ~3, (place + len(content) + 3) & ~3
     before = at(driver, first, end - first)
     after = before[:place - first] + content + before[place - first + len(content):]
-    pieces = range(0, end - first, 4)
+    offsets = range(0, end - first, 4)
     return {first + it: int.from_bytes(after[it:it + 4],
-                                       "little") for it in pieces if after[it:it + 4] != before[it:it + 4]}
+                                       "little") for it in offsets if after[it:it + 4] != before[it:it + 4]}
 
 
-def _pieces(address: int, count: int) -> Iterator[tuple[int, int]]:
+def pieces(address: int, count: int) -> Iterator[tuple[int, int]]:
     """A range of virtual addresses, divided where pages end: each piece's first address and its size."""
     while count > 0 and address < 1 << 32:
         size = min(count, PAGE - address % PAGE)

@@ -1,7 +1,7 @@
 """The commands of `monitor` in gdb: the shell's, but those that gdb has by itself."""
 from __future__ import annotations
 
-from typing import Optional
+from typing import Callable
 
 from . import shell
 from .commands import COMMANDS, STOPS, find, run, words_of
@@ -24,22 +24,15 @@ for numbers, and has `wb until N`.
 def answer(session: Session, line: str) -> str:
     """What a command shows, with its line ends."""
     said: list[str] = []
-    kept, session.tell = session.tell, said.append
-    try:
-        refusal = _run(session, line)
-    finally:
-        session.tell = kept
-    return "".join(f"{it}\n" for it in (*said, *([] if refusal is None else [REFUSED + refusal])))
+    reason = refusal(session, line, said.append)
+    return "".join(f"{it}\n" for it in (*said, *([REFUSED + reason] if reason else [])))
 
 
-def _run(session: Session, line: str) -> Optional[str]:
-    """Runs a line, or says why that can't be done."""
-    words = words_of(line)
+def refusal(session: Session, line: str, tell: Callable[[str], None]) -> str:
+    """Runs a line, and gives why that can't be done, or ''."""
+    kept, session.tell = session.tell, tell
     try:
-        if words[:1] == ["help"] and len(words) == 1:
-            session.tell(shell.help_text(_OF_GDB) + _HELP.rstrip())
-        elif words and not line.startswith("#"):
-            run(session, _of_shell(words, line))
+        _run(session, line)
     except Refused as refused:
         return explain(refused, session.driver)
     except Ended as ended:
@@ -48,7 +41,17 @@ def _run(session: Session, line: str) -> Optional[str]:
         return str(problem)
     except Interrupted:
         return "interrupted"
-    return None
+    finally:
+        session.tell = kept
+    return ""
+
+
+def _run(session: Session, line: str) -> None:
+    words = words_of(line)
+    if words == ["help"]:
+        session.tell(shell.help_text(_OF_GDB) + _HELP.rstrip())
+    elif words and not line.startswith("#"):
+        run(session, _of_shell(words, line))
 
 
 def _of_shell(words: list[str], line: str) -> str:

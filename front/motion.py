@@ -71,17 +71,20 @@ class Motion:
         self._driver.report = TerminalProgress(_Console(self))
 
     def obey(self, command: Callable[[], str]) -> bytes:
-        """A command that goes on by itself, and gives what it shows."""
+        """A command that goes on by itself, and gives why it could not, or ''."""
         self._told = self._driver.position
         self._moving = True
         try:
-            shown = command()
-            reply = INTERRUPTED if self._interrupted else ARRIVED
+            refusal = command()
+            interrupted = self._interrupted
         finally:
             self._moving = self._interrupted = False
         self._tell(self._driver.position)
-        self.say(shown.encode("utf-8", "surrogateescape"))
-        return reply
+        if interrupted:
+            return INTERRUPTED
+        if refusal:
+            self.say(f"\n[{refusal}]\n".encode("utf-8", "surrogateescape"))
+        return ARRIVED
 
     def say(self, text: bytes) -> None:
         """Shows a text in the debugger's console."""

@@ -156,7 +156,7 @@ def reverse_continue(session: Session, words: list[str]) -> None:
 
 def _stops(session: Session, end: int = GREATEST_POSITION) -> Stops:
     return Stops({it.address for it in session.marks if not it.watch}, {it.watch for it in session.marks if it.watch},
-                 end, session.idle)
+                 end=end, idle=session.idle)
 
 
 def _travel(session: Session, go: Callable[[Driver, Stops, travel.Pause], Stop], stops: Stops) -> Stop:

@@ -2,10 +2,11 @@
 from __future__ import annotations
 
 import re
+import signal
 import sys
 from typing import Callable, Optional, Sequence
 
-from . import elf, loading, memory, monitor, places, saved, target
+from . import elf, listening, loading, memory, monitor, places, saved, target
 from .arguments import parse
 from .errors import Problem
 from .limits import RAM, ROM
@@ -15,17 +16,20 @@ from .session import Session, counted
 from .symbols import symbols_of
 from .travel import Watch
 
-USAGE = "usage: bin/wb stub [OPTIONS] [--through] [--progress] IMAGE"
+USAGE = "usage: bin/wb stub [OPTIONS] [--through] [--progress] [--listen HOST:PORT] IMAGE"
 OPTIONS = {**loading.OPTIONS, "--through": "", "--progress": ""}
 HELP = f"""\
 {USAGE}
 
-Serves a debugger by gdb's remote serial protocol, on standard input and output. `bin/wb gdb` starts gdb on it;
-docs/DEBUGGING.md says what another debugger needs.
+Serves a debugger by gdb's remote serial protocol, on standard input and output, or at a port. `bin/wb gdb` starts gdb
+on it; docs/DEBUGGING.md says what another debugger needs.
 
 {loading.OPTIONS_HELP}\
   --through       single steps run exceptions whole, with their handlers
   --progress      shows how far long runs are, for a debugger on a terminal
+  --listen HOST:PORT
+                  takes debuggers at a port, one at a time. Without HOST it can be reached from this machine alone; with
+                  port 0 a free one is taken
   --help          this text
 
 Example, in gdb:
@@ -33,8 +37,8 @@ Example, in gdb:
   target extended-remote | bin/wb stub --log examples/login/log examples/login/login.elf
 """
 
-FEATURES = (b"PacketSize=%x;QStartNoAckMode+;qXfer:features:read+;ReverseStep+;ReverseContinue+;vContSupported+"
-            % PACKET_BYTES)
+FEATURES = (b"PacketSize=%x;QStartNoAckMode+;qXfer:features:read+;ReverseStep+;ReverseContinue+;vContSupported+;"
+            b"ConditionalBreakpoints+" % PACKET_BYTES)
 OK, FAILED, NOT_KNOWN, GONE = b"OK", b"E01", b"", b"W00"
 CODE, CODE_IN_HARDWARE, WRITE = range(3)  # of the kinds of breakpoints and watches; the others watch reads
 
@@ -61,7 +65,7 @@ class Stub:
         self._tell = tell  # for the sentences that gdb doesn't show: it shows what a stub writes to standard error
         self._motion = Motion(driver, link, exceptions_whole=exceptions_whole)
         self._steps_ranges = not exceptions_whole
-        self._breakpoints: set[tuple[int, int]] = set()  # kinds and addresses
+        self._breakpoints: dict[tuple[int, int], list[bytes]] = {}  # conditions by kinds and addresses
         self._killed = False  # the debugger may start the run again
         self._ended = False
         self._places: dict[int, int] = {}  # where watched addresses led last
@@ -181,26 +185,35 @@ class Stub:
     # Where a run is to stop
 
     def _insert(self, rest: bytes) -> bytes:
-        kind, address, size = _numbers(rb"(\w),(\w+),(\w+)", rest)
+        place, *more = rest.split(b";")
+        kind, address, size = _numbers(rb"(\w),(\w+),(\w+)", place)
         if kind in (CODE, CODE_IN_HARDWARE):
             if address % 4 or address >= 1 << 32:
                 raise Problem(f"no instruction stands at 0x{address:08x}: an address is a multiple of 4, of 32 bits")
-            self._breakpoints.add((kind, address))
+            self._breakpoints[kind, address] = [it for part in more for it in _expressions(part)]
+            self._set_breakpoints()
         elif kind == WRITE:
             self._motion.stops.watches.add(self._watch(address, size))
         else:
             raise Problem("reads can't be watched, as the workbench notes stores alone: use `watch`")
-        self._motion.stops.breakpoints = {address for _, address in self._breakpoints}
         return OK
 
     def _remove(self, rest: bytes) -> bytes:
         kind, address, size = _numbers(rb"(\w),(\w+),(\w+)", rest)
         stops = self._motion.stops
-        self._breakpoints.discard((kind, address))
-        stops.breakpoints = {address for _, address in self._breakpoints}
+        self._breakpoints.pop((kind, address), None)
+        self._set_breakpoints()
         stops.watches = {watch for watch in stops.watches if kind != WRITE or (watch.address, watch.size) != (address,
                                                                                                               size)}
         return OK
+
+    def _set_breakpoints(self) -> None:
+        """Gives the run its breakpoints. Of the two kinds at one address either stops it."""
+        stops = self._motion.stops
+        stops.breakpoints = {address for _, address in self._breakpoints}
+        plain = {address for (_, address), expressions in self._breakpoints.items() if not expressions}
+        stops.conditions = {address: [it for kind in (CODE, CODE_IN_HARDWARE) for it in self._breakpoints.get((kind, address), [])]
+                            for address in stops.breakpoints - plain}
 
     def _watch(self, address: int, size: int) -> Watch:
         """A watch at a virtual address. Where that leads nowhere now it is watched where it led before."""
@@ -223,7 +236,9 @@ class Stub:
     def _go_on(self) -> bytes:
         """A run to the next stop, or to where a line of `monitor` goes on to."""
         line, self._next_run = self._next_run, ""
-        return self._motion.obey(lambda: monitor.answer(self._session, line)) if line else self._motion.go_on(self._session.idle)
+        if not line:
+            return self._motion.go_on(self._session.idle)
+        return self._motion.obey(lambda: monitor.refusal(self._session, line, lambda shown: None))
 
     def _step(self, rest: bytes) -> bytes:
         return self._from_here(rest, self._motion.step)
@@ -259,7 +274,7 @@ class Stub:
         """Starts again, at the position that is the first word after the file's name."""
         words = [_from_digits(word).decode("latin-1") for word in rest.split(b";")[1:]]
         self._driver.goto(self._session.number(words[0]) if words else 0)
-        self._killed = False
+        self._killed, self._next_run = False, ""
         return TRAP
 
     def _kill(self, rest: bytes) -> bytes:
@@ -338,6 +353,16 @@ def _numbers(form: bytes, text: bytes) -> list[int]:
     return [int(word, 16) for word in match.groups()]
 
 
+def _expressions(text: bytes) -> list[bytes]:
+    """The agent expressions of a breakpoint: each stands after its size."""
+    if not re.fullmatch(rb"(?:X[0-9a-fA-F]{1,8},[0-9a-fA-F]*)*", text):
+        raise Malformed
+    found = [(int(size, 16), _from_digits(digits)) for size, digits in re.findall(rb"X([0-9a-fA-F]+),([0-9a-fA-F]*)", text)]
+    if any(size != len(code) for size, code in found):
+        raise Malformed
+    return [code for _, code in found]
+
+
 def _from_digits(digits: bytes) -> bytes:
     if len(digits) % 2 or not re.fullmatch(rb"[0-9a-fA-F]*", digits):
         raise Malformed
@@ -354,13 +379,38 @@ def open_session(session: Session, commands: Sequence[str]) -> None:
 
 
 def main(arguments: Sequence[str]) -> int:
-    """Serves one debugger on standard input and output."""
-    line = parse(arguments, OPTIONS, USAGE, HELP, (1,))
+    """Serves one debugger on standard input and output, or debuggers at a port."""
+    line = parse(arguments, {**OPTIONS, "--listen": "HOST:PORT"}, USAGE, HELP, (1,))
+    whole, where = line.has("--through"), line.get("--listen")
     with saved.opened(line) as found, loading.running(found.line) as driver:
         session = Session(driver, symbols_of(driver.image), origin=found.origin, saved_log=list(driver.log))
         open_session(session, found.commands)
-        stub = Stub(session, Link(sys.stdin.fileno(), sys.stdout.fileno()), exceptions_whole=line.has("--through"))
+        if where is not None:
+            _listen(session, where, whole)
+            return 0
+        stub = Stub(session, Link(sys.stdin.fileno(), sys.stdout.fileno()), exceptions_whole=whole)
         if line.has("--progress"):
             stub.show_progress()
         stub.serve()
     return 0
+
+
+def _listen(session: Session, where: str, exceptions_whole: bool) -> None:
+    """Serves debuggers until Ctrl-C."""
+    if not listening.is_loopback(where):
+        loading.say("whoever reaches this port can write files as you, by `monitor save-log FILE`")
+    # Not the default one, under which Ctrl-C would end a run alone.
+    signal.signal(signal.SIGINT, _interrupt)
+    try:
+        for connection in listening.debuggers(where, loading.say):
+            try:
+                Stub(session, Link(connection.fileno(), connection.fileno()), exceptions_whole=exceptions_whole).serve()
+            except ConnectionError:
+                pass  # as if it had left
+    except KeyboardInterrupt:
+        for it in session.unsaved():
+            loading.say(f"not saved: {it}")
+
+
+def _interrupt(number: int, frame: object) -> None:
+    raise KeyboardInterrupt

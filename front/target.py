@@ -7,6 +7,7 @@ are 0, as gdb ends a list at one that has no value. The project's own feature ha
 from __future__ import annotations
 
 from .driver import Driver
+from .replies import Registers
 
 GENERAL = [f"r{number}" for number in range(32)]
 FLOATING = [f"f{number}" for number in range(32)] + ["fcsr", "fir"]
@@ -45,13 +46,15 @@ def _register(name: str) -> str:
 
 def values(driver: Driver) -> dict[str, int]:
     """All registers at the position, each by the name that the description gives it."""
-    registers = driver.registers()
+    return {**dict.fromkeys(FLOATING, 0), **driver.control(), **processor(driver.registers()), "position": driver.position}
+
+
+def processor(registers: Registers) -> dict[str, int]:
+    """Those that the processor has, besides those of coprocessor 0."""
     load_register, load_value = registers.load or (0, 0)
-    own = {"position": driver.position, "nextpc": registers.next_pc, "delay": int(registers.delay),
-           "loadreg": load_register,
-           "loadval": load_value}
-    others = {"pc": registers.pc, "hi": registers.hi, "lo": registers.lo}
-    return {**dict.fromkeys(FLOATING, 0), **dict(zip(GENERAL, registers.general)), **driver.control(), **others, **own}
+    others = {"pc": registers.pc, "nextpc": registers.next_pc, "hi": registers.hi, "lo": registers.lo,
+              "delay": int(registers.delay), "loadreg": load_register, "loadval": load_value}
+    return {**dict(zip(GENERAL, registers.general)), **others}
 
 
 def text(registers: dict[str, int], number: int) -> bytes:

@@ -6,7 +6,8 @@ from enum import Enum
 from itertools import count
 from typing import Callable, Optional
 
-from . import memory, search
+from . import conditions, memory, search
+from .conditions import Conditions
 from .driver import Driver
 from .errors import Interrupted
 from .idle import IDLE_STEPS, Idleness
@@ -69,11 +70,12 @@ class Watch:
 
 @dataclass
 class Stops:
-    """Where a run is to stop: at addresses of instructions, and where bytes are changed. One that goes on stops at position `end`
-    at the latest. Without that it stops after `idle` steps in which it does nothing, if that is not 0."""
+    """Where a run is to stop: at addresses of instructions, some with conditions, and where bytes are changed. One that goes on stops
+    at position `end` at the latest. Without that it stops after `idle` steps in which it does nothing, if that is not 0."""
 
     breakpoints: set[int] = field(default_factory=set)
     watches: set[Watch] = field(default_factory=set)
+    conditions: Conditions = field(default_factory=dict)
     end: int = GREATEST_POSITION
     idle: int = IDLE_STEPS
 
@@ -191,7 +193,7 @@ def _backward(driver: Driver, stops: Stops, pause: Pause, otherwise: Stop) -> St
             stop, lowest = Stop(Reason.WATCH, step, watch), step + 1
     driver.goto(start)
     if stops.breakpoints:
-        found = search.last_visit(driver, stops.breakpoints, lowest)
+        found = conditions.last_hit(driver, stops.breakpoints, stops.conditions, lowest)
         if found is not None:
             stop = Stop(Reason.BREAKPOINT, found)
     return stop
@@ -202,7 +204,7 @@ def _first(driver: Driver, stops: Stops, start: int, end: int) -> tuple[Optional
     stop = None
     driver.goto(start)
     if stops.breakpoints and start < end:
-        found = search.next_visit(driver, stops.breakpoints, end - start)
+        found = conditions.next_hit(driver, stops.breakpoints, stops.conditions, end - start)
         if found is not None:
             stop, end = Stop(Reason.BREAKPOINT, found), found
     for watch in stops.watches:

@@ -13,10 +13,6 @@ PROMPT = r"\(\d[\d,]*\) "
 LAST = "<no more>"  # after the last prompt
 
 
-def setUpModule() -> None:
-    debugger.install()
-
-
 def transcript(section: str) -> list[str]:
     """The lines of the indented blocks of a section, which are one session."""
     text = PAGE.split(f"## {section}\n")[1].split("\n## ")[0]
@@ -53,6 +49,7 @@ class Page(unittest.TestCase):
     maxDiff = None
 
     def test_the_walk_in_gdb(self) -> None:
+        debugger.needed()
         start, *lines = transcript("A walk in gdb")
         commands = [match[1] for line in lines if (match := re.match(PROMPT + "(.*)", line))]
         words = [debugger.WB, *shlex.split(start)[2:], *debugger.PLAIN]

@@ -25,7 +25,7 @@ POSITION = 'printf "at %d\\n", $position'
 
 
 def setUpModule() -> None:
-    debugger.install()
+    debugger.needed()
 
 
 class GdbTest(unittest.TestCase):
@@ -70,6 +70,18 @@ class Login(GdbTest):
                            *["reverse-continue", POSITION] * 2)
         self.assertEqual([line for line in lines if line.startswith("at ")],
                          ["at 50030", "at 90030", "at 110022", "at 90030", "at 50029"])
+
+    def test_conditions_are_of_the_stub(self) -> None:
+        """The positions are those of gdb's own evaluation."""
+        commands = ["list main", "break send if c == 10 && $position > 100000", "break 48 if session.length % 2 == 1", "break 53 if session.length < 0",
+                    "tbreak print if 1 / session.length > 0", *["continue", POSITION] * 6, *["reverse-continue", POSITION] * 5, "info breakpoints"]
+        target = self.batch(*commands)
+        host = self.batch("set breakpoint condition-evaluation host", *commands)
+        stops = [line for line in target if line.startswith("at ")]
+        self.assertEqual(stops, [line for line in host if line.startswith("at ")])
+        self.assertGreater(len(set(stops)), 4)
+        self.assertEqual(sum("(target evals)" in line for line in target), 3)
+        self.holds(target, "Error in testing breakpoint condition:", "Division by zero")
 
     def test_delay_slots(self) -> None:
         lines = self.batch("starti 144", *['printf "%x %d\\n", $pc, $delay', "stepi"] * 2,

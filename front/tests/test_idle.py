@@ -7,7 +7,7 @@ import unittest
 from front.tests import debugger
 from front.tests.terminal import Terminal
 
-setUpModule = debugger.install
+setUpModule = debugger.needed
 
 
 class Debugger(unittest.TestCase):

@@ -105,7 +105,7 @@ class Commands(StubTest):
         self.assertEqual(wire.command("next-run expect 'c'"), "")
         here = wire.position()
         self.stops(wire, ("vCont;c", "T00", here))
-        self.assertIn(b"refused: line 0 did not send 'c'", wire.console)
+        self.assertIn(b"\n[line 0 did not send 'c'", wire.console)
         self.holds(wire, ("undo", "taken back: type 'ab'\n"), ("wb log 0 1", "log 0\n"))
 
     def test_a_write_of_memory_is_taken_back(self) -> None:

@@ -1,6 +1,8 @@
 """Packets, byte by byte. The checksums are sums of characters, as the protocol's description has them."""
 from __future__ import annotations
 
+import random
+import time
 import unittest
 
 from front.rsp import PACKET_BYTES
@@ -60,6 +62,19 @@ class Packets(unittest.TestCase):
         self.wire.put(b"$qSupp")
         self.wire.close()
         self.assertFalse(self.wire.serves())
+
+    def test_random_bytes(self) -> None:
+        source = random.Random(3)
+        for _ in range(2000):
+            self.wire.put(bytes(source.choices(b"$#}+-*\x03\x00m0g,\xff", k=source.randrange(1, 9))))
+        # What was begun is over after the first `#` and two digits.
+        self.wire.put(b"#00" + b"$vMustReplyEmpty#3a")
+        end = time.monotonic() + 10
+        shown = b""
+        while not shown.endswith(b"+$#00") and time.monotonic() < end:
+            shown += self.wire.take(1)
+        self.assertTrue(shown.endswith(b"+$#00"))
+        self.assertTrue(self.wire.serves())
 
 
 if __name__ == "__main__":

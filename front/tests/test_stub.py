@@ -148,6 +148,26 @@ class Runs(StubTest):
         self.dialog(wire, ("z0,bfc01000,4", "OK"))
         self.stops(wire, ("c", "T05", 10), ("c", "T05", 21))
 
+    def test_breakpoints_have_conditions(self) -> None:
+        # r2 counts the turns of 4 steps, which begin at step 1; its addiu stands at 0xbfc00004. Expressions are `r2 == 3`, and
+        # position >= 17, as not position < 17, of which one is enough.
+        wire = self.wire(COUNTER)
+        three, later = "X7,26000222031327", "Xa,2600482a402211150e27"
+        self.dialog(wire, (f"Z0,bfc00004,4;{three}", "OK"))
+        self.stops(wire, ("c", "T05", 13), ("bc", "T05replaylog:begin;", 0))
+        self.dialog(wire, (f"Z0,bfc00004,4;{three}{later}", "OK"))
+        self.stops(wire, ("c", "T05", 13), ("c", "T05", 17), ("c", "T05", 21), ("bc", "T05", 17), ("bc", "T05", 13))
+        self.dialog(wire, ("Z1,bfc00004,4", "OK"))
+        self.stops(wire, ("bc", "T05", 9), ("c", "T05", 13))
+        self.dialog(wire, ("z1,bfc00004,4", "OK"), ("Z0,bfc00004,4", "OK"))
+        self.stops(wire, ("bc", "T05", 9))
+        self.dialog(wire, ("Z0,bfc00004,4;X5,2601", "E01"), ("Z0,bfc00004,4;Y", "E01"), ("z0,bfc00004,4", "OK"))
+
+    def test_a_condition_without_a_value_stops(self) -> None:
+        wire = self.wire(COUNTER)  # 1 / r2, of the first turn
+        self.dialog(wire, ("Z0,bfc00004,4;X7,22012600020627", "OK"))
+        self.stops(wire, ("c", "T05", 1))
+
     def test_a_breakpoint_may_stand_at_reset(self) -> None:
         wire = self.wire(COUNTER)
         self.dialog(wire, ("Z0,bfc00000,4", "OK"))

@@ -1,0 +1,205 @@
+"""gdb's agent expressions: conditions of breakpoints, as bytes that run on a stack of 64-bit numbers.
+
+The operations are those of the chapter of gdb's manual on them. What a condition reads is asked of the program at a position, so
+its answers may come later: what is not known yet is raised.
+"""
+from __future__ import annotations
+
+import operator
+from dataclasses import dataclass, field
+from typing import Callable, Optional
+
+from . import memory, replies, target
+from .driver import unmapped
+from .limits import RAM, ROM
+
+MOST_STEPS = 10_000  # of one evaluation
+MOST_DEEP = 1_000  # numbers on the stack
+_WORD = (1 << 64) - 1
+
+
+class Unknown(Exception):
+    """A command of the workbench, whose reply has to be known first."""
+
+    def __init__(self, command: str) -> None:
+        super().__init__(command)
+        self.command = command
+
+
+class Failed(Exception):
+    """Why an expression has no value."""
+
+
+@dataclass
+class Known:
+    """What is known of a position: replies of the workbench by their commands, and which of them were used."""
+
+    position: int
+    replies: dict[str, list[str]] = field(default_factory=dict)
+    used: set[str] = field(default_factory=set)
+
+    def ask(self, command: str) -> list[str]:
+        self.used.add(command)
+        lines = self.replies.get(command)
+        if lines is None:
+            raise Unknown(command)
+        return lines
+
+    def register(self, number: int) -> int:
+        """A register by the number that gdb gives it."""
+        if number >= len(target.NAMES):
+            raise Failed(f"there is no register {number}")
+        name = target.NAMES[number]
+        if name == "position":
+            return self.position
+        if name in target.GENERAL:
+            return int(self.ask(f"reg {number}")[0].split()[1], 16)
+        if name in replies.CONTROL_NAMES:
+            return replies.control(self.ask("cp0"))[name]
+        return target.processor(replies.registers(self.ask("regs"))).get(name, 0)
+
+    def memory(self, address: int, size: int) -> int:
+        """Bytes at a virtual address as a number, low byte first."""
+        content = b""
+        for virtual, count in memory.pieces(address & 0xFFFF_FFFF, size):
+            place = self._physical(virtual)
+            if place is None or not (place in RAM or place in ROM):
+                raise Failed(f"Cannot access memory at address {virtual:#x}")
+            words = range(place & ~3, place + count, 4)
+            found = [replies.memory(self.ask(f"mem {word} 1"))[0] for word in words]
+            content += b"".join(it.to_bytes(4, "little") for it in found)[place & 3:][:count]
+        if len(content) < size:
+            raise Failed("Cannot access memory beyond the address 0xffffffff")
+        return int.from_bytes(content, "little")
+
+    def _physical(self, virtual: int) -> Optional[int]:
+        place = unmapped(virtual)
+        return place if place is not None else replies.where(self.ask(f"where {virtual}")).physical
+
+
+def value(code: bytes, known: Known) -> int:
+    """The value of an expression at a position."""
+    return _Machine(code, known).run()
+
+
+def signed(number: int, bits: int = 64) -> int:
+    """The signed number that the low bits of a number are."""
+    number &= (1 << bits) - 1
+    return number - (1 << bits) if number >> (bits - 1) else number
+
+
+def _divided(first: int, second: int) -> int:
+    """The quotient as C has it, towards 0."""
+    if not second:
+        raise Failed("Division by zero")
+    quotient = abs(first) // abs(second)
+    return quotient if (first < 0) == (second < 0) else -quotient
+
+
+def _rest(first: int, second: int) -> int:
+    return first - second * _divided(first, second)
+
+
+def _as_signed(operation: Callable[[int, int], int]) -> Callable[[int, int], int]:
+    return lambda first, second: operation(signed(first), signed(second))
+
+
+# Of the two numbers on the top of the stack, the upper one second.
+_TWO: dict[int, Callable[[int, int], int]] = {
+    0x02: operator.add, 0x03: operator.sub, 0x04: operator.mul,
+    0x05: _as_signed(_divided), 0x06: _divided, 0x07: _as_signed(_rest), 0x08: _rest,
+    0x09: lambda first, count: first << min(count, 64),
+    0x0A: lambda first, count: signed(first) >> min(count, 64),
+    0x0B: lambda first, count: first >> min(count, 64),
+    0x0F: operator.and_, 0x10: operator.or_, 0x11: operator.xor,
+    0x13: operator.eq, 0x14: _as_signed(operator.lt), 0x15: operator.lt,
+}
+_LOG_NOT, _BIT_NOT = 0x0E, 0x12
+_EXTEND, _ZERO_EXTEND = 0x16, 0x2A
+_MEMORY = {0x17: 1, 0x18: 2, 0x19: 4, 0x1A: 8}  # bytes
+_IF_GOTO, _GOTO = 0x20, 0x21
+_CONSTANTS = {0x22: 1, 0x23: 2, 0x24: 4, 0x25: 8}
+_REGISTER, _END = 0x26, 0x27
+_DUP, _POP, _SWAP, _PICK, _ROTATE = 0x28, 0x29, 0x2B, 0x32, 0x33
+
+
+class _Machine:
+    """One evaluation."""
+
+    def __init__(self, code: bytes, known: Known) -> None:
+        self._code = code
+        self._known = known
+        self._at = 0
+        self._stack: list[int] = []
+
+    def run(self) -> int:
+        for _ in range(MOST_STEPS):
+            operation = self._number(1)
+            if operation == _END:
+                return self._pop()
+            self._do(operation)
+            if len(self._stack) > MOST_DEEP:
+                raise Failed("the condition needs too large a stack")
+        raise Failed("the condition takes too long")
+
+    def _do(self, operation: int) -> None:
+        if operation in _TWO:
+            second, first = self._pop(), self._pop()
+            self._push(_TWO[operation](first, second))
+        elif operation in _MEMORY:
+            self._push(self._known.memory(self._pop(), _MEMORY[operation]))
+        elif operation in _CONSTANTS:
+            self._push(self._number(_CONSTANTS[operation]))
+        elif operation == _REGISTER:
+            self._push(self._known.register(self._number(2)))
+        elif operation in (_EXTEND, _ZERO_EXTEND):
+            bits = min(self._number(1), 64)
+            number = self._pop() & ((1 << bits) - 1)
+            self._push(signed(number, bits) if operation == _EXTEND and bits else number)
+        elif operation in (_LOG_NOT, _BIT_NOT):
+            number = self._pop()
+            self._push(not number if operation == _LOG_NOT else ~number)
+        elif operation in (_IF_GOTO, _GOTO):
+            place = self._number(2)
+            if operation == _GOTO or self._pop():
+                self._at = place
+        else:
+            self._move(operation)
+
+    def _move(self, operation: int) -> None:
+        """Moves numbers on the stack."""
+        if operation == _DUP:
+            self._pick(0)
+        elif operation == _POP:
+            self._pop()
+        elif operation == _SWAP:
+            second, first = self._pop(), self._pop()
+            self._stack += [second, first]
+        elif operation == _PICK:
+            self._pick(self._number(1))
+        elif operation == _ROTATE:
+            third, second, first = self._pop(), self._pop(), self._pop()
+            self._stack += [third, first, second]
+        else:
+            raise Failed(f"the condition has the operation {operation:#04x}, which is not done here")
+
+    def _number(self, size: int) -> int:
+        """The next bytes of the code as a number, high byte first."""
+        content = self._code[self._at:self._at + size]
+        if len(content) < size:
+            raise Failed("the condition ends too early")
+        self._at += size
+        return int.from_bytes(content, "big")
+
+    def _push(self, number: int) -> None:
+        self._stack.append(number & _WORD)
+
+    def _pop(self) -> int:
+        if not self._stack:
+            raise Failed("the condition takes more from its stack than is there")
+        return self._stack.pop()
+
+    def _pick(self, depth: int) -> None:
+        if depth >= len(self._stack):
+            raise Failed("the condition takes more from its stack than is there")
+        self._stack.append(self._stack[-1 - depth])

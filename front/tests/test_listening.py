@@ -1,0 +1,99 @@
+"""The stub at a port: one debugger at a time, until Ctrl-C."""
+from __future__ import annotations
+
+import os
+import re
+import signal
+import socket
+import subprocess
+import unittest
+
+from front import listening
+from front.errors import Problem
+from front.tests.support import ROOT
+from front.tests.wire import packed
+
+PATIENCE = 30
+
+
+class Listening(unittest.TestCase):
+    def setUp(self) -> None:
+        self.stub = subprocess.Popen([ROOT / "bin/wb", "stub", "--listen", ":0", ROOT / "examples/echo/boot.s"], stdin=subprocess.DEVNULL,
+                                     stderr=subprocess.PIPE, encoding="utf-8", start_new_session=True)
+        self.addCleanup(self.end)
+        found = re.fullmatch(r"bin/wb: waits for a debugger at 127\.0\.0\.1:(\d+); Ctrl-C ends this\n", self.said())
+        assert found
+        self.address = "127.0.0.1", int(found[1])
+
+    def end(self) -> None:
+        self.stub.kill()
+        self.stub.communicate()
+
+    def said(self) -> str:
+        """The next line that the stub says."""
+        assert self.stub.stderr
+        return self.stub.stderr.readline()
+
+    def connect(self) -> socket.socket:
+        connection = socket.create_connection(self.address, PATIENCE)
+        self.addCleanup(connection.close)
+        self.assertRegex(self.said(), "a debugger is there, from 127.0.0.1:")
+        return connection
+
+    def ask(self, connection: socket.socket, packet: str) -> str:
+        connection.sendall(packed(packet.encode()))
+        reply = b""
+        while not re.fullmatch(rb"\+\$.*#..", reply):
+            piece = connection.recv(4096)
+            self.assertTrue(piece)
+            reply += piece
+        connection.sendall(b"+")
+        return reply[2:-3].decode()
+
+    def test_one_debugger_at_a_time(self) -> None:
+        first = self.connect()
+        self.assertEqual(self.ask(first, "?"), "T05")
+        with self.assertRaises(ConnectionRefusedError):
+            socket.create_connection(self.address, PATIENCE)
+        self.assertEqual(self.ask(first, "Mbfc00004,1:02"), "OK")
+        self.assertEqual(self.ask(first, "s"), "T05")
+        self.assertEqual(self.ask(first, "D;1"), "OK")
+        self.assertRegex(self.said(), "the debugger has left")
+        self.assertRegex(self.said(), f"waits for a debugger at 127.0.0.1:{self.address[1]};")
+        second = self.connect()
+        self.assertEqual(self.ask(second, "mbfc00004,1"), "02")
+        self.assertEqual(self.ask(second, "p25"), "0400c0bf")
+        second.close()
+        self.assertRegex(self.said(), "the debugger has left")
+
+    def test_ctrl_c_ends_it(self) -> None:
+        for connected in False, True:
+            with self.subTest(connected=connected):
+                if connected:
+                    connection = self.connect()
+                    self.assertEqual(self.ask(connection, "Mbfc00004,1:02"), "OK")
+                    connection.sendall(packed(b"Z0,bfc00100,4") + packed(b"c"))
+                os.killpg(self.stub.pid, signal.SIGINT)
+                rest = self.stub.communicate(timeout=PATIENCE)[1]
+                self.assertEqual((self.stub.returncode, "Traceback" in rest), (0, False), rest)
+                self.assertEqual("not saved: the image (save-image FILE)" in rest, connected)
+                if not connected:
+                    self.setUp()
+
+    def test_a_port_that_is_taken(self) -> None:
+        where = f"127.0.0.1:{self.address[1]}"
+        done = subprocess.run([ROOT / "bin/wb", "stub", "--listen", where, ROOT / "examples/echo/boot.s"], stdin=subprocess.DEVNULL,
+                              stderr=subprocess.PIPE, encoding="utf-8")
+        self.assertEqual((done.returncode, done.stderr), (2, f"bin/wb: {where} can't be listened at: Address already in use\n"))
+
+    def test_addresses(self) -> None:
+        for where, wanted in (("1234", True), (":1234", True), ("localhost:0", True), ("[::1]:5", True), ("0.0.0.0:5", False),
+                              ("example:5", False)):
+            self.assertEqual(listening.is_loopback(where), wanted, where)
+        for where in "", "x", "host:", "host:x", "1:2:3", "host:65536", "::1:5", "-1":
+            with self.assertRaisesRegex(Problem, "wants HOST:PORT"):
+                listening.is_loopback(where)
+
+
+if __name__ == "__main__":
+    unittest.main()
