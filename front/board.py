@@ -3,7 +3,6 @@ from __future__ import annotations
 
 import re
 from dataclasses import dataclass, replace
-from datetime import datetime
 from typing import Optional
 
 from .arguments import Line
@@ -81,6 +80,8 @@ def clock_of(text: str) -> bytes:
 
 def _registers_at(text: str) -> bytes:
     """The registers at a time: in binary, with 24 hours, without an alarm."""
+    from datetime import datetime  # here, as it takes a while that every other start would wait
+
     try:
         time = datetime.strptime(text, "%y-%m-%d %H:%M:%S")
     except ValueError:

@@ -11,7 +11,6 @@ from typing import Sequence
 from .arguments import Shown
 from .errors import Interrupted, Problem, Unexpected
 from .loading import say
-from .program import about
 
 # The commands, each a module of this package with a function `main` on its words.
 COMMANDS = ("shell", "gdb", "stub", "console", "plot", "log", "image")
@@ -27,7 +26,7 @@ def main(arguments: Sequence[str]) -> int:
     try:
         try:
             if rest == ["--version"]:
-                raise Shown(about())
+                raise Shown(importlib.import_module(".version", __package__).about())
             status = importlib.import_module(f".{_MODULES.get(name, name)}", __package__).main(rest)
         except Shown as shown:
             sys.stdout.write(str(shown))  # inside the try, since it may fail like any output

@@ -1,7 +1,6 @@
 """One process of the program: starts it, hands commands in and replies out, and notices that it ended."""
 from __future__ import annotations
 
-import hashlib
 import os
 import select
 import signal
@@ -39,19 +38,6 @@ def build() -> None:
     status = subprocess.run([path()], stdin=subprocess.DEVNULL, stdout=subprocess.DEVNULL).returncode
     if status:
         raise Problem("", status)
-
-
-def about() -> str:
-    """What is shipped: the checksums of the program and of its sources, and the toolchain. And which program is started, where that is
-    another one."""
-    shipped = (ROOT / "bin/r3kwb.txt").read_text()
-    started = Path(os.environ.get("WB_PROGRAM") or ROOT / "crates/r3kwb/out/r3kwb")
-    text = f"Bezhakkom\n{shipped}"
-    if started.is_file():
-        checksum = hashlib.sha256(started.read_bytes()).hexdigest()
-        if f"program {checksum}" not in shipped.splitlines():
-            text += f"started {checksum} {started}\n"
-    return text
 
 
 def words(kind: str, size: int, log_size: int) -> list[str]:

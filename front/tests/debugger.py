@@ -1,4 +1,4 @@
-"""Real gdb for tests, on the stub."""
+"""Real gdb for tests, on the stub. Where it is missing they are skipped."""
 from __future__ import annotations
 
 import os
@@ -18,9 +18,9 @@ PLAIN = ["-nx", "-iex", "set width 0", "-iex", "set style enabled off"]
 
 
 def needed() -> None:
-    """Skips tests where gdb is missing."""
+    """Skips the tests of a module where gdb is missing."""
     if not shutil.which(DEBUGGER):
-        raise unittest.SkipTest(f"{DEBUGGER} is not installed: apt-get install {DEBUGGER}")
+        raise unittest.SkipTest(f"{DEBUGGER} is not installed; on Debian: apt-get install {DEBUGGER}")
 
 
 def words(image: str, log: Optional[str] = None, options: Sequence[str] = ()) -> list[str]:

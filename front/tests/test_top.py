@@ -22,7 +22,7 @@ from front.errors import Problem
 from front.tests.support import ROOT, rom
 
 SEED = 55
-LINES = 48  # random ones
+LINES = 36  # random ones
 TIMEOUT = 60
 STATUSES = {0, 1, 2, 3, 5}  # those of docs/USING.md but for what is wrong with the program or with bin/wb itself
 

@@ -1,5 +1,4 @@
-"""docs/USING.md: its sessions of the shell and of `bin/wb log` are what these say. And the lines of gdb at the head of
-README.md are those of docs/DEBUGGING.md."""
+"""docs/USING.md: its sessions of the shell and of `bin/wb log` are what these say."""
 from __future__ import annotations
 
 import re
@@ -39,11 +38,6 @@ class Page(unittest.TestCase):
                 done = subprocess.run([ROOT / "bin/wb", *words, *(["--echo", script.name] if typed else [])],
                                       cwd=ROOT, capture_output=True, text=True)
             self.assertEqual((done.stdout.splitlines(), done.stderr), (lines, ""), words)
-
-    def test_readme(self) -> None:
-        walk = re.search(r"(?m)(?:^    .*\n)+", (ROOT / "docs/DEBUGGING.md").read_text())
-        assert walk
-        self.assertIn(walk[0], (ROOT / "README.md").read_text())
 
     def test_there_are_some(self) -> None:
         self.assertEqual([words[0] for words, _ in blocks()], ["shell", "shell", "shell", "log", "log", "log"])

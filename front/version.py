@@ -1,0 +1,21 @@
+"""What is shipped, and what is started, by their checksums."""
+from __future__ import annotations
+
+import hashlib
+import os
+from pathlib import Path
+
+from .program import ROOT
+
+
+def about() -> str:
+    """What is shipped: the checksums of the program and of its sources, and the toolchain. And which program is started, where that is
+    another one."""
+    shipped = (ROOT / "bin/r3kwb.txt").read_text()
+    started = Path(os.environ.get("WB_PROGRAM") or ROOT / "crates/r3kwb/out/r3kwb")
+    text = f"Bezhakkom\n{shipped}"
+    if started.is_file():
+        checksum = hashlib.sha256(started.read_bytes()).hexdigest()
+        if f"program {checksum}" not in shipped.splitlines():
+            text += f"started {checksum} {started}\n"
+    return text
