@@ -5,7 +5,7 @@ import os
 import re
 
 from . import log as logs
-from . import reloading, saved
+from . import reloading, saved, ticks
 from .commands import CHECKS, FILES, PAST, SERIAL, SHELL, command
 from .errors import Problem
 from .expressions import closed, condition
@@ -16,7 +16,7 @@ from .log import Kind, quoted, unquoted
 from .replies import refusal_of
 from .saving import is_forced, save
 from .session import Paused, Session, counted
-from .standstill import standstill
+from .standstill import Standstill, standstill
 
 # Typed bytes are at least this many steps apart, and twice the time that the serial part takes to send one. So a program that
 # polls or is interrupted has taken each byte, and sent it back, before the next one comes.
@@ -186,6 +186,8 @@ def _run_until(session: Session, line: int, first: int, text: bytes, end: int) -
             return f"at step {driver.position:,} the program {still.kind.value}"
         if idleness.is_over():
             session.paused = Paused(line, text, first, driver.position)
+            if ticks.period(driver):
+                return f"from step {driver.position:,} on the program {Standstill.ALARM.value}"
             return (f"up to step {driver.position:,} nothing was sent for {session.idle:,} steps, and the log has no more events; "
                     "the same line goes on, and `idle N` changes that number")
         driver.tell(driver.position)

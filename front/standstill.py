@@ -28,6 +28,7 @@ EMPTY = 64  # empty words of ROM are passed over where there are at least so man
 INTERRUPTS_ON, BOARD_MASK, CLOCK_MASK, ISOLATED = 0x1, 0x400, 0x800, 0x1_0000  # bits of Status
 LINES = 0xFC00  # of Cause, which follow the devices
 RANDOM, CAUSE = 1, 13  # numbers of control registers
+INTERRUPT = 0  # as the exception in Cause
 VECTORS = (0x8000_0080, 0xBFC0_0180)  # where interrupts lead, before and after the boot code has its way
 SECOND = 8192  # units of the clock
 
@@ -69,18 +70,18 @@ def quiet(driver: Driver, turn: int) -> Optional[Quiet]:
     """How long the run stands still from the position on, which stays, in a loop whose turns take at most `turn` to be seen."""
     start = driver.position
     try:
-        return _Loop(driver).judge(turn)
+        return Loop(driver).judge(turn)
     finally:
         driver.goto(start)
 
 
-class _Loop:
+class Loop:
     """The states of a run from a position on, as far as they keep what they must."""
 
     def __init__(self, driver: Driver) -> None:
         self._driver = driver
         self._start = driver.position
-        self._control = _control(driver)
+        self._control = control_of(driver)
         self._states = [driver.registers()]
         self._passed = 0  # steps through empty ROM, whose states are not asked for
         self._cost = 1
@@ -88,7 +89,7 @@ class _Loop:
         self._places: dict[int, Optional[int]] = {}  # the physical addresses of loads and stores
         self._first_words: dict[int, int] = {}  # what the words that are stored to hold at the first state
         self._changed: set[int] = set()  # those that hold something else
-        self._known = {_key(self._states[0])}  # the states since the last step that changed more than the processor
+        self._known = {key_of(self._states[0])}  # the states since the last step that changed more than the processor
         self._asks_serial = False
         self._unready = False  # the serial part was seen not to be ready: it may be later
         self._listens = False  # devices may interrupt
@@ -131,9 +132,9 @@ class _Loop:
                 self._states.append(after)
                 if after == self._states[0] and self._is_all_as_before():
                     return self._here - self._start
-                if _key(after) in self._known:
+                if key_of(after) in self._known:
                     return None
-                self._known.add(_key(after))
+                self._known.add(key_of(after))
             if not self._pass_over_empty():
                 return None
         return None
@@ -167,9 +168,9 @@ class _Loop:
         if self._changed:
             return False
         self._ask_at(self._here)
-        if _control(self._driver) != self._control:
+        if control_of(self._driver) != self._control:
             return False
-        return not self._maps or _entries(self._driver, self._here) == _entries(self._driver, self._start)
+        return not self._maps or entries_of(self._driver, self._here) == entries_of(self._driver, self._start)
 
     def _pass_over_empty(self) -> bool:
         """Passes over empty ROM, up to shortly before its end, or before where the first state was. What comes after the same
@@ -196,6 +197,8 @@ class _Loop:
         before = self._states[-1]
         if after.pc != before.next_pc:
             return not self._listens and self._can_go_on()
+        if self._listens and after.pc in VECTORS:
+            return False  # it may be an interrupt that looks like a step
         word = self._word(before)
         code = instruction.code(word)
         if code == instruction.COPROCESSOR_0:
@@ -230,7 +233,11 @@ class _Loop:
         if word in instruction.ENTRIES or word == instruction.RETURN:
             return True
         move, register = word >> 21 & 31, word >> 11 & 31
-        return move == instruction.MOVE_TO or move == instruction.MOVE_FROM and register not in (RANDOM, CAUSE)
+        return move == instruction.MOVE_TO or move == instruction.MOVE_FROM and self._can_move(register)
+
+    def _can_move(self, register: int) -> bool:
+        """Whether a control register that is read holds nothing that counts by itself, or follows devices."""
+        return register not in (RANDOM, CAUSE)
 
     def _can_go_on(self) -> bool:
         """Whether the machine can be compared after a step that may change how it takes addresses and interrupts."""
@@ -283,17 +290,17 @@ class _Loop:
         return place & ~3 != RBUF or bool(shown & VALID and not value & VALID)
 
 
-def _key(state: Registers) -> tuple[object, ...]:
+def key_of(state: Registers) -> tuple[object, ...]:
     return state.pc, state.next_pc, state.hi, state.lo, state.delay, state.load, *state.general
 
 
-def _control(driver: Driver) -> dict[str, int]:
+def control_of(driver: Driver) -> dict[str, int]:
     """The control registers, but for Random, which counts in each step, and the lines of devices."""
     control = driver.control()
     return {**control, "random": 0, "cause": control["cause"] & ~LINES}
 
 
-def _entries(driver: Driver, position: int) -> list[list[str]]:
+def entries_of(driver: Driver, position: int) -> list[list[str]]:
     """The translation entries at a position."""
     driver.goto(position)
     return driver.values([f"tlb {number}" for number in range(64)])

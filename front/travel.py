@@ -6,7 +6,7 @@ from enum import Enum
 from itertools import count
 from typing import Callable, Optional
 
-from . import conditions, memory, search
+from . import conditions, memory, search, ticks
 from .conditions import Conditions
 from .driver import Driver
 from .errors import Interrupted
@@ -157,7 +157,8 @@ def _forward(driver: Driver, stops: Stops, pause: Pause) -> Stop:
             if stop:
                 return stop
             if idleness.is_over():
-                return Stop(Reason.IDLE, end, steps=stops.idle)
+                second = ticks.period(driver)
+                return Stop(Reason.ALARM, end, steps=second) if second else Stop(Reason.IDLE, end, steps=stops.idle)
             length = min(4 * length, LONGEST_PIECE)
 
 

@@ -5,12 +5,13 @@ import random
 import unittest
 from typing import Optional, Sequence
 
-from front import travel
+from front import ticks, travel
 from front.driver import Driver
 from front.limits import GREATEST_POSITION
 from front.log import Event, Kind
 from front.replies import memory, registers
 from front.standstill import Quiet, Standstill, quiet, standstill
+from front.states import registers_at
 from front.tests.support import DATA, needs_kinds, random_rom, rom, start
 from front.travel import Reason, Stops
 
@@ -33,6 +34,9 @@ HEARS_BOARD, HEARS_CLOCK = ([0x3C010040, 0x34210001 | lines, 0x40816000] for lin
 TICKS = [0x3C08BFE8, 0x2409002C, 0xAD090028, 0x24090046, 0xAD09002C]
 # lui r26, 0xbfe8; lw r26, 48(r26); mfc0 r26, c14; nop; jr r26; rfe
 HANDLER = [0x3C1ABFE8, 0x8F5A0030, 0x401A7000, 0, 0x03400008, 0x42000010]
+COUNT, COUNT_IN_MEMORY = [0x277B0001], [0x3C1BA000, 0x8F7A0100, 0, 0x275A0001, 0xAF7A0100, 0]  # r27; the word at 0x100
+TICKING = [*TICKS, *HEARS_CLOCK, *END]
+TICKING += [0] * (0x180 // 4 - len(TICKING))
 
 
 class Stands(unittest.TestCase):
@@ -142,12 +146,39 @@ class Stands(unittest.TestCase):
         self.assertIsNone(self.stands(self.driver([*TICKS, *HEARS_CLOCK, *END]), 20))
         # A run that began in such a loop goes on, for the alarm, up to where it pauses.
         stop = travel.forward(driver, Stops(idle=100_000), lambda: False)
-        self.assertEqual((stop.reason, stop.position), (Reason.IDLE, 100_020))
+        self.assertEqual((stop.reason, stop.position, stop.steps), (Reason.ALARM, 100_020, 8192))
+
+    def test_ticks(self) -> None:
+        """A second has 8,192 steps and 16 ticks. Where the handler counts nothing each second is as the one before."""
+        driver = self.driver([*TICKING, *HANDLER])
+        source = random.Random(9)
+        for _ in range(6):
+            driver.goto(source.randrange(1000, 30_000))
+            self.assertEqual(ticks.period(driver), 8192)
+        steps = sorted(source.sample(range(1000, 9000), 300))
+        self.assertEqual(registers_at(driver, steps), registers_at(driver, [it + 5 * 8192 for it in steps]))
+        driver.goto(0)
+        stop = travel.forward(driver, Stops(idle=70_000), lambda: False)
+        self.assertEqual((stop.reason, stop.position, stop.steps), (Reason.ALARM, 70_000, 8192))
+        for counts in COUNT, COUNT_IN_MEMORY:
+            driver = self.driver([*TICKING, *counts, *HANDLER])
+            driver.goto(5000)
+            self.assertIsNone(ticks.period(driver))
+        # The time of the clock is read: lw r26, 0(r26) of seconds in place of the flags' register.
+        reads = [*HANDLER]
+        reads.insert(2, 0x3C1ABFE8)
+        reads.insert(3, 0x8F5A0000)
+        driver = self.driver([*TICKING, *reads])
+        driver.goto(5000)
+        self.assertIsNone(ticks.period(driver))
+        # Events that are to come.
+        driver = self.driver([*TICKING, *HANDLER], [Event(100_000, 0, 1)])
+        driver.goto(5000)
+        self.assertIsNone(ticks.period(driver))
 
     def test_an_end_and_a_pause(self) -> None:
         """The byte of step 90 is none that the program takes, and nothing is sent."""
-        program = [*TICKS, *HEARS_CLOCK, *END]
-        driver = self.driver([*program, *[0] * (0x180 // 4 - len(program)), *HANDLER], [Event(90, 0, 1)])
+        driver = self.driver([*TICKING, *COUNT, *HANDLER], [Event(90, 0, 1)])
         stop = travel.forward(driver, Stops(idle=70_000), lambda: False)
         self.assertEqual((stop.reason, stop.position, stop.steps), (Reason.IDLE, 70_091, 70_000))
         stop = travel.forward(driver, Stops(idle=70_000), lambda: False)
