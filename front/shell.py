@@ -4,6 +4,7 @@ from __future__ import annotations
 import atexit
 import os
 import sys
+from contextlib import nullcontext
 from pathlib import Path
 from typing import Container, Iterator, Optional, Sequence, TextIO
 
@@ -27,7 +28,8 @@ HELP = f"""\
 {USAGE}
 
 A debugger on the run of an image: with line editing, history and completion on a terminal, or with the lines of a
-script. Addresses are virtual. An ELF gives names of addresses, and so do the labels of a source.
+script. Addresses are virtual. An ELF gives names of addresses, and so do the labels of a source. In place of the image
+may stand a session that `save` made.
 
 {loading.OPTIONS_HELP}\
   --echo          show each line of a script before what it shows
@@ -44,7 +46,7 @@ Example:
 def main(arguments: Sequence[str]) -> int:
     line = parse(arguments, OPTIONS, USAGE, HELP + help_text(), (1, 2))
     script = open(loading.check(line.words[1]), encoding="utf-8", errors="surrogateescape") if len(line.words) == 2 else None
-    with saved.opened(line) as found, loading.running(found.line, on_terminal()) as driver:
+    with script or nullcontext(), saved.opened(line) as found, loading.running(found.line, on_terminal()) as driver:
         session = Session(driver, symbols_of(driver.image), origin=found.origin)
         shell = Shell(session)
         shell.open(found.commands)

@@ -10,6 +10,8 @@ from pathlib import Path
 
 from front import saved
 from front.log import Event
+from front.tests import debugger
+from front.tests.scripts import shell
 from front.tests.support import ROOT
 
 LOGIN = "examples/login/login.elf"
@@ -18,11 +20,6 @@ LINES = ("goto 90,000", "type 'ab' 700", "del 2", "move 0 19,000", "patch main+4
          "goto 55,555")
 # What tells one session from another.
 SHOWN = ("log 0 99", "stops", "pos", "idle", "mem 0xbfc00350 4", "console", "regs", "writer session+8")
-
-
-def shell(*words: str, lines: tuple[str, ...] = (), folder: Path = ROOT) -> "subprocess.CompletedProcess[str]":
-    return subprocess.run([str(ROOT / "bin/wb"), "shell", *words], input="".join(f"{it}\n" for it in lines), cwd=folder,
-                          capture_output=True, text=True)
 
 
 class Saved(unittest.TestCase):
@@ -130,6 +127,28 @@ class Saved(unittest.TestCase):
         said = shell(self.file, lines=("wb log 0 1",)).stdout.splitlines()
         self.assertEqual(said[:2], ["the session's line `break nowhere` fails:", "there is no symbol and no register nowhere"])
         self.assertEqual(said[-1], "0 7 0 0x71")
+
+    def test_gdb_opens_and_saves_sessions(self) -> None:
+        debugger.needed()
+        self.save()
+        again = str(self.folder / "again.session")
+        shown = debugger.run([debugger.WB, "gdb", self.file, *debugger.PLAIN, "-batch", "-ex", "print $position", "-ex", "print main",
+                              "-ex", f"wb save {again}"])
+        self.assertIn("$1 = 55555\n", shown)
+        self.assertIn("<main>", shown)
+        first, second = (Path(it).read_text().splitlines() for it in (self.file, again))
+        # gdb has its own breakpoints, and what was typed is shown as it was read.
+        self.assertEqual([it for it in second if not it.startswith("#")],
+                         [it for it in first if not it.startswith(("#", "break", "watch"))])
+
+    def test_the_page(self) -> None:
+        """The session on the page is what its walk saves."""
+        shutil.copytree(ROOT / "examples/login", self.folder / "examples/login")
+        lines = ("del 2", "break read_line", "watch session+0x20", "goto 40,024", f"save {self.file}")
+        shell("--log", "examples/login/log", LOGIN, lines=lines, folder=self.folder)
+        page = (ROOT / "docs/USING.md").read_text()
+        shown = "".join(f"    {line}".rstrip() + "\n" for line in Path(self.file).read_text().splitlines())
+        self.assertIn(f"\n\n{shown}\n", page)
 
     def test_the_plot_takes_sessions(self) -> None:
         self.save()

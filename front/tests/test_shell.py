@@ -19,6 +19,7 @@ from front.log import Event, Kind
 from front.session import Session, distance
 from front.shell import Shell
 from front.symbols import symbols_of
+from front.tests.scripts import Done, shell
 from front.tests.support import ROOT, needs_erase, needs_kinds
 
 
@@ -219,9 +220,8 @@ class Pauses(unittest.TestCase):
 
 
 class Scripts(unittest.TestCase):
-    def run_script(self, *lines: str, image: str = "examples/login/login.elf", strict: bool = True) -> subprocess.CompletedProcess[str]:
-        words = [str(ROOT / "bin/wb"), "shell", *(["--strict"] if strict else []), image]
-        return subprocess.run(words, input="".join(f"{it}\n" for it in lines), cwd=ROOT, capture_output=True, text=True)
+    def run_script(self, *lines: str, strict: bool = True) -> Done:
+        return shell(*(["--strict"] if strict else []), "examples/login/login.elf", lines=lines)
 
     def test_the_example_passes(self) -> None:
         script = (ROOT / "examples/login/check.wb").read_text().splitlines()
@@ -229,7 +229,7 @@ class Scripts(unittest.TestCase):
         # With a backspace before, the name runs on into the line: that is the program's fault.
         at = script.index("type 'sesame\\r'")
         done = self.run_script(*script[:at], "type '\\bsesame\\r'", *script[at + 1:])
-        self.assertEqual((done.returncode, done.stderr), (5, f"bin/wb: <stdin>:{at + 2}: expect 'Welcome, operator.\\r\\n'\n"))
+        self.assertEqual((done.returncode, done.stderr), (5, f"bin/wb: {done.script}:{at + 2}: expect 'Welcome, operator.\\r\\n'\n"))
 
     def test_a_strict_script_ends_where_it_fails(self) -> None:
         for line, said in (("frob", "there is no command frob"), ("expect 'zz'", "did not send 'zz'"), ("expect 'password' 100", "up to"),
@@ -239,7 +239,7 @@ class Scripts(unittest.TestCase):
                            ("assert [0] == 1", "leads nowhere"), ("del 0", "refused"), ("wb frob", "error 2 Syntax"),
                            ("step 9,,9,x", "a comma stands before three digits")):
             done = self.run_script(line, "step")
-            self.assertEqual((done.returncode, done.stderr), (5, f"bin/wb: <stdin>:1: {line}\n"), line)
+            self.assertEqual((done.returncode, done.stderr), (5, f"bin/wb: {done.script}:1: {line}\n"), line)
             self.assertIn(said, done.stdout)
             self.assertNotIn("step 1, start", done.stdout)
         done = self.run_script("frob", "assert v0", "step", strict=False)
