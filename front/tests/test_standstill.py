@@ -12,7 +12,7 @@ from front.log import Event, Kind
 from front.replies import memory, registers
 from front.standstill import Quiet, Standstill, quiet, standstill
 from front.states import registers_at
-from front.tests.support import DATA, needs_kinds, random_rom, rom, start
+from front.tests.support import DATA, immediate, needs_kinds, random_rom, rom, start
 from front.travel import Reason, Stops
 
 STEPS = 600
@@ -37,6 +37,33 @@ HANDLER = [0x3C1ABFE8, 0x8F5A0030, 0x401A7000, 0, 0x03400008, 0x42000010]
 COUNT, COUNT_IN_MEMORY = [0x277B0001], [0x3C1BA000, 0x8F7A0100, 0, 0x275A0001, 0xAF7A0100, 0]  # r27; the word at 0x100
 TICKING = [*TICKS, *HEARS_CLOCK, *END]
 TICKING += [0] * (0x180 // 4 - len(TICKING))
+
+
+def devices_rom(source: random.Random) -> list[int]:
+    """A loop that stores, loads, asks devices and control registers and takes exceptions at random. Devices may interrupt, and
+    the handler goes back to the instruction or to the one after it, or is missing."""
+    def one(at: int) -> int:
+        register, other, kind = source.randrange(11, 16), source.randrange(11, 16), source.random()
+        if kind < 0.35:
+            return immediate(0x09, register, other, source.choice((-1, 0, 0, 1)))
+        if kind < 0.6:
+            return immediate(source.choice((0x2B, 0x23)), 10, register, DATA + 4 * source.randrange(2))
+        if kind < 0.68:
+            return immediate(0x23, *source.choice(((8, register, 0), (8, register, 8), (9, register, 0), (9, register, 48))))
+        if kind < 0.75:
+            return source.choice((0x4000_0000, 0x4080_0000)) | register << 16 | source.choice((1, 12, 13, 14)) << 11
+        if kind < 0.78:
+            return source.choice((0xC, 0xD, 0x4200_0010, 0x4200_0006, 0x4200_0002))
+        return immediate(source.choice((4, 5)), register, other, source.randrange(count) - at - 1) if kind < 0.88 else 0
+
+    count = source.randrange(3, 12)
+    status = source.choice((0, 0x40_0000, 0x40_0401, 0x40_0801, 0x40_0C01))
+    ticks_on = immediate(0x09, 0, 2, source.choice((6, 0x16, 0x46)))
+    begin = [0x3C08BFE0, 0x3C09BFE8, 0x3C0AA000, 0x24020020, 0xAD020000, 0x2402002C, 0xAD220028, ticks_on, 0xAD22002C,
+             0x3C020000 | status >> 16, 0x34420000 | status & 0xFFFF, 0x40826000]
+    program = [*begin, *(one(at) for at in range(count)), immediate(4, 0, 0, -count - 1), 0]
+    after = [0x401A7000, immediate(0x09, 26, 26, 4), 0x03400008, 0x42000010]
+    return program + [0] * (0x180 // 4 - len(program)) + source.choice(([], HANDLER, HANDLER[2:], after))
 
 
 class Stands(unittest.TestCase):
@@ -71,6 +98,32 @@ class Stands(unittest.TestCase):
                     self.assertEqual(found, Quiet(GREATEST_POSITION, Standstill.STUCK, turn if changes else None))
                 still += bool(found)
         self.assertGreater(still, 5)
+
+    def test_what_is_said_holds(self) -> None:
+        """Programs with devices and exceptions: where one is said to stand still, its states come again, near and far."""
+        said = set()
+        for seed in range(40):
+            source = random.Random(seed)
+            driver = self.driver(devices_rom(source))
+            driver.goto(source.choice((90, 700, 20_000)))
+            here, found, second = driver.position, standstill(driver, 600), ticks.period(driver)
+            if found:
+                said.add(found.kind)
+                near = self.states(driver, here, LOOKED_AT)
+                turn = found.turn or next(it for it in range(1, LOOKED_AT) if near[it] == near[0])
+                for turns in 1, 90, 4000:
+                    self.assertEqual(self.states(driver, here + turns * turn, LOOKED_AT), near, seed)
+            elif second:
+                for seconds in 1, 2, 5:
+                    self.assertEqual(self.states(driver, here + seconds * second, LOOKED_AT), self.states(driver, here, LOOKED_AT), seed)
+            driver.close()
+        self.assertEqual(said, set(Standstill))
+
+    @staticmethod
+    def states(driver: Driver, first: int, count: int) -> list[list[str]]:
+        """The processor and the words at DATA, at positions from one on."""
+        shown = driver.values([it for at in range(first, first + count) for it in (f"goto {at}", "regs", f"mem {DATA} 2")])
+        return [lines for number, lines in enumerate(shown) if number % 3]
 
     def test_a_line_that_will_never_be_ready(self) -> None:
         # No line may send. The loop's register has its value from position 5 on.
