@@ -142,7 +142,7 @@ class _Plot:
         self._driver.goto(position)
         place = places.physical(self._driver, address)
         if position != self._end:
-            loading.say(f"{name} is the word that {address:#010x} leads to at position {position:,}; at the end it leads nowhere")
+            loading.say(f"{name} is where {address:#010x} leads at position {position:,}; at the end it leads nowhere")
         return _Word(name, place & ~3)
 
     def _mapped(self, address: int) -> int:

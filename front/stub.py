@@ -209,8 +209,11 @@ class Stub:
         stops = self._motion.stops
         stops.breakpoints = {address for _, address in self._breakpoints}
         plain = {address for (_, address), expressions in self._breakpoints.items() if not expressions}
-        stops.conditions = {address: [it for kind in (CODE, CODE_IN_HARDWARE) for it in self._breakpoints.get((kind, address), [])]
-                            for address in stops.breakpoints - plain}
+        conditions: dict[int, list[bytes]] = {}
+        for (_, address), expressions in self._breakpoints.items():
+            if address not in plain:
+                conditions.setdefault(address, []).extend(expressions)
+        stops.conditions = conditions
 
     def _watch(self, address: int, size: int) -> Watch:
         """A watch at a virtual address. Where that leads nowhere now it is watched where it led before."""
