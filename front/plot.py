@@ -136,6 +136,7 @@ class _Plot:
         """A word of memory, by its address as the shell takes it."""
         try:
             address = expressions.number(name, self._driver, self._symbols)
+            places.check(address)
         except Problem as problem:
             raise Problem(f"there is no word {name}: {problem}") from None
         position = self._mapped(address)
