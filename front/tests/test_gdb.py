@@ -148,7 +148,8 @@ class Login(GdbTest):
         lines = self.batch("starti 60,000", "wb goto 40,024", POSITION, "wb del 1,2", "wb erase 20,000 30,0", "wb goto",
                            "wb goto nothing", "wb help goto", "wb writer session", "wb writer &session.length",
                            "wb mem p:0x1000 1", "wb mem p:&session 1",
-                           "wb mem 0xc0000000 1", "wb mem 0x1000 1", "wb frob")
+                           "wb mem 0xc0000000 1", "wb mem 0x1000 1", "wb frob", "wb goto -5",
+                           "wb writer $sp-0x1000+0x3")
         self.assertEqual(lines[4:-1], [
             "step 40,024, read_line+0x30: sw r3, 32(r2)", "#0  0xbfc00258 in read_line () at login.c:44",
             "44\t            session.length--;", "at 40024",
@@ -164,7 +165,9 @@ class Login(GdbTest):
             "positions where an entry maps its page 0xc0000",
             "0x00001000 leads nowhere at this position: no translation entry has its page. It leads to memory at positions "
             "where an entry maps its page 0x00001, mostly in user mode. The word with that physical address is at 0x80001000, "
-            "which is p:0x1000", "there is no command frob; `help` lists them"])
+            "which is p:0x1000", "there is no command frob; `help` lists them",
+            "-5 is no number and no name; `help numbers` says what may stand there",
+            "0x8000ffd3 is no multiple of 4; the word that it is in is at 0x8000ffd0"])
 
     def test_an_expression_of_a_far_step(self) -> None:
         needs_erase(self)
