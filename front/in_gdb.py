@@ -88,8 +88,10 @@ Numbers may be expressions without blanks: wb writer &session.length, wb goto $p
             gdb.execute("continue")
             return
         before = here()
-        gdb.write(asked(line))
-        flush()
+        try:
+            gdb.write(asked(line))
+        finally:
+            flush()
         if here() != before:
             gdb.execute("frame")
 
@@ -140,7 +142,10 @@ class BeforeQuit(gdb.Command):
 
 def prompt(current_prompt: str) -> str:
     """The prompt, with the position where there is a run."""
-    now = here()
+    try:
+        now = here()
+    except KeyboardInterrupt:  # it was meant for what came before
+        now = here()
     return f"({now[0]:,}) " if now else current_prompt
 
 

@@ -8,7 +8,7 @@ from typing import Callable, Optional, Sequence
 
 from . import elf, listening, loading, memory, monitor, places, target
 from .arguments import parse
-from .errors import Problem
+from .errors import Interrupted, Problem
 from .limits import RAM, ROM
 from .motion import TRAP, Motion
 from .rsp import PACKET_BYTES, Link
@@ -88,8 +88,14 @@ class Stub:
         begin = next((begin for begin in ANSWERS if packet.startswith(begin)), None)
         if begin is None:
             return NOT_KNOWN
+        self._motion.interrupts.begin()
         try:
             return ANSWERS[begin](self, packet[len(begin):])
+        except Interrupted:
+            # Where the run was not made yet it can't be shown at once.
+            self._driver.goto(min(self._driver.position, self._driver.made))
+            self._tell(f"interrupted; at position {self._driver.position:,}")
+            return FAILED
         except Problem as problem:
             self._tell(str(problem))
             return FAILED

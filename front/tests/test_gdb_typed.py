@@ -50,6 +50,16 @@ class Typed(unittest.TestCase):
         terminal.until(b"= 42")
         self.assertEqual(terminal.end(), 0)
 
+    def test_an_answer_that_takes_long_is_ended(self) -> None:
+        terminal = self.gdb("--log", "examples/driver/log", "examples/driver/boot.s")
+        for line in "wb goto 20,000,000,000", "starti 20,000,000,000":
+            self.type(terminal, "wb add 5 0 65", line)
+            terminal.until(line.encode())
+            terminal.press(b"\x03", b"Quit" if line.startswith("wb") else b"interrupted")
+        self.type(terminal, "starti 9", "wb log 0 2", "print 6 * 7", "quit", "quit")
+        self.assertEqual(re.findall(rb"step 5, line 0, 0x41", terminal.until(b"= 42")), [b"step 5, line 0, 0x41"] * 2)
+        self.assertEqual(terminal.end(), 0)
+
     def test_what_is_not_saved_is_told_before_gdb_quits(self) -> None:
         terminal = self.gdb("examples/login/login.elf")
         self.type(terminal, "wb add 1,000 0 65", "quit")
