@@ -1,7 +1,7 @@
 """gdb's agent expressions: conditions of breakpoints, as bytes that run on a stack of 64-bit numbers.
 
-The operations are those of the chapter of gdb's manual on them. What a condition reads is asked of the program at a position, so
-its answers may come later: what is not known yet is raised.
+The operations are those of the chapter of gdb's manual on them. What a condition reads is asked of the program at a
+position, so its answers may come later: what is not known yet is raised.
 """
 from __future__ import annotations
 

@@ -11,7 +11,7 @@ import tempfile
 from pathlib import Path
 from typing import Sequence
 
-from . import loading, saved, stub, symbol_file
+from . import interrupts, loading, saved, stub, symbol_file
 from .arguments import parse
 from .elf import jump_to
 from .errors import Problem
@@ -61,13 +61,14 @@ def main(arguments: Sequence[str]) -> int:
     progress = ["--progress"] if sys.stdout.isatty() else []
     command = shlex.join([str(ROOT / "bin/wb"), "stub", *progress, *arguments[:count]])
     words = [debugger, "-q", *(word for setting in SETTINGS for word in ("-iex", setting))]
-    # A Ctrl-C is gdb's alone.
-    signal.signal(signal.SIGINT, lambda number, frame: None)
     with saved.opened(line, tell=lambda note: None) as found, tempfile.TemporaryDirectory() as folder:
         # The notes are the stub's to give.
         image = loading.booted(found.line, tell=lambda note: None)
         words += [*_symbols(image, Path(folder)), "-x", str(IN_GDB), "-ex", f"target extended-remote | {command}"]
-        environment = {**os.environ, JUMP: str(_jump(image, Path(folder)))}
+        presses = Path(folder, "interrupts")
+        environment = {**os.environ, JUMP: _jump(image, Path(folder)), interrupts.VARIABLE: str(presses)}
+        # A Ctrl-C is gdb's, and is noted for the stub.
+        signal.signal(signal.SIGINT, lambda number, frame: interrupts.note(presses))
         return subprocess.call([*words, *arguments[count:]], env=environment)
 
 

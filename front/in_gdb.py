@@ -15,7 +15,8 @@ REFUSED = "refused: "  # begins what the stub says where it can't do a thing
 QUOTES = frozenset("'\"")
 NUMBER = re.compile(r"\d[\w,]*")
 IN_GROUPS = re.compile(r"(?<![\w.,])\d{1,3}(?:,\d{3})+(?![\w,])")
-BY_ADDRESS = (gdb.TYPE_CODE_ARRAY, gdb.TYPE_CODE_STRUCT, gdb.TYPE_CODE_UNION, gdb.TYPE_CODE_FUNC)
+WITHOUT_NUMBER = (gdb.TYPE_CODE_ARRAY, gdb.TYPE_CODE_STRUCT, gdb.TYPE_CODE_UNION, gdb.TYPE_CODE_FUNC)
+OF_WORDS = ("dis", "mem", "patch", "visit", "where", "writer")  # their numbers have 32 bits, also those that gdb shows below 0
 
 
 def flush() -> None:
@@ -42,10 +43,10 @@ def asked(line: str) -> str:
     return shown
 
 
-def as_number(word: str) -> str:
+def as_number(word: str, of_words: bool) -> str:
     """A word of a command: a number stays, and anything else is an expression of gdb's, without blanks."""
     if word.startswith("p:"):
-        return "p:" + as_number(word[2:])
+        return "p:" + as_number(word[2:], of_words)
     if NUMBER.fullmatch(word):
         return word
     plain = IN_GROUPS.sub(lambda it: it[0].replace(",", ""), word)
@@ -53,9 +54,10 @@ def as_number(word: str) -> str:
         raise gdb.GdbError(f"{word} is no number: a comma stands before three digits, as in 40,024")
     try:
         value = gdb.parse_and_eval(plain)
-        if value.type.strip_typedefs().code in BY_ADDRESS:
+        if value.type.strip_typedefs().code in WITHOUT_NUMBER:
             value = value.address
-        return str(int(value) & ((1 << 8 * value.type.sizeof) - 1))
+        is_word = of_words or value.type.strip_typedefs().code == gdb.TYPE_CODE_PTR
+        return str(int(value) & 0xFFFF_FFFF if is_word else int(value))
     except gdb.error as error:
         raise gdb.GdbError(f"{word}: {error}") from None
 
@@ -80,14 +82,16 @@ Numbers may be expressions without blanks: wb writer &session.length, wb goto $p
         line = line or "help"
         name, *words = line.split()
         if name not in AS_THEY_ARE and not QUOTES.intersection(line):
-            line = " ".join([name, *map(as_number, words)])
+            line = " ".join([name, *(as_number(word, name in OF_WORDS) for word in words)])
         if name in RUNS:
             asked(f"next-run {line}")
             gdb.execute("continue")
             return
         before = here()
-        gdb.write(asked(line))
-        flush()
+        try:
+            gdb.write(asked(line))
+        finally:
+            flush()
         if here() != before:
             gdb.execute("frame")
 
@@ -138,7 +142,10 @@ class BeforeQuit(gdb.Command):
 
 def prompt(current_prompt: str) -> str:
     """The prompt, with the position where there is a run."""
-    now = here()
+    try:
+        now = here()
+    except KeyboardInterrupt:  # it was meant for what came before
+        now = here()
     return f"({now[0]:,}) " if now else current_prompt
 
 

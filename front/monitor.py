@@ -40,7 +40,9 @@ def refusal(session: Session, line: str, tell: Callable[[str], None]) -> str:
     except Problem as problem:
         return str(problem)
     except Interrupted:
-        return "interrupted"
+        # Where the run was not made yet it can't be shown at once.
+        session.driver.goto(min(session.driver.position, session.driver.made))
+        return f"interrupted; at step {session.driver.position:,}"
     finally:
         session.tell = kept
     return ""

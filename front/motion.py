@@ -7,6 +7,7 @@ from typing import Callable
 from . import output, through, travel
 from .driver import Driver
 from .errors import Interrupted, Problem
+from .interrupts import Interrupts
 from .limits import GREATEST_POSITION
 from .progress import TerminalProgress
 from .rsp import PACKET_BYTES, Link
@@ -36,10 +37,13 @@ class Motion:
         self._told = 0  # what was sent before this position has been shown
         self._moving = False
         self._interrupted = False  # the debugger wants the present move to end
+        self.interrupts = Interrupts()
 
     def wants_stop(self) -> bool:
-        """Whether the debugger wants the present move to end."""
-        self._interrupted = self._moving and (self._interrupted or self._link.interrupted())
+        """Whether the debugger wants the present move to end, or the user what is answered besides."""
+        if not self._moving:
+            return self.interrupts.pressed()
+        self._interrupted = self._interrupted or self._link.interrupted()
         return self._interrupted
 
     def go_on(self, idle: int) -> bytes:

@@ -31,11 +31,16 @@ def always_at(physical: int) -> int:
     raise Problem(f"no memory stands at the physical address {physical:#x}: {_MEMORY}")
 
 
+def check(address: int) -> None:
+    """Refuses a number that is no address."""
+    if not 0 <= address < 1 << 32:
+        raise Problem(f"{address:#x} is no address: they are below 0x100000000")
+
+
 def physical(driver: Driver, address: int) -> int:
     """The physical address in RAM or ROM that a virtual one leads to at the position, or a Problem that says what would lead
     there."""
-    if not 0 <= address < 1 << 32:
-        raise Problem(f"{address:#x} is no address: they are below 0x100000000")
+    check(address)
     place = driver.physical(address)
     if place is None:
         raise Problem(why_nowhere(driver, address))

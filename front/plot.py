@@ -138,13 +138,14 @@ class _Plot:
         """A word of memory, by its address as the shell takes it."""
         try:
             address = expressions.number(name, self._driver, self._symbols)
+            places.check(address)
         except Problem as problem:
             raise Problem(f"there is no word {name}: {problem}") from None
         position = self._mapped(address)
         self._driver.goto(position)
         place = places.physical(self._driver, address)
         if position != self._end:
-            loading.say(f"{name} is the word that {address:#010x} leads to at position {position:,}; at the end it leads nowhere")
+            loading.say(f"{name} is where {address:#010x} leads at position {position:,}; at the end it leads nowhere")
         return _Word(name, place & ~3)
 
     def _mapped(self, address: int) -> int:

@@ -221,8 +221,7 @@ def save_image(session: Session, words: list[str]) -> None:
     session.tell(f"{counted(len(content), 'byte')} saved in {words[0]}")
 
 
-@command("load [FILE]", "starts the machine with another ELF, or with the same one built anew; the log and the position stay", FILES,
-         edits=True)
+@command("load [FILE]", "starts the machine with an ELF, or with the present one built anew; the log stays", FILES, edits=True)
 def load(session: Session, words: list[str]) -> None:
     name = words[0] if words else session.driver.image.name
     session.tell(f"{counted(reloading.load(session, name), 'word')} of the image changed by {name}")

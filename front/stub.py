@@ -8,7 +8,7 @@ from typing import Callable, Optional, Sequence
 
 from . import elf, listening, loading, memory, monitor, places, saved, target
 from .arguments import parse
-from .errors import Problem
+from .errors import Interrupted, Problem
 from .limits import RAM, ROM
 from .motion import TRAP, Motion
 from .rsp import PACKET_BYTES, Link
@@ -91,8 +91,14 @@ class Stub:
         begin = next((begin for begin in ANSWERS if packet.startswith(begin)), None)
         if begin is None:
             return NOT_KNOWN
+        self._motion.interrupts.begin()
         try:
             return ANSWERS[begin](self, packet[len(begin):])
+        except Interrupted:
+            # Where the run was not made yet it can't be shown at once.
+            self._driver.goto(min(self._driver.position, self._driver.made))
+            self._tell(f"interrupted; at position {self._driver.position:,}")
+            return FAILED
         except Problem as problem:
             self._tell(str(problem))
             return FAILED
@@ -212,8 +218,11 @@ class Stub:
         stops = self._motion.stops
         stops.breakpoints = {address for _, address in self._breakpoints}
         plain = {address for (_, address), expressions in self._breakpoints.items() if not expressions}
-        stops.conditions = {address: [it for kind in (CODE, CODE_IN_HARDWARE) for it in self._breakpoints.get((kind, address), [])]
-                            for address in stops.breakpoints - plain}
+        conditions: dict[int, list[bytes]] = {}
+        for (_, address), expressions in self._breakpoints.items():
+            if address not in plain:
+                conditions.setdefault(address, []).extend(expressions)
+        stops.conditions = conditions
 
     def _watch(self, address: int, size: int) -> Watch:
         """A watch at a virtual address. Where that leads nowhere now it is watched where it led before."""

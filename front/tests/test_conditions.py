@@ -32,7 +32,8 @@ class Expressions(unittest.TestCase):
         # As C has it: a quotient goes towards 0, a remainder has the sign of what is divided.
         for first, operation, second, wanted in (
                 (5, ADD, 7, 12), (5, SUB, 7, -2), (-5, MUL, 7, -35), (-7, DIV, 2, -3), (7, DIV, -2, -3), (-7, REST, 2, -1),
-                (7, REST, -2, 1), (-2, DIV_U, 1 << 63, 1), (7, REST_U, 4, 3), (1, LSH, 4, 16), (-16, RSH, 2, -4), (-1, RSH, 99, -1),
+                (7, REST, -2, 1), (-2, DIV_U, 1 << 63, 1), (7, REST_U, 4, 3), (1, LSH, 4, 16), (-16, RSH, 2, -4),
+                (-1, RSH, 99, -1),
                 (-1, RSH_U, 60, 15), (1, LSH, 64, 0), (12, AND, 10, 8), (12, OR, 10, 14), (12, XOR, 10, 6), (3, EQUAL, 3, 1),
                 (-1, LESS, 0, 1), (-1, LESS_U, 0, 0), (0, LESS_U, -1, 1), (1 << 63, SUB, 1, (1 << 63) - 1)):
             self.assertEqual(self.value(number(first), number(second), bytes((operation,))), wanted, (first, operation, second))
@@ -40,13 +41,15 @@ class Expressions(unittest.TestCase):
     def test_one_number(self) -> None:
         for code, wanted in (
                 (number(5) + bytes((NOT,)), 0), (number(0) + bytes((NOT,)), 1), (number(5) + bytes((INVERT,)), -6),
-                (b"\x22\xff\x16\x08", -1), (b"\x22\xff\x2a\x07", 127), (b"\x23\x80\x00", 0x8000), (b"\x24\x80\x00\x00\x00\x16\x20", -1 << 31),
+                (b"\x22\xff\x16\x08", -1), (b"\x22\xff\x2a\x07", 127), (b"\x23\x80\x00", 0x8000),
+                (b"\x24\x80\x00\x00\x00\x16\x20", -1 << 31),
                 (POSITION, 40_024)):
             self.assertEqual(self.value(code), wanted, code)
 
     def test_the_stack(self) -> None:
         one, two, three = number(1), number(2), number(3)
-        for code, wanted in ((one + two + b"\x2b", 1), (one + two + b"\x29", 1), (one + two + b"\x28\x02", 4), (one + two + b"\x32\x01", 1),
+        for code, wanted in ((one + two + b"\x2b", 1), (one + two + b"\x29", 1), (one + two + b"\x28\x02", 4),
+                             (one + two + b"\x32\x01", 1),
                              (one + two + three + b"\x33", 2), (one + two + three + b"\x33\x29", 1)):
             self.assertEqual(self.value(code), wanted, code)
 
@@ -57,9 +60,11 @@ class Expressions(unittest.TestCase):
 
     def test_what_has_no_value(self) -> None:
         for code, why in (
-                (number(1) + number(0) + bytes((DIV,)), "Division by zero"), (number(1) + number(0) + bytes((REST_U,)), "Division by zero"),
+                (number(1) + number(0) + bytes((DIV,)), "Division by zero"),
+                (number(1) + number(0) + bytes((REST_U,)), "Division by zero"),
                 (bytes((ADD,)), "more from its stack"), (b"\x32\x05", "more from its stack"), (b"\x22", "ends too early"),
-                (b"", "more from its stack"), (b"\x21\x00\x00", "too long"), (b"\x28", "more from its stack"), (b"\x01", "operation 0x01"),
+                (b"", "more from its stack"), (b"\x21\x00\x00", "too long"), (b"\x28", "more from its stack"),
+                (b"\x01", "operation 0x01"),
                 (number(1) + b"\x28\x21\x00\x09", "too large a stack"), (b"\x26\xff\xff", "no register 65535"),
                 (number(0xBFE0_0000) + b"\x19", "Cannot access memory at address 0xbfe00000")):
             with self.assertRaisesRegex(Failed, why):
@@ -85,13 +90,16 @@ class Hits(unittest.TestCase):
 
             def holds(position: int) -> bool:
                 state, memory = seen[position], agent.signed(stored[position][place], 32)
-                of_address = {addresses[0]: True, addresses[1]: agent.signed(state.general[9], 32) == wanted, addresses[2]: memory == wanted,
-                              addresses[3]: memory == wanted or position % 2 == 1, addresses[4]: position % 2 == 0 and wanted < 4}
+                of_address = {
+                    addresses[0]: True, addresses[1]: agent.signed(state.general[9], 32) == wanted,
+                    addresses[2]: memory == wanted, addresses[3]: memory == wanted or position % 2 == 1,
+                    addresses[4]: position % 2 == 0 and wanted < 4}
                 return of_address.get(state.pc, False)
 
             even = POSITION + number(1) + bytes((AND, NOT)) + END_OF if wanted < 4 else number(0) + END_OF
-            having: dict[int, list[bytes]] = {addresses[0]: [], addresses[4]: [even], addresses[1]: [of_register], addresses[2]: [of_memory],
-                      addresses[3]: [of_memory, odd]}
+            having: dict[int, list[bytes]] = {
+                addresses[0]: [], addresses[4]: [even], addresses[1]: [of_register], addresses[2]: [of_memory],
+                addresses[3]: [of_memory, odd]}
             if len(having) < 5:
                 continue  # the word at reset is one of the four
             tried += 1
@@ -102,7 +110,8 @@ class Hits(unittest.TestCase):
                 for begin in [0, 1, *source.sample(range(END - 40), 2)]:
                     driver.goto(begin)
                     limit = END - 1 - begin
-                    self.assertEqual(conditions.next_hit(driver, chosen, having, limit), next((it for it in mine if it > begin), None))
+                    self.assertEqual(conditions.next_hit(driver, chosen, having, limit),
+                                     next((it for it in mine if it > begin), None))
                     lowest = source.randrange(begin + 1)
                     self.assertEqual(conditions.last_hit(driver, chosen, having, lowest),
                                      next((it for it in reversed(mine) if lowest <= it < begin), None))

@@ -6,7 +6,6 @@ run."""
 from __future__ import annotations
 
 import os
-import re
 import shutil
 import signal
 import subprocess
@@ -19,7 +18,6 @@ from typing import Sequence
 from front.tests import debugger
 from front.tests.debugger import batch
 from front.tests.support import needs_erase
-from front.tests.terminal import Terminal
 
 POSITION = 'printf "at %d\\n", $position'
 
@@ -73,8 +71,10 @@ class Login(GdbTest):
 
     def test_conditions_are_of_the_stub(self) -> None:
         """The positions are those of gdb's own evaluation."""
-        commands = ["list main", "break send if c == 10 && $position > 100000", "break 48 if session.length % 2 == 1", "break 53 if session.length < 0",
-                    "tbreak print if 1 / session.length > 0", *["continue", POSITION] * 6, *["reverse-continue", POSITION] * 5, "info breakpoints"]
+        commands = ["list main", "break send if c == 10 && $position > 100000", "break 48 if session.length % 2 == 1",
+                    "break 53 if session.length < 0",
+                    "tbreak print if 1 / session.length > 0", *["continue", POSITION] * 6,
+                    *["reverse-continue", POSITION] * 5, "info breakpoints"]
         target = self.batch(*commands)
         host = self.batch("set breakpoint condition-evaluation host", *commands)
         stops = [line for line in target if line.startswith("at ")]
@@ -145,9 +145,11 @@ class Login(GdbTest):
                    "0x80001004 <session+0x4>: 0x726f7461  |ator|")
 
     def test_a_wrong_word_gets_one_line(self) -> None:
-        lines = self.batch("starti 60,000", "wb goto 40,024", POSITION, "wb del 1,2", "wb erase 20,000 30,0", "wb goto", "wb goto nothing",
-                           "wb help goto", "wb writer session", "wb writer &session.length", "wb mem p:0x1000 1", "wb mem p:&session 1",
-                           "wb mem 0xc0000000 1", "wb mem 0x1000 1", "wb frob")
+        lines = self.batch("starti 60,000", "wb goto 40,024", POSITION, "wb del 1,2", "wb erase 20,000 30,0", "wb goto",
+                           "wb goto nothing", "wb help goto", "wb writer session", "wb writer &session.length",
+                           "wb mem p:0x1000 1", "wb mem p:&session 1",
+                           "wb mem 0xc0000000 1", "wb mem 0x1000 1", "wb frob", "wb goto -5",
+                           "wb writer $sp-0x1000+0x3")
         self.assertEqual(lines[4:-1], [
             "step 40,024, read_line+0x30: sw r3, 32(r2)", "#0  0xbfc00258 in read_line () at login.c:44",
             "44\t            session.length--;", "at 40024",
@@ -161,9 +163,11 @@ class Login(GdbTest):
             "ROM 256 KiB from 0xbfc00000 (physical 0x1fc00000)",
             "0xc0000000 leads nowhere at this position: its translation entry is missing or not valid. It leads to memory at "
             "positions where an entry maps its page 0xc0000",
-            "0x00001000 leads nowhere at this position: no translation entry has its page. It leads to memory at positions where "
-            "an entry maps its page 0x00001, mostly in user mode. The word with that physical address is at 0x80001000, which is "
-            "p:0x1000", "there is no command frob; `help` lists them"])
+            "0x00001000 leads nowhere at this position: no translation entry has its page. It leads to memory at positions "
+            "where an entry maps its page 0x00001, mostly in user mode. The word with that physical address is at 0x80001000, "
+            "which is p:0x1000", "there is no command frob; `help` lists them",
+            "-5 is no number and no name; `help numbers` says what may stand there",
+            "0x8000ffd3 is no multiple of 4; the word that it is in is at 0x8000ffd0"])
 
     def test_an_expression_of_a_far_step(self) -> None:
         needs_erase(self)
@@ -192,109 +196,6 @@ class Login(GdbTest):
     def test_start_and_kill(self) -> None:
         lines = self.batch("run 40000", "start", POSITION, "kill", "run", POSITION)
         self.holds(lines, "Sorry, operatorsesame.", "at 112", "[Inferior 1 (Remote target) killed]", "at 110960")
-
-
-class Typed(unittest.TestCase):
-    """gdb on a terminal."""
-
-    def gdb(self, *options: str) -> Terminal:
-        terminal = Terminal("gdb", *options, *debugger.PLAIN)
-        terminal.until(b"(0) ")
-        return terminal
-
-    def type(self, terminal: Terminal, *lines: str) -> None:
-        for line in lines:
-            terminal.type(line.encode() + b"\n")
-
-    def test_commands_of_a_breakpoint_that_go_on(self) -> None:
-        # read_line is entered after the 10 characters of the prompt, and again after the answer.
-        terminal = self.gdb("--log", "examples/login/log", "examples/login/login.elf")
-        self.type(terminal, "break read_line", "commands", "silent", 'printf "at %d\\n", $position', "continue", "end", "continue")
-        shown = terminal.until(b"(110,960) ")
-        self.assertEqual(re.findall(rb"at (\d+)\r", shown), [b"368", b"110947"])
-        self.type(terminal, "starti 40,024", "starti")
-        terminal.until(b"(40,024) ")
-        terminal.until(b"(0) ")
-        self.type(terminal, "quit")
-        self.assertEqual(terminal.end(), 0)
-
-    def test_a_run_with_such_commands_is_ended(self) -> None:
-        terminal = self.gdb("--log", "examples/driver/log", "examples/driver/boot.s")
-        self.type(terminal, "break *0xbfc00180", "commands", "silent", "continue", "end", "continue")
-        terminal.until(b"[serial line 3]")
-        terminal.press(b"\x03", b"SIGINT")
-        self.type(terminal, "print 6 * 7", "quit")
-        terminal.until(b"= 42")
-        self.assertEqual(terminal.end(), 0)
-
-    def test_what_is_not_saved_is_told_before_gdb_quits(self) -> None:
-        terminal = self.gdb("examples/login/login.elf")
-        self.type(terminal, "wb add 1,000 0 65", "quit")
-        shown = terminal.until(b"`quit` again leaves without it.")
-        self.assertIn(b"not saved: the log (wb save-log FILE)", shown)
-        self.type(terminal, "quit")
-        self.assertEqual(terminal.end(), 0)
-
-
-class Kernel(GdbTest):
-    """A kernel in RAM, built by gcc. The third word of its loop counts in r8, by one in each turn of 4 steps."""
-
-    COMPILER = "mipsel-linux-gnu-gcc"
-    SOURCE = """
-            .set noreorder
-            .globl start
-            .ent start
-    start:  lui $9, %hi(count)
-    loop:   addiu $8, $8, STEP
-            sw $8, %lo(count)($9)
-            b loop
-            nop
-            .end start
-            .data
-            .word 1, 2, 3
-            .bss
-    count:  .word 0
-            .space 16
-    """
-
-    def setUp(self) -> None:
-        if not shutil.which(self.COMPILER):
-            self.skipTest(f"{self.COMPILER} is not installed")
-        folder = tempfile.TemporaryDirectory()
-        self.addCleanup(folder.cleanup)
-        self.folder = Path(folder.name)
-        self.elf = str(self.folder / "kernel.elf")
-        self.build(1)
-
-    def build(self, step: int) -> None:
-        source = self.folder / "kernel.S"
-        source.write_text(self.SOURCE.replace("STEP", str(step)))
-        subprocess.run([self.COMPILER, "-march=r3000", "-mfp32", "-EL", "-mno-abicalls", "-fno-pic", "-g", "-nostdlib", "-static",
-                        "-Wl,-Ttext,0x80010000,-e,start,--build-id=none", "-o", self.elf, str(source)], check=True)
-
-    def gdb(self, *commands: str) -> list[str]:
-        line = [debugger.WB, "gdb", self.elf, *debugger.PLAIN, "-batch", *(word for command in commands for word in ("-ex", command))]
-        return debugger.run(line).splitlines()
-
-    def test_the_jump_at_reset_has_a_name(self) -> None:
-        shown = "\n".join(self.gdb("stepi", f"file {self.elf}", "stepi", "info all-registers"))
-        self.assertEqual(shown.count("a jump to its entry 0x80010000 was put there"), 1)
-        self.assertEqual(re.findall(r"0xbfc0000\w in reset", shown), [f"0xbfc0000{at} in reset" for at in "048"])
-        self.assertNotIn("find the start of the function", shown)
-        self.assertIn("\n f31: 0x00000000 flt: 0", shown)
-        self.assertIn("\nposition: 0x2\n", shown)
-
-    def test_build_and_load(self) -> None:
-        terminal = Terminal("gdb", self.elf, *debugger.PLAIN)
-        terminal.until(b"(0) ")
-        terminal.type(b"starti 46\nprint $r8\n")  # the fourth jump's step, the one before the loop, and 40 steps of it
-        terminal.until(b"$1 = 11\r")
-        self.build(3)
-        terminal.type(f"file {self.elf}\nload\n".encode())
-        self.assertIn(b"1 word of the image changed", terminal.until(b"(0) "))
-        terminal.type(b"starti 46\nprint $r8\nquit\n")
-        terminal.until(b"$2 = 33\r")
-        self.assertEqual(terminal.end(), 0)
 
 
 class Driver(GdbTest):

@@ -14,12 +14,14 @@ from front.tests.support import ROOT
 from front.tests.wire import packed
 
 PATIENCE = 30
+STUB = [str(ROOT / "bin/wb"), "stub", "--listen"]
+IMAGE = str(ROOT / "examples/echo/boot.s")
 
 
 class Listening(unittest.TestCase):
     def setUp(self) -> None:
-        self.stub = subprocess.Popen([ROOT / "bin/wb", "stub", "--listen", ":0", ROOT / "examples/echo/boot.s"], stdin=subprocess.DEVNULL,
-                                     stderr=subprocess.PIPE, encoding="utf-8", start_new_session=True)
+        self.stub = subprocess.Popen([*STUB, ":0", IMAGE], stdin=subprocess.DEVNULL, stderr=subprocess.PIPE, encoding="utf-8",
+                                     start_new_session=True)
         self.addCleanup(self.end)
         found = re.fullmatch(r"bin/wb: waits for a debugger at 127\.0\.0\.1:(\d+); Ctrl-C ends this\n", self.said())
         assert found
@@ -82,8 +84,7 @@ class Listening(unittest.TestCase):
 
     def test_a_port_that_is_taken(self) -> None:
         where = f"127.0.0.1:{self.address[1]}"
-        done = subprocess.run([ROOT / "bin/wb", "stub", "--listen", where, ROOT / "examples/echo/boot.s"], stdin=subprocess.DEVNULL,
-                              stderr=subprocess.PIPE, encoding="utf-8")
+        done = subprocess.run([*STUB, where, IMAGE], stdin=subprocess.DEVNULL, stderr=subprocess.PIPE, encoding="utf-8")
         self.assertEqual((done.returncode, done.stderr), (2, f"bin/wb: {where} can't be listened at: Address already in use\n"))
 
     def test_addresses(self) -> None:

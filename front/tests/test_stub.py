@@ -104,7 +104,8 @@ class Memory(StubTest):
 
     def test_a_write_is_whole_or_not_at_all(self) -> None:
         wire = self.wire([0])
-        self.refusals(wire, ("Ma07ffffc,8:0102030405060708", "0xa0800000 leads to the physical address 0x00800000, where no memory is"))
+        self.refusals(wire, ("Ma07ffffc,8:0102030405060708",
+                             "0xa0800000 leads to the physical address 0x00800000, where no memory is"))
         self.dialog(wire, ("ma07ffffc,4", "00000000"), ("Xbfc00000,0:", "OK"))
 
 
@@ -228,7 +229,8 @@ class Runs(StubTest):
         self.refusals(wire, ("Z3,a0000100,4", "reads can't be watched"), ("Z4,a0000100,4", "reads can't be watched"),
                       ("Z0,bfc01002,4", "a multiple of 4"), ("Z0,100000000,4", "of 32 bits"),
                       ("Z2,bfe00000,4", "0xbfe00000 leads to the physical address 0x1fe00000, where no memory is"),
-                      ("Z2,400000,4", "it can't be watched yet: 0x00400000 leads nowhere at this position: no translation entry has its page. "
+                      ("Z2,400000,4", "it can't be watched yet: 0x00400000 leads nowhere at this position: "
+                       "no translation entry has its page. "
                        "It leads to memory at positions where an entry maps its page 0x00400, mostly in user mode"),
                       ("Z2,a07ffffe,4", "no memory stands at 0xa0800001"),
                       ("Z2,a0000000,101", "at most 256 bytes"), ("Z2,a0000ffe,4", "all in one page"))
@@ -313,7 +315,8 @@ class Hostile(StubTest):
         begins = [begin.decode() for begin in ANSWERS if begin not in (b"D", b"k")]
         # Without those that write files, and moves to steps as far away as an address is.
         names = [it for it in COMMANDS if not it.startswith(("save", "load", "goto", "step", "back", "visit", "wb"))]
-        words = [*names, "goto 1,000", "step 1", "back 1,", "visit 0xbfc00000 9", "wb pos", *"0 1 7 0xbfc00000 p:0x0 p:0x1fc00004 -1 1, 1,000 99999999999999999999 pc pos $sp 'a' 'b\\r' ' \" \n \0 \xff ;".split(" ")]
+        numbers = ("0 1 7 0xbfc00000 p:0x0 p:0x1fc00004 -1 1, 1,000 99999999999999999999 pc pos $sp 'a' 'b\\r' ' \" \n \0 \xff ;")
+        words = [*names, "goto 1,000", "step 1", "back 1,", "visit 0xbfc00000 9", "wb pos", *numbers.split(" ")]
         wire.command("patch p:0x100 7")
         end = time.monotonic() + FUZZED
         while time.monotonic() < end:

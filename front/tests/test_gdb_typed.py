@@ -1,0 +1,134 @@
+"""gdb on a terminal, and on a kernel that is built anew. Positions and values were counted by hand."""
+from __future__ import annotations
+
+import re
+import shutil
+import subprocess
+import tempfile
+import unittest
+from pathlib import Path
+
+from front.tests import debugger
+from front.tests.terminal import Terminal
+
+
+def setUpModule() -> None:
+    debugger.needed()
+
+
+class Typed(unittest.TestCase):
+    """gdb on a terminal."""
+
+    def gdb(self, *options: str) -> Terminal:
+        terminal = Terminal("gdb", *options, *debugger.PLAIN)
+        terminal.until(b"(0) ")
+        return terminal
+
+    def type(self, terminal: Terminal, *lines: str) -> None:
+        for line in lines:
+            terminal.type(line.encode() + b"\n")
+
+    def test_commands_of_a_breakpoint_that_go_on(self) -> None:
+        # read_line is entered after the 10 characters of the prompt, and again after the answer.
+        terminal = self.gdb("--log", "examples/login/log", "examples/login/login.elf")
+        self.type(terminal, "break read_line", "commands", "silent", 'printf "at %d\\n", $position', "continue", "end",
+                  "continue")
+        shown = terminal.until(b"(110,960) ")
+        self.assertEqual(re.findall(rb"at (\d+)\r", shown), [b"368", b"110947"])
+        self.type(terminal, "starti 40,024", "starti")
+        terminal.until(b"(40,024) ")
+        terminal.until(b"(0) ")
+        self.type(terminal, "quit")
+        self.assertEqual(terminal.end(), 0)
+
+    def test_a_run_with_such_commands_is_ended(self) -> None:
+        terminal = self.gdb("--log", "examples/driver/log", "examples/driver/boot.s")
+        self.type(terminal, "break *0xbfc00180", "commands", "silent", "continue", "end", "continue")
+        terminal.until(b"[serial line 3]")
+        terminal.press(b"\x03", b"SIGINT")
+        self.type(terminal, "print 6 * 7", "quit")
+        terminal.until(b"= 42")
+        self.assertEqual(terminal.end(), 0)
+
+    def test_an_answer_that_takes_long_is_ended(self) -> None:
+        terminal = self.gdb("--log", "examples/driver/log", "examples/driver/boot.s")
+        for line in "wb goto 20,000,000,000", "starti 20,000,000,000":
+            self.type(terminal, "wb add 5 0 65", line)
+            terminal.until(line.encode())
+            terminal.press(b"\x03", b"Quit" if line.startswith("wb") else b"interrupted")
+        self.type(terminal, "starti 9", "wb log 0 2", "print 6 * 7", "quit", "quit")
+        self.assertEqual(re.findall(rb"step 5, line 0, 0x41", terminal.until(b"= 42")), [b"step 5, line 0, 0x41"] * 2)
+        self.assertEqual(terminal.end(), 0)
+
+    def test_what_is_not_saved_is_told_before_gdb_quits(self) -> None:
+        terminal = self.gdb("examples/login/login.elf")
+        self.type(terminal, "wb add 1,000 0 65", "quit")
+        shown = terminal.until(b"`quit` again leaves without it.")
+        self.assertIn(b"not saved: the log (wb save-log FILE)", shown)
+        self.type(terminal, "quit")
+        self.assertEqual(terminal.end(), 0)
+
+
+class Kernel(unittest.TestCase):
+    """A kernel in RAM, built by gcc. The third word of its loop counts in r8, by one in each turn of 4 steps."""
+
+    COMPILER = "mipsel-linux-gnu-gcc"
+    SOURCE = """
+            .set noreorder
+            .globl start
+            .ent start
+    start:  lui $9, %hi(count)
+    loop:   addiu $8, $8, STEP
+            sw $8, %lo(count)($9)
+            b loop
+            nop
+            .end start
+            .data
+            .word 1, 2, 3
+            .bss
+    count:  .word 0
+            .space 16
+    """
+
+    def setUp(self) -> None:
+        if not shutil.which(self.COMPILER):
+            self.skipTest(f"{self.COMPILER} is not installed")
+        folder = tempfile.TemporaryDirectory()
+        self.addCleanup(folder.cleanup)
+        self.folder = Path(folder.name)
+        self.elf = str(self.folder / "kernel.elf")
+        self.build(1)
+
+    def build(self, step: int) -> None:
+        source = self.folder / "kernel.S"
+        source.write_text(self.SOURCE.replace("STEP", str(step)))
+        subprocess.run([self.COMPILER, "-march=r3000", "-mfp32", "-EL", "-mno-abicalls", "-fno-pic", "-g", "-nostdlib",
+                        "-static", "-Wl,-Ttext,0x80010000,-e,start,--build-id=none", "-o", self.elf, str(source)], check=True)
+
+    def gdb(self, *commands: str) -> list[str]:
+        words = [word for command in commands for word in ("-ex", command)]
+        return debugger.run([debugger.WB, "gdb", self.elf, *debugger.PLAIN, "-batch", *words]).splitlines()
+
+    def test_the_jump_at_reset_has_a_name(self) -> None:
+        shown = "\n".join(self.gdb("stepi", f"file {self.elf}", "stepi", "info all-registers"))
+        self.assertEqual(shown.count("a jump to its entry 0x80010000 was put there"), 1)
+        self.assertEqual(re.findall(r"0xbfc0000\w in reset", shown), [f"0xbfc0000{at} in reset" for at in "048"])
+        self.assertNotIn("find the start of the function", shown)
+        self.assertIn("\n f31: 0x00000000 flt: 0", shown)
+        self.assertIn("\nposition: 0x2\n", shown)
+
+    def test_build_and_load(self) -> None:
+        terminal = Terminal("gdb", self.elf, *debugger.PLAIN)
+        terminal.until(b"(0) ")
+        terminal.type(b"starti 46\nprint $r8\n")  # the fourth jump's step, the one before the loop, and 40 steps of it
+        terminal.until(b"$1 = 11\r")
+        self.build(3)
+        terminal.type(f"file {self.elf}\nload\n".encode())
+        self.assertIn(b"1 word of the image changed", terminal.until(b"(0) "))
+        terminal.type(b"starti 46\nprint $r8\nquit\n")
+        terminal.until(b"$2 = 33\r")
+        self.assertEqual(terminal.end(), 0)
+
+
+if __name__ == "__main__":
+    unittest.main()
