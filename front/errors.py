@@ -1,7 +1,6 @@
 """What can go wrong, each with a message for the user."""
 from __future__ import annotations
 
-import traceback
 from pathlib import Path
 
 
@@ -31,9 +30,12 @@ class Unexpected(Problem):
     """What no module foresaw, as one line with the place where it came up."""
 
     def __init__(self, error: Exception) -> None:
-        place = traceback.extract_tb(error.__traceback__)[-1]
+        trace = error.__traceback__
+        while trace and trace.tb_next:
+            trace = trace.tb_next
+        where = f", at {Path(trace.tb_frame.f_code.co_filename).name}:{trace.tb_lineno}" if trace else ""
         what = " ".join(f"{type(error).__name__} {error}".split())
-        super().__init__(f"a fault of bin/wb itself, at {Path(place.filename).name}:{place.lineno}: {what[:300]}", 70)
+        super().__init__(f"a fault of bin/wb itself{where}: {what[:300]}", 70)
 
 
 class Interrupted(Exception):

@@ -8,7 +8,6 @@ import random
 import re
 import shutil
 import subprocess
-import sys
 import tempfile
 import unittest
 from concurrent.futures import ThreadPoolExecutor
@@ -19,6 +18,7 @@ from unittest import mock
 from front import cli, image_command
 from front.driver import Driver
 from front.errors import Problem
+from front.tests.outside import WB
 from front.tests.support import ROOT, rom
 
 SEED = 55
@@ -37,7 +37,7 @@ SHELL_LINES = ["goto {}", "mem {}", "break {}", "continue 9", "patch {} {}", "ty
 
 def run(arguments: Sequence[str], content: bytes = b"", folder: Path = ROOT, after: str = "") -> subprocess.CompletedProcess[bytes]:
     """What the front ends say of an argument line. `after` is what the system's shell has after it."""
-    words = [sys.executable, "-B", str(ROOT / "front"), *arguments]
+    words = [WB, *arguments]
     if after:
         words = ["sh", "-c", f'exec "$@" {after}', "sh", *words]
     return subprocess.run([os.fsencode(it) for it in words], input=content, capture_output=True, cwd=folder, timeout=TIMEOUT)
