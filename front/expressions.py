@@ -66,8 +66,9 @@ def _refuse_types(text: str, symbols: Symbols) -> None:
         return
     found = symbols.at(address)
     size = f" of {found[0].size:,} bytes" if found and found[0].size else ""
-    raise Problem(f"{shortened(text)} is C, whose types the shell does not know. {part[1]} is at {address:#010x}{size}: name the part by its "
-                  f"distance, as in {part[1]}+4, and for `watch` its size after that. gdb shows the address: print &{text.lstrip('&*')}")
+    raise Problem(f"{shortened(text)} is C, whose types the shell does not know. {part[1]} is at {address:#010x}{size}: "
+                  f"name the part by its distance, as in {part[1]}+4, and for `watch` its size after that. "
+                  f"gdb shows the address: print &{text.lstrip('&*')}")
 
 
 @dataclass(frozen=True)

@@ -7,13 +7,14 @@ from typing import Optional
 from .errors import Problem
 
 # Names of gdb's for commands of the shell.
-_NAMES = {"stepi": "step", "reverse-stepi": "back", "reverse-step": "back", "hbreak": "break", "advance": "visit", "disassemble": "dis",
-          "cont": "continue", "fg": "continue", "exit": "quit"}
+_NAMES = {"stepi": "step", "reverse-stepi": "back", "reverse-step": "back", "hbreak": "break", "advance": "visit",
+          "disassemble": "dis", "cont": "continue", "fg": "continue", "exit": "quit"}
 
 _CALLS = "the shell goes by instructions: `visit pc+8` at a call goes on to where it returns, and `step` goes into it"
 _RETURNS = "`visit ra` goes on to where the function returns to, as long as ra holds that"
 _STACK = "calls can't be told from the stack alone: `print ra` shows where the function returns to, and `bin/wb gdb` has `bt`"
-_SOURCE = "the shell knows no source lines and no types: `symbols`, `dis` and `mem` show what it knows, and `bin/wb gdb` has the rest"
+_SOURCE = ("the shell knows no source lines and no types: `symbols`, `dis` and `mem` show what it knows, "
+           "and `bin/wb gdb` has the rest")
 _START = "`goto 0` goes to reset, and `continue` goes on from there"
 _GDB = "the shell has no such stops: `bin/wb gdb` has them"
 _FIXED = "registers and memory follow from the image and the log: `patch A W` changes what the machine starts with"
@@ -33,7 +34,8 @@ _INFO = {"registers": "regs", "all-registers": "regs", "breakpoints": "stops", "
 _EXAMINE = re.compile(r"x\s*/\s*(\d{0,9})([a-z]*)\s+(\S.*)")
 _WORDS = {"b": (1, 4), "h": (1, 2), "w": (1, 1), "g": (2, 1)}  # how many words a unit of memory is
 _PRINT = re.compile(r"(?:p|print)\s*/\s*[a-z]+\s+(\S.*)")
-_CAST = re.compile(r"\*\s*\(\s*(?:volatile\s+|const\s+)*((?:unsigned|signed)?\s*(?:char|short|int|long|)|u?int(?:8|16|32)_t)\s*\*\s*\)\s*(\S+)")
+_CAST = re.compile(r"\*\s*\(\s*(?:volatile\s+|const\s+)*"
+                   r"((?:unsigned|signed)?\s*(?:char|short|int|long|)|u?int(?:8|16|32)_t)\s*\*\s*\)\s*(\S+)")
 _SIZES = (("char", 1), ("int8", 1), ("short", 2), ("int16", 2))
 
 

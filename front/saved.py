@@ -31,7 +31,7 @@ _WIDTH = 120
 
 @dataclass(frozen=True)
 class Origin:
-    """What a run was opened with: the name of its image, options with their values, and the content of each file that these name."""
+    """What a run was opened with: the name of its image, options with their values, and the files that these name."""
 
     image: str
     options: list[tuple[str, str]]

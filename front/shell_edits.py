@@ -47,7 +47,8 @@ def arrive(session: Session, words: list[str]) -> None:
     text = " ".join([*numbers[:2], words[2], *numbers[2:], *(it for it in words[3:] if it == "framing")])
     events = logs.make([text], "arrive")
     session.driver.values([it.command for it in events])
-    session.tell(f"{counted(len(events), 'byte')} from step {events[0].time:,} to step {events[-1].time:,}" if events else "no byte")
+    until = f" from step {events[0].time:,} to step {events[-1].time:,}" if events else ""
+    session.tell(f"{counted(len(events), 'byte')}{until}")
 
 
 @command("wire T K V", "gives external line K the level V in step T", PAST, edits=True)

@@ -70,8 +70,8 @@ class Watch:
 
 @dataclass
 class Stops:
-    """Where a run is to stop: at addresses of instructions, some with conditions, and where bytes are changed. One that goes on stops
-    at position `end` at the latest. Without that it stops after `idle` steps in which it does nothing, if that is not 0."""
+    """Where a run is to stop: at addresses of instructions, some with conditions, and where bytes are changed. One that goes on
+    stops at position `end` at the latest. Without that it stops after `idle` steps in which it does nothing, if that is not 0."""
 
     breakpoints: set[int] = field(default_factory=set)
     watches: set[Watch] = field(default_factory=set)

@@ -55,9 +55,11 @@ class Visits:
 
     def cut(self, position: int) -> None:
         """Forgets what is known above a position."""
-        for address, stretches in self._stretches.items():
-            self._stretches[address] = [_Stretch(it.low, min(it.high, position), [visit for visit in it.visits if visit <= position])
-                                        for it in stretches if it.low < position]
+        for stretches in self._stretches.values():
+            stretches[:] = [it for it in stretches if it.low < position]
+            for it in stretches:
+                it.high = min(it.high, position)
+                it.visits = [visit for visit in it.visits if visit <= position]
 
     def forget(self) -> None:
         self._stretches.clear()

@@ -15,8 +15,8 @@ from front.tests.scripts import shell
 from front.tests.support import ROOT
 
 LOGIN = "examples/login/login.elf"
-LINES = ("goto 90,000", "type 'ab' 700", "del 2", "move 0 19,000", "patch main+4 0x24040001", "add pos+5 1 'z'", "undo", "ferr 99,000 0 1",
-         "wire 50 1 1", "break read_line", "watch session+8 1", "delete 1", "watch session+0x20", "break 0xbfc00200", "idle 7,000,000",
+LINES = ("goto 90,000", "type 'ab' 700", "del 2", "move 0 19,000", "patch main+4 0x24040001", "add pos+5 1 'z'", "undo",
+         "ferr 99,000 0 1", "wire 50 1 1", "break read_line", "watch session+8 1", "delete 1", "watch session+0x20", "break 0xbfc00200", "idle 7,000,000",
          "goto 55,555")
 # What tells one session from another.
 SHOWN = ("log 0 99", "stops", "pos", "idle", "mem 0xbfc00350 4", "console", "regs", "writer session+8")
@@ -157,12 +157,14 @@ class Saved(unittest.TestCase):
         self.assertIn("<svg", Path(picture).read_text())
 
     def test_edits_as_lines(self) -> None:
-        for made, lines in ((["add 5 0 65", "add 9 0 0x42", "add 13 0 67"], ["arrive 5 0 'ABC' 4"]), (["ferr 5 1 0"], ["arrive 5 1 '\\x00' framing"]),
+        for made, lines in ((["add 5 0 65", "add 9 0 0x42", "add 13 0 67"], ["arrive 5 0 'ABC' 4"]),
+                            (["ferr 5 1 0"], ["arrive 5 1 '\\x00' framing"]),
                             (["wire 5 1 0"], ["wire 5 1 0"]), (["add 5 0 65", "add 5 1 65"], ["add 5 0 65", "add 5 1 65"]),
                             (["add 5 0 65", "add 5 0 66"], ["arrive 5 0 'AB'"]), (["add 5 0 65", "del 3"], ["add 5 0 65", "del 3"]),
                             (["erase 5 9"], ["erase 5 9"]), (["patch 256 1"], ["wb patch 0x00000100 0x00000001"])):
             self.assertEqual(saved.lines_of_edit("typed", made), ["# typed", *lines])
-        opened = saved.Opened(None, None, ["# x", "arrive 5 0 'AB' 4", "goto 1,000", "wb patch 0x100 1", "break main"])  # type: ignore[arg-type]
+        lines = ["# x", "arrive 5 0 'AB' 4", "goto 1,000", "wb patch 0x100 1", "break main"]
+        opened = saved.Opened(None, None, lines)  # type: ignore[arg-type]
         self.assertEqual(opened.edits(), [Event(5, 0, 65).command, Event(9, 0, 66).command, "goto 1000", "patch 0x100 1"])
 
 

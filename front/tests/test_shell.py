@@ -260,8 +260,8 @@ class Scripts(unittest.TestCase):
 
     def test_numbers_of_many_digits(self) -> None:
         long = "9" * 5000
-        done = self.run_script(f"goto {long}", f"print 0x{'f' * 5000}", f"wb goto {long}", f"goto {long}+1", f"add {long} 0 0", "goto 0xffffffffffffffff",
-                               "x" * 5000, "goto 3", strict=False)
+        done = self.run_script(f"goto {long}", f"print 0x{'f' * 5000}", f"wb goto {long}", f"goto {long}+1", f"add {long} 0 0",
+                               "goto 0xffffffffffffffff", "x" * 5000, "goto 3", strict=False)
         self.assertEqual((done.returncode, done.stderr, done.stdout.splitlines()[-1][:7]), (0, "", "step 3,"))
         self.assertEqual(done.stdout.count("is too long for a number or a name"), 4)
         self.assertEqual(self.run_script("goto 0x10000000000000000", strict=False).stdout,
@@ -278,16 +278,17 @@ class Habits(unittest.TestCase):
                 ("watch -l *(unsigned short*)session", "watch session 2"), ("watch session+8 1", "watch session+8 1"),
                 ("info registers", "regs"), ("i r pc", "reg pc"), ("info b", "stops"), ("info symbol pc", "print pc"),
                 ("x/4wx 0x80001000", "mem 0x80001000 4"), ("x /2g sp", "mem sp 4"), ("x/9xb sp", "mem sp 3"), ("x/3h sp", "mem sp 2"),
-                ("x/8i $pc", "dis $pc 8"), ("x/s session", "mem session 4"), ("x sp 2", "x sp 2"), ("p $pc", "print $pc"),
-                ("p/x $pc", "print $pc"), ("p *main", "print [main]"), ("print *(char*)main", "print byte[main]"),
+                ("x/8i $pc", "dis $pc 8"), ("x/s session", "mem session 4"), ("x sp 2", "x sp 2"), ("p $pc", "p $pc"),
+                ("p/x $pc", "print $pc"), ("p *main", "p [main]"), ("print *(char*)main", "print byte[main]"),
                 ("stepi 2", "step 2"), ("monitor goto 5", "goto 5"), ("disassemble main", "dis main"), ("set 0 'x'", "set 0 'x'")):
-            self.assertEqual(translated(line).replace("p ", "print ", 1) if line[:2] == "p " else translated(line), wanted, line)
+            self.assertEqual(translated(line), wanted, line)
 
     def test_lines_that_have_none(self) -> None:
         talk = Talk("login", "login.elf", log=False)
         self.addCleanup(talk.driver.close)
         for line, said in (
-                ("watch session.length", "is C, whose types the shell does not know. session is at 0x80001000 of 36 bytes: .* print &session.length"),
+                ("watch session.length", "is C, whose types the shell does not know. session is at 0x80001000 of 36 bytes: .* print "
+                 "&session.length"),
                 ("watch session->user", "session\\+4, and for `watch` its size"), ("p session[3]", "session is at 0x80001000"),
                 ("bt", "`bin/wb gdb` has `bt`"), ("next", "`visit pc\\+8` at a call"), ("finish", "`visit ra`"), ("run", "`goto 0`"),
                 ("list", "no source lines"), ("info locals", "`info` of registers"), ("break login.c:42", "is a line"),

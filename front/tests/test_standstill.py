@@ -62,8 +62,8 @@ def devices_rom(source: random.Random) -> list[int]:
     begin = [0x3C08BFE0, 0x3C09BFE8, 0x3C0AA000, 0x24020020, 0xAD020000, 0x2402002C, 0xAD220028, ticks_on, 0xAD22002C,
              0x3C020000 | status >> 16, 0x34420000 | status & 0xFFFF, 0x40826000]
     program = [*begin, *(one(at) for at in range(count)), immediate(4, 0, 0, -count - 1), 0]
-    after = [0x401A7000, immediate(0x09, 26, 26, 4), 0x03400008, 0x42000010]
-    return program + [0] * (0x180 // 4 - len(program)) + source.choice(([], HANDLER, HANDLER[2:], after))
+    handlers: list[list[int]] = [[], HANDLER, HANDLER[2:], [0x401A7000, immediate(0x09, 26, 26, 4), 0x03400008, 0x42000010]]
+    return program + [0] * (0x180 // 4 - len(program)) + source.choice(handlers)
 
 
 class Stands(unittest.TestCase):
@@ -115,7 +115,8 @@ class Stands(unittest.TestCase):
                     self.assertEqual(self.states(driver, here + turns * turn, LOOKED_AT), near, seed)
             elif second:
                 for seconds in 1, 2, 5:
-                    self.assertEqual(self.states(driver, here + seconds * second, LOOKED_AT), self.states(driver, here, LOOKED_AT), seed)
+                    later = self.states(driver, here + seconds * second, LOOKED_AT)
+                    self.assertEqual(later, self.states(driver, here, LOOKED_AT), seed)
             driver.close()
         self.assertEqual(said, set(Standstill))
 
