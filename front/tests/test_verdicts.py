@@ -60,7 +60,7 @@ class Verdicts(unittest.TestCase):
             done = subprocess.run(["front/test", "debugging_page", "gdb"], cwd=copy, env=environment, capture_output=True, text=True)
         self.assertEqual(done.stdout.splitlines(), [
             "skipped: test_debugging_page, test_gdb: gdb-multiarch is not installed; on Debian: apt-get install gdb-multiarch",
-            "0 passed, 0 failed, 2 skipped"])
+            "2 passed, 0 failed, 2 skipped"])
         self.assertEqual((done.stderr, done.returncode), ("", 0))
 
 
