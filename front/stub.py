@@ -391,6 +391,8 @@ def main(arguments: Sequence[str]) -> int:
     """Serves one debugger on standard input and output, or debuggers at a port."""
     line = parse(arguments, {**OPTIONS, "--listen": "HOST:PORT"}, USAGE, HELP, (1,))
     whole, where = line.has("--through"), line.get("--listen")
+    if where is None and not (sys.stdin and sys.stdout):
+        raise Problem("a stub wants a debugger at standard input and output, or --listen HOST:PORT")
     with saved.opened(line) as found, loading.running(found.line) as driver:
         session = Session(driver, symbols_of(driver.image), origin=found.origin, saved_log=list(driver.log))
         open_session(session, found.commands)

@@ -87,6 +87,13 @@ class Listening(unittest.TestCase):
         done = subprocess.run([*STUB, where, IMAGE], stdin=subprocess.DEVNULL, stderr=subprocess.PIPE, encoding="utf-8")
         self.assertEqual((done.returncode, done.stderr), (2, f"bin/wb: {where} can't be listened at: Address already in use\n"))
 
+    def test_a_stub_without_a_debugger(self) -> None:
+        for closed in "<&-", ">&-":
+            line = ["sh", "-c", f'exec "$0" stub "$1" {closed}', str(ROOT / "bin/wb"), IMAGE]
+            done = subprocess.run(line, stdin=subprocess.DEVNULL, stderr=subprocess.PIPE, encoding="utf-8")
+            self.assertEqual((done.returncode, done.stderr),
+                             (2, "bin/wb: a stub wants a debugger at standard input and output, or --listen HOST:PORT\n"))
+
     def test_addresses(self) -> None:
         for where, wanted in (("1234", True), (":1234", True), ("localhost:0", True), ("[::1]:5", True), ("0.0.0.0:5", False),
                               ("example:5", False)):
