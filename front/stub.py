@@ -1,6 +1,8 @@
 """The remote serial protocol of gdb, over one run of the workbench."""
 from __future__ import annotations
 
+import fcntl
+import os
 import re
 import signal
 import sys
@@ -391,7 +393,7 @@ def main(arguments: Sequence[str]) -> int:
     """Serves one debugger on standard input and output, or debuggers at a port."""
     line = parse(arguments, {**OPTIONS, "--listen": "HOST:PORT"}, USAGE, HELP, (1,))
     whole, where = line.has("--through"), line.get("--listen")
-    if where is None and not (sys.stdin and sys.stdout):
+    if where is None and not (_is_open(0, os.O_RDONLY) and _is_open(1, os.O_WRONLY)):
         raise Problem("a stub wants a debugger at standard input and output, or --listen HOST:PORT")
     with saved.opened(line) as found, loading.running(found.line) as driver:
         session = Session(driver, symbols_of(driver.image), origin=found.origin, saved_log=list(driver.log))
@@ -404,6 +406,12 @@ def main(arguments: Sequence[str]) -> int:
             stub.show_progress()
         stub.serve()
     return 0
+
+
+def _is_open(descriptor: int, wanted: int) -> bool:
+    """Whether a standard stream is one that was there: one that was closed is opened the wrong way round."""
+    mode = fcntl.fcntl(descriptor, fcntl.F_GETFL) & os.O_ACCMODE
+    return mode in (os.O_RDWR, wanted)
 
 
 def _listen(session: Session, where: str, exceptions_whole: bool) -> None:
