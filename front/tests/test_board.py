@@ -1,6 +1,7 @@
 """The constants of the board and the symbols that a line gives, and several files as one image."""
 from __future__ import annotations
 
+import shutil
 import unittest
 
 from front.tests import debugger
@@ -44,8 +45,10 @@ class Board(InFolder):
 
     def test_constants_in_each_front_end(self) -> None:
         self.put("x.rom", bytes(8))
-        for line in ("shell --unit 0 x.rom", "gdb --unit 0 x.rom", "stub x.rom --unit 0", "plot --to 9 x.rom --unit 0",
-                     "image x.rom --unit 0 out", "x.rom --unit=0"):
+        lines = ["shell --unit 0 x.rom", "stub x.rom --unit 0", "plot --to 9 x.rom --unit 0", "image x.rom --unit 0 out", "x.rom --unit=0"]
+        if shutil.which(debugger.DEBUGGER):
+            lines.append("gdb --unit 0 x.rom")
+        for line in lines:
             self.check(line.split(), b"", b"", "bin/wb: --unit wants a number from 1 to 65,535, and 0 is none\n", 2)
 
     def test_several_files(self) -> None:
