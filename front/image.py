@@ -10,6 +10,7 @@ from .saving import Form
 
 MAGIC = b"R3KIMG1\n"
 ELF_MAGIC = b"\x7fELF"
+SESSION_MAGIC = b"bezhakkom session "
 KINDS = ("rom", "image", "source", "elf")
 
 IMAGE, RAW_ROM = Form("image", (MAGIC,)), Form("raw ROM")
@@ -45,6 +46,8 @@ def kind_of(name: str, content: bytes) -> str:
         return "elf"
     if content.startswith(MAGIC):
         return "image"
+    if content.startswith(SESSION_MAGIC):
+        raise Problem(f"{name} is a session: bin/wb shell {name}")
     if is_log(content):
         raise Problem(f"{name} is a log, no image: bin/wb --log {name} IMAGE")
     if not content:

@@ -18,13 +18,14 @@ from . import log as logs
 from .arguments import Line
 from .driver import Driver
 from .errors import Problem
+from .image import SESSION_MAGIC
 from .log import ADDS, EDITS, Event, Kind, quoted
 from .progress import TerminalProgress
 from .replies import number_of
 from .saving import Form
 
 BEGINNING = "bezhakkom session 1"
-FORM = Form("session", (b"bezhakkom session ",))
+FORM = Form("session", (SESSION_MAGIC,))
 _CONTENTS = "contents"  # the line before the files that are packed in
 _WIDTH = 120
 

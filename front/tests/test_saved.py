@@ -120,6 +120,8 @@ class Saved(unittest.TestCase):
         self.save()
         done = shell("--log", "examples/login/log", self.file)
         self.assertIn("is a session, which has its own log", done.stderr)
+        plain = subprocess.run([str(ROOT / "bin/wb"), self.file], cwd=ROOT, capture_output=True, text=True)
+        self.assertEqual((plain.returncode, plain.stderr), (2, f"bin/wb: {self.file} is a session: bin/wb shell {self.file}\n"))
 
     def test_a_line_that_fails(self) -> None:
         self.save()
