@@ -10,14 +10,12 @@ from typing import Callable, Iterable, Optional, Sequence
 from . import memory, places
 from .driver import Driver
 from .errors import Problem
-from .limits import COMMAND_BYTES
 from .log import unquoted
 from .replies import CONTROL_NAMES
 from .symbols import Symbols
 
 REGISTERS = ("zero at v0 v1 a0 a1 a2 a3 t0 t1 t2 t3 t4 t5 t6 t7 "
              "s0 s1 s2 s3 s4 s5 s6 s7 t8 t9 k0 k1 gp sp fp ra").split()
-_MOST_DIGITS = 64
 _NUMBERS = {name: number for number, name in enumerate(REGISTERS)}
 _NUMBERS.update({f"r{number}": number for number in range(32)}, s8=30)
 
@@ -178,8 +176,6 @@ class _Reader:
 
 
 def _number(term: str, driver: Driver, symbols: Symbols) -> int:
-    if len(term) > COMMAND_BYTES:
-        raise Problem(f"{term[:16]}.. is too long for a number or a name: it has {len(term):,} characters")
     if term[0].isdigit():
         return _natural(term)
     if term[0] == "'":

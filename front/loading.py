@@ -80,11 +80,6 @@ def booted(line: Line, name: Optional[str] = None, tell: Callable[[str], None] =
     return replace(board.constants_of(line).put_on(made), elves=made.elves + added)
 
 
-def boot_words(line: Line) -> list[str]:
-    """The words that say what an argument line boots, and how: with them another line boots the same."""
-    return [word for name in OPTIONS for value in line.all(name) for word in (name, value)] + line.words[:1]
-
-
 def _symbol_file(text: str) -> SymbolFile:
     """The ELF that is named, with the number after `@`."""
     name, offset = name_and_number(text)

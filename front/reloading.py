@@ -1,6 +1,7 @@
 """Another image in place of the present one, under the same log: a program that was built anew."""
 from __future__ import annotations
 
+from dataclasses import replace
 from typing import Iterator
 
 from . import loading
@@ -21,7 +22,9 @@ def load(session: Session, name: str) -> int:
     changed = {place: wanted.get(place, 0) for place in present.keys() | wanted.keys()
                if present.get(place, 0) != wanted.get(place, 0)}
     session.driver.values([f"patch {place} {word}" for place, word in sorted(changed.items())])
-    session.symbols = symbols_of(made)
+    before = session.driver.image
+    others = tuple(it for it in before.elves if it.name != before.name)  # those of --symbols
+    session.symbols = symbols_of(replace(made, elves=made.elves + others))
     return len(changed)
 
 

@@ -10,7 +10,7 @@ from typing import Callable, Optional, Sequence
 
 from . import elf, listening, loading, memory, monitor, places, saved, target
 from .arguments import parse
-from .errors import Interrupted, Problem
+from .errors import Interrupted, Problem, Unexpected
 from .limits import RAM, ROM
 from .motion import TRAP, Motion
 from .rsp import PACKET_BYTES, Link
@@ -109,7 +109,7 @@ class Stub:
         except OSError:
             raise
         except Exception as error:  # a fault of this program must not cost the session with its edits
-            self._tell(f"a fault in the stub, {type(error).__name__}: {error}; the session goes on")
+            self._tell(f"{Unexpected(error)}; the session goes on")
             return FAILED
 
     # What the stub is

@@ -1,10 +1,9 @@
 """The constants of the board and the symbols that a line gives, and several files as one image."""
 from __future__ import annotations
 
+import shutil
 import unittest
 
-from front import loading
-from front.arguments import parse
 from front.tests import debugger
 from front.tests.outside import InFolder, run
 from front.tests.support import ROOT
@@ -46,8 +45,10 @@ class Board(InFolder):
 
     def test_constants_in_each_front_end(self) -> None:
         self.put("x.rom", bytes(8))
-        for line in ("shell --unit 0 x.rom", "gdb --unit 0 x.rom", "stub x.rom --unit 0", "plot --to 9 x.rom --unit 0",
-                     "image x.rom --unit 0 out", "x.rom --unit=0"):
+        lines = ["shell --unit 0 x.rom", "stub x.rom --unit 0", "plot --to 9 x.rom --unit 0", "image x.rom --unit 0 out", "x.rom --unit=0"]
+        if shutil.which(debugger.DEBUGGER):
+            lines.append("gdb --unit 0 x.rom")
+        for line in lines:
             self.check(line.split(), b"", b"", "bin/wb: --unit wants a number from 1 to 65,535, and 0 is none\n", 2)
 
     def test_several_files(self) -> None:
@@ -74,13 +75,6 @@ class Board(InFolder):
             self.assertIn(said, done.stderr.decode())
             self.assertEqual((done.returncode, (self.folder / "bad.img").exists()), (2, False))
         self.assertEqual(run(["shell", "--symbols", "initrd", "all.img"], b"", self.folder).stderr, b"bin/wb: initrd is no ELF\n")
-
-    def test_the_words_that_boot_the_same(self) -> None:
-        """They are the options of what is booted, each as often as it came, and the image; not what else a line says."""
-        line = "--echo --unit=5 --symbols a.elf x.img --symbols b.elf@4 --log y script".split()
-        options = {**loading.OPTIONS, "--echo": ""}
-        self.assertEqual(loading.boot_words(parse(line, options, "", "", range(9))),
-                         "--log y --symbols a.elf --symbols b.elf@4 --unit 5 x.img".split())
 
     def test_symbols_in_gdb(self) -> None:
         """An image is debugged with the symbols and lines of the ELF that it was made of, also at an offset."""

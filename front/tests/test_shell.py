@@ -263,7 +263,7 @@ class Scripts(unittest.TestCase):
         done = self.run_script(f"goto {long}", f"print 0x{'f' * 5000}", f"wb goto {long}", f"goto {long}+1", f"add {long} 0 0",
                                "goto 0xffffffffffffffff", "x" * 5000, "goto 3", strict=False)
         self.assertEqual((done.returncode, done.stderr, done.stdout.splitlines()[-1][:7]), (0, "", "step 3,"))
-        self.assertEqual(done.stdout.count("is too long for a number or a name"), 4)
+        self.assertEqual(done.stdout.count("is too large: numbers are below 2^64"), 4)
         self.assertEqual(self.run_script("goto 0x10000000000000000", strict=False).stdout,
                          "0x10000000000000000 is too large: numbers are below 2^64\n")
 

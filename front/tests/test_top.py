@@ -61,7 +61,7 @@ class Top(unittest.TestCase):
         self.assertEqual((done.stderr, done.returncode), (b"", 0))
         said = done.stdout.decode().splitlines()
         self.assertEqual(said[0], "event 0")
-        self.assertEqual(said[1:4], [f"{it * 16}.. is too long for a number or a name: it has 5,000 characters" for it in "990"])
+        self.assertEqual(said[1:4], [f"{it * 60}.. is too large: numbers are below 2^64" for it in "990"])
         self.assertRegex(said[4], "^1 event")
 
     def test_a_command_with_a_line_feed_is_refused(self) -> None:

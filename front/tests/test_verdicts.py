@@ -57,10 +57,10 @@ class Verdicts(unittest.TestCase):
         """On a system without it the tests that want it are skipped, which is said; nothing is installed."""
         with tempfile.TemporaryDirectory() as name:
             copy, environment = fresh(Path(name))
-            done = subprocess.run(["front/test", "debugging_page", "gdb"], cwd=copy, env=environment, capture_output=True, text=True)
-        self.assertEqual(done.stdout.splitlines(), [
-            "skipped: test_debugging_page, test_gdb: gdb-multiarch is not installed; on Debian: apt-get install gdb-multiarch",
-            "2 passed, 0 failed, 2 skipped"])
+            done = subprocess.run(["front/test", "gdb"], cwd=copy, env=environment, capture_output=True, text=True)
+        reason, verdict = done.stdout.splitlines()
+        self.assertEqual(reason, "skipped: test_gdb: gdb-multiarch is not installed; on Debian: apt-get install gdb-multiarch")
+        self.assertRegex(verdict, "^0 passed, 0 failed, [1-9][0-9]* skipped$")
         self.assertEqual((done.stderr, done.returncode), ("", 0))
 
 
