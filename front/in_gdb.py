@@ -62,6 +62,12 @@ def as_number(word: str, of_words: bool) -> str:
         raise gdb.GdbError(f"{word}: {error}") from None
 
 
+def whole(name: str) -> str:
+    """The name that a beginning is of, where its words are no numbers; the stub knows the others."""
+    found = [it for it in AS_THEY_ARE if len(name) > 2 and it.startswith(name)]
+    return found[0] if len(found) == 1 else name
+
+
 def here() -> Optional[tuple[int, int]]:
     """The position and the PC, where there is a run."""
     try:
@@ -81,6 +87,7 @@ Numbers may be expressions without blanks: wb writer &session.length, wb goto $p
     def invoke(self, line: str, from_terminal: bool) -> None:
         line = line or "help"
         name, *words = line.split()
+        name = whole(name)
         if name not in AS_THEY_ARE and not QUOTES.intersection(line):
             line = " ".join([name, *(as_number(word, name in OF_WORDS) for word in words)])
         if name in RUNS:

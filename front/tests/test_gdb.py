@@ -144,6 +144,15 @@ class Login(GdbTest):
                    "step 50,029, read_line+0x8c: sb r2, 9(r5)", "47\t            session.line[session.length] = c;",
                    "0x80001004 <session+0x4>: 0x726f7461  |ator|")
 
+    def test_what_is_typed_and_expected(self) -> None:
+        # The positions are those of the shell's session in docs/USING.md.
+        lines = batch(self.IMAGE, "wb expect 'password: '", POSITION, "wb type 'sesame\\r'", "wb exp 'Welcome'", POSITION,
+                      "wb expect 'Sorry'", POSITION, "wb undo", "wb undo", "wb expect nothing")
+        self.holds(lines, "at 355", "7 bytes for line 0, from step 355 to step 6,355, 1,000 steps apart", "at 6684", "at 6684",
+                   "taken back: type 'sesame\\r'", "there is no edit to take back",
+                   "[there is no symbol and no register nothing]")
+        self.assertRegex("\n".join(lines), r"\[line 0 did not send 'Sorry': at step .* the program waits for a byte")
+
     def test_a_wrong_word_gets_one_line(self) -> None:
         lines = self.batch("starti 60,000", "wb goto 40,024", POSITION, "wb del 1,2", "wb erase 20,000 30,0", "wb goto",
                            "wb goto nothing", "wb help goto", "wb writer session", "wb writer &session.length",

@@ -5,11 +5,15 @@ import re
 import shutil
 import subprocess
 import tempfile
+import time
 import unittest
 from pathlib import Path
 
 from front.tests import debugger
 from front.tests.terminal import Terminal
+
+
+PROMPT = b"\n("  # where gdb says nothing else between parentheses
 
 
 def setUpModule() -> None:
@@ -45,7 +49,7 @@ class Typed(unittest.TestCase):
         terminal = self.gdb("--log", "examples/driver/log", "examples/driver/boot.s")
         self.type(terminal, "break *0xbfc00180", "commands", "silent", "continue", "end", "continue")
         terminal.until(b"[serial line 3]")
-        terminal.press(b"\x03", b"SIGINT")
+        terminal.press(b"\x03", PROMPT)
         self.type(terminal, "print 6 * 7", "quit")
         terminal.until(b"= 42")
         self.assertEqual(terminal.end(), 0)
@@ -53,9 +57,13 @@ class Typed(unittest.TestCase):
     def test_an_answer_that_takes_long_is_ended(self) -> None:
         terminal = self.gdb("--log", "examples/driver/log", "examples/driver/boot.s")
         for line in "wb goto 20,000,000,000", "starti 20,000,000,000":
-            self.type(terminal, "wb add 5 0 65", line)
-            terminal.until(line.encode())
-            terminal.press(b"\x03", b"Quit" if line.startswith("wb") else b"interrupted")
+            self.type(terminal, "wb add 5 0 65")
+            terminal.until(b"event")
+            terminal.until(b") ")
+            self.type(terminal, line)
+            terminal.until(line.encode() + b"\r\n")
+            time.sleep(1)
+            terminal.press(b"\x03", PROMPT)
         self.type(terminal, "starti 9", "wb log 0 2", "print 6 * 7", "quit", "quit")
         self.assertEqual(re.findall(rb"step 5, line 0, 0x41", terminal.until(b"= 42")), [b"step 5, line 0, 0x41"] * 2)
         self.assertEqual(terminal.end(), 0)
