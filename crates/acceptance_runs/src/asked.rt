@@ -2,7 +2,7 @@
 ghost use Rattle.timeline.specs.Sizes.{AreSizes};
 
 use input_log::Log;
-use r3k_image::Image;
+use r3k_image::{Image, read_image, write_image};
 use refusal::Fault;
 use samples::shown;
 use std::alloc::Global;
@@ -28,9 +28,28 @@ impl<const PAGES: u32, const SPAN: u32> Asked<PAGES, SPAN> {
         })
     }
 
+    // Begins anew, with the same image and no events, and keeps so many pasts.
+    fn begin(&mut self, alloc: Global, pasts: u64) -> Result<(), Fail>
+        requires { AreSizes PAGES SPAN }
+    {
+        if pasts == 0 {
+            return Err("no past".into());
+        }
+        let image = read_image(alloc, &write_image(alloc, self.timeline.image())?)?;
+        self.timeline = Timeline::with_pasts(alloc, image, Log::new(alloc), pasts as usize)?;
+        self.steps = 0;
+        Ok(())
+    }
+
     /// Does or asks what a clause says, and gives the answer.
-    pub fn answer(&mut self, alloc: Global, name: &str, numbers: &[u64]) -> Result<String, Fail> {
+    pub fn answer(&mut self, alloc: Global, name: &str, numbers: &[u64]) -> Result<String, Fail>
+        requires { AreSizes PAGES SPAN }
+    {
         match (name, numbers) {
+            ("pasts", [pasts]) => {
+                self.begin(alloc, *pasts)?;
+                Ok(String::new(alloc))
+            }
             ("costs", []) => Ok(shown(alloc, &self.cost())?),
             ("costs-at-most", [most]) => Ok(shown(alloc, &(self.cost() <= *most))?),
             ("events", []) => Ok(shown(alloc, &self.timeline.log().events().len())?),

@@ -34,6 +34,34 @@ writer 256 0x100 = Step 253, writer 256 0x104 = Never, console 256 = 0, costs = 
 writer 256 0x104 = Step 213, costs = 128, console 256 = 2 0x41 0x42, sender 256 0 0 = 83, sender 256 0 1 = 215
 writer 256 0x100 = Step 253, costs = 0, del 1, writer 256 0x104 = Step 81, costs = 64, console 256 = 1 0x41, costs = 0
 
+$ taken back
+# Of four pasts each is kept: what is taken back, or set to and fro, runs no span again.
+--
+pasts 4, writer 256 0x100 = Step 253, costs = 256, add 70 0x41, writer 256 0x104 = Step 81, costs = 64, del 0, writer 256 0x104 = Never
+console 256 = 0, writer 256 0x100 = Step 253, costs = 0, add 70 0x41, writer 256 0x104 = Step 81, console 256 = 1 0x41, costs = 0
+set 0 0x42, console 256 = 1 0x42, costs = 64, set 0 0x41, console 256 = 1 0x41, sender 256 0 0 = 83, costs = 0
+set 0 0x42, console 256 = 1 0x42, costs = 0
+
+$ two edits of four pasts
+# The byte that is deleted leaves the span that was run before it came.
+--
+pasts 4, writer 256 0x100 = Step 253, writer 256 0x104 = Never, console 256 = 0, costs = 256, add 70 0x41, add 200 0x42
+writer 256 0x104 = Step 213, costs = 128, console 256 = 2 0x41 0x42, sender 256 0 0 = 83, sender 256 0 1 = 215
+writer 256 0x100 = Step 253, costs = 0, del 1, writer 256 0x104 = Step 81, costs = 0, console 256 = 1 0x41, costs = 0
+
+$ a fifth past
+# Of the four that are kept of the second span the one used least recently gives way: that of 0x41, then that without a byte.
+--
+pasts 4, console 256 = 0, costs = 256, add 70 0x41, console 256 = 1 0x41, costs = 64, set 0 0x42, console 256 = 1 0x42, costs = 64
+set 0 0x43, console 256 = 1 0x43, costs = 64, del 0, console 256 = 0, costs = 0, add 70 0x44, console 256 = 1 0x44, costs = 64
+set 0 0x42, console 256 = 1 0x42, costs = 0, set 0 0x43, console 256 = 1 0x43, costs = 0, set 0 0x41, console 256 = 1 0x41, costs = 64
+set 0 0x44, console 256 = 1 0x44, costs = 0, del 0, console 256 = 0, costs = 64
+
+$ two pasts of one
+# Where one is kept, each past drops the other.
+--
+pasts 1, console 256 = 0, costs = 256, add 70 0x41, console 256 = 1 0x41, costs = 64, del 0, console 256 = 0, costs = 64
+
 $ framing over echo
 # A framing error in place of the byte of step 70 costs its span alone, and so does the byte in place of the error. RBUF, as
 # step 77 stores it, has FERR.

@@ -47,7 +47,7 @@ impl<const PAGES: u32, const SPAN: u32> Running<PAGES, SPAN> {
             log: Log::new(alloc),
             places,
             fact: None,
-            kept: Kept::new(alloc),
+            kept: Kept::new(alloc, 1),
             timeline: Box::new(alloc, Asked::of(alloc, other)?).map_err(|_| AllocError)?,
         })
     }
@@ -352,7 +352,7 @@ impl<const PAGES: u32, const SPAN: u32> Running<PAGES, SPAN> {
         let one = self.record(alloc, zero.end().clone()?, 1)?;
         self.kept.put(zero)?;
         self.kept.put(one)?;
-        if self.kept.continues(0) {
+        if self.kept.next(0).is_some() {
             return Err("tied before".into());
         }
         self.kept.tie(0);
@@ -365,12 +365,12 @@ impl<const PAGES: u32, const SPAN: u32> Running<PAGES, SPAN> {
         let mut found = Vec::new(alloc);
         for index in (0..72).chain([u64::MAX]) {
             let is_found = match name {
-                "records" => match self.kept.fact(index) {
+                "records" => match self.kept.first(index) {
                     Some(fact) if fact.index() != index => return Err("a wrong number".into()),
                     fact => fact.is_some(),
                 },
                 "taken" => self.kept.applies(index, &start, self.log.events(), None),
-                _ => self.kept.continues(index),
+                _ => index < u64::MAX && self.kept.next(index) == Some(0),
             };
             if is_found {
                 found.push(index)?;
@@ -397,7 +397,10 @@ impl<const PAGES: u32, const SPAN: u32> Running<PAGES, SPAN> {
             }
             differing.mark(*page as u32);
         }
-        if let Some(fact) = self.kept.fact(index) {
+        if self.kept.count(index) > 1 {
+            return Err("several records".into());
+        }
+        if let Some(fact) = self.kept.first(index) {
             differing.add_differing(fact.start().memory(), start.memory());
         }
         let events = self.log.events();
@@ -410,7 +413,7 @@ impl<const PAGES: u32, const SPAN: u32> Running<PAGES, SPAN> {
     // One more record becomes valid.
     fn join(&mut self) -> Result<(), Fail> {
         let valid = self.kept.valid();
-        if valid >= 72 || self.kept.fact(valid).is_none() {
+        if valid >= 72 || self.kept.first(valid).is_none() {
             return Err("no next record".into());
         }
         self.kept.join();

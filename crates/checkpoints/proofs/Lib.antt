@@ -1,2 +1,2 @@
-mod Putting
+pub mod Rows
 pub mod Near

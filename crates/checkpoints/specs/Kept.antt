@@ -1,23 +1,32 @@
 -- Records of spans that are kept (own).
-use Rattle.std.specs.Prelude.{◌≡◌, ℕ, ◌+◌, ◌<◌, ◌≤◌, Bool, false, IsTrue, List, length, Option, Some, None, IfSome, IsSome, slice_index_or}
+use Rattle.std.specs.Prelude.{◌≡◌, ℕ, ◌+◌, ◌<◌, ◌≤◌, ◌⊎◌, IsTrue, List, [], ◌∷◌, length, map, Contains, Option, Some, None, IfSome, slice_get, slice_index_or}
+use Rattle.std.specs.List.{remove}
+use Rattle.std.specs.Option.{option_map_or}
 use Rattle.input_log.specs.Event.{LogEvent}
 use Rattle.r3k_machine.specs.State.{State}
 use Rattle.r3k_pages.specs.Pages.{SamePage, holds}
 use Rattle.r3k_live.specs.Record.{touched_pages}
 use Rattle.span_fact.specs.Span.{Span, end_of, steps_of}
 
+-- Records of spans: a row for each number, of at most so many, the one that was used last first. The first ones of so many rows are
+-- those of the present run. Of one number there may be room for a record.
 pub record Kept : Type 0 where
-  pub spans : List (Option Span)
-  pub continues : List Bool
+  pub rows : List (List Span)
   pub valid : ℕ
+  pub most : ℕ
+  pub reserved : Option ℕ
 
--- the span of which a record of this number is kept, if there is one
-abbrev pub span_at : Kept → ℕ → Option Span
-span_at kept index = slice_index_or kept.spans index None
+-- the row of a number
+abbrev pub row_at : {A : Type 0} → List (List A) → ℕ → List A
+row_at rows index = slice_index_or rows index []
 
--- whether the next record is known to start where this one ends
-abbrev pub continues_at : Kept → ℕ → Bool
-continues_at kept index = slice_index_or kept.continues index false
+-- the record of a number that was used last, if one is kept
+abbrev pub first_at : List (List Span) → ℕ → Option Span
+first_at rows index = slice_get (row_at rows index) 0
+
+-- a row after the record at a place was used: it comes first, and the others follow in their order
+abbrev pub promoted : {A : Type 0} → ℕ → List A → List A
+promoted place row = option_map_or (λ s. s ∷ remove row place) (slice_get row place) row
 
 -- both are there, and one starts where the other ends
 abbrev pub Follows : (pages span : ℕ) → Option Span → Option Span → Type 0
@@ -40,9 +49,6 @@ abbrev pub IsNear : (pages span : ℕ) → Option Span → State → List LogEve
 IsNear pages span None start events = ⊥
 IsNear pages span (Some s) start events = NearlyApplies pages span s start events
 
--- each record has its number, the valid ones are there, and what is known of the next ones is so
-pub record IsKept (pages span : ℕ) (kept : Kept) : Type 0 where
-  pub numbers : (i : ℕ) → IfSome (span_at kept i) (λ s. s.index ≡ i)
-  pub joined : (i : ℕ) → i < kept.valid → IsSome (span_at kept i)
-  pub follow : (i : ℕ) → IsTrue (continues_at kept i) → Follows pages span (span_at kept i) (span_at kept (i + 1))
-  pub room : length kept.spans ≤ length kept.continues
+-- no span of a row nearly applies
+abbrev pub AreFar : (pages span : ℕ) → List Span → State → List LogEvent → Type 0
+AreFar pages span row start events = (place : ℕ) → ¬ IsNear pages span (slice_get row place) start events

@@ -1,2 +1,3 @@
 pub use Rattle.span_fact.specs.Span
 pub mod Kept
+pub mod Rows

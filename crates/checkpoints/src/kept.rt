@@ -1,13 +1,15 @@
-//! The records that are kept: one for each span at most.
+//! The records that are kept: of each span at most so many, of different pasts.
 
-ghost use Rattle.std.specs.Prelude.{◌≡◌, ◌+◌, ◌-◌, ◌^◌, ◌<◌, ◌≤◌, ◌↔◌, ℕ, [], All, IfOk, IfSome, IsOk, IsSome, IsTrue, MatchOption, None, OnErr, Option, Some, length, min, slice_index_or, false};
+ghost use Rattle.std.specs.Prelude.{◌≡◌, ◌∷◌, ◌+◌, ◌-◌, ◌^◌, ◌<◌, ◌≤◌, ◌↔◌, ◌⊎◌, ℕ, [], All, Contains, IfOk, IfSome, IsOk, IsSome, IsSomeAnd, IsTrue, List, MatchOption, None, OnErr, Option, Some, length, min, slice_get, slice_index_or, take};
 ghost use Rattle.r3k_machine.specs.State.{State};
 ghost use Rattle.r3k_pages.specs.Layout.{word_count_of};
 ghost use Rattle.r3k_pages.specs.Pages.{SameOutside, SamePage, page_count_of};
 ghost use Rattle.r3k_live.specs.Record.{touched_pages};
 ghost use Rattle.span_fact.specs.Span.{Span, end_of, steps_of};
-ghost use Rattle.checkpoints.specs.Kept.{Follows, IsNear, NearlyApplies, SameOn, continues_at, span_at};
+ghost use Rattle.checkpoints.specs.Kept.{AreFar, Follows, IsNear, NearlyApplies, SameOn, first_at, promoted, row_at};
+ghost use Rattle.checkpoints.specs.Rows.{IsOwnName, IsRoom, records_of};
 
+use crate::row::{Record, Row};
 use input_log::{Event, same_events};
 use r3k_live::Boundary;
 use r3k_pages::{PageMarks, Snapshot};
@@ -15,52 +17,82 @@ use span_fact::Fact;
 use std::alloc::{AllocError, Global};
 use std::marker::Model;
 
-/// Records of spans by their numbers. The first ones, as many as are valid, are those of the present run. Each other one may be of
-/// an earlier run.
+/// Records of spans by their numbers: of each number at most so many, the one that was used last first. The first ones of as many
+/// numbers as are valid are those of the present run. All others may be of other runs.
 #[derive(Drop)]
 pub struct Kept<const PAGES: u32, const SPAN: u32> {
-    facts: Vec<Option<Fact<PAGES, SPAN>>>,
-    // Whether the next record is known to start where this one ends.
-    continues: Vec<bool>,
+    alloc: Global,
+    rows: Vec<Row<PAGES, SPAN>>,
     valid: u64,
+    // How many records a row has at most.
+    most: usize,
+    // The name of the next record that is put. At its greatest value it stays.
+    names: u64,
+    // The number of which a record can be put without memory, if there is one.
+    reserved: Option<u64>,
 }
 
 impl<const PAGES: u32, const SPAN: u32> Model for Kept<PAGES, SPAN> {
-    ghost use Rattle.checkpoints.specs.Kept.{IsKept, Kept};
+    ghost use Rattle.std.specs.Prelude.{◌≡◌, ◌<◌, ◌⊎◌, IfSome, length};
+    ghost use Rattle.checkpoints.specs.Kept.{Kept, row_at};
+    ghost use Rattle.checkpoints.specs.Rows.{AreRows, IsRoom, records_of, rows_of};
 
     ghost Value = { Kept };
 
-    ghost view = { λ k. record { spans = k.facts.items; continues = k.continues.items; valid = k.valid } };
+    ghost view = { λ k. record { rows = rows_of k.rows.items; valid = k.valid; most = k.most; reserved = k.reserved } };
 
-    ghost invariant = { λ k. IsKept PAGES SPAN (record { spans = k.facts.items; continues = k.continues.items; valid = k.valid }) };
+    ghost invariant = { λ k. AreRows PAGES SPAN (records_of k.rows.items) k.valid k.most k.names × IfSome k.reserved (IsRoom k.rows.items k.most) };
 }
 
 impl<const PAGES: u32, const SPAN: u32> Kept<PAGES, SPAN> {
-    /// No records. It takes no memory.
-    pub fn new(alloc: Global) -> Kept<PAGES, SPAN>
-        ensures { result ≡ record { spans = []; continues = []; valid = 0 } }
+    /// No records, and at most so many of each number. It takes no memory.
+    pub fn new(alloc: Global, most: usize) -> Kept<PAGES, SPAN>
+        requires { 0 < most }
+        ensures { result ≡ record { rows = []; valid = 0; most = most; reserved = None } }
     {
         Kept {
-            facts: Vec::new(alloc),
-            continues: Vec::new(alloc),
+            alloc,
+            rows: Vec::new(alloc),
             valid: 0,
+            most,
+            names: 0,
+            reserved: None,
         }
     }
 
-    /// The record of a span, if one is kept.
-    pub fn fact(&self, index: u64) -> Option<&Fact<PAGES, SPAN>>
-        ensures fact { MatchOption result (span_at self.now index ≡ None) (λ fact. span_at self.now index ≡ Some fact.now) }
+    /// How many records are kept of a number.
+    pub fn count(&self, index: u64) -> usize
+        ensures { result ≡ length (row_at self.now.rows index) }
+    {
+        match self.rows.get(index as usize) {
+            Some(row) => row.len(),
+            None => 0,
+        }
+    }
+
+    /// The record of a span that was used last, if one is kept.
+    pub fn first(&self, index: u64) -> Option<&Fact<PAGES, SPAN>>
+        ensures fact { MatchOption result (first_at self.now.rows index ≡ None) (λ fact. first_at self.now.rows index ≡ Some fact.now) }
         ensures index { IfSome result (λ fact. fact.now.index ≡ index) }
         ensures whole { IfSome result (λ fact. length fact.now.start.words ≡ word_count_of PAGES) }
     {
-        let fact = self.facts.get(index as usize)?.as_ref()?;
+        self.fact(index, 0)
+    }
+
+    /// The record of a span at a place, counted from the one that was used last.
+    pub fn fact(&self, index: u64, place: usize) -> Option<&Fact<PAGES, SPAN>>
+        ensures fact { MatchOption result (slice_get (row_at self.now.rows index) place ≡ None) (λ fact. slice_get (row_at self.now.rows index) place ≡ Some fact.now) }
+        ensures index { IfSome result (λ fact. fact.now.index ≡ index) }
+        ensures whole { IfSome result (λ fact. length fact.now.start.words ≡ word_count_of PAGES) }
+    {
+        let fact = &record_at(&self.rows, index, place)?.fact;
         // Its start is read, so that the number of words is known here.
         let _start = fact.start();
         Some(fact)
     }
 
     /// Whether a record is kept of the span of a number with this start and these events. If a set of differing pages is given, the
-    /// record's start has the words of this one outside them.
+    /// starts of all records of the number have the words of this one outside them.
     pub fn applies(
         &self,
         index: u64,
@@ -68,17 +100,20 @@ impl<const PAGES: u32, const SPAN: u32> Kept<PAGES, SPAN> {
         events: &[Event],
         differing: Option<&PageMarks<PAGES>>,
     ) -> bool
-        requires { IfSome differing (λ pages. IfSome (span_at self.now index) (λ s. SameOutside pages.now s.start.words start.now.words)) }
-        ensures { IsTrue result ↔ (span_at self.now index ≡ Some (record { index = index; start = start.now; events = events.now })) }
+        requires { IfSome differing (λ pages. (s : Span) → Contains (row_at self.now.rows index) s → SameOutside pages.now s.start.words start.now.words) }
+        ensures { IsTrue result ↔ Contains (row_at self.now.rows index) (record { index = index; start = start.now; events = events.now }) }
     {
-        match self.fact(index) {
-            None => false,
-            Some(fact) => is_span(fact, start, events, differing),
+        for place in 0..self.count(index) {
+            match self.fact(index, place) {
+                Some(fact) if is_span(fact, start, events, differing) => return true,
+                _ => {}
+            }
         }
+        false
     }
 
     /// Whether a record is kept of the span of a number with these events. Its start may differ from this one only in words of
-    /// pages that the span does not touch. Outside the differing pages both starts have the same words.
+    /// pages that the span does not touch. Outside the differing pages all records of the number start with the same words as this.
     pub fn nearly(
         &self,
         index: u64,
@@ -86,95 +121,120 @@ impl<const PAGES: u32, const SPAN: u32> Kept<PAGES, SPAN> {
         events: &[Event],
         differing: &PageMarks<PAGES>,
     ) -> bool
-        requires { IfSome (span_at self.now index) (λ s. SameOutside differing.now s.start.words start.now.words) }
-        ensures { IsTrue result ↔ IsNear PAGES SPAN (span_at self.now index) start.now events.now }
+        requires { (s : Span) → Contains (row_at self.now.rows index) s → SameOutside differing.now s.start.words start.now.words }
+        ensures { IsTrue result ↔ ¬ AreFar PAGES SPAN (row_at self.now.rows index) start.now events.now }
     {
-        match self.fact(index) {
-            None => false,
-            Some(fact) => is_near(fact, start, events, differing),
-        }
+        self.near_place(index, start, events, Some(differing))
+            .is_some()
     }
 
-    /// Whether a record is kept of the span after this one, with these events. It must be known to start where this one ends, and
-    /// its start may differ from the given one only in words of pages that it does not touch. Outside the differing pages both have
-    /// the same words. The cores are not compared: they are known to be the same.
-    pub fn nearly_next(
+    /// The place of a record that nearly applies, if there is one. Where the record before it is known to end like this but for some
+    /// pages, these are handed in, and the record that follows it is looked at first.
+    pub fn serving(
         &self,
         index: u64,
         start: &Boundary<PAGES>,
         events: &[Event],
-        differing: &PageMarks<PAGES>,
-    ) -> bool
-        requires room { index < 2 ^ 64 - 1 }
-        requires core { IfSome (span_at self.now index) (λ s. (end_of PAGES SPAN s).core ≡ start.now.core) }
-        requires same { IfSome (span_at self.now (index + 1)) (λ s. SameOutside differing.now s.start.words start.now.words) }
-        ensures { IsTrue result ↔ (IsTrue (continues_at self.now index) × IsNear PAGES SPAN (span_at self.now (index + 1)) start.now events.now) }
+        differing: Option<&PageMarks<PAGES>>,
+    ) -> Option<usize>
+        requires { IfSome differing (λ pages. 0 < index × IfSome (first_at self.now.rows (index - 1)) (λ s.
+            ((end_of PAGES SPAN s).core ≡ start.now.core) × SameOutside pages.now (end_of PAGES SPAN s).words start.now.words)) }
+        ensures { MatchOption result (AreFar PAGES SPAN (row_at self.now.rows index) start.now events.now)
+            (λ place. IsNear PAGES SPAN (slice_get (row_at self.now.rows index) place) start.now events.now) }
     {
-        match self.fact(index + 1) {
-            Some(next) if self.continues(index) => {
-                is_near_from_core(next, start, events, differing)
+        if let Some(pages) = differing {
+            if let Some(place) = self.following(index, start, events, pages) {
+                return Some(place);
             }
-            _ => false,
+        }
+        self.near_place(index, start, events, None)
+    }
+
+    /// Where the record stands in the next row that is known to start where the first one of this row ends.
+    pub fn next(&self, index: u64) -> Option<usize>
+        requires { index < 2 ^ 64 - 1 }
+        ensures { IfSome result (λ place. Follows PAGES SPAN (first_at self.now.rows index) (slice_get (row_at self.now.rows (index + 1)) place)) }
+    {
+        let name = record_at(&self.rows, index, 0)?.next?;
+        place_in(&self.rows, index + 1, name)
+    }
+
+    /// Notes that the first record of the next number starts where the first one of this number ends. Nothing that is seen changes.
+    pub fn tie(&mut self, index: u64)
+        requires room { index < 2 ^ 63 }
+        requires follows { Follows PAGES SPAN (first_at self.old.rows index) (first_at self.old.rows (index + 1)) }
+        ensures { self.new ≡ self.old }
+    {
+        let Some(name) = own_name(&self.rows, index as usize + 1) else {
+            return;
+        };
+        if name < self.names {
+            self.rows[index as usize].note_next(name);
         }
     }
 
-    /// Whether the next record is known to start where this one ends.
-    pub fn continues(&self, index: u64) -> bool
-        ensures exact { result ≡ continues_at self.now index }
-        ensures follows { IsTrue result → Follows PAGES SPAN (span_at self.now index) (span_at self.now (index + 1)) }
-    {
-        self.continues.get(index as usize).is_some_and(|it| *it)
-    }
-
-    /// Notes that the next record starts where this one ends.
-    pub fn tie(&mut self, index: u64)
-        requires { Follows PAGES SPAN (span_at self.old index) (span_at self.old (index + 1)) }
-        ensures tied { IsTrue (continues_at self.new index) }
-        ensures others { (i : ℕ) → ¬ (i ≡ index) → continues_at self.new i ≡ continues_at self.old i }
-        ensures spans { self.new.spans ≡ self.old.spans }
+    /// The record at a place of a number was used: it comes first, and the others follow in their order.
+    pub fn promote(&mut self, index: u64, place: usize)
+        requires { place < length (row_at self.old.rows index) }
+        ensures row { row_at self.new.rows index ≡ promoted place (row_at self.old.rows index) }
+        ensures others { (i : ℕ) → ¬ (i ≡ index) → row_at self.new.rows i ≡ row_at self.old.rows i }
         ensures valid { self.new.valid ≡ self.old.valid }
+        ensures most { self.new.most ≡ self.old.most }
+        ensures reserved { self.new.reserved ≡ self.old.reserved }
     {
-        mark(&mut self.continues, index as usize);
+        self.rows[index as usize].promote(place);
     }
 
-    /// Makes room for the record of a number, so that it can be put without memory. All records stay.
+    /// Makes room for one more record of a number, so that it can be put without memory. All records stay.
     pub fn reserve(&mut self, index: u64) -> Result<(), AllocError>
-        ensures room { IfOk result (λ _. index < length self.new.spans) }
-        ensures spans { (i : ℕ) → span_at self.new i ≡ span_at self.old i }
+        ensures reserved { IfOk result (λ _. self.new.reserved ≡ Some index) }
+        ensures rows { (i : ℕ) → row_at self.new.rows i ≡ row_at self.old.rows i }
         ensures valid { self.new.valid ≡ self.old.valid }
+        ensures most { self.new.most ≡ self.old.most }
+        ensures free { self.old.reserved ≡ Some index → IsOk result }
     {
-        make_room(&mut self.facts, &mut self.continues, index as usize)
-    }
-
-    /// Keeps a record in place of the one of its number. Where memory is refused the record is dropped, and all is as it was.
-    pub fn put(&mut self, fact: Fact<PAGES, SPAN>) -> Result<(), AllocError>
-        ensures there { IfOk result (λ _. span_at self.new fact.entry.index ≡ Some fact.entry) }
-        ensures others { IfOk result (λ _. (i : ℕ) → ¬ (i ≡ fact.entry.index) → span_at self.new i ≡ span_at self.old i) }
-        ensures same { OnErr result ((i : ℕ) → span_at self.new i ≡ span_at self.old i) }
-        // It is not known to follow the record before it, nor is the next one known to follow it.
-        ensures untied { IfOk result (λ _. (i : ℕ) → IsTrue (continues_at self.new i) → ¬ (i ≡ fact.entry.index) × ¬ (i + 1 ≡ fact.entry.index)) }
-        ensures ties { IfOk result (λ _. (i : ℕ) → ¬ (i ≡ fact.entry.index) → ¬ (i + 1 ≡ fact.entry.index) → continues_at self.new i ≡ continues_at self.old i) }
-        ensures same_ties { OnErr result ((i : ℕ) → continues_at self.new i ≡ continues_at self.old i) }
-        ensures valid { self.new.valid ≡ self.old.valid }
-        ensures free { fact.entry.index < length self.old.spans → IsOk result }
-    {
-        let index = fact.index() as usize;
-        make_room(&mut self.facts, &mut self.continues, index)?;
-        unmark(&mut self.continues, index);
-        self.facts[index] = Some(fact);
+        if self.reserved == Some(index) {
+            return Ok(());
+        }
+        self.reserved = None;
+        make_room(self.alloc, &mut self.rows, index as usize, self.most)?;
+        self.reserved = Some(index);
         Ok(())
     }
 
-    /// How many records, from the first on, are those of the present run.
+    /// Keeps a record as the one of its number that was used last. Where there are as many as there may be, the one that was used
+    /// least recently is dropped. Where memory is refused this record is dropped, and all is as it was.
+    pub fn put(&mut self, fact: Fact<PAGES, SPAN>) -> Result<(), AllocError>
+        ensures there { IfOk result (λ _. row_at self.new.rows fact.entry.index ≡ fact.entry ∷ take (self.old.most - 1) (row_at self.old.rows fact.entry.index)) }
+        ensures others { IfOk result (λ _. (i : ℕ) → ¬ (i ≡ fact.entry.index) → row_at self.new.rows i ≡ row_at self.old.rows i) }
+        ensures same { OnErr result ((i : ℕ) → row_at self.new.rows i ≡ row_at self.old.rows i) }
+        ensures valid { self.new.valid ≡ self.old.valid }
+        ensures most { self.new.most ≡ self.old.most }
+        ensures free { self.old.reserved ≡ Some fact.entry.index → IsOk result }
+    {
+        let index = fact.index();
+        self.reserve(index)?;
+        let record = Record {
+            fact,
+            name: self.names,
+            next: None,
+        };
+        self.rows[index as usize].put(record, self.most);
+        self.names = self.names.saturating_add(1);
+        self.reserved = None;
+        Ok(())
+    }
+
+    /// How many numbers, from 0 on, have a first record that is of the present run.
     pub fn valid(&self) -> u64
         ensures { result ≡ self.now.valid }
     {
         self.valid
     }
 
-    /// The next record is of the present run too.
+    /// The first record of the next number is of the present run too.
     pub fn join(&mut self)
-        requires kept { IsSome (span_at self.old self.old.valid) }
+        requires kept { IsSome (first_at self.old.rows self.old.valid) }
         requires room { self.old.valid < 2 ^ 64 - 1 }
         ensures { self.new ≡ record self.old { valid = self.old.valid + 1 } }
     {
@@ -187,6 +247,97 @@ impl<const PAGES: u32, const SPAN: u32> Kept<PAGES, SPAN> {
     {
         self.valid = self.valid.min(index);
     }
+
+    // The place of the record that is known to start where the one before it ends, if it nearly applies. The cores are not compared:
+    // they are known to be the same.
+    fn following(
+        &self,
+        index: u64,
+        start: &Boundary<PAGES>,
+        events: &[Event],
+        differing: &PageMarks<PAGES>,
+    ) -> Option<usize>
+        requires later { 0 < index }
+        requires ends { IfSome (first_at self.now.rows (index - 1)) (λ s.
+            ((end_of PAGES SPAN s).core ≡ start.now.core) × SameOutside differing.now (end_of PAGES SPAN s).words start.now.words) }
+        ensures { IfSome result (λ place. IsNear PAGES SPAN (slice_get (row_at self.now.rows index) place) start.now events.now) }
+    {
+        let place = self.next(index - 1)?;
+        let fact = self.fact(index, place)?;
+        if !is_near_from_core(fact, start, events, differing) {
+            return None;
+        }
+        Some(place)
+    }
+
+    // The place of the first record of a number that nearly applies.
+    fn near_place(
+        &self,
+        index: u64,
+        start: &Boundary<PAGES>,
+        events: &[Event],
+        differing: Option<&PageMarks<PAGES>>,
+    ) -> Option<usize>
+        requires { IfSome differing (λ pages. (s : Span) → Contains (row_at self.now.rows index) s → SameOutside pages.now s.start.words start.now.words) }
+        ensures { MatchOption result (AreFar PAGES SPAN (row_at self.now.rows index) start.now events.now)
+            (λ place. IsNear PAGES SPAN (slice_get (row_at self.now.rows index) place) start.now events.now) }
+    {
+        for place in 0..self.count(index) {
+            match self.fact(index, place) {
+                Some(fact) if is_near(fact, start, events, differing) => return Some(place),
+                _ => {}
+            }
+        }
+        None
+    }
+}
+
+// The record at a place of a number.
+fn record_at<const PAGES: u32, const SPAN: u32>(
+    rows: &[Row<PAGES, SPAN>],
+    index: u64,
+    place: usize,
+) -> Option<&Record<PAGES, SPAN>>
+    ensures { MatchOption result (slice_get (row_at (records_of rows.now) index) place ≡ None) (λ r. slice_get (row_at (records_of rows.now) index) place ≡ Some r.now) }
+{
+    rows.get(index as usize)?.get(place)
+}
+
+// Where the record of a name stands in the row of a number.
+fn place_in<const PAGES: u32, const SPAN: u32>(
+    rows: &[Row<PAGES, SPAN>],
+    index: u64,
+    name: u64,
+) -> Option<usize>
+    ensures { IfSome result (λ place. IsSomeAnd (slice_get (row_at (records_of rows.now) index) place) (λ r. r.name ≡ name)) }
+{
+    rows.get(index as usize)?.place_of(name)
+}
+
+// The name of the first record of a number, if no other one of the number has it.
+fn own_name<const PAGES: u32, const SPAN: u32>(
+    rows: &[Row<PAGES, SPAN>],
+    index: usize,
+) -> Option<u64>
+    ensures { IfSome result (λ name. IsOwnName (row_at (records_of rows.now) index) name) }
+{
+    rows.get(index)?.own_name()
+}
+
+// Makes room for one more record of a number, of which there may be so many.
+fn make_room<const PAGES: u32, const SPAN: u32>(
+    alloc: Global,
+    rows: &mut Vec<Row<PAGES, SPAN>>,
+    index: usize,
+    most: usize,
+) -> Result<(), AllocError>
+    ensures rows { (i : ℕ) → row_at (records_of rows.new.items) i ≡ row_at (records_of rows.old.items) i }
+    ensures room { IfOk result (λ _. IsRoom rows.new.items most index) }
+{
+    while rows.len() <= index {
+        rows.push(Row::new(alloc))?;
+    }
+    rows[index].make_room(most)
 }
 
 // Whether a record is that of a span with this start and these events.
@@ -226,9 +377,9 @@ fn is_near<const PAGES: u32, const SPAN: u32>(
     fact: &Fact<PAGES, SPAN>,
     start: &Boundary<PAGES>,
     events: &[Event],
-    differing: &PageMarks<PAGES>,
+    differing: Option<&PageMarks<PAGES>>,
 ) -> bool
-    requires { SameOutside differing.now fact.now.start.words start.now.words }
+    requires { IfSome differing (λ pages. SameOutside pages.now fact.now.start.words start.now.words) }
     ensures { IsTrue result ↔ NearlyApplies PAGES SPAN fact.now start.now events.now }
 {
     if !has_events_and_core(fact, start, events) {
@@ -251,16 +402,16 @@ fn is_near_from_core<const PAGES: u32, const SPAN: u32>(
     if !same_events(events, fact.events()) {
         return false;
     }
-    same_touched(fact, start, differing)
+    same_touched(fact, start, Some(differing))
 }
 
 // Whether the start of a record has the words of this one on the pages that its span touches.
 fn same_touched<const PAGES: u32, const SPAN: u32>(
     fact: &Fact<PAGES, SPAN>,
     start: &Boundary<PAGES>,
-    differing: &PageMarks<PAGES>,
+    differing: Option<&PageMarks<PAGES>>,
 ) -> bool
-    requires { SameOutside differing.now fact.now.start.words start.now.words }
+    requires { IfSome differing (λ pages. SameOutside pages.now fact.now.start.words start.now.words) }
     ensures { IsTrue result ↔ SameOn (touched_pages PAGES (steps_of PAGES SPAN fact.now)) fact.now.start.words start.now.words }
 {
     same_on(
@@ -271,15 +422,15 @@ fn same_touched<const PAGES: u32, const SPAN: u32>(
     )
 }
 
-// Whether two memories have the same words on the pages of a set, if they are the same outside the differing pages.
+// Whether two memories have the same words on the pages of a set, which may be known to be the same outside some pages.
 fn same_on<const PAGES: u32>(
     a: &Snapshot<PAGES>,
     b: &Snapshot<PAGES>,
     set: &[u32],
-    differing: &PageMarks<PAGES>,
+    differing: Option<&PageMarks<PAGES>>,
 ) -> bool
     requires pages { All (λ page. page < page_count_of PAGES) set.now }
-    requires same { SameOutside differing.now a.now b.now }
+    requires same { IfSome differing (λ pages. SameOutside pages.now a.now b.now) }
     ensures { IsTrue result ↔ SameOn set.now a.now b.now }
 {
     for page in set {
@@ -290,21 +441,21 @@ fn same_on<const PAGES: u32>(
     true
 }
 
-// Whether a page has the same words in two memories, if they are the same outside the differing pages.
+// Whether a page has the same words in two memories, which may be known to be the same outside some pages.
 fn same_page<const PAGES: u32>(
     a: &Snapshot<PAGES>,
     b: &Snapshot<PAGES>,
     page: u32,
-    differing: &PageMarks<PAGES>,
+    differing: Option<&PageMarks<PAGES>>,
 ) -> bool
     requires page { page < page_count_of PAGES }
-    requires same { SameOutside differing.now a.now b.now }
+    requires same { IfSome differing (λ pages. SameOutside pages.now a.now b.now) }
     ensures { IsTrue result ↔ SamePage page a.now b.now }
 {
-    if !differing.holds(page) {
-        return true;
+    match differing {
+        Some(pages) if !pages.holds(page) => true,
+        _ => a.same_page(page, b),
     }
-    a.same_page(page, b)
 }
 
 // Whether two memories have the same words. They may be known to be the same outside a set of pages.
@@ -319,50 +470,5 @@ fn same_words<const PAGES: u32>(
     match differing {
         Some(pages) => a.same_words(b, pages),
         None => a.equals(b),
-    }
-}
-
-// Makes room up to a place.
-fn make_room<const PAGES: u32, const SPAN: u32>(
-    facts: &mut Vec<Option<Fact<PAGES, SPAN>>>,
-    continues: &mut Vec<bool>,
-    index: usize,
-) -> Result<(), AllocError>
-    requires { length facts.old.items ≤ length continues.old.items }
-    ensures facts { (i : ℕ) → slice_index_or facts.new.items i None ≡ slice_index_or facts.old.items i None }
-    ensures continues { (i : ℕ) → slice_index_or continues.new.items i false ≡ slice_index_or continues.old.items i false }
-    ensures room { IfOk result (λ _. index < length facts.new.items) }
-    ensures long { length facts.new.items ≤ length continues.new.items }
-    ensures free { index < length facts.old.items → IsOk result }
-{
-    while facts.len() <= index {
-        continues.push(false)?;
-        facts.push(None)?;
-    }
-    Ok(())
-}
-
-// Marks a place, if it is there.
-fn mark(continues: &mut Vec<bool>, index: usize)
-    ensures marked { index < length continues.old.items → IsTrue (slice_index_or continues.new.items index false) }
-    ensures others { (i : ℕ) → ¬ (i ≡ index) → slice_index_or continues.new.items i false ≡ slice_index_or continues.old.items i false }
-    ensures long { length continues.new.items ≡ length continues.old.items }
-{
-    if index < continues.len() {
-        continues[index] = true;
-    }
-}
-
-// Takes the mark of a place away, and that of the one before it.
-fn unmark(continues: &mut Vec<bool>, index: usize)
-    requires { index < length continues.old.items }
-    ensures others { (i : ℕ) → IsTrue (slice_index_or continues.new.items i false) →
-        ¬ (i ≡ index) × ¬ (i + 1 ≡ index) × IsTrue (slice_index_or continues.old.items i false) }
-    ensures kept { (i : ℕ) → ¬ (i ≡ index) → ¬ (i + 1 ≡ index) → slice_index_or continues.new.items i false ≡ slice_index_or continues.old.items i false }
-    ensures long { length continues.new.items ≡ length continues.old.items }
-{
-    continues[index] = false;
-    if index > 0 {
-        continues[index - 1] = false;
     }
 }

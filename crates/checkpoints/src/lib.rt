@@ -3,6 +3,7 @@
 
 mod kept;
 mod laws;
+mod row;
 
 pub use kept::Kept;
 pub use laws::near_laws;

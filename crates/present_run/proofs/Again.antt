@@ -13,12 +13,11 @@ use Rattle.r3k_machine.proofs.Splits.{run_own}
 use Rattle.span_fact.specs.Span.{Span, end_of}
 use Rattle.present_run.specs.Ends.{AreEnds, GoesOn, IsJoined, IsJoinedFrom, IsPut}
 use Rattle.present_run.specs.Reuse.{span_from, span_of}
-use Rattle.r3k_pages.specs.Pages.{SameOutside}
-use Rattle.checkpoints.specs.Kept.{Kept, span_at}
+use Rattle.checkpoints.specs.Kept.{Kept, first_at}
 use Rattle.present_run.specs.Index.{Agrees, Index}
 use Rattle.present_run.specs.declared.frontier.Frontier.{Frontier}
 use Rattle.present_run.specs.declared.runs.Runs.{Runs}
-use Rattle.present_run.specs.Runs.{AreOf, AreSameOutside, IsAlike, IsKnown}
+use Rattle.present_run.specs.Runs.{AreOf, AreSameOutside, IsKnown}
 use Rattle.present_run.proofs.Known.{known_by}
 use Rattle.present_run.proofs.Next.{and_last}
 use Rattle.present_run.proofs.Spans.{ends, next_start, some_is}
@@ -119,17 +118,17 @@ more_ends pages span image log count old new end are put is = record {
 
 -- ---- spans that go on
 
-pub goes_on : (pages span : ℕ) (image : Boot) (log : List LogEvent) (spans : List (Option Span)) (all : List State) (count index : ℕ)
-    → AreEnds pages span image log count all → ((i : ℕ) → i < count → IsJoined pages span i (slice_index_or spans i None) (span_of pages span image log i))
+pub goes_on : (pages span : ℕ) (image : Boot) (log : List LogEvent) (spans : List (List Span)) (all : List State) (count index : ℕ)
+    → AreEnds pages span image log count all → ((i : ℕ) → i < count → IsJoined pages span i (first_at spans i) (span_of pages span image log i))
     → index + 1 < count → GoesOn pages span log spans all index
 goes_on pages span image log spans all count index are joined below start end start_is end_is =
     let from : start ≡ state_at pages image log ((index + 1) * span) = some_is start _ (sym start_is ∙ are.each index (omega (arith, below))) in
     let to : end ≡ state_at pages image log ((index + 1 + 1) * span) = some_is end _ (sym end_is ∙ are.each (index + 1) below) in
-    subst (λ (s : State). IsJoinedFrom pages span log (index + 1) (slice_index_or spans (index + 1) None) s end) (sym from)
+    subst (λ (s : State). IsJoinedFrom pages span log (index + 1) (first_at spans (index + 1)) s end) (sym from)
     (record { ends = to ∙ sym (ends pages span image log (index + 1)); joined = joined (index + 1) below })
 
 -- where they end, from a known end on
-pub chain : (pages span : ℕ) (image : Boot) (log : List LogEvent) (spans : List (Option Span)) (all : List State) (first : ℕ)
+pub chain : (pages span : ℕ) (image : Boot) (log : List LogEvent) (spans : List (List Span)) (all : List State) (first : ℕ)
     → slice_get all first ≡ Some (state_at pages image log ((first + 1) * span)) → ((index : ℕ) → first ≤ index → GoesOn pages span log spans all index)
     → (more : ℕ) → first + more < length all → slice_get all (first + more) ≡ Some (state_at pages image log ((first + more + 1) * span))
 chain pages span image log spans all first known goes zero inside =
@@ -143,7 +142,7 @@ chain pages span image log spans all first known goes (suc more) inside =
     subst (λ (n : ℕ). slice_get all n ≡ Some (state_at pages image log ((n + 1) * span))) next
     (there.1 ∙ ap (λ (s : State). Some s) (from.ends ∙ ends pages span image log (index + 1)))
 
-pub chain_at : (pages span : ℕ) (image : Boot) (log : List LogEvent) (spans : List (Option Span)) (all : List State) (first index : ℕ)
+pub chain_at : (pages span : ℕ) (image : Boot) (log : List LogEvent) (spans : List (List Span)) (all : List State) (first index : ℕ)
     → slice_get all first ≡ Some (state_at pages image log ((first + 1) * span)) → ((index : ℕ) → first ≤ index → GoesOn pages span log spans all index)
     → first ≤ index → index < length all → slice_get all index ≡ Some (state_at pages image log ((index + 1) * span))
 chain_at pages span image log spans all first index known goes after inside =
@@ -152,19 +151,19 @@ chain_at pages span image log spans all first index known goes after inside =
     (chain pages span image log spans all first known goes (index - first) (omega (arith, is, inside)))
 
 -- each of them is joined
-pub joined_on : (pages span : ℕ) (image : Boot) (log : List LogEvent) (spans : List (Option Span)) (all : List State) (first index : ℕ)
+pub joined_on : (pages span : ℕ) (image : Boot) (log : List LogEvent) (spans : List (List Span)) (all : List State) (first index : ℕ)
     → slice_get all first ≡ Some (state_at pages image log ((first + 1) * span)) → ((index : ℕ) → first ≤ index → GoesOn pages span log spans all index)
-    → first < index → index < length all → IsJoined pages span index (slice_index_or spans index None) (span_of pages span image log index)
+    → first < index → index < length all → IsJoined pages span index (first_at spans index) (span_of pages span image log index)
 joined_on pages span image log spans all first index known goes after inside =
     let before : ℕ = index - 1 in
     let next : before + 1 ≡ index = omega (arith, after) in
     let here = chain_at pages span image log spans all first before known goes (omega (arith, after)) (omega (arith, inside, after)) in
     let there = at all (before + 1) (omega (arith, inside, next)) in
-    subst (λ (n : ℕ). IsJoined pages span n (slice_index_or spans n None) (span_of pages span image log n)) next
+    subst (λ (n : ℕ). IsJoined pages span n (first_at spans n) (span_of pages span image log n)) next
     (goes before (omega (arith, after)) (state_at pages image log ((before + 1) * span)) there.0 here there.1).joined
 
 -- so all are joined, and where they end is known
-pub all_ends : (pages span : ℕ) (image : Boot) (log : List LogEvent) (spans : List (Option Span)) (all : List State) (valid : ℕ) → 0 < valid
+pub all_ends : (pages span : ℕ) (image : Boot) (log : List LogEvent) (spans : List (List Span)) (all : List State) (valid : ℕ) → 0 < valid
     → AreEnds pages span image log valid all → ((index : ℕ) → valid ≤ index + 1 → GoesOn pages span log spans all index) → AreEnds pages span image log (length all) all
 all_ends pages span image log spans all valid some are goes =
     let first : ℕ = valid - 1 in
@@ -178,10 +177,10 @@ all_ends pages span image log spans all valid some are goes =
       ];
     }
 
-pub all_joined : (pages span : ℕ) (image : Boot) (log : List LogEvent) (spans : List (Option Span)) (all : List State) (valid index : ℕ) → 0 < valid
-    → AreEnds pages span image log valid all → ((i : ℕ) → i < valid → IsJoined pages span i (slice_index_or spans i None) (span_of pages span image log i))
+pub all_joined : (pages span : ℕ) (image : Boot) (log : List LogEvent) (spans : List (List Span)) (all : List State) (valid index : ℕ) → 0 < valid
+    → AreEnds pages span image log valid all → ((i : ℕ) → i < valid → IsJoined pages span i (first_at spans i) (span_of pages span image log i))
     → ((index : ℕ) → valid ≤ index + 1 → GoesOn pages span log spans all index) → index < length all
-    → IsJoined pages span index (slice_index_or spans index None) (span_of pages span image log index)
+    → IsJoined pages span index (first_at spans index) (span_of pages span image log index)
 all_joined pages span image log spans all valid index some are joined goes inside =
     let first : ℕ = valid - 1 in
     elim (cases_lt index valid) [
@@ -192,15 +191,15 @@ all_joined pages span image log spans all valid index some are joined goes insid
     ]
 
 -- once one more end is put: its span is joined, and all others if they go on from it
-pub joined_by : (pages span : ℕ) (image : Boot) (log : List LogEvent) (spans : List (Option Span)) (old new : List State) (end : State) (valid index count again : ℕ)
+pub joined_by : (pages span : ℕ) (image : Boot) (log : List LogEvent) (spans : List (List Span)) (old new : List State) (end : State) (valid index count again : ℕ)
     → index ≡ valid → AreEnds pages span image log valid old → IsPut index end old new → end ≡ state_at pages image log ((valid + 1) * span)
-    → ((i : ℕ) → i < valid → IsJoined pages span i (slice_index_or spans i None) (span_of pages span image log i))
-    → IsJoined pages span valid (slice_index_or spans valid None) (span_of pages span image log valid)
+    → ((i : ℕ) → i < valid → IsJoined pages span i (first_at spans i) (span_of pages span image log i))
+    → IsJoined pages span valid (first_at spans valid) (span_of pages span image log valid)
     → (count ≡ index + 1) ⊎ ((again ≤ index) × (count ≡ length old) × (slice_get old index ≡ Some end)) → ((i : ℕ) → again ≤ i → valid ≤ i → GoesOn pages span log spans old i)
-    → AreEnds pages span image log count new × ((i : ℕ) → i < count → IsJoined pages span i (slice_index_or spans i None) (span_of pages span image log i))
+    → AreEnds pages span image log count new × ((i : ℕ) → i < count → IsJoined pages span i (first_at spans i) (span_of pages span image log i))
 joined_by pages span image log spans old new end valid index count again is were put end_is before there met goes =
     let are = more_ends pages span image log valid old new end were (subst (λ (n : ℕ). IsPut n end old new) is put) end_is in
-    let joined = and_last (λ i. IsJoined pages span i (slice_index_or spans i None) (span_of pages span image log i)) valid before there in
+    let joined = and_last (λ i. IsJoined pages span i (first_at spans i) (span_of pages span image log i)) valid before there in
     elim met [
       | inl one ↦ (subst (λ (n : ℕ). AreEnds pages span image log n new) (sym (one ∙ ap (λ (n : ℕ). n + 1) is)) are, λ i below. joined i (omega (arith, below, one, is)))
       | inr all ↦
@@ -229,7 +228,7 @@ span_before pages span image log changed from to index same before =
     (same_before pages image log changed from to (index * span) same (omega (arith, before, next_start index span)))
     (same (index * span) ((index + 1) * span) (inl before))
 
-pub goes_on_after : (pages span : ℕ) (log changed : List LogEvent) (spans : List (Option Span)) (all : List State) (from to index : ℕ) → AreSameOutside from to log changed
+pub goes_on_after : (pages span : ℕ) (log changed : List LogEvent) (spans : List (List Span)) (all : List State) (from to index : ℕ) → AreSameOutside from to log changed
     → to < (index + 1) * span → GoesOn pages span log spans all index → GoesOn pages span changed spans all index
 goes_on_after pages span log changed spans all from to index same after goes start end start_is end_is =
     let was = goes start end start_is end_is in
@@ -238,7 +237,7 @@ goes_on_after pages span log changed spans all from to index same after goes sta
     (same ((index + 1) * span) ((index + 1 + 1) * span) (inr after)) in
     record {
       ends = was.ends ∙ ap (end_of pages span) (sym is);
-      joined = subst (λ (s : Span). IsJoined pages span (index + 1) (slice_index_or spans (index + 1) None) s) (sym is) was.joined;
+      joined = subst (λ (s : Span). IsJoined pages span (index + 1) (first_at spans (index + 1)) s) (sym is) was.joined;
     }
 
 -- the span of an earlier or equal number starts at the time or before; a span of an equal or later number ends after it
@@ -253,17 +252,17 @@ ends_after time span index some after =
     omega (arith, least, next_start index span, lt-div-mul-add {a = time} {b = span} some)
 
 -- putting an end leaves the later ends
-pub goes_on_put : (pages span : ℕ) (log : List LogEvent) (before after : List (Option Span)) (old new : List State) (end : State) (place index : ℕ)
+pub goes_on_put : (pages span : ℕ) (log : List LogEvent) (before after : List (List Span)) (old new : List State) (end : State) (place index : ℕ)
     → after ≡ before → IsPut place end old new → place < index → GoesOn pages span log before old index → GoesOn pages span log after new index
 goes_on_put pages span log before after old new end place index same put past goes start to start_is to_is =
-    subst (λ (spans : List (Option Span)). IsJoinedFrom pages span log (index + 1) (slice_index_or spans (index + 1) None) start to) (sym same)
+    subst (λ (spans : List (List Span)). IsJoinedFrom pages span log (index + 1) (first_at spans (index + 1)) start to) (sym same)
     (goes start to
     (sym (put.others index (λ e. let x : ⊥ = omega (arith, e, past) in x)) ∙ start_is)
     (sym (put.others (index + 1) (λ e. let x : ⊥ = omega (arith, e, past) in x)) ∙ to_is))
 
 -- and so does putting a record
-pub goes_on_kept : (pages span : ℕ) (log : List LogEvent) (before after : List (Option Span)) (all : List State) (index : ℕ)
-    → slice_index_or after (index + 1) None ≡ slice_index_or before (index + 1) None → GoesOn pages span log before all index → GoesOn pages span log after all index
+pub goes_on_kept : (pages span : ℕ) (log : List LogEvent) (before after : List (List Span)) (all : List State) (index : ℕ)
+    → first_at after (index + 1) ≡ first_at before (index + 1) → GoesOn pages span log before all index → GoesOn pages span log after all index
 goes_on_kept pages span log before after all index same goes start to start_is to_is =
     subst (λ (o : Option Span). IsJoinedFrom pages span log (index + 1) o start to) (sym same) (goes start to start_is to_is)
 
@@ -285,9 +284,9 @@ ends_before pages span image log changed from to valid n all same few less are =
       (sym (same_before pages image log changed from to ((index + 1) * span) same (starts_before from span (index + 1) (omega (arith, below, few)))));
 }
 
-pub goes_on_over : (pages span : ℕ) (image : Boot) (log changed : List LogEvent) (spans : List (Option Span)) (all : List State) (from to valid again now index : ℕ)
+pub goes_on_over : (pages span : ℕ) (image : Boot) (log changed : List LogEvent) (spans : List (List Span)) (all : List State) (from to valid again now index : ℕ)
     → 0 < span → AreSameOutside from to log changed → AreEnds pages span image log valid all
-    → ((i : ℕ) → i < valid → IsJoined pages span i (slice_index_or spans i None) (span_of pages span image log i))
+    → ((i : ℕ) → i < valid → IsJoined pages span i (first_at spans i) (span_of pages span image log i))
     → ((i : ℕ) → again ≤ i → valid ≤ i → GoesOn pages span log spans all i)
     → (valid ≡ length all) ⊎ ((again ≤ now) × (valid ≤ now)) → to / span ≤ now → now ≤ index
     → GoesOn pages span changed spans all index
@@ -308,10 +307,9 @@ there_is pages span index (Some r) s joined = refl
 
 -- the same with other kept values, of the same records
 pub over_joined : {pages span : ℕ} (image : Boot) (log : List LogEvent) (runs : Runs pages span) (kept : Kept) (reports : Index) (f : Frontier pages)
-    → ((i : ℕ) → span_at kept i ≡ span_at runs.kept i) → kept.valid ≡ runs.kept.valid → Agrees pages span reports kept.spans
-    → IsKnown span kept.spans (λ n. state_at pages image log (n * span)) f → IsAlike kept.spans 0 f.patched (reset pages image)
-    → AreOf image log runs → AreOf image log (record runs { kept = kept; reports = reports; frontier = f })
-over_joined {pages} {span} image log runs kept reports f same valid_is agrees known patches of = record {
+    → ((i : ℕ) → first_at kept.rows i ≡ first_at runs.kept.rows i) → kept.valid ≡ runs.kept.valid → Agrees pages span reports kept.rows
+    → IsKnown span kept.rows (λ n. state_at pages image log (n * span)) f → AreOf image log runs → AreOf image log (record runs { kept = kept; reports = reports; frontier = f })
+over_joined {pages} {span} image log runs kept reports f same valid_is agrees known of = record {
   sizes = of.sizes;
   start = of.start;
   stands = of.stands;
@@ -320,15 +318,13 @@ over_joined {pages} {span} image log runs kept reports f same valid_is agrees kn
       subst (λ (o : Option Span). IsJoined pages span i o (span_of pages span image log i)) (sym (same i)) (of.joined i (subst (λ (n : ℕ). i < n) valid_is within));
   ends = subst (λ (n : ℕ). AreEnds pages span image log n (map (λ end. end.value) runs.ends.items)) (sym valid_is) of.ends;
   again = λ index first past.
-      goes_on_kept pages span log runs.kept.spans kept.spans (map (λ end. end.value) runs.ends.items) index (same (index + 1)) (of.again index first (omega (arith, valid_is, past)));
+      goes_on_kept pages span log runs.kept.rows kept.rows (map (λ end. end.value) runs.ends.items) index (same (index + 1)) (of.again index first (omega (arith, valid_is, past)));
   known = known;
-  patches = patches;
   agrees = agrees;
 }
 
 pub over_kept : {pages span : ℕ} (image : Boot) (log : List LogEvent) (runs : Runs pages span) (kept : Kept) (reports : Index)
-    → ((i : ℕ) → span_at kept i ≡ span_at runs.kept i) → kept.valid ≡ runs.kept.valid → Agrees pages span reports kept.spans
+    → ((i : ℕ) → first_at kept.rows i ≡ first_at runs.kept.rows i) → kept.valid ≡ runs.kept.valid → Agrees pages span reports kept.rows
     → AreOf image log runs → AreOf image log (record runs { kept = kept; reports = reports })
 over_kept {pages} {span} image log runs kept reports same valid_is agrees of =
-    over_joined image log runs kept reports runs.frontier same valid_is agrees (known_by span runs.kept.spans kept.spans _ runs.frontier same of.known)
-    (subst (λ (o : Option Span). IfSome o (λ s. SameOutside runs.frontier.patched s.start.words (reset pages image).words)) (sym (same 0)) of.patches) of
+    over_joined image log runs kept reports runs.frontier same valid_is agrees (known_by span runs.kept.rows kept.rows (λ n. state_at pages image log (n * span)) runs.frontier same of.known) of

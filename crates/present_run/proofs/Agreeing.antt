@@ -12,6 +12,7 @@ use Rattle.write_index.specs.Pages.{pages_at}
 use Rattle.console_index.specs.Counts.{count_at}
 use Rattle.present_run.specs.Index.{Agrees, Has, Index, steps_at, steps_in}
 use Rattle.present_run.specs.Sent.{bytes_on}
+use Rattle.checkpoints.specs.Kept.{first_at}
 use Rattle.present_run.proofs.Written.{none_in_page}
 
 -- no steps, so no store into a page
@@ -35,14 +36,14 @@ has_still pages span old new i s t writes consoles same has = record {
 }
 
 -- no record from one on stored into a word, where none of those before the searched ones has its page
-pub none_from : (pages span : ℕ) (index : Index) (spans : List (Option Span)) (count address before from : ℕ) → Agrees pages span index spans
+pub none_from : (pages span : ℕ) (index : Index) (spans : List (List Span)) (count address before from : ℕ) → Agrees pages span index spans
     → ((i : ℕ) → from ≤ i → i < before → IsFalse (holds (pages_at index.writes i) (address / PAGE_BYTES)))
     → ((i : ℕ) → before ≤ i → i < count → last_writer address (steps_at pages span spans i) ≡ None)
     → (i : ℕ) → from ≤ i → i < count → last_writer address (steps_at pages span spans i) ≡ None
 none_from pages span index spans count address before from agrees free beyond i low within =
     elim (cases_lt i before) [
       | inl below ↦
-          none_in_page pages span (slice_index_or spans i None) address
+          none_in_page pages span (first_at spans i) address
           (ap (λ (set : List ℕ). holds set (address / PAGE_BYTES)) (sym (agrees i).stored) ∙ free i low below)
       | inr past ↦ beyond i past within
     ]

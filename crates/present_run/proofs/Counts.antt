@@ -1,11 +1,15 @@
 -- How many spans have no record that serves, and what steps that costs.
-use Rattle.std.proofs.Common.{◌≡◌, ◌⊎◌, inl, inr, ℕ, zero, suc, ◌+◌, ◌-◌, ◌*◌, ◌<◌, ◌≤◌, List, Option, Some, None, slice_index_or, sym, ap, ◌∙◌, subst, arith}
+use Rattle.std.proofs.Common.{◌≡◌, ◌⊎◌, inl, inr, ℕ, zero, suc, ◌+◌, ◌-◌, ◌*◌, ◌<◌, ◌≤◌, List, ◌∷◌, Option, Some, None, slice_get, take, refl, sym, ap, ◌∙◌, subst, arith}
 use Rattle.std.proofs.Math.Nat.{add-mul, le_trans, mul-le-mul_right}
+use Rattle.std.specs.List.{remove}
+use Rattle.std.specs.Option.{option_map_or}
+use Rattle.input_log.specs.Event.{LogEvent}
+use Rattle.r3k_machine.specs.State.{State}
 use Rattle.r3k_live.specs.Living.{counted}
 use Rattle.span_fact.specs.Span.{Span}
-use Rattle.checkpoints.specs.Kept.{IsNear}
+use Rattle.checkpoints.specs.Kept.{AreFar, IsNear, promoted, row_at}
 use Rattle.present_run.specs.History.{History}
-use Rattle.present_run.specs.Reuse.{Applies, Holding, Lacks, Reaches, Serves, Spends, kept_at, span_of}
+use Rattle.present_run.specs.Reuse.{HasServing, Holding, IsServing, Lacks, Reaches, Serves, Spends, Turns, kept_at, put_one, span_of, stay, use_one}
 
 -- where one serves for each, none is lacking
 pub lacks_none : (pages span : ℕ) (h : Holding) (count lacking : ℕ) → ((index : ℕ) → index < count → Serves pages span h index)
@@ -89,60 +93,80 @@ count_same span before lacking steps now after less so_far same =
     let next : before * span ≤ lacking * span = mul-le-mul_right span less in
     omega (arith, so_far, same, next)
 
--- records that stay apply as before
-applies_same : (pages span : ℕ) (mid new : Holding) (index : ℕ) → new.history ≡ mid.history → new.spans ≡ mid.spans
-    → Applies pages span mid index → Applies pages span new index
-applies_same pages span mid new index history spans applies =
-    ap (λ (s : List (Option Span)). slice_index_or s index None) spans
-    ∙ (applies ∙ sym (ap (λ (h : History). Some (span_of pages span h.image h.log index)) history))
-
-kept_same : (pages span : ℕ) (old mid new : Holding) (index : ℕ) → new.history ≡ mid.history → new.spans ≡ mid.spans
-    → (kept_at mid index ≡ kept_at old index) ⊎ Applies pages span mid index
-    → (kept_at new index ≡ kept_at old index) ⊎ Applies pages span new index
-kept_same pages span old mid new index history spans (inl same) = inl (ap (λ (s : List (Option Span)). slice_index_or s index None) spans ∙ same)
-kept_same pages span old mid new index history spans (inr applies) = inr (applies_same pages span mid new index history spans applies)
-
+-- records that stay serve as before
 pub serves_same : (pages span : ℕ) (mid new : Holding) (index : ℕ) → new.history ≡ mid.history → kept_at new index ≡ kept_at mid index
     → Serves pages span mid index → Serves pages span new index
 serves_same pages span mid new index history same serves =
-    subst (λ (o : Option Span). Near new.history o) (sym same) (subst (λ (h : History). Near h (kept_at mid index)) (sym history) serves)
+    subst (λ (row : List Span). Served new.history row) (sym same) (subst (λ (h : History). Served h (kept_at mid index)) (sym history) serves)
   where
-    Near : History → Option Span → Type 0
-    Near h o =
+    Served : History → List Span → Type 0
+    Served h row =
         let s : Span = span_of pages span h.image h.log index in
-        IsNear pages span o s.start s.events
+        ¬ AreFar pages span row s.start s.events
 
--- what was kept, or replaced, stays so
-pub kept_on : (pages span : ℕ) (old mid new : Holding) (index : ℕ) → new.history ≡ mid.history → kept_at new index ≡ kept_at mid index
-    → (kept_at mid index ≡ kept_at old index) ⊎ Applies pages span mid index
-    → (kept_at new index ≡ kept_at old index) ⊎ Applies pages span new index
-kept_on pages span old mid new index history same (inl was) = inl (same ∙ was)
-kept_on pages span old mid new index history same (inr applies) =
-    inr (same ∙ (applies ∙ sym (ap (λ (h : History). Some (span_of pages span h.image h.log index)) history)))
+-- a record that is there comes first
+pub first_promoted : (pages span place : ℕ) (row : List Span) (start : State) (events : List LogEvent) → IsNear pages span (slice_get row place) start events
+    → slice_get (promoted place row) 0 ≡ slice_get row place
+first_promoted pages span place row start events near = by_cases (slice_get row place) near
+  where
+    by_cases : (o : Option Span) → IsNear pages span o start events → slice_get (option_map_or (λ s. s ∷ remove row place) o row) 0 ≡ o
+    by_cases None near = absurd near
+    by_cases (Some s) near = refl
+
+pub first_used : (pages span place : ℕ) (old new : List Span) (start : State) (events : List LogEvent) → IsNear pages span (slice_get old place) start events
+    → new ≡ promoted place old → IsNear pages span (slice_get new 0) start events
+first_used pages span place old new start events near is =
+    subst (λ (o : Option Span). IsNear pages span o start events)
+    (sym (ap (λ (row : List Span). slice_get row 0) is ∙ first_promoted pages span place old start events near)) near
+
+-- where a row turned, it has one that serves if it had
+pub serving_turned : (pages span : ℕ) (h : Holding) (index : ℕ) (row : List Span) → Turns pages span h index row → Serves pages span h index → HasServing pages span h.history index row
+serving_turned pages span h index _ (stay row is) serves = subst (λ (row : List Span). HasServing pages span h.history index row) (sym is) serves
+serving_turned pages span h index _ (use_one before row turns place near is) serves = λ far. far 0 (first_used pages span place before row _ _ near is)
+serving_turned pages span h index _ (put_one before row turns none is) serves = absurd (none (serving_turned pages span h index before turns serves))
+
+-- an equal row
+pub turned_to : (pages span : ℕ) (h : Holding) (index : ℕ) (row next : List Span) → next ≡ row → Turns pages span h index row → Turns pages span h index next
+turned_to pages span h index row next same turns = subst (λ (row : List Span). Turns pages span h index row) (sym same) turns
+
+-- what queries make of a row, and then later ones
+pub turned_on : (pages span : ℕ) (old mid : Holding) (index : ℕ) (row : List Span) → mid.history ≡ old.history → mid.pasts ≡ old.pasts
+    → Turns pages span old index (kept_at mid index) → Turns pages span mid index row → Turns pages span old index row
+turned_on pages span old mid index _ history pasts first (stay row is) = turned_to pages span old index (kept_at mid index) row is first
+turned_on pages span old mid index _ history pasts first (use_one before row turns place near is) =
+    use_one before row (turned_on pages span old mid index before history pasts first turns) place
+    (subst (λ (h : History). IsServing pages span h index (slice_get before place)) history near) is
+turned_on pages span old mid index _ history pasts first (put_one before row turns none is) =
+    put_one before row (turned_on pages span old mid index before history pasts first turns)
+    (λ has. none (subst (λ (h : History). HasServing pages span h index before) (sym history) has))
+    (is
+    ∙ (ap (λ (h : History). span_of pages span h.image h.log index ∷ take (mid.pasts - 1) before) history
+    ∙ ap (λ (n : ℕ). span_of pages span old.history.image old.history.log index ∷ take (n - 1) before) pasts))
 
 -- more steps after those
-pub spends_more : (pages span count first more : ℕ) (old mid new : Holding) → Spends pages span count first old mid → new.history ≡ mid.history → new.spans ≡ mid.spans
+pub spends_more : (pages span count first more : ℕ) (old mid new : Holding) → Spends pages span count first old mid → new.history ≡ mid.history → new.pasts ≡ mid.pasts → new.rows ≡ mid.rows
     → mid.steps ≤ new.steps → new.steps ≤ mid.steps + more → Spends pages span count (first + more) old new
-spends_more pages span count first more old mid new spends history spans grows steps = record {
+spends_more pages span count first more old mid new spends history pasts rows grows steps = record {
   history = history ∙ spends.history;
+  pasts = pasts ∙ spends.pasts;
   grows = le_trans spends.grows grows;
   most = λ lacking lacks. within lacking (spends.most lacking lacks);
-  kept = λ index. kept_same pages span old mid new index history spans (spends.kept index);
+  turns = λ index. turned_to pages span old index (kept_at mid index) (kept_at new index) (ap (λ (s : List (List Span)). row_at s index) rows) (spends.turns index);
 }
   where
     within : (lacking : ℕ) → mid.steps ≤ old.steps + (lacking * span + first) → new.steps ≤ old.steps + (lacking * span + (first + more))
     within lacking before = omega (arith, before, steps)
 
 -- up to a position from whole spans
-pub spends_rest : (pages span count more : ℕ) (old mid new : Holding) → Spends pages span count 0 old mid → new.history ≡ mid.history → new.spans ≡ mid.spans
+pub spends_rest : (pages span count more : ℕ) (old mid new : Holding) → Spends pages span count 0 old mid → new.history ≡ mid.history → new.pasts ≡ mid.pasts → new.rows ≡ mid.rows
     → mid.steps ≤ new.steps → new.steps ≤ mid.steps + more → Spends pages span count more old new
-spends_rest pages span count more old mid new spends history spans grows steps =
+spends_rest pages span count more old mid new spends history pasts rows grows steps =
     subst (λ (n : ℕ). Spends pages span count n old new) (let e : 0 + more ≡ more = omega arith in e)
-    (spends_more pages span count 0 more old mid new spends history spans grows steps)
+    (spends_more pages span count 0 more old mid new spends history pasts rows grows steps)
 
-pub reaches_more : (pages span count : ℕ) (old mid new : Holding) → Reaches pages span count old mid → new.history ≡ mid.history → new.spans ≡ mid.spans
+pub reaches_more : (pages span count : ℕ) (old mid new : Holding) → Reaches pages span count old mid → new.history ≡ mid.history → new.rows ≡ mid.rows
     → mid.steps ≤ new.steps → Reaches pages span count old new
-reaches_more pages span count old mid new reaches history spans steps = record {
+reaches_more pages span count old mid new reaches history rows steps = record {
   least = λ lacking lacks. le_trans (reaches.least lacking lacks) steps;
-  there = λ index below. serves_same pages span mid new index history (ap (λ (s : List (Option Span)). slice_index_or s index None) spans) (reaches.there index below);
+  there = λ index below. serves_same pages span mid new index history (ap (λ (s : List (List Span)). row_at s index) rows) (reaches.there index below);
 }

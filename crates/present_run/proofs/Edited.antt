@@ -11,22 +11,26 @@ use Rattle.refusal.specs.declared.fault.Fault.TheVariants.{Range}
 use Rattle.span_fact.specs.Span.{Span}
 use Rattle.present_run.specs.Landed.{Landed, with_image, with_log}
 
-pub log_edited : (edit : List LogEvent → Result (List LogEvent) Fault) (old : Landed) (log : List LogEvent) (spans : List (Option Span)) (steps : ℕ) (landings : List ℕ)
-    → edit old.history.log ≡ Ok log → spans ≡ old.spans → steps ≡ old.steps → landings ≡ []
-    → with_log old (edit old.history.log) ≡ Ok (record { history = record { image = old.history.image; log = log }; spans = spans; steps = steps; landings = landings })
-log_edited edit old log spans steps landings is same_spans same_steps none =
+pub log_edited : (edit : List LogEvent → Result (List LogEvent) Fault) (old : Landed) (log : List LogEvent) (rows : List (List Span)) (pasts steps : ℕ) (landings : List ℕ)
+    → edit old.history.log ≡ Ok log → rows ≡ old.rows → pasts ≡ old.pasts → steps ≡ old.steps → landings ≡ []
+    → with_log old (edit old.history.log) ≡ Ok (record { history = record { image = old.history.image; log = log }; rows = rows; pasts = pasts; steps = steps; landings = landings })
+log_edited edit old log rows pasts steps landings is same_rows same_pasts same_steps none =
     ap (with_log old) is
-    ∙ ap₂ (λ (spans : List (Option Span)) (rest : ℕ × List ℕ). let r : Result Landed Fault = Ok (record { history = record { image = old.history.image; log = log }; spans = spans; steps = rest.0; landings = rest.1 }) in r)
-    (sym same_spans) (ap₂ (λ (steps : ℕ) (landings : List ℕ). (steps, landings)) (sym same_steps) (sym none))
+    ∙ (ap₂ (λ (rows : List (List Span)) (pasts : ℕ). let r : Result Landed Fault = Ok (record { history = record { image = old.history.image; log = log }; rows = rows; pasts = pasts; steps = old.steps; landings = [] }) in r)
+    (sym same_rows) (sym same_pasts)
+    ∙ ap₂ (λ (steps : ℕ) (landings : List ℕ). let r : Result Landed Fault = Ok (record { history = record { image = old.history.image; log = log }; rows = rows; pasts = pasts; steps = steps; landings = landings }) in r)
+    (sym same_steps) (sym none))
 
 -- the same of the image
-pub image_edited : (edit : Boot → Result Boot Fault) (old : Landed) (image : Boot) (spans : List (Option Span)) (steps : ℕ) (landings : List ℕ)
-    → edit old.history.image ≡ Ok image → spans ≡ old.spans → steps ≡ old.steps → landings ≡ []
-    → with_image old (edit old.history.image) ≡ Ok (record { history = record { image = image; log = old.history.log }; spans = spans; steps = steps; landings = landings })
-image_edited edit old image spans steps landings is same_spans same_steps none =
+pub image_edited : (edit : Boot → Result Boot Fault) (old : Landed) (image : Boot) (rows : List (List Span)) (pasts steps : ℕ) (landings : List ℕ)
+    → edit old.history.image ≡ Ok image → rows ≡ old.rows → pasts ≡ old.pasts → steps ≡ old.steps → landings ≡ []
+    → with_image old (edit old.history.image) ≡ Ok (record { history = record { image = image; log = old.history.log }; rows = rows; pasts = pasts; steps = steps; landings = landings })
+image_edited edit old image rows pasts steps landings is same_rows same_pasts same_steps none =
     ap (with_image old) is
-    ∙ ap₂ (λ (spans : List (Option Span)) (rest : ℕ × List ℕ). let r : Result Landed Fault = Ok (record { history = record { image = image; log = old.history.log }; spans = spans; steps = rest.0; landings = rest.1 }) in r)
-    (sym same_spans) (ap₂ (λ (steps : ℕ) (landings : List ℕ). (steps, landings)) (sym same_steps) (sym none))
+    ∙ (ap₂ (λ (rows : List (List Span)) (pasts : ℕ). let r : Result Landed Fault = Ok (record { history = record { image = image; log = old.history.log }; rows = rows; pasts = pasts; steps = old.steps; landings = [] }) in r)
+    (sym same_rows) (sym same_pasts)
+    ∙ ap₂ (λ (steps : ℕ) (landings : List ℕ). let r : Result Landed Fault = Ok (record { history = record { image = image; log = old.history.log }; rows = rows; pasts = pasts; steps = steps; landings = landings }) in r)
+    (sym same_steps) (sym none))
 
 -- an event that an edit needs is there
 no_ok : {A : Type 0} (fault : Fault) (a : A) → Err fault ≡ Ok a → ⊥

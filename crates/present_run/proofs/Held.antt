@@ -6,11 +6,11 @@ use Rattle.r3k_machine.specs.State.{State}
 use Rattle.span_fact.specs.Span.{Span}
 use Rattle.present_run.specs.Landings.{HasNone, IsNearest, positions_of}
 use Rattle.present_run.specs.History.{History}
-use Rattle.present_run.specs.Reuse.{Applies, Holding, Reaches, Serves, Spends, kept_at, span_of}
+use Rattle.present_run.specs.Reuse.{Holding, IsServed, IsServing, Reaches, Serves, Spends, span_of, stay}
 use Rattle.present_run.specs.Landed.{Landed, Lands}
 use Rattle.present_run.specs.Runs.{AreLandings, IsLanding}
-use Rattle.present_run.proofs.Counts.{lacks_none, serves_same}
-use Rattle.present_run.proofs.Near.{is_joined}
+use Rattle.present_run.proofs.Counts.{lacks_none}
+use Rattle.checkpoints.specs.Kept.{AreFar, first_at, row_at}
 use Rattle.present_run.proofs.Spans.{ok_all}
 
 -- nothing is kept
@@ -44,20 +44,14 @@ pub held_by : (states : List (ℕ × State)) (position : ℕ) → Contains (posi
 held_by [] position there = absurd (none [] position refl there)
 held_by (f ∷ states) position there = held_by_at f states position there.0 there.1 there.2
 
--- a record that serves stays, or is replaced by one that applies
-serves_on : (pages span : ℕ) (old new : Holding) (index : ℕ) → new.history ≡ old.history → (kept_at new index ≡ kept_at old index) ⊎ Applies pages span new index
-    → Serves pages span old index → Serves pages span new index
-serves_on pages span old new index history (inl same) serves = serves_same pages span old new index history same serves
-serves_on pages span old new index history (inr applies) serves =
-    (is_joined pages span new.history.image new.history.log index (kept_at new index) applies).near
-
 -- a query that runs nothing, as each span has a record that serves
 pub stays : (pages span count more : ℕ) (h : Holding) → Spends pages span count more h h
 stays pages span count more h = record {
   history = refl;
+  pasts = refl;
   grows = omega arith;
   most = λ lacking _. let e : h.steps ≤ h.steps + (lacking * span + more) = omega arith in e;
-  kept = λ _. inl refl;
+  turns = λ index. stay (row_at h.rows index) refl;
 }
 
 pub there_are : (pages span count : ℕ) (h : Holding) → ((index : ℕ) → index < count → Serves pages span h index) → Reaches pages span count h h
@@ -85,18 +79,18 @@ pub kept_here : (position n : ℕ) (states : List (ℕ × State)) (state : State
 kept_here position n states state near = subst (λ n. Contains (positions_of states) n) (here position n states state near) (held states (n, state) near.there)
 
 pub landing_here : (pages span : ℕ) (h : Holding) (position n : ℕ) (states : List (ℕ × State)) (state : State)
-    → ((e : ℕ × State) → Contains states e → IsLanding pages span h.history h.spans e.0 e.1) → IsNearest position position states n state → IsLanding pages span h.history h.spans position state
+    → ((e : ℕ × State) → Contains states e → IsLanding pages span h.history h.rows e.0 e.1) → IsNearest position position states n state → IsLanding pages span h.history h.rows position state
 landing_here pages span h position n states state each near =
-    subst (λ n. IsLanding pages span h.history h.spans n state) (here position n states state near) (each (n, state) near.there)
+    subst (λ n. IsLanding pages span h.history h.rows n state) (here position n states state near) (each (n, state) near.there)
 
 pub none_here : (position : ℕ) (states : List (ℕ × State)) → HasNone position position states → ¬ Contains (positions_of states) position
 none_here position states absent there = absent position there (omega arith) (omega arith)
 
 -- a state that comes to be kept
 pub new_landing : (pages span : ℕ) (h : Holding) (position : ℕ) (e : ℕ × State) → ((index : ℕ) → index < position / span → Serves pages span h index)
-    → ¬ (position % span ≡ 0) → e ≡ (position, state_at pages h.history.image h.history.log position) → IsLanding pages span h.history h.spans e.0 e.1
+    → ¬ (position % span ≡ 0) → e ≡ (position, state_at pages h.history.image h.history.log position) → IsLanding pages span h.history h.rows e.0 e.1
 new_landing pages span h position e served inside is =
-    subst (λ (e : ℕ × State). IsLanding pages span h.history h.spans e.0 e.1) (sym is) (record { is = refl; inside = inside; served = served })
+    subst (λ (e : ℕ × State). IsLanding pages span h.history h.rows e.0 e.1) (sym is) (record { is = refl; inside = inside; served = served })
 
 -- what a query of the state at a position does with those that are kept
 pub lands_there : {A E : Type 0} {old new : Landed} (span position : ℕ) (states : List ℕ) (steps : ℕ) (x : A) → old.landings ≡ states → old.steps ≡ steps
@@ -138,14 +132,18 @@ lands_not span position states result is absent same = record {
     err_all (Ok x) p = tt
     err_all (Err e) p = p
 
--- each of these states is still one of the run where records stay or are replaced by ones that apply
-pub landed_over : (pages span : ℕ) (h : History) (old new : List (Option Span)) (states : List (ℕ × State))
-    → ((i : ℕ) → (slice_index_or new i None ≡ slice_index_or old i None) ⊎ (slice_index_or new i None ≡ Some (span_of pages span h.image h.log i)))
-    → AreLandings pages span h old states → AreLandings pages span h new states
+-- each of these states is still one of the run where each span that had a record that serves has one
+pub landed_over : (pages span : ℕ) (h : History) (old new : List (List Span)) (states : List (ℕ × State))
+    → ((i : ℕ) → IsServed pages span h old i → IsServed pages span h new i) → AreLandings pages span h old states → AreLandings pages span h new states
 landed_over pages span h old new states each all e there =
-    let landing = all e there in record {
-      is = landing.is;
-      inside = landing.inside;
-      served = λ index below.
-          serves_on pages span (record { history = h; spans = old; steps = 0 }) (record { history = h; spans = new; steps = 0 }) index refl (each index) (landing.served index below);
-    }
+    let landing = all e there in record { is = landing.is; inside = landing.inside; served = λ index below. each index (landing.served index below) }
+
+-- where a row stays
+pub served_same : (pages span : ℕ) (h : History) (old new : List (List Span)) (i : ℕ) → row_at new i ≡ row_at old i → IsServed pages span h old i → IsServed pages span h new i
+served_same pages span h old new i same served =
+    let s : Span = span_of pages span h.image h.log i in
+    subst (λ (row : List Span). ¬ AreFar pages span row s.start s.events) (sym same) served
+
+-- where its first record serves
+pub served_first : (pages span : ℕ) (h : History) (rows : List (List Span)) (i : ℕ) → IsServing pages span h i (first_at rows i) → IsServed pages span h rows i
+served_first pages span h rows i near far = far 0 near

@@ -2,18 +2,19 @@
 use Rattle.std.proofs.Common.{◌≡◌, ℕ, zero, suc, ◌+◌, ◌-◌, ◌*◌, ◌<◌, ◌≤◌, List, length, Option, Some, None, slice_index_or, sym, ap, subst, ◌∙◌, arith, add-one}
 use Rattle.r3k_machine.specs.Run.{last_writer, later}
 use Rattle.span_fact.specs.Span.{Span}
+use Rattle.checkpoints.specs.Kept.{first_at}
 use Rattle.present_run.specs.Index.{Agrees, Has, Index, IsLastWriter, bytes_at, sent_below, steps_at}
 
 -- an index agrees with records that are the same one by one
-pub agrees_same : (pages span : ℕ) (index : Index) (old new : List (Option Span)) → ((i : ℕ) → slice_index_or new i None ≡ slice_index_or old i None)
+pub agrees_same : (pages span : ℕ) (index : Index) (old new : List (List Span)) → ((i : ℕ) → first_at new i ≡ first_at old i)
     → Agrees pages span index old → Agrees pages span index new
 agrees_same pages span index old new same agrees = λ i. subst (λ (o : Option Span). Has pages span index i o) (sym (same i)) (agrees i)
 
 -- the last writer below each record
-abbrev pub Goes : (pages span : ℕ) → List (Option Span) → (address count : ℕ) → (ℕ → Option ℕ) → Type 0
+abbrev pub Goes : (pages span : ℕ) → List (List Span) → (address count : ℕ) → (ℕ → Option ℕ) → Type 0
 Goes pages span spans address count below = (i : ℕ) → i < count → below (i + 1) ≡ later (i * span) (last_writer address (steps_at pages span spans i)) (below i)
 
-none_between : (pages span : ℕ) (spans : List (Option Span)) (address count : ℕ) (below : ℕ → Option ℕ) → Goes pages span spans address count below
+none_between : (pages span : ℕ) (spans : List (List Span)) (address count : ℕ) (below : ℕ → Option ℕ) → Goes pages span spans address count below
     → (from more : ℕ) → from + more ≤ count → ((i : ℕ) → from ≤ i → i < count → last_writer address (steps_at pages span spans i) ≡ None)
     → below (from + more) ≡ below from
 none_between pages span spans address count below goes from zero within none = ap below (let e : from + zero ≡ from = omega arith in e)
@@ -28,7 +29,7 @@ abbrev pub step_of : ℕ → Option (ℕ × ℕ) → Option ℕ
 step_of span None = None
 step_of span (Some found) = Some (found.0 * span + found.1)
 
-pub writer_joined : (pages span : ℕ) (spans : List (Option Span)) (count address : ℕ) (below : ℕ → Option ℕ) → below 0 ≡ None
+pub writer_joined : (pages span : ℕ) (spans : List (List Span)) (count address : ℕ) (below : ℕ → Option ℕ) → below 0 ≡ None
     → Goes pages span spans address count below → (found : Option (ℕ × ℕ)) → IsLastWriter pages span spans count address found → below count ≡ step_of span found
 writer_joined pages span spans count address below first goes None last =
     ap below (let e : count ≡ 0 + count = omega arith in e)
@@ -41,7 +42,7 @@ writer_joined pages span spans count address below first goes (Some found) last 
     ∙ (goes at last.0 ∙ ap (λ (o : Option ℕ). later (at * span) o (below at)) last.1))
 
 -- how many bytes were sent below each record
-pub sent_joined : (pages span : ℕ) (spans : List (Option Span)) (line count : ℕ) (below : ℕ → ℕ) → below 0 ≡ 0
+pub sent_joined : (pages span : ℕ) (spans : List (List Span)) (line count : ℕ) (below : ℕ → ℕ) → below 0 ≡ 0
     → ((i : ℕ) → i < count → below (i + 1) ≡ below i + length (bytes_at pages span spans line i)) → sent_below pages span spans line count ≡ below count
 unfolding sent_below
 sent_joined pages span spans line zero below first goes = sym first

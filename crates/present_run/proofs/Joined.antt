@@ -22,11 +22,12 @@ use Rattle.present_run.proofs.Consoles.{part_enough}
 use Rattle.present_run.specs.declared.sent.Shown.{Shown}
 use Rattle.present_run.proofs.Near.{same_steps}
 use Rattle.present_run.proofs.Steps.{trace_long}
+use Rattle.checkpoints.specs.Kept.{first_at}
 use Rattle.present_run.proofs.Reports.{console_front, senders_front, span_steps, trace_none, up_to_next, writer_span}
 
 -- the first n records are joined
-abbrev pub AreJoined : (pages span : ℕ) → Boot → List LogEvent → List (Option Span) → ℕ → Type 0
-AreJoined pages span image log spans count = (i : ℕ) → i < count → IsJoined pages span i (slice_index_or spans i None) (span_of pages span image log i)
+abbrev pub AreJoined : (pages span : ℕ) → Boot → List LogEvent → List (List Span) → ℕ → Type 0
+AreJoined pages span image log spans count = (i : ℕ) → i < count → IsJoined pages span i (first_at spans i) (span_of pages span image log i)
 
 steps_joined : (pages span : ℕ) (image : Boot) (log : List LogEvent) (i : ℕ) (o : Option Span) → IsJoined pages span i o (span_of pages span image log i)
     → steps_in pages span o ≡ steps_between pages image log (i * span) ((i + 1) * span)
@@ -34,7 +35,7 @@ steps_joined pages span image log i None joined = absurd joined.near
 steps_joined pages span image log i (Some r) joined =
     same_steps pages span i (Some r) r (span_of pages span image log i) refl refl joined ∙ span_steps pages span image log i
 
-pub writer_is : (pages span : ℕ) (image : Boot) (log : List LogEvent) (spans : List (Option Span)) (count address : ℕ) (found : Option (ℕ × ℕ))
+pub writer_is : (pages span : ℕ) (image : Boot) (log : List LogEvent) (spans : List (List Span)) (count address : ℕ) (found : Option (ℕ × ℕ))
     → AreJoined pages span image log spans count → IsLastWriter pages span spans count address found
     → last_writer address (trace_at pages image log (count * span)) ≡ step_of span found
 writer_is pages span image log spans count address found joined last =
@@ -43,14 +44,14 @@ writer_is pages span image log spans count address found joined last =
     (λ i within.
     writer_span pages span image log address i (i + 1) refl
     ∙ ap (λ (steps : List Done). later (i * span) (last_writer address steps) (last_writer address (trace_at pages image log (i * span))))
-    (sym (steps_joined pages span image log i (slice_index_or spans i None) (joined i within))))
+    (sym (steps_joined pages span image log i (first_at spans i) (joined i within))))
     found last
 
 -- how many bytes a line had where a span starts
 abbrev pub length_at : (pages span : ℕ) → Boot → List LogEvent → (line index : ℕ) → ℕ
 length_at pages span image log line index = length (console_of line (trace_at pages image log (index * span)))
 
-pub count_is : (pages span : ℕ) (image : Boot) (log : List LogEvent) (spans : List (Option Span)) (line count : ℕ)
+pub count_is : (pages span : ℕ) (image : Boot) (log : List LogEvent) (spans : List (List Span)) (line count : ℕ)
     → AreJoined pages span image log spans count → sent_below pages span spans line count ≡ length_at pages span image log line count
 count_is pages span image log spans line count joined =
     sent_joined pages span spans line count (length_at pages span image log line)
@@ -59,7 +60,7 @@ count_is pages span image log spans line count joined =
     ap (λ (bytes : List ℕ). length bytes) (sym (console_front pages image log line (i * span) ((i + 1) * span) (up_to_next i span)))
     ∙ (length-append (console_of line (trace_at pages image log (i * span))) (bytes_on line (sent_from 0 (steps_between pages image log (i * span) ((i + 1) * span))))
     ∙ ap (λ (steps : List Done). length_at pages span image log line i + length (bytes_on line (sent_from 0 steps)))
-    (sym (steps_joined pages span image log i (slice_index_or spans i None) (joined i within)))))
+    (sym (steps_joined pages span image log i (first_at spans i) (joined i within)))))
 
 -- the console grows
 pub goes_on : (pages : ℕ) (image : Boot) (log : List LogEvent) (line from to : ℕ) → from ≤ to
@@ -104,13 +105,13 @@ shown_enough pages image log line from count begin end bytes before is full =
     ∙ ap (part_of from count) (console_front pages image log line begin end before))
 
 -- where the byte at a place was sent
-pub sender_from : (pages span : ℕ) (image : Boot) (log : List LogEvent) (spans : List (Option Span)) (line place count index : ℕ)
+pub sender_from : (pages span : ℕ) (image : Boot) (log : List LogEvent) (spans : List (List Span)) (line place count index : ℕ)
     → AreJoined pages span image log spans count → IsSender pages span spans line place count index
     → length_at pages span image log line index ≤ place
 sender_from pages span image log spans line place count index joined is =
     omega (arith, is.from, count_is pages span image log spans line index (λ i below. joined i (omega (arith, below, is.within))))
 
-pub sender_to : (pages span : ℕ) (image : Boot) (log : List LogEvent) (spans : List (Option Span)) (line place count index : ℕ)
+pub sender_to : (pages span : ℕ) (image : Boot) (log : List LogEvent) (spans : List (List Span)) (line place count index : ℕ)
     → AreJoined pages span image log spans count → IsSender pages span spans line place count index → index < count
     → place < length_at pages span image log line (index + 1)
 sender_to pages span image log spans line place count index joined is more =

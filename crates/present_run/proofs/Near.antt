@@ -1,5 +1,5 @@
 -- Records that nearly are those of spans of the run.
-use Rattle.std.proofs.Common.{◌≡◌, ℕ, ◌+◌, ◌*◌, not, IfSome, List, length, Option, None, Some, refl, sym, ap, subst, ◌∙◌}
+use Rattle.std.proofs.Common.{◌≡◌, ℕ, ◌+◌, ◌*◌, not, IfSome, List, [], ◌∷◌, length, slice_get, Option, None, Some, refl, sym, ap, subst, ◌∙◌}
 use Rattle.std.proofs.Math.Path.{ap₂}
 use Rattle.input_log.specs.Event.{LogEvent}
 use Rattle.r3k_image.specs.Boot.{Boot}
@@ -11,7 +11,7 @@ use Rattle.r3k_live.specs.Record.{touched_pages}
 use Rattle.r3k_live.proofs.Apart.{apart_from_all}
 use Rattle.r3k_live.proofs.Overlaid.{no_page_of_both, same_on}
 use Rattle.span_fact.specs.Span.{Span, end_of, steps_of}
-use Rattle.checkpoints.specs.Kept.{IsNear, NearlyApplies}
+use Rattle.checkpoints.specs.Kept.{IsNear, NearlyApplies, promoted}
 use Rattle.checkpoints.proofs.Near.{near_steps}
 use Rattle.present_run.specs.Reuse.{span_of}
 use Rattle.present_run.specs.Ends.{IsJoined}
@@ -81,3 +81,16 @@ pub same_span : (r s : Span) → r.index ≡ s.index → r.start ≡ s.start →
 same_span r s number start events =
     ap (λ (n : ℕ). let t : Span = record { index = n; start = r.start; events = r.events } in t) number
     ∙ ap₂ (λ (start : State) (events : List LogEvent). let t : Span = record { index = s.index; start = start; events = events } in t) start events
+
+-- a record that is near is there
+pub none_near : (pages span : ℕ) (o : Option Span) (start : State) (events : List LogEvent) → o ≡ None → ¬ IsNear pages span o start events
+none_near pages span o start events is near = subst (λ (o : Option Span). IsNear pages span o start events) is near
+
+pub promoted_zero : (pages span place : ℕ) (row : List Span) (start : State) (events : List LogEvent) → place ≡ 0 → IsNear pages span (slice_get row place) start events
+    → promoted place row ≡ row
+promoted_zero pages span place row start events zero near =
+    ap (λ (n : ℕ). promoted n row) zero ∙ by_cases row (subst (λ (n : ℕ). IsNear pages span (slice_get row n) start events) zero near)
+  where
+    by_cases : (row : List Span) → IsNear pages span (slice_get row 0) start events → promoted 0 row ≡ row
+    by_cases [] near = absurd near
+    by_cases (s ∷ rest) near = refl

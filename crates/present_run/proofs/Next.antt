@@ -1,5 +1,5 @@
 -- The next span, and the record of its number that is kept.
-use Rattle.std.proofs.Common.{◌≡◌, inl, inr, ℕ, zero, suc, ◌+◌, ◌<◌, IfSome, List, [], ◌∷◌, length, map, slice_get, slice_index_or, Option, Some, None, refl, sym, ap, subst, ◌∙◌, arith}
+use Rattle.std.proofs.Common.{MatchOption, ◌≡◌, inl, inr, ℕ, zero, suc, ◌+◌, ◌<◌, IfSome, List, [], ◌∷◌, length, map, slice_get, slice_index_or, Option, Some, None, refl, sym, ap, subst, ◌∙◌, arith}
 use Rattle.std.proofs.lemmas.Bool.{cases_lt}
 use Rattle.input_log.specs.Event.{LogEvent}
 use Rattle.r3k_image.specs.Boot.{Boot}
@@ -39,3 +39,7 @@ end_at value (first ∷ rest) (suc index) end state within is got = end_at value
 pub value_count : {A : Type 0} (value : A → State) (ends : List A) → length (map value ends) ≡ length ends
 value_count value [] = refl
 value_count value (first ∷ rest) = ap (λ (n : ℕ). suc n) (value_count value rest)
+
+pub match_map : {A : Type 0} {P P' : Type 0} {Q Q' : A → Type 0} (o : Option A) → (P → P') → ((x : A) → Q x → Q' x) → MatchOption o P Q → MatchOption o P' Q'
+match_map None f h is = f is
+match_map (Some x) f h is = h x is

@@ -5,10 +5,11 @@ use Rattle.std.proofs.lemmas.Bool.{cases_lt}
 use Rattle.std.proofs.lemmas.List.{get_or_past}
 use Rattle.span_fact.specs.Span.{Span}
 use Rattle.console_index.specs.Counts.{count_at, total}
+use Rattle.checkpoints.specs.Kept.{first_at}
 use Rattle.present_run.specs.Index.{Has, Index, sent_below}
 
-pub totals : (pages span : ℕ) (index : Index) (spans : List (Option Span)) (line n : ℕ) → line ≤ 3
-    → ((i : ℕ) → i < n → Has pages span index i (slice_index_or spans i None)) → total index.consoles line n ≡ sent_below pages span spans line n
+pub totals : (pages span : ℕ) (index : Index) (spans : List (List Span)) (line n : ℕ) → line ≤ 3
+    → ((i : ℕ) → i < n → Has pages span index i (first_at spans i)) → total index.consoles line n ≡ sent_below pages span spans line n
 unfolding total sent_below
 totals pages span index spans line zero known has = refl
 totals pages span index spans line (suc i) known has =

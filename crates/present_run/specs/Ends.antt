@@ -1,11 +1,11 @@
 -- Where the spans of a run end (own).
-use Rattle.std.specs.Prelude.{◌≡◌, ℕ, ◌+◌, ◌*◌, ◌<◌, ◌≤◌, IfSome, List, length, Option, Some, None, slice_get, slice_index_or}
+use Rattle.std.specs.Prelude.{◌≡◌, ℕ, ◌+◌, ◌*◌, ◌<◌, ◌≤◌, IfSome, List, length, Option, Some, None, slice_get}
 use Rattle.input_log.specs.Event.{LogEvent}
 use Rattle.r3k_image.specs.Boot.{Boot}
 use Rattle.r3k_machine.specs.State.{State}
 use Rattle.r3k_machine.specs.Run.{state_at}
 use Rattle.span_fact.specs.Span.{Span, end_of}
-use Rattle.checkpoints.specs.Kept.{IsNear}
+use Rattle.checkpoints.specs.Kept.{IsNear, first_at}
 use Rattle.present_run.specs.Reuse.{span_from}
 
 -- the record of this number reports what the steps of the span report
@@ -25,9 +25,9 @@ pub record IsJoinedFrom (pages span : ℕ) (log : List LogEvent) (index : ℕ) (
   pub joined : IsJoined pages span index o (span_from span log index start)
 
 -- the next span goes on from where this one ended, if both ends are there
-abbrev pub GoesOn : (pages span : ℕ) → List LogEvent → List (Option Span) → List State → ℕ → Type 0
+abbrev pub GoesOn : (pages span : ℕ) → List LogEvent → List (List Span) → List State → ℕ → Type 0
 GoesOn pages span log spans ends index = (start end : State) → slice_get ends index ≡ Some start → slice_get ends (index + 1) ≡ Some end
-    → IsJoinedFrom pages span log (index + 1) (slice_index_or spans (index + 1) None) start end
+    → IsJoinedFrom pages span log (index + 1) (first_at spans (index + 1)) start end
 
 -- an end is put after all others or in place of one
 pub record IsPut (index : ℕ) (end : State) (old new : List State) : Type 0 where

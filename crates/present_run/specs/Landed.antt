@@ -1,5 +1,5 @@
 -- What a timeline holds, and what its queries and edits do with that (own).
-use Rattle.std.specs.Prelude.{◌≡◌, ◌⊎◌, ℕ, ◌+◌, ◌/◌, ◌%◌, List, [], ◌∷◌, take, Contains, Option, Result, Ok, Err, IfOk, OnErr, nat_eq}
+use Rattle.std.specs.Prelude.{◌≡◌, ◌⊎◌, ℕ, ◌+◌, ◌/◌, ◌%◌, List, [], ◌∷◌, take, Contains, Result, Ok, Err, IfOk, OnErr, nat_eq}
 use Rattle.std.specs.Set.{remove_key}
 use Rattle.input_log.specs.Event.{LogEvent}
 use Rattle.r3k_image.specs.Boot.{Boot}
@@ -12,12 +12,13 @@ use Rattle.present_run.specs.Reuse.{Holding, Reaches, Spends}
 -- what a timeline holds: what is held of runs, and the positions of the states that it keeps, the one used last first
 pub record Landed : Type 0 where
   pub history : History
-  pub spans : List (Option Span)
+  pub rows : List (List Span)
+  pub pasts : ℕ
   pub steps : ℕ
   pub landings : List ℕ
 
 abbrev pub holding : Landed → Holding
-holding h = record { history = h.history; spans = h.spans; steps = h.steps }
+holding h = record { history = h.history; rows = h.rows; pasts = h.pasts; steps = h.steps }
 
 -- What a query at a position does, whether it answers or is refused. It may look at most `beyond` steps beyond it. Want of memory
 -- may cut it short. Any other refusal, except that nothing is found, comes before a step is run.
@@ -44,9 +45,9 @@ pub record Lands {A E : Type 0} (span position : ℕ) (old new : Landed) (result
 
 -- what is held with the log, or the image, that an edit leaves: the records stay, and no state is kept
 abbrev pub with_log : Landed → Result (List LogEvent) Fault → Result Landed Fault
-with_log h (Ok log) = Ok (record { history = record { image = h.history.image; log = log }; spans = h.spans; steps = h.steps; landings = [] })
+with_log h (Ok log) = Ok (record { history = record { image = h.history.image; log = log }; rows = h.rows; pasts = h.pasts; steps = h.steps; landings = [] })
 with_log h (Err fault) = Err fault
 
 abbrev pub with_image : Landed → Result Boot Fault → Result Landed Fault
-with_image h (Ok image) = Ok (record { history = record { image = image; log = h.history.log }; spans = h.spans; steps = h.steps; landings = [] })
+with_image h (Ok image) = Ok (record { history = record { image = image; log = h.history.log }; rows = h.rows; pasts = h.pasts; steps = h.steps; landings = [] })
 with_image h (Err fault) = Err fault

@@ -1,5 +1,5 @@
 -- What is kept of runs, and what a query of the present run costs (own).
-use Rattle.std.specs.Prelude.{◌≡◌, ◌⊎◌, ℕ, zero, suc, ◌+◌, ◌-◌, ◌*◌, ◌<◌, ◌≤◌, List, Option, Some, None, slice_index_or}
+use Rattle.std.specs.Prelude.{◌≡◌, ◌⊎◌, ℕ, zero, suc, ◌+◌, ◌-◌, ◌*◌, ◌<◌, ◌≤◌, List, ◌∷◌, Option, slice_get, take}
 use Rattle.input_log.specs.Event.{LogEvent}
 use Rattle.input_log.specs.Log.{window_of}
 use Rattle.r3k_image.specs.Boot.{Boot}
@@ -7,13 +7,15 @@ use Rattle.r3k_machine.specs.State.{State}
 use Rattle.r3k_machine.specs.Run.{state_at}
 use Rattle.r3k_live.specs.Living.{counted}
 use Rattle.span_fact.specs.Span.{Span}
-use Rattle.checkpoints.specs.Kept.{IsNear}
+use Rattle.checkpoints.specs.Kept.{AreFar, IsNear, promoted, row_at}
 use Rattle.present_run.specs.History.{History}
 
--- what a timeline holds of runs: its history, by number the spans of which it keeps a record, and how many steps it has run
+-- What a timeline holds of runs: its history; by number the records of spans that it keeps, the one that was used last first; how many
+-- records of a number it keeps at most, which is of how many pasts; and how many steps it has run.
 pub record Holding : Type 0 where
   pub history : History
-  pub spans : List (Option Span)
+  pub rows : List (List Span)
+  pub pasts : ℕ
   pub steps : ℕ
 
 -- the span of a number from a state, and that of the run from reset
@@ -23,23 +25,28 @@ span_from span log index start = record { index = index; start = start; events =
 abbrev pub span_of : (pages span : ℕ) → Boot → List LogEvent → ℕ → Span
 span_of pages span image log index = span_from span log index (state_at pages image log (index * span))
 
--- the span of which a record of this number is kept, if there is one
-abbrev pub kept_at : Holding → ℕ → Option Span
-kept_at h index = slice_index_or h.spans index None
+-- the records of a number
+abbrev pub kept_at : Holding → ℕ → List Span
+kept_at h index = row_at h.rows index
 
--- a record is kept of a span that applies: it starts where the run from reset stands, and its events are those of the log
-abbrev pub Applies : (pages span : ℕ) → Holding → ℕ → Type 0
-Applies pages span h index = kept_at h index ≡ Some (span_of pages span h.history.image h.history.log index)
-
--- a record of this number serves for a history: it applies or nearly applies, so its events are those of the log, and its start
--- differs from the state of the run from reset only in words of pages that it does not touch
-abbrev pub IsServed : (pages span : ℕ) → History → List (Option Span) → ℕ → Type 0
-IsServed pages span h spans index =
+-- A record serves for a history at a number: it applies or nearly applies. So its events are those of the log, and its start differs from
+-- the state of the run from reset only in words of pages that it does not touch.
+abbrev pub IsServing : (pages span : ℕ) → History → (index : ℕ) → Option Span → Type 0
+IsServing pages span h index o =
     let s : Span = span_of pages span h.image h.log index in
-    IsNear pages span (slice_index_or spans index None) s.start s.events
+    IsNear pages span o s.start s.events
+
+-- one of some records serves: not each of them is far
+abbrev pub HasServing : (pages span : ℕ) → History → (index : ℕ) → List Span → Type 0
+HasServing pages span h index row =
+    let s : Span = span_of pages span h.image h.log index in
+    ¬ AreFar pages span row s.start s.events
+
+abbrev pub IsServed : (pages span : ℕ) → History → List (List Span) → ℕ → Type 0
+IsServed pages span h rows index = HasServing pages span h index (row_at rows index)
 
 abbrev pub Serves : (pages span : ℕ) → Holding → ℕ → Type 0
-Serves pages span h index = IsServed pages span h.history h.spans index
+Serves pages span h index = IsServed pages span h.history h.rows index
 
 -- of the first `count` spans, `lacking` have no record that serves
 unfoldable pub Lacks : (pages span : ℕ) → Holding → (count lacking : ℕ) → Type 0
@@ -48,13 +55,23 @@ Lacks pages span h (suc index) lacking =
     (Serves pages span h index × Lacks pages span h index lacking)
     ⊎ ((¬ Serves pages span h index) × (0 < lacking) × Lacks pages span h index (lacking - 1))
 
--- What a query does that needs the first `count` spans, and then at most `more` steps. It runs a span only where no record serves,
--- and replaces a record only by one that applies. The history stays, and all steps that were run are counted.
+-- What queries make of the records of a number: they stay; or one of them that serves comes first, as it was used; or, where none
+-- serves, the record of the run's span comes first, and of as many as there may be the one used least recently is dropped.
+pub data Turns (pages span : ℕ) (h : Holding) (index : ℕ) : List Span → Type 0 where
+  stay : (row : List Span) → row ≡ kept_at h index → Turns pages span h index row
+  use_one : (before row : List Span) → Turns pages span h index before → (place : ℕ) → IsServing pages span h.history index (slice_get before place)
+      → row ≡ promoted place before → Turns pages span h index row
+  put_one : (before row : List Span) → Turns pages span h index before → ¬ HasServing pages span h.history index before
+      → row ≡ span_of pages span h.history.image h.history.log index ∷ take (h.pasts - 1) before → Turns pages span h index row
+
+-- What a query does that needs the first `count` spans, and then at most `more` steps. It runs a span only where no record serves. The
+-- history stays, and all steps that were run are counted.
 pub record Spends (pages span count more : ℕ) (old new : Holding) : Type 0 where
   pub history : new.history ≡ old.history
+  pub pasts : new.pasts ≡ old.pasts
   pub grows : old.steps ≤ new.steps
   pub most : (lacking : ℕ) → Lacks pages span old count lacking → new.steps ≤ old.steps + (lacking * span + more)
-  pub kept : (index : ℕ) → (kept_at new index ≡ kept_at old index) ⊎ Applies pages span new index
+  pub turns : (index : ℕ) → Turns pages span old index (kept_at new index)
 
 -- What a query has done where it answers: each span that lacked a record was run, and now all have one that serves.
 pub record Reaches (pages span count : ℕ) (old new : Holding) : Type 0 where

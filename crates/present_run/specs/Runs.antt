@@ -1,5 +1,5 @@
 -- The present run of a history, as it is kept (own).
-use Rattle.std.specs.Prelude.{◌≡◌, ℕ, ◌-◌, ◌*◌, ◌/◌, ◌%◌, ◌<◌, ◌≤◌, ◌⊎◌, IfSome, IsTrue, List, Contains, Option, Some, None, map, slice_index_or}
+use Rattle.std.specs.Prelude.{◌≡◌, ℕ, ◌+◌, ◌-◌, ◌*◌, ◌/◌, ◌%◌, ◌<◌, ◌≤◌, ◌⊎◌, IfSome, IsTrue, List, Contains, Option, Some, None, map, slice_index_or}
 use Rattle.std.specs.Coded.{Coded-set, codes}
 use Rattle.std.proofs.Props.{props}
 use Rattle.input_log.specs.Event.{LogEvent}
@@ -11,7 +11,7 @@ use Rattle.r3k_machine.specs.Run.{state_at, trace}
 use Rattle.r3k_pages.specs.Pages.{SameOutside}
 use Rattle.r3k_machine.specs.State.{State}
 use Rattle.span_fact.specs.Span.{Span, end_of}
-use Rattle.checkpoints.specs.Kept.{IsNear, span_at}
+use Rattle.checkpoints.specs.Kept.{IsNear, first_at}
 use Rattle.r3k_live.specs.Recording.{Records}
 use Rattle.present_run.specs.Index.{Agrees}
 use Rattle.present_run.specs.Ends.{AreEnds, GoesOn, IsJoined}
@@ -29,49 +29,49 @@ steps_between pages image log from to = trace pages log from (state_at pages ima
 abbrev pub AreSameOutside : (from last : ℕ) → (a b : List LogEvent) → Type 0
 AreSameOutside from last a b = (start end : ℕ) → (end ≤ from) ⊎ (last < start) → window_of start end b ≡ window_of start end a
 
--- outside a set of pages, the record of this number starts with the words of a state
-abbrev pub IsAlike : List (Option Span) → (index : ℕ) → List ℕ → State → Type 0
-IsAlike spans index set state = IfSome (slice_index_or spans index None) (λ s. SameOutside set s.start.words state.words)
+-- outside a set of pages a span ends with the words of a state
+abbrev pub EndsNear : (pages span : ℕ) → Option Span → List ℕ → State → Type 0
+EndsNear pages span None set here = ⊥
+EndsNear pages span (Some s) set here = SameOutside set (end_of pages span s).words here.words
 
--- there is a record, and it ends in a state
+-- there is a span, and it ends in a state
 abbrev pub EndsAt : (pages span : ℕ) → Option Span → State → Type 0
 EndsAt pages span None state = ⊥
 EndsAt pages span (Some s) state = end_of pages span s ≡ state
 
--- What is known where a span starts: outside the differing pages, its record starts with the same words. `exact` may say that the
--- record before it ends there.
-pub record IsKnownAt {pages : ℕ} (span : ℕ) (spans : List (Option Span)) (index : ℕ) (here : State) (f : Frontier pages) : Type 0 where
-  pub differ : IsAlike spans index f.differing here
-  pub exact : IsTrue f.exact → 0 < index → EndsAt pages span (slice_index_or spans (index - 1) None) here
+-- What is known after the first record of a number: outside the differing pages the run stands as it ends. `exact` may say that it stands
+-- just there.
+pub record IsKnownAfter {pages : ℕ} (span : ℕ) (rows : List (List Span)) (index : ℕ) (here : State) (f : Frontier pages) : Type 0 where
+  pub near : EndsNear pages span (first_at rows index) f.differing here
+  pub exact : IsTrue f.exact → EndsAt pages span (first_at rows index) here
 
--- the same of the span of which something is known, by where each span starts
-abbrev pub IsKnown : {pages : ℕ} (span : ℕ) → List (Option Span) → (starts : ℕ → State) → Frontier pages → Type 0
-IsKnown span spans starts f = IfSome f.at (λ index. IsKnownAt span spans index (starts index) f)
+-- the same of the record after which something is known, by where each span starts
+abbrev pub IsKnown : {pages : ℕ} (span : ℕ) → List (List Span) → (starts : ℕ → State) → Frontier pages → Type 0
+IsKnown span rows starts f = IfSome f.after (λ index. IsKnownAfter span rows index (starts (index + 1)) f)
 
 -- What is kept is of the run from reset: the start, where the machine stands, what the recorder holds, the joined records, the ends of
--- their spans, and what is known where one starts. The index has what the records report. After these ends come those of an earlier run:
--- from `again` on, each span goes on from where the one before it ended. The first record starts as the run, outside the patched pages.
+-- their spans, and what is known where one starts. The index has what the first records report. After these ends come those of an earlier run:
+-- from `again` on, each span goes on from where the one before it ended.
 pub record AreOf {pages span : ℕ} (image : Boot) (log : List LogEvent) (runs : Runs pages span) : Type 0 where
   pub sizes : AreSizes pages span
   pub start : runs.reset.value ≡ reset pages image
   pub stands : IfSome runs.at (λ position. runs.live.state ≡ state_at pages image log position)
   pub recorded : IfSome runs.recorded (λ position. Records pages (steps_between pages image log (position / span * span) position) runs.recorder)
-  pub joined : (index : ℕ) → index < runs.kept.valid → IsJoined pages span index (span_at runs.kept index) (span_of pages span image log index)
+  pub joined : (index : ℕ) → index < runs.kept.valid → IsJoined pages span index (first_at runs.kept.rows index) (span_of pages span image log index)
   pub ends : AreEnds pages span image log runs.kept.valid (map (λ end. end.value) runs.ends.items)
   pub again : (index : ℕ) → runs.again ≤ index → runs.kept.valid ≤ index →
-      GoesOn pages span log runs.kept.spans (map (λ end. end.value) runs.ends.items) index
-  pub known : IsKnown span runs.kept.spans (λ index. state_at pages image log (index * span)) runs.frontier
-  pub patches : IsAlike runs.kept.spans 0 runs.frontier.patched (reset pages image)
-  pub agrees : Agrees pages span runs.reports runs.kept.spans
+      GoesOn pages span log runs.kept.rows (map (λ end. end.value) runs.ends.items) index
+  pub known : IsKnown span runs.kept.rows (λ index. state_at pages image log (index * span)) runs.frontier
+  pub agrees : Agrees pages span runs.reports runs.kept.rows
 
 -- A state that is kept is that of the run at its position, and each span before that one has a record that serves.
-pub record IsLanding (pages span : ℕ) (h : History) (spans : List (Option Span)) (position : ℕ) (state : State) : Type 0 where
+pub record IsLanding (pages span : ℕ) (h : History) (spans : List (List Span)) (position : ℕ) (state : State) : Type 0 where
   pub is : state ≡ state_at pages h.image h.log position
   pub inside : ¬ (position % span ≡ 0)
   pub served : (index : ℕ) → index < position / span → IsServed pages span h spans index
 
 -- each of these states is kept at its position
-abbrev pub AreLandings : (pages span : ℕ) → History → List (Option Span) → List (ℕ × State) → Type 0
+abbrev pub AreLandings : (pages span : ℕ) → History → List (List Span) → List (ℕ × State) → Type 0
 AreLandings pages span h spans states = (e : ℕ × State) → Contains states e → IsLanding pages span h spans e.0 e.1
 
 -- each of these facts has one proof at most
@@ -85,12 +85,16 @@ near_prop : (pages span : ℕ) (o : Option Span) (start : State) (events : List 
 near_prop pages span None start events = hlevel props
 near_prop pages span (Some s) start events = hlevel (state_set, event_code, codes, props)
 
+known_prop : (pages span : ℕ) (o : Option Span) (set : List ℕ) (state : State) → IsProp (EndsNear pages span o set state)
+known_prop pages span None set state = hlevel props
+known_prop pages span (Some s) set state = hlevel props
+
 ends_prop : (pages span : ℕ) (o : Option Span) (state : State) → IsProp (EndsAt pages span o state)
 ends_prop pages span None state = hlevel props
 ends_prop pages span (Some s) state = hlevel (state_set, props)
 
 pub AreOf-prop : {pages span : ℕ} (image : Boot) (log : List LogEvent) (runs : Runs pages span) → IsProp (AreOf image log runs)
-AreOf-prop {pages} {span} image log runs = hlevel (near_prop, ends_prop, state_set, span_set, props)
+AreOf-prop {pages} {span} image log runs = hlevel (near_prop, known_prop, ends_prop, state_set, span_set, props)
 
-pub AreLandings-prop : (pages span : ℕ) (h : History) (spans : List (Option Span)) (states : List (ℕ × State)) → IsProp (AreLandings pages span h spans states)
+pub AreLandings-prop : (pages span : ℕ) (h : History) (spans : List (List Span)) (states : List (ℕ × State)) → IsProp (AreLandings pages span h spans states)
 AreLandings-prop pages span h spans states = hlevel (near_prop, state_set, props)

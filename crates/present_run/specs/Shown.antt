@@ -8,7 +8,8 @@ use Rattle.present_run.specs.declared.present.Present.{Present}
 abbrev pub landed_of : {pages span : ℕ} → Present pages span → Landed
 landed_of p = record {
   history = record { image = p.inputs.image; log = p.inputs.log };
-  spans = p.runs.kept.spans;
+  rows = p.runs.kept.rows;
+  pasts = p.runs.kept.most;
   steps = p.runs.live.steps;
   landings = positions_of p.landings;
 }
@@ -16,7 +17,8 @@ landed_of p = record {
 abbrev pub holding_of : {pages span : ℕ} → Present pages span → Holding
 holding_of p = holding (landed_of p)
 
--- the history and the kept states are as they were
+-- the history, the kept states, and how many pasts are kept are as they were
 pub record Stays {pages span : ℕ} (old new : Present pages span) : Type 0 where
   pub history : (holding_of new).history ≡ (holding_of old).history
   pub landings : new.landings ≡ old.landings
+  pub pasts : (holding_of new).pasts ≡ (holding_of old).pasts

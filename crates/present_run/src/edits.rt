@@ -16,7 +16,7 @@ use crate::landings::Landings;
 use crate::present::Present;
 use crate::runs::Runs;
 use input_log::{Log, log_laws};
-use r3k_word::layout::{page_of, place_of};
+use r3k_word::layout::place_of;
 use refusal::Fault;
 
 impl<const PAGES: u32, const SPAN: u32> Present<PAGES, SPAN> {
@@ -125,7 +125,7 @@ impl<const PAGES: u32, const SPAN: u32> Present<PAGES, SPAN> {
         let Ok(()) = self.inputs.image.patch(address, word) else {
             return Err(Fault::Memory);
         };
-        self.runs.restart(reset, page_of(place) as u32);
+        self.runs.restart(reset);
         self.landings.clear();
         Ok(())
     }
@@ -141,7 +141,8 @@ fn edited<const PAGES: u32, const SPAN: u32>(
     requires { 0 < SPAN }
     ensures of { (image : Boot) (log changed : List LogEvent) → AreOf {pages = PAGES} {span = SPAN} image log runs.old →
         AreSameOutside from last log changed → AreOf {pages = PAGES} {span = SPAN} image changed runs.new }
-    ensures spans { runs.new.kept.spans ≡ runs.old.kept.spans }
+    ensures rows { runs.new.kept.rows ≡ runs.old.kept.rows }
+    ensures pasts { runs.new.kept.most ≡ runs.old.kept.most }
     ensures steps { runs.new.live.steps ≡ runs.old.live.steps }
     ensures landings { landings.new ≡ [] }
 {

@@ -1,12 +1,12 @@
 //! What is known where the next span starts, the first that is not joined.
 
-ghost use Rattle.std.specs.Prelude.{◌≡◌, ◌∷◌, ◌+◌, ◌-◌, ◌^◌, ◌<◌, ◌≤◌, [], ℕ, IfOk, IfSome, IsSomeAnd, IsTrue, List, None, Option, Some, length};
+ghost use Rattle.std.specs.Prelude.{◌≡◌, ◌∷◌, ◌+◌, ◌-◌, ◌^◌, ◌<◌, ◌≤◌, [], ℕ, IfOk, IfSome, IsSomeAnd, IsTrue, List, None, Some, length, take};
 ghost use Rattle.r3k_machine.specs.State.{State};
-ghost use Rattle.r3k_pages.specs.Pages.{SameOutside, overlaid, page_count_of};
+ghost use Rattle.r3k_pages.specs.Pages.{SameOutside, overlaid};
 ghost use Rattle.r3k_word.specs.declared.layout.TheConstants.{MAX_RAM_PAGES};
 ghost use Rattle.span_fact.specs.Span.{Span, end_of};
-ghost use Rattle.checkpoints.specs.Kept.{Follows, NearlyApplies, span_at};
-ghost use Rattle.present_run.specs.Runs.{IsAlike, IsKnown, IsKnownAt};
+ghost use Rattle.checkpoints.specs.Kept.{Follows, NearlyApplies, first_at, row_at};
+ghost use Rattle.present_run.specs.Runs.{EndsAt, IsKnown, IsKnownAfter};
 
 use crate::joining::share;
 use checkpoints::Kept;
@@ -16,156 +16,159 @@ use span_fact::Fact;
 use std::alloc::{AllocError, Global};
 use std::rc::Rc;
 
-/// What is known where a span starts.
+/// What is known of where the run stands after a record.
 #[derive(Drop)]
 pub(crate) struct Frontier<const PAGES: u32> {
-    // The number of the span, if something is known.
-    pub(crate) at: Option<u64>,
-    // Pages in which it may start otherwise than the record of its number.
+    // The number of the record, if something is known.
+    pub(crate) after: Option<u64>,
+    // Pages in which the run may stand otherwise than the record ends.
     pub(crate) differing: PageMarks<PAGES>,
-    // Whether the record before it ends there.
-    exact: bool,
-    // Pages that were patched since the first record was made.
-    pub(crate) patched: PageMarks<PAGES>,
+    // Whether the record ends where the run stands.
+    pub(crate) exact: bool,
 }
 
 impl<const PAGES: u32> Frontier<PAGES> {
     /// Nothing is known.
     pub(crate) fn new(alloc: Global) -> Result<Frontier<PAGES>, AllocError>
         requires { PAGES ≤ MAX_RAM_PAGES }
-        ensures { IfOk result (λ frontier. frontier.at ≡ None) }
+        ensures { IfOk result (λ frontier. frontier.after ≡ None) }
     {
         Ok(Frontier {
-            at: None,
+            after: None,
             differing: PageMarks::new(alloc)?,
             exact: false,
-            patched: PageMarks::new(alloc)?,
         })
     }
 
-    /// At the next span, which starts there. Where nothing is known of it, its start is compared with that of its record.
-    pub(crate) fn stand<const SPAN: u32>(
-        &mut self,
-        kept: &Kept<PAGES, SPAN>,
-        start: &Boundary<PAGES>,
-    )
-        requires { self.old.at ≡ Some kept.now.valid → IsKnownAt SPAN kept.now.spans kept.now.valid start.now self.old }
-        ensures at { self.new.at ≡ Some kept.now.valid }
-        ensures known { IsKnownAt SPAN kept.now.spans kept.now.valid start.now self.new }
-        ensures patched { self.new.patched ≡ self.old.patched }
+    /// Where a span starts: the pages in which the run may stand otherwise than the record before it ends, if that is known.
+    pub(crate) fn before(&self, index: u64) -> Option<&PageMarks<PAGES>>
+        ensures { IfSome result (λ pages. (0 < index) × (self.now.after ≡ Some (index - 1)) × (pages.now ≡ self.now.differing)) }
     {
-        let index = kept.valid();
-        if self.at == Some(index) {
-            return;
+        if index == 0 || self.after != Some(index - 1) {
+            return None;
         }
-        self.at = Some(index);
-        self.exact = false;
-        compare(kept, index, start, &mut self.differing);
+        Some(&self.differing)
     }
 
-    /// Over the next span, which was run. Its record takes the place of the old one, for which there is room.
+    /// Over the next span, which was run. Its record is put first, for which there is room.
     pub(crate) fn run_over<const SPAN: u32>(
         &mut self,
         kept: &mut Kept<PAGES, SPAN>,
         fact: Fact<PAGES, SPAN>,
     )
         requires number { fact.index ≡ kept.old.valid }
-        requires room { fact.index < length kept.old.spans }
-        requires few { fact.index + 1 < 2 ^ 64 }
-        requires known { self.old.at ≡ Some kept.old.valid → IsKnownAt SPAN kept.old.spans kept.old.valid fact.start self.old }
-        ensures there { span_at kept.new kept.old.valid ≡ Some fact.entry }
-        ensures others { (i : ℕ) → ¬ (i ≡ kept.old.valid) → span_at kept.new i ≡ span_at kept.old i }
+        requires room { kept.old.reserved ≡ Some fact.index }
+        requires few { fact.index + 1 < 2 ^ 63 }
+        requires known { (index : ℕ) → index + 1 ≡ kept.old.valid → self.old.after ≡ Some index → IsKnownAfter SPAN kept.old.rows index fact.start self.old }
+        ensures row { row_at kept.new.rows kept.old.valid ≡ fact.entry ∷ take (kept.old.most - 1) (row_at kept.old.rows kept.old.valid) }
+        ensures others { (i : ℕ) → ¬ (i ≡ kept.old.valid) → row_at kept.new.rows i ≡ row_at kept.old.rows i }
         ensures valid { kept.new.valid ≡ kept.old.valid }
-        ensures known { (starts : ℕ → State) → starts (kept.old.valid + 1) ≡ end_of PAGES SPAN fact.entry → IsKnown SPAN kept.new.spans starts self.new }
-        ensures patches { (reset : State) → (kept.old.valid ≡ 0 → fact.entry.start ≡ reset) → IsAlike kept.old.spans 0 self.old.patched reset →
-            IsAlike kept.new.spans 0 self.new.patched reset }
+        ensures most { kept.new.most ≡ kept.old.most }
+        ensures known { (starts : ℕ → State) → starts (kept.old.valid + 1) ≡ end_of PAGES SPAN fact.entry → IsKnown SPAN kept.new.rows starts self.new }
     {
         let index = fact.index();
-        self.stand(kept, fact.start());
-        differ_after_run(kept, &fact, &mut self.differing);
+        let follows = self.ends_before(index);
         let _there_is_room = kept.put(fact);
-        note_start(kept, &mut self.patched, index, true, self.exact);
+        tie_if(kept, index, follows, true);
+        self.differing.clear();
         self.exact = true;
-        self.at = Some(index + 1);
+        self.after = Some(index);
     }
 
-    /// Over the next span, whose record serves as it is. Gives where the span ends.
+    /// Over the next span, whose first record serves as it is. Gives where the span ends.
     pub(crate) fn carry_over<const SPAN: u32>(
         &mut self,
         alloc: Global,
         kept: &mut Kept<PAGES, SPAN>,
         start: &Boundary<PAGES>,
     ) -> Result<Rc<Boundary<PAGES>>, AllocError>
-        requires near { IsSomeAnd (span_at kept.old kept.old.valid) (λ s. NearlyApplies PAGES SPAN s start.now s.events) }
-        requires few { kept.old.valid + 1 < 2 ^ 64 }
-        requires known { self.old.at ≡ Some kept.old.valid → IsKnownAt SPAN kept.old.spans kept.old.valid start.now self.old }
-        ensures end { IfOk result (λ end. IfSome (span_at kept.old kept.old.valid) (λ s. end.value ≡ end_of PAGES SPAN (record s { start = start.now }))) }
-        ensures number { IfSome (span_at kept.old kept.old.valid) (λ s. s.index ≡ kept.old.valid) }
-        ensures long { IfSome (span_at kept.old kept.old.valid) (λ s. length start.now.words ≡ length s.start.words) }
-        ensures spans { kept.new.spans ≡ kept.old.spans }
-        ensures valid { kept.new.valid ≡ kept.old.valid }
-        ensures known { (starts : ℕ → State) → starts kept.old.valid ≡ start.now → IfOk result (λ end. starts (kept.old.valid + 1) ≡ end.value) →
-            IsKnown SPAN kept.new.spans starts self.new }
-        ensures patches { (reset : State) → (kept.old.valid ≡ 0 → start.now ≡ reset) → IsAlike kept.old.spans 0 self.old.patched reset →
-            IsAlike kept.new.spans 0 self.new.patched reset }
+        requires near { IsSomeAnd (first_at kept.old.rows kept.old.valid) (λ s. NearlyApplies PAGES SPAN s start.now s.events) }
+        requires few { kept.old.valid + 1 < 2 ^ 63 }
+        requires known { (index : ℕ) → index + 1 ≡ kept.old.valid → self.old.after ≡ Some index → IsKnownAfter SPAN kept.old.rows index start.now self.old }
+        ensures end { IfOk result (λ end. IfSome (first_at kept.old.rows kept.old.valid) (λ s. end.value ≡ end_of PAGES SPAN (record s { start = start.now }))) }
+        ensures number { IfSome (first_at kept.old.rows kept.old.valid) (λ s. s.index ≡ kept.old.valid) }
+        ensures long { IfSome (first_at kept.old.rows kept.old.valid) (λ s. length start.now.words ≡ length s.start.words) }
+        ensures kept { kept.new ≡ kept.old }
+        ensures known { (starts : ℕ → State) → IfOk result (λ end. starts (kept.old.valid + 1) ≡ end.value) → IsKnown SPAN kept.new.rows starts self.new }
     {
         let index = kept.valid();
-        self.stand(kept, start);
-        let Some(fact) = kept.fact(index) else {
+        let follows = self.ends_before(index);
+        self.meet(kept, start);
+        let Some(fact) = kept.first(index) else {
             unreachable!();
         };
         let end = carry_to_end(alloc, fact, start, &mut self.differing)?;
-        let exact = self.differing.pages().is_empty();
-        differ_after_record(kept, index, &end, &mut self.differing);
-        note_start(kept, &mut self.patched, index, exact, self.exact);
-        self.exact = exact;
-        self.at = Some(index + 1);
+        self.exact = self.differing.pages().is_empty();
+        tie_if(kept, index, follows, self.exact);
+        self.after = Some(index);
         Ok(end)
     }
 
-    /// The run stays the same up to where the span of a number starts, and may differ after it.
-    pub(crate) fn edit(&mut self, index: u64)
-        ensures known { (span : ℕ) (spans : List (Option Span)) (old new : ℕ → State) → ((n : ℕ) → n ≤ index → new n ≡ old n) →
-            IsKnown span spans old self.old → IsKnown span spans new self.new }
-        ensures patched { self.new.patched ≡ self.old.patched }
+    /// The run and its records stay the same up to where the span of a number starts, and may differ after it.
+    pub(crate) fn cut(&mut self, index: u64)
+        ensures known { (span : ℕ) (rows changed : List (List Span)) (old new : ℕ → State) → ((i : ℕ) → i < index → row_at changed i ≡ row_at rows i) →
+            ((n : ℕ) → 0 < n → n ≤ index → new n ≡ old n) → IsKnown span rows old self.old → IsKnown span changed new self.new }
     {
-        match self.at {
-            Some(at) if at <= index => {}
-            _ => self.at = None,
+        match self.after {
+            Some(after) if after < index => {}
+            _ => self.after = None,
         }
     }
 
-    /// The run starts otherwise in a page.
-    pub(crate) fn patch(&mut self, page: u32)
-        requires { page < page_count_of PAGES }
-        ensures patches { (spans : List (Option Span)) (reset changed : State) → IsAlike spans 0 self.old.patched reset →
-            SameOutside (page ∷ []) reset.words changed.words → IsAlike spans 0 self.new.patched changed }
-        ensures known { (span : ℕ) (spans : List (Option Span)) (starts : ℕ → State) → IsAlike spans 0 self.new.patched (starts 0) → IsKnown span spans starts self.new }
+    // Whether the record before a span is known to end where the span starts.
+    fn ends_before(&self, index: u64) -> bool
+        ensures { IsTrue result → (0 < index) × (self.now.after ≡ Some (index - 1)) × IsTrue self.now.exact }
     {
-        self.at = Some(0);
-        self.patched.add(&[page]);
+        self.before(index).is_some() && self.exact
+    }
+
+    // Whether the record before a span is known to lead to the first one of its number.
+    fn leads<const SPAN: u32>(&self, kept: &Kept<PAGES, SPAN>, index: u64) -> bool
+        requires { index < 2 ^ 63 }
+        ensures { IsTrue result → (0 < index) × (self.now.after ≡ Some (index - 1)) × Follows PAGES SPAN (first_at kept.now.rows (index - 1)) (first_at kept.now.rows (index - 1 + 1)) }
+    {
+        match self.before(index) {
+            None => false,
+            Some(_) => kept.next(index - 1) == Some(0),
+        }
+    }
+
+    // The differing pages are now those in which the next span may start otherwise than its first record. Where the record before it
+    // leads to that one, they stay. Else they are found by comparing both memories.
+    fn meet<const SPAN: u32>(&mut self, kept: &Kept<PAGES, SPAN>, start: &Boundary<PAGES>)
+        requires few { kept.now.valid < 2 ^ 63 }
+        requires known { (index : ℕ) → index + 1 ≡ kept.now.valid → self.old.after ≡ Some index → IsKnownAfter SPAN kept.now.rows index start.now self.old }
+        ensures differ { IfSome (first_at kept.now.rows kept.now.valid) (λ s. SameOutside self.new.differing s.start.words start.now.words) }
+        ensures after { self.new.after ≡ None }
+    {
+        let index = kept.valid();
+        let leads = self.leads(kept, index);
+        self.after = None;
+        if leads {
+            return;
+        }
         self.differing.clear();
-        self.differing.add(self.patched.pages());
+        if let Some(fact) = kept.first(index) {
+            self.differing
+                .add_differing(fact.start().memory(), start.memory());
+        }
     }
 }
 
-// Over a span that was run: the differing pages are then those of the next one. Where the old record leads to the next one, they gain
-// those that either run stored into.
-fn differ_after_run<const PAGES: u32, const SPAN: u32>(
-    kept: &Kept<PAGES, SPAN>,
-    fact: &Fact<PAGES, SPAN>,
-    differing: &mut PageMarks<PAGES>,
+// Notes that the first record of a number starts where the first one before it ends. That is so if that one ends where the run stands,
+// and this one starts just there.
+fn tie_if<const PAGES: u32, const SPAN: u32>(
+    kept: &mut Kept<PAGES, SPAN>,
+    index: u64,
+    ends: bool,
+    starts: bool,
 )
-    requires { fact.now.index + 1 < 2 ^ 64 }
-    ensures { IsAlike kept.now.spans fact.now.index differing.old fact.now.start → IsAlike kept.now.spans (fact.now.index + 1) differing.new (end_of PAGES SPAN fact.now) }
+    requires few { index < 2 ^ 63 }
+    requires follows { IsTrue ends → IsTrue starts → (0 < index) × Follows PAGES SPAN (first_at kept.old.rows (index - 1)) (first_at kept.old.rows (index - 1 + 1)) }
+    ensures { kept.new ≡ kept.old }
 {
-    let index = fact.index();
-    match kept.fact(index) {
-        Some(old) if kept.continues(index) => {
-            differing.add(old.dirty());
-            differing.add(fact.dirty());
-        }
-        _ => compare(kept, index + 1, fact.end(), differing),
+    if ends && starts {
+        kept.tie(index - 1);
     }
 }
 
@@ -207,62 +210,4 @@ fn end_with<const PAGES: u32, const SPAN: u32>(
     }
     let end = fact.end().overlay(alloc, pages, other)?;
     share(alloc, end)
-}
-
-// From a record to the next one, where the run ends after the first: the differing pages stay if the one leads to the other, or else
-// they are compared.
-fn differ_after_record<const PAGES: u32, const SPAN: u32>(
-    kept: &Kept<PAGES, SPAN>,
-    index: u64,
-    end: &Boundary<PAGES>,
-    differing: &mut PageMarks<PAGES>,
-)
-    requires { index + 1 < 2 ^ 64 }
-    ensures { (Follows PAGES SPAN (span_at kept.now index) (span_at kept.now (index + 1)) → IsAlike kept.now.spans (index + 1) differing.old end.now) →
-        IsAlike kept.now.spans (index + 1) differing.new end.now }
-{
-    if !kept.continues(index) {
-        compare(kept, index + 1, end, differing);
-    }
-}
-
-// The differing pages are those in which the record of a number starts otherwise than the run stands.
-fn compare<const PAGES: u32, const SPAN: u32>(
-    kept: &Kept<PAGES, SPAN>,
-    index: u64,
-    here: &Boundary<PAGES>,
-    differing: &mut PageMarks<PAGES>,
-)
-    ensures { IsAlike kept.now.spans index differing.new here.now }
-{
-    differing.clear();
-    if let Some(fact) = kept.fact(index) {
-        differing.add_differing(fact.start().memory(), here.memory());
-    }
-}
-
-// Notes that the record of a number starts where its span does, if that is so. The first one starts at reset. Another one starts where
-// the one before it ends, if that is known to be where the span before it ends.
-fn note_start<const PAGES: u32, const SPAN: u32>(
-    kept: &mut Kept<PAGES, SPAN>,
-    patched: &mut PageMarks<PAGES>,
-    index: u64,
-    exact: bool,
-    before: bool,
-)
-    requires { 0 < index → IsTrue exact → IsTrue before → Follows PAGES SPAN (span_at kept.old (index - 1)) (span_at kept.old (index - 1 + 1)) }
-    ensures spans { kept.new.spans ≡ kept.old.spans }
-    ensures valid { kept.new.valid ≡ kept.old.valid }
-    ensures patched { (IsTrue exact → 0 < index) → patched.new ≡ patched.old }
-{
-    if !exact {
-        return;
-    }
-    if index == 0 {
-        patched.clear();
-        return;
-    }
-    if before {
-        kept.tie(index - 1);
-    }
 }

@@ -38,7 +38,7 @@ impl<const PAGES: u32, const SPAN: u32> Present<PAGES, SPAN> {
         requires time { position < 2 ^ 64 }
         ensures stays { Stays self.old self.new }
         ensures stands { IfOk result (λ _. self.new.runs.at ≡ Some position) }
-        ensures spans { self.new.runs.kept.spans ≡ self.old.runs.kept.spans }
+        ensures rows { self.new.runs.kept.rows ≡ self.old.runs.kept.rows }
         ensures count { self.new.runs.live.steps ≤ self.old.runs.live.steps + (position - index * SPAN) }
         ensures least { self.old.runs.live.steps ≤ self.new.runs.live.steps }
     {
@@ -110,7 +110,7 @@ impl<const PAGES: u32, const SPAN: u32> Present<PAGES, SPAN> {
         ensures stands { self.new.runs.at ≡ Some position }
         ensures recorded { Records PAGES (steps_between PAGES self.new.inputs.image self.new.inputs.log time position) self.new.runs.recorder }
         ensures valid { self.new.runs.kept.valid ≡ self.old.runs.kept.valid }
-        ensures spans { self.new.runs.kept.spans ≡ self.old.runs.kept.spans }
+        ensures rows { self.new.runs.kept.rows ≡ self.old.runs.kept.rows }
         ensures count { self.new.runs.live.steps ≡ counted self.old.runs.live.steps (position - time) }
         ensures least { self.old.runs.live.steps ≤ self.new.runs.live.steps }
     {
@@ -159,7 +159,7 @@ impl<const PAGES: u32, const SPAN: u32> Present<PAGES, SPAN> {
         ensures stands { self.new.runs.at ≡ Some (unwrap_or result last) }
         ensures found { result ≡ next_visit PAGES self.old.inputs.image self.old.inputs.log address time (last - time) }
         ensures bound { unwrap_or result last ≤ last }
-        ensures spans { self.new.runs.kept.spans ≡ self.old.runs.kept.spans }
+        ensures rows { self.new.runs.kept.rows ≡ self.old.runs.kept.rows }
         ensures count { self.new.runs.live.steps ≤ self.old.runs.live.steps + (last - time) }
         ensures least { self.old.runs.live.steps ≤ self.new.runs.live.steps }
     {
@@ -189,7 +189,7 @@ impl<const PAGES: u32, const SPAN: u32> Present<PAGES, SPAN> {
         ensures { IsTrue result ↔ ((index < self.now.runs.kept.valid) × ¬ StandsIn PAGES self.now.inputs.log (index * SPAN)
             (state_at PAGES self.now.inputs.image self.now.inputs.log (index * SPAN)) SPAN page) }
     {
-        match self.runs.kept.fact(index) {
+        match self.runs.kept.first(index) {
             Some(fact) if index < self.runs.kept.valid() => !fact.stands_in(page),
             _ => false,
         }
@@ -204,7 +204,7 @@ impl<const PAGES: u32, const SPAN: u32> Present<PAGES, SPAN> {
         ensures stays { Stays self.old self.new }
         ensures found { IfOk result (λ found. found ≡ next_visit PAGES self.old.inputs.image self.old.inputs.log address position (last - position)) }
         ensures bound { IfOk result (λ found. IfSome found (λ found. found ≤ last)) }
-        ensures spans { self.new.runs.kept.spans ≡ self.old.runs.kept.spans }
+        ensures rows { self.new.runs.kept.rows ≡ self.old.runs.kept.rows }
         ensures count { self.new.runs.live.steps ≤ self.old.runs.live.steps + (position % SPAN + (last - position)) }
         ensures least { self.old.runs.live.steps ≤ self.new.runs.live.steps }
     {

@@ -87,8 +87,8 @@ impl SpanIndex {
         count: u64,
         address: u32,
     ) -> Option<(u64, u32)>
-        requires { Agrees PAGES SPAN self.now kept.now.spans }
-        ensures { IsLastWriter PAGES SPAN kept.now.spans count address result }
+        requires { Agrees PAGES SPAN self.now kept.now.rows }
+        ensures { IsLastWriter PAGES SPAN kept.now.rows count address result }
     {
         let page = address / PAGE_BYTES;
         let mut asked = Asked { nodes: 0 };
@@ -111,16 +111,16 @@ impl SpanIndex {
 
     /// How many bytes of a line the first `count` records sent.
     pub(crate) fn count(&self, line: SerialLine, count: u64) -> u64
-        ensures { (pages span : ℕ) (spans : List (Option Span)) → Agrees pages span self.now spans →
-            result ≡ sent_below pages span spans line count }
+        ensures { (pages span : ℕ) (rows : List (List Span)) → Agrees pages span self.now rows →
+            result ≡ sent_below pages span rows line count }
     {
         self.consoles.count(line, count)
     }
 
     /// Which of the first `count` records sent the byte at a place of a line's console, or `count` where they sent fewer.
     pub(crate) fn find(&self, line: SerialLine, place: u64, count: u64) -> u64
-        ensures { (pages span : ℕ) (spans : List (Option Span)) → Agrees pages span self.now spans →
-            IsSender pages span spans line place count result }
+        ensures { (pages span : ℕ) (rows : List (List Span)) → Agrees pages span self.now rows →
+            IsSender pages span rows line place count result }
     {
         if self.count(line, count) <= place {
             return count;
@@ -138,9 +138,9 @@ fn writer_in<const PAGES: u32, const SPAN: u32>(
     index: u64,
     address: u32,
 ) -> Option<u32>
-    ensures { result ≡ last_writer address (steps_at PAGES SPAN kept.now.spans index) }
+    ensures { result ≡ last_writer address (steps_at PAGES SPAN kept.now.rows index) }
 {
-    kept.fact(index)?.writer(address)
+    kept.first(index)?.writer(address)
 }
 
 // How many of the bytes that were sent are those of each line.

@@ -1,7 +1,7 @@
 //! Where the spans of the run start and end.
 
 ghost use Rattle.std.specs.Prelude.{◌≡◌, ◌↔◌, ◌⊎◌, ◌+◌, ◌-◌, ◌^◌, ◌<◌, ◌≤◌, ℕ, IfOk, IsSome, IsTrue, OnErr, Some, length, map, slice_get};
-ghost use Rattle.checkpoints.specs.Kept.{span_at};
+ghost use Rattle.checkpoints.specs.Kept.{first_at};
 ghost use Rattle.r3k_machine.specs.State.{State};
 ghost use Rattle.present_run.specs.Ends.{IsPut};
 
@@ -15,7 +15,7 @@ pub(crate) fn join_up_to<const PAGES: u32, const SPAN: u32>(
     kept: &mut Kept<PAGES, SPAN>,
     count: u64,
 )
-    requires there { (i : ℕ) → i < count → IsSome (span_at kept.old i) }
+    requires there { (i : ℕ) → i < count → IsSome (first_at kept.old.rows i) }
     requires more { kept.old.valid ≤ count }
     ensures { kept.new ≡ record kept.old { valid = count } }
 {

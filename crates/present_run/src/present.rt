@@ -41,22 +41,28 @@ pub struct Present<const PAGES: u32, const SPAN: u32> {
     pub(crate) landings: Landings<PAGES>,
     ghost fits: { FitsRam PAGES inputs.image },
     ghost of: { AreOf {pages = PAGES} {span = SPAN} inputs.image inputs.log runs } by { AreOf-prop inputs.image inputs.log runs },
-    ghost landed: { AreLandings PAGES SPAN (record { image = inputs.image; log = inputs.log }) runs.kept.spans landings } by { AreLandings-prop PAGES SPAN (record { image = inputs.image; log = inputs.log }) runs.kept.spans landings },
+    ghost landed: { AreLandings PAGES SPAN (record { image = inputs.image; log = inputs.log }) runs.kept.rows landings } by { AreLandings-prop PAGES SPAN (record { image = inputs.image; log = inputs.log }) runs.kept.rows landings },
 }
 
 impl<const PAGES: u32, const SPAN: u32> Present<PAGES, SPAN> {
     ghost use Rattle.present_run.specs.Landed.{Landed};
     ghost use Rattle.present_run.specs.Shown.{holding_of, landed_of};
 
-    /// The run at reset, of an image that fits.
-    pub fn boot(alloc: Global, image: Image, log: Log) -> Result<Present<PAGES, SPAN>, AllocError>
+    /// The run at reset, of an image that fits. Of each span at most so many records are to be kept, which is of as many pasts.
+    pub fn boot(
+        alloc: Global,
+        image: Image,
+        log: Log,
+        pasts: usize,
+    ) -> Result<Present<PAGES, SPAN>, AllocError>
         requires sizes { AreSizes PAGES SPAN }
+        requires pasts { 0 < pasts }
         requires fits { FitsRam PAGES image }
         ensures { IfOk result (λ present. landed_of present ≡
-            record { history = record { image = image; log = log }; spans = []; steps = 0; landings = [] }) }
+            record { history = record { image = image; log = log }; rows = []; pasts = pasts; steps = 0; landings = [] }) }
     {
         let inputs = Inputs { image, log };
-        let runs = Runs::boot(alloc, &inputs)?;
+        let runs = Runs::boot(alloc, &inputs, pasts)?;
         let landings = Landings::new(alloc)?;
         Ok(Present {
             alloc,

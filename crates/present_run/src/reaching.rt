@@ -1,11 +1,11 @@
 //! The spans of the present run are joined, one after the other. A span for which no record serves is run.
 
-ghost use Rattle.std.specs.Prelude.{◌≡◌, ◌↔◌, ◌⊎◌, ℕ, ◌+◌, ◌*◌, ◌^◌, ◌<◌, ◌≤◌, IfOk, IsTrue, OnErr, Some};
+ghost use Rattle.std.specs.Prelude.{◌≡◌, ◌∷◌, ◌-◌, ℕ, ◌+◌, ◌*◌, ◌^◌, ◌<◌, ◌≤◌, IfOk, MatchOption, OnErr, slice_get, take};
 ghost use Rattle.r3k_machine.specs.Run.{state_at};
 ghost use Rattle.r3k_live.specs.Living.{counted};
-ghost use Rattle.checkpoints.specs.Kept.{span_at};
+ghost use Rattle.checkpoints.specs.Kept.{first_at, promoted, row_at};
 ghost use Rattle.present_run.specs.Index.{max_spans};
-ghost use Rattle.present_run.specs.Reuse.{Applies, Reaches, Serves, Spends, span_of};
+ghost use Rattle.present_run.specs.Reuse.{IsServing, Reaches, Serves, Spends, Turns, span_of};
 ghost use Rattle.present_run.specs.Ends.{IsJoined};
 ghost use Rattle.present_run.specs.Shown.{Stays, holding_of};
 
@@ -25,26 +25,20 @@ impl<const PAGES: u32, const SPAN: u32> Present<PAGES, SPAN> {
         start_in(&self.runs.reset, &self.runs.ends, index)
     }
 
-    // Whether the record kept of the first span that is not joined serves for this run: its steps report the same.
-    fn serves(&self, start: &Boundary<PAGES>) -> bool
+    // The place of a record of the first span that is not joined which serves for this run: its steps report the same.
+    fn serving(&self, start: &Boundary<PAGES>) -> Option<usize>
         requires start { start.now ≡ state_at PAGES self.now.inputs.image self.now.inputs.log (self.now.runs.kept.valid * SPAN) }
         requires time { (self.now.runs.kept.valid + 1) * SPAN < 2 ^ 64 }
-        requires at { self.now.runs.frontier.at ≡ Some self.now.runs.kept.valid }
-        ensures { IsTrue result ↔ Serves PAGES SPAN (holding_of self.now) self.now.runs.kept.valid }
+        ensures { MatchOption result (¬ Serves PAGES SPAN (holding_of self.now) self.now.runs.kept.valid)
+            (λ place. IsServing PAGES SPAN (holding_of self.now).history self.now.runs.kept.valid (slice_get (row_at self.now.runs.kept.rows self.now.runs.kept.valid) place)) }
     {
         let index = self.runs.kept.valid();
         let events = self
             .inputs
             .log
             .window(index * SPAN as u64, (index + 1) * SPAN as u64);
-        let differing = &self.runs.frontier.differing;
-        if index > 0 && self.runs.kept.continues(index - 1) {
-            return self
-                .runs
-                .kept
-                .nearly_next(index - 1, start, events, differing);
-        }
-        self.runs.kept.nearly(index, start, events, differing)
+        let differing = self.runs.frontier.before(index);
+        self.runs.kept.serving(index, start, events, differing)
     }
 
     // Joins one more span, and then those that go on from its end. A span for which no record serves is run.
@@ -53,9 +47,8 @@ impl<const PAGES: u32, const SPAN: u32> Present<PAGES, SPAN> {
         requires few { self.old.runs.kept.valid < max_spans }
         ensures stays { Stays self.old self.new }
         ensures joined { IfOk result (λ _. self.old.runs.kept.valid < self.new.runs.kept.valid) }
-        ensures others { (i : ℕ) → ¬ (i ≡ self.old.runs.kept.valid) → span_at self.new.runs.kept i ≡ span_at self.old.runs.kept i }
-        ensures kept { (span_at self.new.runs.kept self.old.runs.kept.valid ≡ span_at self.old.runs.kept self.old.runs.kept.valid)
-            ⊎ Applies PAGES SPAN (holding_of self.new) self.old.runs.kept.valid }
+        ensures others { (i : ℕ) → ¬ (i ≡ self.old.runs.kept.valid) → row_at self.new.runs.kept.rows i ≡ row_at self.old.runs.kept.rows i }
+        ensures turns { Turns PAGES SPAN (holding_of self.old) self.old.runs.kept.valid (row_at self.new.runs.kept.rows self.old.runs.kept.valid) }
         ensures free { Serves PAGES SPAN (holding_of self.old) self.old.runs.kept.valid →
             self.new.runs.live.steps ≡ self.old.runs.live.steps }
         ensures count { IfOk result (λ _. ¬ Serves PAGES SPAN (holding_of self.old) self.old.runs.kept.valid →
@@ -64,21 +57,35 @@ impl<const PAGES: u32, const SPAN: u32> Present<PAGES, SPAN> {
         ensures most { self.new.runs.live.steps ≤ self.old.runs.live.steps + SPAN }
     {
         let start = self.start_of(self.runs.kept.valid()).clone()?;
-        self.runs.frontier.stand(&self.runs.kept, &start);
-        if self.serves(&start) {
-            return self.join_kept(&start);
+        match self.serving(&start) {
+            Some(place) => self.join_kept(&start, place),
+            None => self.run_span(start),
         }
-        self.run_span(start)
     }
 
-    // Joins the record kept of the next span, as it serves, and then those that go on from its end.
-    fn join_kept(&mut self, start: &Boundary<PAGES>) -> Result<(), AllocError>
+    // Joins a record of the next span that serves, and then those that go on from its end.
+    fn join_kept(&mut self, start: &Boundary<PAGES>, place: usize) -> Result<(), AllocError>
         requires start { start.now ≡ state_at PAGES self.old.inputs.image self.old.inputs.log (self.old.runs.kept.valid * SPAN) }
-        requires serves { Serves PAGES SPAN (holding_of self.old) self.old.runs.kept.valid }
+        requires serves { IsServing PAGES SPAN (holding_of self.old).history self.old.runs.kept.valid (slice_get (row_at self.old.runs.kept.rows self.old.runs.kept.valid) place) }
         requires few { self.old.runs.kept.valid < max_spans }
         ensures stays { Stays self.old self.new }
         ensures joined { IfOk result (λ _. self.old.runs.kept.valid < self.new.runs.kept.valid) }
-        ensures spans { self.new.runs.kept.spans ≡ self.old.runs.kept.spans }
+        ensures others { (i : ℕ) → ¬ (i ≡ self.old.runs.kept.valid) → row_at self.new.runs.kept.rows i ≡ row_at self.old.runs.kept.rows i }
+        ensures turns { Turns PAGES SPAN (holding_of self.old) self.old.runs.kept.valid (row_at self.new.runs.kept.rows self.old.runs.kept.valid) }
+        ensures steps { self.new.runs.live.steps ≡ self.old.runs.live.steps }
+    {
+        self.promote(place)?;
+        self.join_first(start)
+    }
+
+    // Joins the first record of the next span, which serves, and then those that go on from its end.
+    fn join_first(&mut self, start: &Boundary<PAGES>) -> Result<(), AllocError>
+        requires start { start.now ≡ state_at PAGES self.old.inputs.image self.old.inputs.log (self.old.runs.kept.valid * SPAN) }
+        requires serves { IsServing PAGES SPAN (holding_of self.old).history self.old.runs.kept.valid (first_at self.old.runs.kept.rows self.old.runs.kept.valid) }
+        requires few { self.old.runs.kept.valid < max_spans }
+        ensures stays { Stays self.old self.new }
+        ensures joined { IfOk result (λ _. self.old.runs.kept.valid < self.new.runs.kept.valid) }
+        ensures rows { self.new.runs.kept.rows ≡ self.old.runs.kept.rows }
         ensures steps { self.new.runs.live.steps ≡ self.old.runs.live.steps }
     {
         let end = self
@@ -88,16 +95,40 @@ impl<const PAGES: u32, const SPAN: u32> Present<PAGES, SPAN> {
         self.join(end)
     }
 
+    // The record at a place of the next span serves, so it comes first.
+    fn promote(&mut self, place: usize) -> Result<(), AllocError>
+        requires serves { IsServing PAGES SPAN (holding_of self.old).history self.old.runs.kept.valid (slice_get (row_at self.old.runs.kept.rows self.old.runs.kept.valid) place) }
+        requires few { self.old.runs.kept.valid < max_spans }
+        ensures stays { Stays self.old self.new }
+        ensures row { IfOk result (λ _. row_at self.new.runs.kept.rows self.old.runs.kept.valid ≡ promoted place (row_at self.old.runs.kept.rows self.old.runs.kept.valid)) }
+        ensures others { (i : ℕ) → ¬ (i ≡ self.old.runs.kept.valid) → row_at self.new.runs.kept.rows i ≡ row_at self.old.runs.kept.rows i }
+        ensures same { OnErr result (self.new.runs.kept.rows ≡ self.old.runs.kept.rows) }
+        ensures valid { self.new.runs.kept.valid ≡ self.old.runs.kept.valid }
+        ensures steps { self.new.runs.live.steps ≡ self.old.runs.live.steps }
+    {
+        if place == 0 {
+            return Ok(());
+        }
+        let index = self.runs.kept.valid();
+        let Some(fact) = self.runs.kept.fact(index, place) else {
+            unreachable!();
+        };
+        self.runs.reports.take_in(fact)?;
+        self.runs.kept.promote(index, place);
+        self.runs.frontier.cut(index);
+        Ok(())
+    }
+
     // Runs the next span, keeps its record and joins it, and then those that go on from its end.
     fn run_span(&mut self, start: Rc<Boundary<PAGES>>) -> Result<(), AllocError>
         requires start { start.value ≡ state_at PAGES self.old.inputs.image self.old.inputs.log (self.old.runs.kept.valid * SPAN) }
+        requires lacks { ¬ Serves PAGES SPAN (holding_of self.old) self.old.runs.kept.valid }
         requires time { (self.old.runs.kept.valid + 1) * SPAN < 2 ^ 64 }
         requires few { self.old.runs.kept.valid < max_spans }
         ensures stays { Stays self.old self.new }
         ensures joined { IfOk result (λ _. self.old.runs.kept.valid < self.new.runs.kept.valid) }
-        ensures others { (i : ℕ) → ¬ (i ≡ self.old.runs.kept.valid) → span_at self.new.runs.kept i ≡ span_at self.old.runs.kept i }
-        ensures kept { (span_at self.new.runs.kept self.old.runs.kept.valid ≡ span_at self.old.runs.kept self.old.runs.kept.valid)
-            ⊎ Applies PAGES SPAN (holding_of self.new) self.old.runs.kept.valid }
+        ensures others { (i : ℕ) → ¬ (i ≡ self.old.runs.kept.valid) → row_at self.new.runs.kept.rows i ≡ row_at self.old.runs.kept.rows i }
+        ensures turns { Turns PAGES SPAN (holding_of self.old) self.old.runs.kept.valid (row_at self.new.runs.kept.rows self.old.runs.kept.valid) }
         ensures count { IfOk result (λ _. self.new.runs.live.steps ≡ counted self.old.runs.live.steps SPAN) }
         ensures least { self.old.runs.live.steps ≤ self.new.runs.live.steps }
         ensures most { self.new.runs.live.steps ≤ self.old.runs.live.steps + SPAN }
@@ -108,14 +139,15 @@ impl<const PAGES: u32, const SPAN: u32> Present<PAGES, SPAN> {
         self.join(end)
     }
 
-    // Keeps the record of the next span, which was run, in place of the old one. Room for it is reserved before anything changes.
+    // Keeps the record of the next span, which was run, as the one that was used last. Room for it is reserved before anything changes.
     fn keep(&mut self, fact: Fact<PAGES, SPAN>) -> Result<(), AllocError>
         requires few { self.old.runs.kept.valid < max_spans }
         requires fact { fact ≡ span_of PAGES SPAN self.old.inputs.image self.old.inputs.log self.old.runs.kept.valid }
         ensures stays { Stays self.old self.new }
-        ensures applies { IfOk result (λ _. Applies PAGES SPAN (holding_of self.new) self.old.runs.kept.valid) }
-        ensures others { (i : ℕ) → ¬ (i ≡ self.old.runs.kept.valid) → span_at self.new.runs.kept i ≡ span_at self.old.runs.kept i }
-        ensures same { OnErr result (span_at self.new.runs.kept self.old.runs.kept.valid ≡ span_at self.old.runs.kept self.old.runs.kept.valid) }
+        ensures row { IfOk result (λ _. row_at self.new.runs.kept.rows self.old.runs.kept.valid ≡
+            fact.entry ∷ take (self.old.runs.kept.most - 1) (row_at self.old.runs.kept.rows self.old.runs.kept.valid)) }
+        ensures others { (i : ℕ) → ¬ (i ≡ self.old.runs.kept.valid) → row_at self.new.runs.kept.rows i ≡ row_at self.old.runs.kept.rows i }
+        ensures same { OnErr result (row_at self.new.runs.kept.rows self.old.runs.kept.valid ≡ row_at self.old.runs.kept.rows self.old.runs.kept.valid) }
         ensures valid { self.new.runs.kept.valid ≡ self.old.runs.kept.valid }
         ensures steps { self.new.runs.live.steps ≡ self.old.runs.live.steps }
     {
@@ -127,13 +159,13 @@ impl<const PAGES: u32, const SPAN: u32> Present<PAGES, SPAN> {
 
     // Joins the record of the next span. Where the span ends where it ended before, joins again all spans that go on from there.
     fn join(&mut self, end: Rc<Boundary<PAGES>>) -> Result<(), AllocError>
-        requires there { IsJoined PAGES SPAN self.old.runs.kept.valid (span_at self.old.runs.kept self.old.runs.kept.valid)
+        requires there { IsJoined PAGES SPAN self.old.runs.kept.valid (first_at self.old.runs.kept.rows self.old.runs.kept.valid)
             (span_of PAGES SPAN self.old.inputs.image self.old.inputs.log self.old.runs.kept.valid) }
         requires end { end.value ≡ state_at PAGES self.old.inputs.image self.old.inputs.log ((self.old.runs.kept.valid + 1) * SPAN) }
         requires few { self.old.runs.kept.valid < max_spans }
         ensures stays { Stays self.old self.new }
         ensures joined { IfOk result (λ _. self.old.runs.kept.valid < self.new.runs.kept.valid) }
-        ensures spans { self.new.runs.kept.spans ≡ self.old.runs.kept.spans }
+        ensures rows { self.new.runs.kept.rows ≡ self.old.runs.kept.rows }
         ensures steps { self.new.runs.live.steps ≡ self.old.runs.live.steps }
     {
         let index = self.runs.kept.valid();

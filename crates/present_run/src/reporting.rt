@@ -110,7 +110,7 @@ impl<const PAGES: u32, const SPAN: u32> Present<PAGES, SPAN> {
         ensures { result.now ≡ sent_from 0
             (steps_between PAGES self.now.inputs.image self.now.inputs.log (index * SPAN) ((index + 1) * SPAN)) }
     {
-        match self.runs.kept.fact(index) {
+        match self.runs.kept.first(index) {
             Some(fact) => fact.sent(),
             None => &[],
         }

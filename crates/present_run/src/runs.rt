@@ -1,11 +1,10 @@
 //! What is kept of runs, and what an edit of the history makes of it.
 
-ghost use Rattle.std.specs.Prelude.{◌≡◌, ◌⊎◌, [], ◌∷◌, ◌<◌, ◌≤◌, IfOk, List, slice_set};
+ghost use Rattle.std.specs.Prelude.{◌≡◌, ◌⊎◌, [], ◌<◌, ◌≤◌, IfOk, List, slice_set};
 ghost use Rattle.input_log.specs.Event.{LogEvent};
 ghost use Rattle.r3k_image.specs.Boot.{Boot};
 ghost use Rattle.r3k_word.specs.Layout.{word_count_of};
 ghost use Rattle.r3k_machine.specs.Reset.{reset};
-ghost use Rattle.r3k_pages.specs.Pages.{SameOutside, page_count_of};
 ghost use Rattle.present_run.specs.Runs.{AreOf, AreSameOutside};
 ghost use Rattle.present_run.specs.Sizes.{AreSizes};
 
@@ -24,7 +23,7 @@ pub(crate) struct Runs<const PAGES: u32, const SPAN: u32> {
     pub(crate) live: Live<PAGES>,
     pub(crate) recorder: Recorder<PAGES, SPAN>,
     pub(crate) kept: Kept<PAGES, SPAN>,
-    // What the records reported, by page and by line.
+    // What the first records reported, by page and by line.
     pub(crate) reports: SpanIndex,
     // Where the run starts, at reset.
     pub(crate) reset: Rc<Boundary<PAGES>>,
@@ -36,16 +35,22 @@ pub(crate) struct Runs<const PAGES: u32, const SPAN: u32> {
     pub(crate) ends: Vec<Rc<Boundary<PAGES>>>,
     // The first of the later spans from which on each goes on from where the one before it ended, with the events of the log.
     pub(crate) again: u64,
-    // What is known of the records where the next span starts.
+    // What is known where the next span starts.
     pub(crate) frontier: Frontier<PAGES>,
 }
 
 impl<const PAGES: u32, const SPAN: u32> Runs<PAGES, SPAN> {
-    /// The run at reset.
-    pub(crate) fn boot(alloc: Global, inputs: &Inputs) -> Result<Runs<PAGES, SPAN>, AllocError>
-        requires { AreSizes PAGES SPAN }
+    /// The run at reset. Of each span at most so many records are to be kept.
+    pub(crate) fn boot(
+        alloc: Global,
+        inputs: &Inputs,
+        pasts: usize,
+    ) -> Result<Runs<PAGES, SPAN>, AllocError>
+        requires sizes { AreSizes PAGES SPAN }
+        requires pasts { 0 < pasts }
         ensures of { IfOk result (AreOf {pages = PAGES} {span = SPAN} inputs.now.image inputs.now.log) }
-        ensures spans { IfOk result (λ runs. runs.kept.spans ≡ []) }
+        ensures rows { IfOk result (λ runs. runs.kept.rows ≡ []) }
+        ensures pasts { IfOk result (λ runs. runs.kept.most ≡ pasts) }
         ensures steps { IfOk result (λ runs. runs.live.steps ≡ 0) }
     {
         let mut live = Live::new(alloc, &inputs.image)?;
@@ -53,7 +58,7 @@ impl<const PAGES: u32, const SPAN: u32> Runs<PAGES, SPAN> {
         Ok(Runs {
             live,
             recorder: Recorder::new(alloc)?,
-            kept: Kept::new(alloc),
+            kept: Kept::new(alloc, pasts),
             reports: SpanIndex::new(alloc),
             reset,
             at: Some(0),
@@ -70,7 +75,8 @@ impl<const PAGES: u32, const SPAN: u32> Runs<PAGES, SPAN> {
         requires { 0 < SPAN }
         ensures of { (image : Boot) (log changed : List LogEvent) → AreOf {pages = PAGES} {span = SPAN} image log self.old →
             AreSameOutside from last log changed → AreOf {pages = PAGES} {span = SPAN} image changed self.new }
-        ensures spans { self.new.kept.spans ≡ self.old.kept.spans }
+        ensures rows { self.new.kept.rows ≡ self.old.kept.rows }
+        ensures pasts { self.new.kept.most ≡ self.old.kept.most }
         ensures steps { self.new.live.steps ≡ self.old.live.steps }
     {
         let index = from / SPAN as u64;
@@ -80,7 +86,7 @@ impl<const PAGES: u32, const SPAN: u32> Runs<PAGES, SPAN> {
         self.at = None;
         self.recorded = None;
         self.kept.truncate_valid(index);
-        self.frontier.edit(index);
+        self.frontier.cut(index);
     }
 
     /// Where the run starts once the image sets a word to this.
@@ -96,18 +102,17 @@ impl<const PAGES: u32, const SPAN: u32> Runs<PAGES, SPAN> {
         share(alloc, self.reset.with_word(alloc, place, word)?)
     }
 
-    /// Starts the run anew, from a reset that differs in a page. No record is joined any more, and the machine stands nowhere in the
-    /// run. The records stay.
-    pub(crate) fn restart(&mut self, start: Rc<Boundary<PAGES>>, page: u32)
-        requires { page < page_count_of PAGES }
+    /// Starts the run anew, from another reset. No record is joined any more, and the machine stands nowhere in the run. The records
+    /// stay.
+    pub(crate) fn restart(&mut self, start: Rc<Boundary<PAGES>>)
         ensures of { (image changed : Boot) (log : List LogEvent) → AreOf {pages = PAGES} {span = SPAN} image log self.old →
-            start.entry.value ≡ reset PAGES changed → SameOutside (page ∷ []) (reset PAGES image).words (reset PAGES changed).words →
-            AreOf {pages = PAGES} {span = SPAN} changed log self.new }
-        ensures spans { self.new.kept.spans ≡ self.old.kept.spans }
+            start.entry.value ≡ reset PAGES changed → AreOf {pages = PAGES} {span = SPAN} changed log self.new }
+        ensures rows { self.new.kept.rows ≡ self.old.kept.rows }
+        ensures pasts { self.new.kept.most ≡ self.old.kept.most }
         ensures steps { self.new.live.steps ≡ self.old.live.steps }
     {
         self.reset = start;
-        self.frontier.patch(page);
+        self.frontier.cut(0);
         self.kept.truncate_valid(0);
         self.ends.clear();
         self.at = None;

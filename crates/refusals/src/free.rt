@@ -134,7 +134,7 @@ fn kept_of<const PAGES: u32, const SPAN: u32>(
     alloc: Global,
     machine: &mut Machine<PAGES, SPAN>,
 ) -> Result<Kept<PAGES, SPAN>, AllocError> {
-    let mut kept = Kept::<PAGES, SPAN>::new(alloc);
+    let mut kept = Kept::<PAGES, SPAN>::new(alloc, 1);
     kept.put(record_of(alloc, machine)?)?;
     Ok(kept)
 }

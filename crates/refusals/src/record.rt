@@ -70,7 +70,7 @@ pub fn show_record<const PAGES: u32, const SPAN: u32, W: Sink>(
         }
     };
     show_fact(name, &fact, show);
-    let mut kept = Kept::<PAGES, SPAN>::new(alloc);
+    let mut kept = Kept::<PAGES, SPAN>::new(alloc, 1);
     kept.put(fact)?;
     show_applies(name, &kept, &machine, show);
     Ok(())

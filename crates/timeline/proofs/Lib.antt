@@ -1,1 +1,2 @@
 pub mod Plain
+pub use Rattle.present_run.proofs.Counts

@@ -16,8 +16,8 @@ use std::alloc::Global;
 use std::marker::Model;
 
 /// An image and a log that can be edited, on a machine with `PAGES` pages of RAM. Queries are answered as if the machine was
-/// run from reset for each. What was run is kept in spans of `SPAN` steps, and is run again only where it no longer applies. The
-/// last 8 states inside spans that were asked for are kept too, up to the next edit.
+/// run from reset for each. What was run is kept in spans of `SPAN` steps, for one past or several, and is run again only where none of
+/// what is kept applies. The last 8 states inside spans that were asked for are kept too, up to the next edit.
 #[derive(Drop)]
 pub struct Timeline<const PAGES: u32, const SPAN: u32> {
     pub(crate) present: Present<PAGES, SPAN>,
@@ -37,18 +37,35 @@ impl<const PAGES: u32, const SPAN: u32> Model for Timeline<PAGES, SPAN> {
 }
 
 impl<const PAGES: u32, const SPAN: u32> Timeline<PAGES, SPAN> {
-    /// The timeline of an image and a log. An image that sets a word of RAM past the machine's is refused. Where it is refused,
-    /// for this or for want of memory, image and log are dropped.
+    /// The timeline of an image and a log, which keeps one record of each span. An image that sets a word of RAM past the machine's is
+    /// refused. Where it is refused, for this or for want of memory, image and log are dropped.
     pub fn new(alloc: Global, image: Image, log: Log) -> Result<Timeline<PAGES, SPAN>, ImageFault>
         requires sizes { AreSizes PAGES SPAN }
         ensures { MatchResult result
-            (λ t. FitsRam PAGES image × (t ≡ record { history = record { image = image; log = log }; spans = []; steps = 0; landings = [] }))
+            (λ t. FitsRam PAGES image × (t ≡ record { history = record { image = image; log = log }; rows = []; pasts = 1; steps = 0; landings = [] }))
+            (λ fault. ((fault ≡ Memory) × FitsRam PAGES image) ⊎ ((fault ≡ Bad Pages) × ¬ FitsRam PAGES image)) }
+    {
+        Timeline::with_pasts(alloc, image, log, 1)
+    }
+
+    /// The same, which keeps records of each span in up to as many pasts. So what was edited and is taken back, or asked of two pasts in
+    /// turn, runs no span again. Of more pasts the one that was used least recently is dropped.
+    pub fn with_pasts(
+        alloc: Global,
+        image: Image,
+        log: Log,
+        pasts: usize,
+    ) -> Result<Timeline<PAGES, SPAN>, ImageFault>
+        requires sizes { AreSizes PAGES SPAN }
+        requires pasts { 0 < pasts }
+        ensures { MatchResult result
+            (λ t. FitsRam PAGES image × (t ≡ record { history = record { image = image; log = log }; rows = []; pasts = pasts; steps = 0; landings = [] }))
             (λ fault. ((fault ≡ Memory) × FitsRam PAGES image) ⊎ ((fault ≡ Bad Pages) × ¬ FitsRam PAGES image)) }
     {
         if !image.fits(PAGES) {
             return Err(ImageFault::Bad(ImageKind::Pages));
         }
-        let present = Present::boot(alloc, image, log)?;
+        let present = Present::boot(alloc, image, log, pasts)?;
         Ok(Timeline { present })
     }
 

@@ -5,8 +5,8 @@ use Rattle.std.specs.Option.{ok_or}
 use Rattle.std.specs.Result.{is_ok}
 use Rattle.std.proofs.lemmas.Bool.{eq-eqb, true≢false}
 use Rattle.std.specs.Set.{remove_key}
-use Rattle.timeline.specs.History.{History}
-use Rattle.timeline.specs.Reuse.{Applies, Holding, Lacks, Reaches, Serves, Spends, kept_at, span_of}
+use Rattle.timeline.specs.Reuse.{Holding, Lacks, Reaches, Serves, Spends, kept_at, stay}
+use Rattle.timeline.proofs.Counts.{turned_on}
 use Rattle.refusal.specs.declared.fault.Fault.{Fault}
 use Rattle.refusal.specs.declared.fault.Fault.TheVariants.{Memory, Unaligned, NotMemory}
 use Rattle.timeline.specs.Landed.{Asks, AsksFault, Landed, Lands, holding}
@@ -84,7 +84,8 @@ nothing_spent pages span count h = record {
   history = refl;
   grows = omega arith;
   most = λ lacking _. let e : h.steps ≤ h.steps + (lacking * span + 0) = omega arith in e;
-  kept = λ _. inl refl;
+  pasts = refl;
+  turns = λ index. stay (kept_at h index) refl;
 }
 
 pub spends_more : (pages span count less more : ℕ) (old new : Holding) → less ≤ more → Spends pages span count less old new → Spends pages span count more old new
@@ -92,16 +93,9 @@ spends_more pages span count less more old new within spends = record {
   history = spends.history;
   grows = spends.grows;
   most = λ lacking lacks. let most = spends.most lacking lacks in omega (arith, most, within);
-  kept = spends.kept;
+  pasts = spends.pasts;
+  turns = spends.turns;
 }
-
--- what a later query's record is to an earlier query
-kept_again : (pages span index : ℕ) (old now new : Holding) → new.history ≡ now.history → (kept_at now index ≡ kept_at old index) ⊎ Applies pages span now index
-    → (kept_at new index ≡ kept_at now index) ⊎ Applies pages span new index → (kept_at new index ≡ kept_at old index) ⊎ Applies pages span new index
-kept_again pages span index old now new history first (inr applies) = inr applies
-kept_again pages span index old now new history (inl before) (inl same) = inl (same ∙ before)
-kept_again pages span index old now new history (inr applies) (inl same) =
-    inr (same ∙ (applies ∙ ap (λ (h : History). let o = Some (span_of pages span h.image h.log index) in o) (sym history)))
 
 -- a query after one that was answered runs no span
 pub spends_again : (pages span count a b : ℕ) (old now new : Holding) → Spends pages span count a old now → Reaches pages span count old now
@@ -114,7 +108,8 @@ spends_again pages span count a b old now new first reaches second = record {
       let after = second.most 0 (all_there pages span now count reaches.there) in
       let none : 0 * span ≡ 0 = omega arith in
       omega (arith, before, after, none);
-  kept = λ index. kept_again pages span index old now new second.history (first.kept index) (second.kept index);
+  pasts = second.pasts ∙ first.pasts;
+  turns = λ index. turned_on pages span old now index (kept_at new index) first.history first.pasts (first.turns index) (second.turns index);
 }
 
 pub reaches_again : (pages span count a b : ℕ) (old now new : Holding) → Reaches pages span count old now → Spends pages span count b now new → Reaches pages span count now new

@@ -17,11 +17,11 @@ outcome_of reply = Ok tt
 abbrev pub AsksNothing : (old new : Held) → Type 0
 AsksNothing old new = new.timeline ≡ old.timeline
 
--- An edit: the records stay, no step is run, and no state inside a span is kept any more. Where it is refused, all stays.
+-- An edit: the records of all pasts stay, no step is run, and no state inside a span is kept any more. Where it is refused, all stays.
 abbrev pub Edits : (old new : Held) → Reply → Type 0
 Edits old new (Refused fault) = new.timeline ≡ old.timeline
 Edits old new reply =
-    new.timeline ≡ record { history = new.timeline.history; spans = old.timeline.spans; steps = old.timeline.steps; landings = [] }
+    new.timeline ≡ record { history = new.timeline.history; rows = old.timeline.rows; pasts = old.timeline.pasts; steps = old.timeline.steps; landings = [] }
 
 -- one query of the state at the position
 pub record AsksState (pages span : ℕ) (old new : Held) (reply : Reply) : Type 0 where

@@ -57,9 +57,13 @@ pub record Held : Type 0 where
 abbrev pub triple_of : Held → Triple
 triple_of s = record { image = s.timeline.history.image; log = s.timeline.history.log; position = s.position }
 
+-- how many pasts a session keeps side by side (own)
+abbrev pub kept_pasts : ℕ
+kept_pasts = 4
+
 -- a session as it begins: at position 0, with nothing kept
 abbrev pub begun : Boot → List LogEvent → Held
-begun image log = record { timeline = record { history = record { image = image; log = log }; spans = []; steps = 0; landings = [] }; position = 0 }
+begun image log = record { timeline = record { history = record { image = image; log = log }; rows = []; pasts = kept_pasts; steps = 0; landings = [] }; position = 0 }
 
 -- the history of a session
 abbrev pub history_of : Triple → History

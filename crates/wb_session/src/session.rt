@@ -22,7 +22,10 @@ use wb_text::{
     RegisterNumber, Reply, StepCount, WireNumber, WordValue,
 };
 
-/// A session on a machine with `PAGES` pages of RAM. Runs are kept in spans of `SPAN` steps.
+// How many pasts are kept side by side.
+const KEPT_PASTS: usize = 4;
+
+/// A session on a machine with `PAGES` pages of RAM. Runs are kept in spans of `SPAN` steps, of the pasts that were asked of last.
 #[derive(Drop)]
 pub struct Session<const PAGES: u32, const SPAN: u32> {
     pub(crate) timeline: Timeline<PAGES, SPAN>,
@@ -53,7 +56,7 @@ impl<const PAGES: u32, const SPAN: u32> Session<PAGES, SPAN> {
             (IsNewFault PAGES image) }
     {
         Ok(Session {
-            timeline: Timeline::new(alloc, image, log)?,
+            timeline: Timeline::with_pasts(alloc, image, log, KEPT_PASTS)?,
             position: 0,
         })
     }

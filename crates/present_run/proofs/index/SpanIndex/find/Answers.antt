@@ -6,13 +6,13 @@ use Rattle.present_run.specs.Index.{Agrees, Index, IsSender, bytes_at, sent_belo
 use Rattle.present_run.proofs.Totals.{totals, total_most, total_rises}
 use Rattle.present_run.proofs.index.SpanIndex.find.Goals as goal
 
-below_next : (pages span : ℕ) (spans : List (Option Span)) (line i : ℕ)
+below_next : (pages span : ℕ) (spans : List (List Span)) (line i : ℕ)
     → sent_below pages span spans line (i + 1) ≡ sent_below pages span spans line i + length (bytes_at pages span spans line i)
 unfolding sent_below
 below_next pages span spans line i = ap (sent_below pages span spans line) (let e : i + 1 ≡ suc i = omega arith in e)
 
 -- what is found in the whole index is one of the first records, if these sent enough
-among : (pages span : ℕ) (index : Index) (spans : List (Option Span)) (line place count found rest : ℕ) → line ≤ 3 → Agrees pages span index spans
+among : (pages span : ℕ) (index : Index) (spans : List (List Span)) (line place count found rest : ℕ) → line ≤ 3 → Agrees pages span index spans
     → place < total index.consoles line count → IsPlace index.consoles line place found rest → IsSender pages span spans line place count found
 among pages span index spans line place count found rest known agrees sent is =
     elim (cases_lt found count) [

@@ -11,7 +11,7 @@ use Rattle.present_run.proofs.index.SpanIndex.last_writer.Goals as goal
 pub returns-in-Some-writer_in : goal.returns-in-Some-writer_in
 returns-in-Some-writer_in g c =
     let index : Index = c.args.self.now in
-    let spans : List (Option Span) = c.args.kept.now.spans in
+    let spans : List (List Span) = c.args.kept.now.rows in
     let at = c.in-Some.index in
     let last = subst (λ (x : Index). IsLast x.writes (c.args.address / PAGE_BYTES) c.loop-index.before (Some at)) c.self.view_is (c.in-Some.ensures {u = tt}).last in
     let here : last_writer c.args.address (steps_at g.row.PAGES g.row.SPAN spans at) ≡ Some c.in-Some-writer_in.step = cc in (
@@ -25,7 +25,7 @@ returns-in-Some-writer_in g c =
 pub loop-index-preserved : goal.loop-index-preserved
 loop-index-preserved g c =
     let index : Index = c.args.self.now in
-    let spans : List (Option Span) = c.args.kept.now.spans in
+    let spans : List (List Span) = c.args.kept.now.rows in
     let at = c.in-Some.index in
     let last = subst (λ (x : Index). IsLast x.writes (c.args.address / PAGE_BYTES) c.loop-index.before (Some at)) c.self.view_is (c.in-Some.ensures {u = tt}).last in
     let here : last_writer c.args.address (steps_at g.row.PAGES g.row.SPAN spans at) ≡ None = cc in record {
@@ -45,5 +45,5 @@ pub returns : goal.returns
 returns g c = λ i within.
     let index : Index = c.args.self.now in
     let last = subst (λ (x : Index). IsLast x.writes (c.args.address / PAGE_BYTES) c.loop-index.before None) c.self.view_is (c.in_default.ensures {u = tt}).last in
-    none_from g.row.PAGES g.row.SPAN index c.args.kept.now.spans c.args.count c.args.address c.loop-index.before 0 c.requires
+    none_from g.row.PAGES g.row.SPAN index c.args.kept.now.rows c.args.count c.args.address c.loop-index.before 0 c.requires
     (λ k _ below. last k below) c.loop-index.invariant.none i (omega arith) within

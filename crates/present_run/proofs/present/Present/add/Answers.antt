@@ -24,5 +24,5 @@ invariant_of-self-2 g c =
 
 pub returns-clause-log : goal.returns-clause-log
 returns-clause-log g c =
-    log_edited (adding (record { time = c.args.time; kind = Byte; line = c.args.line; byte = c.args.byte })) (landed_of c.args.self.now) c.add.new.self _ _ _ ((c.in_ok-place.ensures {u = tt}).log) c.edited.ensures.spans c.edited.ensures.steps
+    log_edited (adding (record { time = c.args.time; kind = Byte; line = c.args.line; byte = c.args.byte })) (landed_of c.args.self.now) c.add.new.self _ _ _ _ ((c.in_ok-place.ensures {u = tt}).log) c.edited.ensures.rows c.edited.ensures.pasts c.edited.ensures.steps
     (ap positions_of c.edited.ensures.landings)

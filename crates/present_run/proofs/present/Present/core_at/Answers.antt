@@ -5,7 +5,7 @@ use Rattle.r3k_machine.specs.State.{State}
 use Rattle.present_run.specs.History.{History}
 use Rattle.present_run.specs.Reuse.{Holding, Reaches, Spends}
 use Rattle.present_run.specs.Shown.{holding_of}
-use Rattle.present_run.proofs.Held.{kept_here, landing_here, lands_new, lands_not, lands_there, none_here, there_are}
+use Rattle.present_run.proofs.Held.{kept_here, landing_here, lands_new, lands_not, lands_there, none_here, stays, there_are}
 use Rattle.present_run.proofs.Spans.{if_some}
 use Rattle.present_run.proofs.present.Present.core_at.Goals as goal
 
@@ -88,3 +88,9 @@ returns-clause-lands g c =
       | inl added ↦ inl added
       | inr kept ↦ inr (ap positions_of kept)
     ])
+
+pub returns-in-Some-clause-spends : goal.returns-in-Some-clause-spends
+returns-in-Some-clause-spends g c = stays g.row.PAGES g.row.SPAN (c.args.position / g.row.SPAN) (c.args.position % g.row.SPAN) (holding_of c.args.self.now)
+
+pub returns-in_err-core-clause-spends : goal.returns-in_err-core-clause-spends
+returns-in_err-core-clause-spends g c = stays g.row.PAGES g.row.SPAN (c.args.position / g.row.SPAN) (c.args.position % g.row.SPAN) (holding_of c.args.self.now)

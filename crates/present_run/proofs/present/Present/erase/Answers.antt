@@ -21,5 +21,5 @@ invariant_of-self-2 g c =
 
 pub returns : goal.returns
 returns g c =
-    log_edited (erasing c.args.from c.args.to) (landed_of c.args.self.now) c.erase.new.self _ _ _ (c.in_ok-erase.ensures {u = tt}) c.edited.ensures.spans c.edited.ensures.steps
+    log_edited (erasing c.args.from c.args.to) (landed_of c.args.self.now) c.erase.new.self _ _ _ _ (c.in_ok-erase.ensures {u = tt}) c.edited.ensures.rows c.edited.ensures.pasts c.edited.ensures.steps
     (ap positions_of c.edited.ensures.landings)

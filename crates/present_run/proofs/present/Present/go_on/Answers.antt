@@ -29,7 +29,6 @@ invariant_of-self g c =
         ends = c.args.self.now.of.ends;
         again = c.args.self.now.of.again;
         known = c.args.self.now.of.known;
-        patches = c.args.self.now.of.patches;
         agrees = c.args.self.now.of.agrees;
       };
       landed = c.args.self.now.landed;

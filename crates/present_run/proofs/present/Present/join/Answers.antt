@@ -3,10 +3,10 @@ use Rattle.r3k_machine.specs.State.{State}
 use Rattle.r3k_machine.specs.Run.{state_at}
 use Rattle.r3k_machine.specs.Reset.{reset}
 use Rattle.span_fact.specs.Span.{Span}
-use Rattle.checkpoints.specs.Kept.{Kept, span_at}
+use Rattle.checkpoints.specs.Kept.{Kept, first_at}
 use Rattle.present_run.specs.Index.{Agrees, Index}
 use Rattle.present_run.specs.Reuse.{span_of}
-use Rattle.present_run.specs.Runs.{AreLandings, IsAlike, IsKnown}
+use Rattle.present_run.specs.Runs.{AreLandings, IsKnown}
 use Rattle.present_run.specs.Ends.{AreEnds, GoesOn, IsJoined}
 use Rattle.present_run.proofs.Again.{goes_on_put, joined_by, there_is}
 use Rattle.present_run.proofs.present.Present.join.Goals as goal
@@ -20,12 +20,12 @@ join_up_to-requires g c =
     let of = c.args.self.now.of in
     let kept = c.args.self.now.runs.kept in
     let put = (c.in_ok-put_end.ensures {u = tt}).put in
-    let all = joined_by pages span image log kept.spans (map (λ end. end.value) c.args.self.now.runs.ends.items) (map (λ end. end.value) c.put_end.new.ends.items) c.args.end.value
+    let all = joined_by pages span image log kept.rows (map (λ end. end.value) c.args.self.now.runs.ends.items) (map (λ end. end.value) c.put_end.new.ends.items) c.args.end.value
     kept.valid c.valid-index.result c.joined_by-count.result c.args.self.now.runs.again c.valid-index.ensures
     of.ends put c.requires.end of.joined c.requires.there
     (subst (λ ends. (c.joined_by-count.result ≡ c.valid-index.result + 1) ⊎ ((c.args.self.now.runs.again ≤ c.valid-index.result) × (c.joined_by-count.result ≡ length (map (λ end. end.value) ends))
     × (slice_get (map (λ end. end.value) ends) c.valid-index.result ≡ Some c.args.end.value))) c.deref.ensures.value c.joined_by-count.ensures.met) of.again in
-    (omega arith, (λ i below. there_is pages span i (span_at kept i) _ (all.1 i below), omega (arith, c.joined_by-count.ensures.more, c.valid-index.ensures)))
+    (omega arith, (λ i below. there_is pages span i (first_at kept.rows i) _ (all.1 i below), omega (arith, c.joined_by-count.ensures.more, c.valid-index.ensures)))
 
 pub invariant_of-self-2 : goal.invariant_of-self-2
 invariant_of-self-2 g c =
@@ -38,11 +38,11 @@ invariant_of-self-2 g c =
     let f = c.args.self.now.runs.frontier in
     let now = c.join_up_to.new.kept in
     let count : now.valid ≡ c.joined_by-count.result = ap (λ (k : Kept). k.valid) c.join_up_to.ensures in
-    let spans : now.spans ≡ kept.spans = ap (λ (k : Kept). k.spans) c.join_up_to.ensures in
+    let spans : now.rows ≡ kept.rows = ap (λ (k : Kept). k.rows) c.join_up_to.ensures in
     let old = map (λ end. end.value) c.args.self.now.runs.ends.items in
     let new = map (λ end. end.value) c.put_end.new.ends.items in
     let put = (c.in_ok-put_end.ensures {u = tt}).put in
-    let all = joined_by pages span image log kept.spans (map (λ end. end.value) c.args.self.now.runs.ends.items) (map (λ end. end.value) c.put_end.new.ends.items) c.args.end.value
+    let all = joined_by pages span image log kept.rows (map (λ end. end.value) c.args.self.now.runs.ends.items) (map (λ end. end.value) c.put_end.new.ends.items) c.args.end.value
     kept.valid c.valid-index.result c.joined_by-count.result c.args.self.now.runs.again c.valid-index.ensures
     of.ends put c.requires.end of.joined c.requires.there
     (subst (λ ends. (c.joined_by-count.result ≡ c.valid-index.result + 1) ⊎ ((c.args.self.now.runs.again ≤ c.valid-index.result) × (c.joined_by-count.result ≡ length (map (λ end. end.value) ends))
@@ -54,19 +54,18 @@ invariant_of-self-2 g c =
         stands = of.stands;
         recorded = of.recorded;
         joined = λ i below.
-            subst (λ (o : Option Span). IsJoined pages span i o (span_of pages span image log i)) (sym (ap (λ (s : List (Option Span)). slice_index_or s i None) spans))
+            subst (λ (o : Option Span). IsJoined pages span i o (span_of pages span image log i)) (sym (ap (λ (s : List (List Span)). first_at s i) spans))
             (all.1 i (subst (λ (n : ℕ). i < n) count below));
         ends = subst (λ (n : ℕ). AreEnds pages span image log n new) (sym count) all.0;
         again = λ index first past.
-            goes_on_put pages span log kept.spans now.spans old new c.args.end.value c.valid-index.result index spans put
+            goes_on_put pages span log kept.rows now.rows old new c.args.end.value c.valid-index.result index spans put
             (omega (arith, count, c.joined_by-count.ensures.more, past))
             (of.again index first (omega (arith, count, c.joined_by-count.ensures.more, c.valid-index.ensures, past)));
-        known = subst (λ (s : List (Option Span)). IsKnown span s (λ n. state_at pages image log (n * span)) f) (sym spans) of.known;
-        patches = subst (λ (s : List (Option Span)). IsAlike s 0 f.patched (reset pages image)) (sym spans) of.patches;
-        agrees = subst (λ (r : Index). Agrees pages span r now.spans) (sym c.sum_up_to.ensures)
-            (subst (λ (s : List (Option Span)). Agrees pages span c.args.self.now.runs.reports s) (sym spans) of.agrees);
+        known = subst (λ (s : List (List Span)). IsKnown span s (λ n. state_at pages image log (n * span)) f) (sym spans) of.known;
+        agrees = subst (λ (r : Index). Agrees pages span r now.rows) (sym c.sum_up_to.ensures)
+            (subst (λ (s : List (List Span)). Agrees pages span c.args.self.now.runs.reports s) (sym spans) of.agrees);
       };
-      landed = subst (λ (s : List (Option Span)). AreLandings pages span (record { image = image; log = log }) s c.args.self.now.landings) (sym spans) c.args.self.now.landed;
+      landed = subst (λ (s : List (List Span)). AreLandings pages span (record { image = image; log = log }) s c.args.self.now.landings) (sym spans) c.args.self.now.landed;
     }
 
 pub invariant_of-self : goal.invariant_of-self
@@ -86,9 +85,8 @@ invariant_of-self g c =
         recorded = of.recorded;
         joined = of.joined;
         ends = subst (λ (all : List State). AreEnds pages span image log kept.valid all) (sym same) of.ends;
-        again = λ index first past. subst (λ (all : List State). GoesOn pages span log kept.spans all index) (sym same) (of.again index first past);
+        again = λ index first past. subst (λ (all : List State). GoesOn pages span log kept.rows all index) (sym same) (of.again index first past);
         known = of.known;
-        patches = of.patches;
         agrees = of.agrees;
       };
       landed = c.args.self.now.landed;

@@ -1,98 +1,15 @@
-use Rattle.std.proofs.Common.{◌≡◌, ℕ, ◌+◌, ◌*◌, IfSome, IsSomeAnd, List, None, Option, length, slice_index_or, sym, ap, subst, ◌∙◌, arith}
-use Rattle.r3k_machine.specs.State.{State}
-use Rattle.r3k_machine.specs.Run.{state_at}
-use Rattle.r3k_machine.specs.Reset.{reset}
-use Rattle.span_fact.specs.Span.{Span, end_of}
-use Rattle.checkpoints.specs.Kept.{NearlyApplies, span_at}
-use Rattle.present_run.specs.Index.{Agrees}
-use Rattle.present_run.specs.Reuse.{span_of}
-use Rattle.present_run.specs.Ends.{IsJoined}
-use Rattle.present_run.specs.Runs.{AreLandings, IsKnownAt}
-use Rattle.present_run.proofs.Again.{over_joined}
-use Rattle.present_run.proofs.Known.{at_first, end_known, own_events}
-use Rattle.present_run.proofs.Spans.{if_some, map_ok}
+use Rattle.std.proofs.Common.{List, ap, refl, ◌∙◌}
+use Rattle.span_fact.specs.Span.{Span}
+use Rattle.checkpoints.specs.Kept.{row_at}
+use Rattle.present_run.specs.Reuse.{stay, use_one}
 use Rattle.present_run.proofs.present.Present.join_kept.Goals as goal
 
-pub carry_over-requires : goal.carry_over-requires
-carry_over-requires g c =
-    let pages = g.row.PAGES in
-    let span = g.row.SPAN in
-    let kept = c.args.self.now.runs.kept in
-    let start = sym c.requires.start in (
-      omega arith,
-      (
-        omega arith,
-        (
-          omega arith,
-          (
-            subst (λ (s : State). IsSomeAnd (span_at kept kept.valid) (λ r. NearlyApplies pages span r s r.events)) start
-                (own_events pages span (span_at kept kept.valid) _ _ c.requires.serves),
-            (
-              omega (arith, c.requires.few),
-              λ at. subst (λ (s : State). IsKnownAt span kept.spans kept.valid s c.args.self.now.runs.frontier) start (if_some _ c.args.self.now.runs.frontier.at kept.valid at c.args.self.now.of.known),
-            ),
-          ),
-        ),
-      ),
-    )
+pub returns-clause-turns : goal.returns-clause-turns
+returns-clause-turns g c =
+    let valid = c.args.self.now.runs.kept.valid in
+    use_one (row_at c.args.self.now.runs.kept.rows valid) _ (stay _ refl) c.args.place c.requires.serves
+    (ap (λ (rows : List (List Span)). row_at rows valid) c.join_first.ensures.rows ∙ (c.in_ok-promote.ensures {u = tt}).row)
 
-pub invariant_of-self : goal.invariant_of-self
-invariant_of-self g c =
-    let pages = g.row.PAGES in
-    let span = g.row.SPAN in
-    let image = c.args.self.now.inputs.image in
-    let log = c.args.self.now.inputs.log in
-    let of = c.args.self.now.of in
-    let kept = c.args.self.now.runs.kept in
-    let o = span_at kept kept.valid in
-    let there : IsJoined pages span kept.valid o (span_of pages span image log kept.valid) = record {
-      near = c.requires.serves;
-      number = c.carry_over.ensures.number;
-      long = subst (λ (s : State). IfSome o (λ r. length s.words ≡ length r.start.words)) c.requires.start c.carry_over.ensures.long;
-    } in record {
-      fits = c.args.self.now.fits;
-      of = over_joined image log c.args.self.now.runs c.carry_over.new.kept c.args.self.now.runs.reports c.carry_over.new.self
-          (λ i. ap (λ (s : List (Option Span)). slice_index_or s i None) c.carry_over.ensures.spans) c.carry_over.ensures.valid
-          (subst (λ (s : List (Option Span)). Agrees pages span c.args.self.now.runs.reports s) (sym c.carry_over.ensures.spans) of.agrees)
-          (c.carry_over.ensures.known (λ n. state_at pages image log (n * span)) (sym c.requires.start)
-          (map_ok _ _ c.carry_over.result
-          (λ end is. sym (end_known pages span image log kept.valid end.value o there
-          (subst (λ (s : State). IfSome o (λ r. end.value ≡ end_of pages span (record r { start = s }))) c.requires.start is)))
-          c.carry_over.ensures.end))
-          (c.carry_over.ensures.patches (reset pages image) (λ first. c.requires.start ∙ at_first pages span image log kept.valid first) of.patches) of;
-      landed = subst (λ (s : List (Option Span)). AreLandings pages span (record { image = image; log = log }) s c.args.self.now.landings) (sym c.carry_over.ensures.spans) c.args.self.now.landed;
-    }
-
-pub join-requires : goal.join-requires
-join-requires g c =
-    let pages = g.row.PAGES in
-    let span = g.row.SPAN in
-    let image = c.args.self.now.inputs.image in
-    let log = c.args.self.now.inputs.log in
-    let kept = c.args.self.now.runs.kept in
-    let valid = kept.valid in
-    let o = span_at kept valid in
-    let same = c.carry_over.ensures.valid in
-    let at : span_at c.carry_over.new.kept c.carry_over.new.kept.valid ≡ o =
-    ap (λ (s : List (Option Span)). slice_index_or s c.carry_over.new.kept.valid None) c.carry_over.ensures.spans ∙ ap (span_at kept) same in
-    let there : IsJoined pages span valid o (span_of pages span image log valid) = record {
-      near = c.requires.serves;
-      number = c.carry_over.ensures.number;
-      long = subst (λ (s : State). IfSome o (λ r. length s.words ≡ length r.start.words)) c.requires.start c.carry_over.ensures.long;
-    } in (
-      omega arith,
-      (
-        omega arith,
-        (
-          subst (λ (n : ℕ). IsJoined pages span n (span_at c.carry_over.new.kept c.carry_over.new.kept.valid) (span_of pages span image log n)) (sym same)
-              (subst (λ (o : Option Span). IsJoined pages span valid o (span_of pages span image log valid)) (sym at) there),
-          (
-            end_known pages span image log valid _ o there
-                (subst (λ (s : State). IfSome o (λ r. c.in_ok-end.end.value ≡ end_of pages span (record r { start = s }))) c.requires.start
-                (c.in_ok-end.ensures {u = tt}).end)
-                ∙ ap (λ (n : ℕ). state_at pages image log ((n + 1) * span)) (sym same),
-            omega (arith, c.requires.few, same),
-          ),
-        ),
-      ),
-    )
+pub returns-in_err-promote-clause-turns : goal.returns-in_err-promote-clause-turns
+returns-in_err-promote-clause-turns g c =
+    stay _ (ap (λ (rows : List (List Span)). row_at rows c.args.self.now.runs.kept.valid) (c.in_err-promote.ensures {u = tt}).same)

@@ -1,49 +1,49 @@
-use Rattle.std.proofs.Common.{◌≡◌, inl, inr, slice_index_or, ℕ, ◌+◌, ◌*◌, ◌<◌, IfSome, None, Option, Some, map, sym, ap, subst, ◌∙◌, arith}
+use Rattle.std.proofs.Common.{◌≡◌, inl, inr, ℕ, ◌+◌, ◌*◌, ◌<◌, List, Option, Some, map, slice_get, refl, sym, ap, subst, ◌∙◌, arith}
 use Rattle.std.proofs.lemmas.Bool.{cases_eq}
 use Rattle.r3k_machine.specs.State.{State}
 use Rattle.r3k_machine.specs.Run.{state_at}
-use Rattle.r3k_machine.specs.Reset.{reset}
-use Rattle.r3k_pages.specs.Pages.{SameOutside}
 use Rattle.span_fact.specs.Span.{Span, end_of}
-use Rattle.checkpoints.specs.Kept.{span_at}
+use Rattle.checkpoints.specs.Kept.{first_at, row_at}
 use Rattle.present_run.specs.Index.{Has}
 use Rattle.present_run.proofs.Indexed.{agrees_same}
-use Rattle.present_run.specs.Reuse.{span_of}
+use Rattle.present_run.specs.Reuse.{IsServed, IsServing, span_of}
 use Rattle.present_run.specs.Ends.{AreEnds, IsJoined}
-use Rattle.present_run.specs.Runs.{IsKnownAt}
 use Rattle.present_run.proofs.Again.{goes_on_kept, over_kept}
-use Rattle.present_run.proofs.Held.{landed_over}
-use Rattle.present_run.proofs.Known.{at_first, known_by}
-use Rattle.present_run.proofs.Spans.{ends, if_some}
+use Rattle.present_run.proofs.Held.{landed_over, served_first, served_same}
+use Rattle.present_run.proofs.Known.{known_before, known_by}
+use Rattle.present_run.proofs.Near.{is_joined}
+use Rattle.present_run.proofs.Spans.{ends}
 use Rattle.present_run.proofs.present.Present.keep.Goals as goal
 
 -- the records are as they were
 pub invariant_of-self : goal.invariant_of-self
 invariant_of-self g c =
-    let now = c.args.self.now in record {
+    let now = c.args.self.now in
+    let firsts : (i : ℕ) → first_at c.reserve.new.self.rows i ≡ first_at now.runs.kept.rows i = λ i. ap (λ (row : List Span). slice_get row 0) (c.reserve.ensures.rows i) in record {
       fits = now.fits;
-      of = over_kept now.inputs.image now.inputs.log now.runs c.reserve.new.self now.runs.reports c.reserve.ensures.spans c.reserve.ensures.valid
-          (agrees_same g.row.PAGES g.row.SPAN now.runs.reports now.runs.kept.spans c.reserve.new.self.spans c.reserve.ensures.spans now.of.agrees) now.of;
-      landed = landed_over g.row.PAGES g.row.SPAN (record { image = now.inputs.image; log = now.inputs.log }) now.runs.kept.spans c.reserve.new.self.spans now.landings
-          (λ i. inl (c.reserve.ensures.spans i)) now.landed;
+      of = over_kept now.inputs.image now.inputs.log now.runs c.reserve.new.self now.runs.reports firsts c.reserve.ensures.valid
+          (agrees_same g.row.PAGES g.row.SPAN now.runs.reports now.runs.kept.rows c.reserve.new.self.rows firsts now.of.agrees) now.of;
+      landed = landed_over g.row.PAGES g.row.SPAN (record { image = now.inputs.image; log = now.inputs.log }) now.runs.kept.rows c.reserve.new.self.rows now.landings
+          (λ i. served_same g.row.PAGES g.row.SPAN (record { image = now.inputs.image; log = now.inputs.log }) now.runs.kept.rows c.reserve.new.self.rows i (c.reserve.ensures.rows i)) now.landed;
     }
 
 pub invariant_of-self-in-Break-branch-2 : goal.invariant_of-self-in-Break-branch-2
 invariant_of-self-in-Break-branch-2 g c =
     let now = c.args.self.now in
-    let agrees = agrees_same g.row.PAGES g.row.SPAN now.runs.reports now.runs.kept.spans c.reserve.new.self.spans c.reserve.ensures.spans now.of.agrees in record {
+    let firsts : (i : ℕ) → first_at c.reserve.new.self.rows i ≡ first_at now.runs.kept.rows i = λ i. ap (λ (row : List Span). slice_get row 0) (c.reserve.ensures.rows i) in
+    let agrees = agrees_same g.row.PAGES g.row.SPAN now.runs.reports now.runs.kept.rows c.reserve.new.self.rows firsts now.of.agrees in record {
       fits = now.fits;
-      of = over_kept now.inputs.image now.inputs.log now.runs c.reserve.new.self c.take_in.new.self c.reserve.ensures.spans c.reserve.ensures.valid
-          (λ i. (c.in_err-take_in.ensures {u = tt}).same i (slice_index_or c.reserve.new.self.spans i None) (agrees i)) now.of;
-      landed = landed_over g.row.PAGES g.row.SPAN (record { image = now.inputs.image; log = now.inputs.log }) now.runs.kept.spans c.reserve.new.self.spans now.landings
-          (λ i. inl (c.reserve.ensures.spans i)) now.landed;
+      of = over_kept now.inputs.image now.inputs.log now.runs c.reserve.new.self c.take_in.new.self firsts c.reserve.ensures.valid
+          (λ i. (c.in_err-take_in.ensures {u = tt}).same i (first_at c.reserve.new.self.rows i) (agrees i)) now.of;
+      landed = landed_over g.row.PAGES g.row.SPAN (record { image = now.inputs.image; log = now.inputs.log }) now.runs.kept.rows c.reserve.new.self.rows now.landings
+          (λ i. served_same g.row.PAGES g.row.SPAN (record { image = now.inputs.image; log = now.inputs.log }) now.runs.kept.rows c.reserve.new.self.rows i (c.reserve.ensures.rows i)) now.landed;
     }
 
 pub run_over-requires : goal.run_over-requires
 run_over-requires g c =
     let now = c.args.self.now in
-    let f = now.runs.frontier in
     let room = c.reserve.ensures in
+    let starts : ℕ → State = λ n. state_at g.row.PAGES now.inputs.image now.inputs.log (n * g.row.SPAN) in
     let number : c.args.fact.index ≡ now.runs.kept.valid = ap (λ (s : Span). s.index) c.requires.fact in (
       omega arith,
       (
@@ -53,13 +53,12 @@ run_over-requires g c =
           (
             number ∙ sym room.valid,
             (
-              omega (arith, (c.in_ok-reserve.ensures {u = tt}).room, c.index.ensures),
+              (c.in_ok-reserve.ensures {u = tt}).reserved ∙ ap (λ (n : ℕ). Some n) c.index.ensures,
               (
                 omega (arith, number, c.requires.few),
-                λ at.
-                    subst (λ (s : State). IsKnownAt g.row.SPAN c.reserve.new.self.spans c.reserve.new.self.valid s f)
-                    (ap (λ (n : ℕ). state_at g.row.PAGES now.inputs.image now.inputs.log (n * g.row.SPAN)) room.valid ∙ sym (ap (λ (s : Span). s.start) c.requires.fact))
-                    (if_some _ f.at c.reserve.new.self.valid at (known_by g.row.SPAN now.runs.kept.spans c.reserve.new.self.spans _ f room.spans now.of.known)),
+                known_before g.row.SPAN c.reserve.new.self.rows starts now.runs.frontier c.reserve.new.self.valid c.args.fact.start
+                    (ap starts room.valid ∙ sym (ap (λ (s : Span). s.start) c.requires.fact))
+                    (known_by g.row.SPAN now.runs.kept.rows c.reserve.new.self.rows starts now.runs.frontier (λ i. ap (λ (row : List Span). slice_get row 0) (room.rows i)) now.of.known),
               ),
             ),
           ),
@@ -79,11 +78,11 @@ invariant_of-self-2 g c =
     let now = c.run_over.new.kept in
     let room = c.reserve.ensures in
     let number = ap (λ (s : Span). s.index) c.requires.fact in
-    let start : c.args.fact.start ≡ state_at pages image log (valid * span) = ap (λ (s : Span). s.start) c.requires.fact in
     let valid_is : now.valid ≡ valid = c.run_over.ensures.valid ∙ room.valid in
-    let others : (i : ℕ) → ¬ (i ≡ valid) → span_at now i ≡ span_at kept i = λ i other. c.run_over.ensures.others i (λ same. other (same ∙ room.valid)) ∙ room.spans i in
-    let here : span_at now valid ≡ Some (span_of pages span image log valid) =
-    ap (span_at now) (sym room.valid) ∙ (c.run_over.ensures.there ∙ ap (λ (s : Span). Some s) c.requires.fact) in record {
+    let rows : (i : ℕ) → ¬ (i ≡ valid) → row_at now.rows i ≡ row_at kept.rows i = λ i other. c.run_over.ensures.others i (λ same. other (same ∙ room.valid)) ∙ room.rows i in
+    let others : (i : ℕ) → ¬ (i ≡ valid) → first_at now.rows i ≡ first_at kept.rows i = λ i other. ap (λ (row : List Span). slice_get row 0) (rows i other) in
+    let here : first_at now.rows valid ≡ Some (span_of pages span image log valid) =
+    ap (first_at now.rows) (sym room.valid) ∙ (ap (λ (row : List Span). slice_get row 0) c.run_over.ensures.row ∙ ap (λ (s : Span). Some s) c.requires.fact) in record {
       fits = c.args.self.now.fits;
       of = record {
         sizes = of.sizes;
@@ -96,34 +95,29 @@ invariant_of-self-2 g c =
             (of.joined i below);
         ends = subst (λ (n : ℕ). AreEnds pages span image log n (map (λ end. end.value) c.args.self.now.runs.ends.items)) (sym valid_is) of.ends;
         again = λ index first past.
-            goes_on_kept pages span log kept.spans now.spans (map (λ end. end.value) c.args.self.now.runs.ends.items) index
+            goes_on_kept pages span log kept.rows now.rows (map (λ end. end.value) c.args.self.now.runs.ends.items) index
             (others (index + 1) (λ same. let e : ⊥ = omega (arith, valid_is, past, same) in e)) (of.again index first (omega (arith, valid_is, past)));
         known =
             c.run_over.ensures.known (λ n. state_at pages image log (n * span))
             (sym (ap (λ (s : Span). end_of pages span s) c.requires.fact ∙ (ends pages span image log valid ∙ ap (λ (n : ℕ). state_at pages image log ((n + 1) * span)) (sym room.valid))));
-        patches =
-            c.run_over.ensures.patches (reset pages image) (λ first. start ∙ at_first pages span image log valid (sym room.valid ∙ first))
-            (subst (λ (o : Option Span). IfSome o (λ s. SameOutside c.args.self.now.runs.frontier.patched s.start.words (reset pages image).words)) (sym (room.spans 0)) of.patches);
         agrees = λ i. elim (cases_eq i valid) [
           | inl is ↦
-              subst (λ (o : Option Span). Has pages span c.take_in.new.self i o) (sym (ap (span_at now) is ∙ here))
+              subst (λ (o : Option Span). Has pages span c.take_in.new.self i o) (sym (ap (first_at now.rows) is ∙ here))
               (subst (λ (n : ℕ). Has pages span c.take_in.new.self n (Some (span_of pages span image log valid))) (sym is)
               (subst (λ (s : Span). Has pages span c.take_in.new.self s.index (Some s)) c.requires.fact (c.in_ok-take_in.ensures {u = tt}).there))
           | inr other ↦
               subst (λ (o : Option Span). Has pages span c.take_in.new.self i o) (sym (others i other))
-              ((c.in_ok-take_in.ensures {u = tt}).others i (span_at kept i) (λ same. other (same ∙ number)) (of.agrees i))
+              ((c.in_ok-take_in.ensures {u = tt}).others i (first_at kept.rows i) (λ same. other (same ∙ number)) (of.agrees i))
         ];
       };
-      landed = landed_over pages span (record { image = image; log = log }) kept.spans now.spans c.args.self.now.landings
+      landed = landed_over pages span (record { image = image; log = log }) kept.rows now.rows c.args.self.now.landings
           (λ i. elim (cases_eq i valid) [
-            | inl is ↦ inr (subst (λ (n : ℕ). span_at now n ≡ Some (span_of pages span image log n)) (sym is) here)
-            | inr other ↦ inl (others i other)
+            | inl is ↦ λ _.
+                served_first pages span (record { image = image; log = log }) now.rows i
+                (subst (λ (n : ℕ). IsServing pages span (record { image = image; log = log }) n (first_at now.rows n)) (sym is) (is_joined pages span image log valid (first_at now.rows valid) here).near)
+            | inr other ↦ served_same pages span (record { image = image; log = log }) kept.rows now.rows i (rows i other)
           ]) c.args.self.now.landed;
     }
 
-pub returns-clause-applies : goal.returns-clause-applies
-returns-clause-applies g c =
-    ap (span_at c.run_over.new.kept) (sym c.reserve.ensures.valid) ∙ (c.run_over.ensures.there ∙ ap (λ (s : Span). Some s) c.requires.fact)
-
 pub returns-clause-others : goal.returns-clause-others
-returns-clause-others g c = λ i other. c.run_over.ensures.others i (λ same. other (same ∙ c.reserve.ensures.valid)) ∙ c.reserve.ensures.spans i
+returns-clause-others g c = λ i other. c.run_over.ensures.others i (λ same. other (same ∙ c.reserve.ensures.valid)) ∙ c.reserve.ensures.rows i

@@ -44,7 +44,6 @@ invariant_of-self-2 g c =
         ends = of.ends;
         again = of.again;
         known = of.known;
-        patches = of.patches;
         agrees = of.agrees;
       };
       landed = c.stand_at_start.new.self.landed;

@@ -25,5 +25,5 @@ invariant_of-self-2 g c =
 
 pub returns-clause-log : goal.returns-clause-log
 returns-clause-log g c =
-    log_edited (moving c.args.place c.args.time) (landed_of c.args.self.now) c.move_to.new.self _ _ _ ((c.in_ok-place.ensures {u = tt}).log) c.edited.ensures.spans c.edited.ensures.steps
+    log_edited (moving c.args.place c.args.time) (landed_of c.args.self.now) c.move_to.new.self _ _ _ _ ((c.in_ok-place.ensures {u = tt}).log) c.edited.ensures.rows c.edited.ensures.pasts c.edited.ensures.steps
     (ap positions_of c.edited.ensures.landings)

@@ -1,14 +1,14 @@
-use Rattle.std.proofs.Common.{ℕ, ◌∷◌, [], List, slice_set, sym, ap, subst, ◌∙◌, arith}
-use Rattle.r3k_image.specs.Boot.{Boot}
-use Rattle.r3k_machine.specs.Reset.{reset, reset_words}
+use Rattle.std.proofs.Common.{slice_set, sym, ap, subst, ◌∙◌, arith}
+use Rattle.r3k_image.specs.Boot.{Boot, FitsRam}
+use Rattle.r3k_machine.specs.Reset.{reset}
 use Rattle.r3k_machine.specs.State.{State}
-use Rattle.r3k_pages.specs.Pages.{SameOutside}
 use Rattle.present_run.specs.Landings.{positions_of}
+use Rattle.present_run.specs.Runs.{AreLandings, AreOf}
 use Rattle.r3k_image.specs.Patch.{patching}
 use Rattle.present_run.proofs.Edited.{image_edited}
 use Rattle.present_run.specs.Shown.{landed_of}
 use Rattle.present_run.proofs.Held.{none}
-use Rattle.present_run.proofs.Patches.{fits_after, its_address, patching_there, reset_patched, set_outside, taken_by_most}
+use Rattle.present_run.proofs.Patches.{fits_after, its_address, patching_there, reset_patched, taken_by_most}
 use Rattle.present_run.proofs.present.Present.patch.Goals as goal
 
 pub invariant_of-self-2 : goal.invariant_of-self-2
@@ -24,10 +24,7 @@ invariant_of-self-2 g c =
     let anew = sym (reset_patched pages address word place image c.args.self.now.of.sizes.most_pages is) ∙ ap (λ (b : Boot). reset pages b) same in record {
       fits = fits_after pages address word place image c.patch.new.self is same c.args.self.now.fits;
       of = c.restart.ensures.of image c.patch.new.self c.args.self.now.inputs.log runs
-          (c.in_ok-reset.ensures {u = tt} ∙ (ap (λ (s : State). let r : State = record { core = s.core; words = slice_set s.words place word } in r) runs.start ∙ anew))
-          (subst (λ (words : List ℕ). SameOutside (c.page_of.result ∷ []) (reset_words pages image) words) (ap (λ (s : State). s.words) anew)
-          (subst (λ (page : ℕ). SameOutside (page ∷ []) (reset_words pages image) (slice_set (reset_words pages image) place word)) (sym c.page_of.ensures)
-          (set_outside (reset_words pages image) place word)));
+          (c.in_ok-reset.ensures {u = tt} ∙ (ap (λ (s : State). let r : State = record { core = s.core; words = slice_set s.words place word } in r) runs.start ∙ anew));
       landed = λ e there. absurd (none _ e c.clear.ensures there);
     }
 
@@ -46,5 +43,15 @@ returns-clause-image g c =
     let pages = g.row.PAGES in
     let is = sym c.place_of.ensures ∙ c.in-Some.is in
     let same = taken_by_most pages c.args.address c.args.word c.in-Some.place c.args.self.now.inputs.image c.patch.new.self c.args.self.now.of.sizes.most_pages is (c.in-Ok.ensures {u = tt}) in
-    image_edited (patching pages c.args.address c.args.word) (landed_of c.args.self.now) c.patch.new.self _ _ _ (patching_there pages c.args.address c.args.word c.in-Some.place c.args.self.now.inputs.image c.patch.new.self c.if-address-ne0.false is same)
-    c.restart.ensures.spans c.restart.ensures.steps (ap positions_of c.clear.ensures)
+    image_edited (patching pages c.args.address c.args.word) (landed_of c.args.self.now) c.patch.new.self _ _ _ _ (patching_there pages c.args.address c.args.word c.in-Some.place c.args.self.now.inputs.image c.patch.new.self c.if-address-ne0.false is same)
+    c.restart.ensures.rows c.restart.ensures.pasts c.restart.ensures.steps (ap positions_of c.clear.ensures)
+
+-- a refused patch leaves the image
+pub invariant_of-self-in_default-patch : goal.invariant_of-self-in_default-patch
+invariant_of-self-in_default-patch g c =
+    let now = c.args.self.now in
+    let same = (c.in_default-patch.ensures {u = tt}).0 in record {
+      fits = subst (λ (image : Boot). FitsRam g.row.PAGES image) (sym same) now.fits;
+      of = subst (λ (image : Boot). AreOf {pages = g.row.PAGES} {span = g.row.SPAN} image now.inputs.log now.runs) (sym same) now.of;
+      landed = subst (λ (image : Boot). AreLandings g.row.PAGES g.row.SPAN (record { image = image; log = now.inputs.log }) now.runs.kept.rows now.landings) (sym same) now.landed;
+    }

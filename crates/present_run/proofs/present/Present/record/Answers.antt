@@ -17,7 +17,7 @@ returns-clause-spends g c =
     let rest = mod-eq-sub-div-mul position span in
     let steps = ap (λ (h : Holding). h.steps) c.stand_at_start.ensures.same in
     spends_rest pages span (position / span) (position % span) (holding_of c.args.self.now) (holding_of c.reach.new.self) (holding_of c.go_on.new.self)
-    c.reach.ensures.spends (c.go_on.ensures.stays.history ∙ c.stand_at_start.ensures.stays.history) (c.go_on.ensures.spans ∙ ap (λ (h : Holding). h.spans) c.stand_at_start.ensures.same)
+    c.reach.ensures.spends (c.go_on.ensures.stays.history ∙ c.stand_at_start.ensures.stays.history) (c.go_on.ensures.stays.pasts ∙ c.stand_at_start.ensures.stays.pasts) (c.go_on.ensures.rows ∙ ap (λ (h : Holding). h.rows) c.stand_at_start.ensures.same)
     (omega (arith, c.go_on.ensures.least, steps))
     (omega (arith, c.go_on.ensures.count, steps, rest, (c.in_ok-time.ensures {u = tt}).start))
 
@@ -27,7 +27,7 @@ returns-clause-reaches g c =
     let span = g.row.SPAN in
     let steps = ap (λ (h : Holding). h.steps) c.stand_at_start.ensures.same in
     reaches_more pages span (c.args.position / span) (holding_of c.args.self.now) (holding_of c.reach.new.self) (holding_of c.go_on.new.self)
-    (c.in_ok-reach.ensures {u = tt}).reaches (c.go_on.ensures.stays.history ∙ c.stand_at_start.ensures.stays.history) (c.go_on.ensures.spans ∙ ap (λ (h : Holding). h.spans) c.stand_at_start.ensures.same)
+    (c.in_ok-reach.ensures {u = tt}).reaches (c.go_on.ensures.stays.history ∙ c.stand_at_start.ensures.stays.history) (c.go_on.ensures.rows ∙ ap (λ (h : Holding). h.rows) c.stand_at_start.ensures.same)
     (omega (arith, c.go_on.ensures.least, steps))
 
 pub returns-then-eq-clause-recorded : goal.returns-then-eq-clause-recorded
@@ -41,8 +41,8 @@ returns-then-eq-clause-recorded g c =
     (same_some runs.recorded c.args.position (sym (c.if-eq.ensures {u = tt}))) c.reach.new.self.of.recorded
 
 pub returns-in_err-time-clause-stays : goal.returns-in_err-time-clause-stays
-returns-in_err-time-clause-stays g c = let stays = stays_on c.reach.ensures.stays c.stand_at_start.ensures.stays in record { history = stays.history; landings = stays.landings }
+returns-in_err-time-clause-stays g c = let stays = stays_on c.reach.ensures.stays c.stand_at_start.ensures.stays in record { history = stays.history; landings = stays.landings; pasts = stays.pasts }
 
 pub returns-clause-stays : goal.returns-clause-stays
 returns-clause-stays g c =
-    let stays = stays_on c.reach.ensures.stays (stays_on c.stand_at_start.ensures.stays c.go_on.ensures.stays) in record { history = stays.history; landings = stays.landings }
+    let stays = stays_on c.reach.ensures.stays (stays_on c.stand_at_start.ensures.stays c.go_on.ensures.stays) in record { history = stays.history; landings = stays.landings; pasts = stays.pasts }

@@ -1,6 +1,7 @@
-use Rattle.std.proofs.Common.{ap, arith}
+use Rattle.std.proofs.Common.{List, sym, ap, subst, arith}
+use Rattle.input_log.specs.Event.{LogEvent}
 use Rattle.input_log.specs.Edits.{setting}
-use Rattle.present_run.specs.Runs.{AreSameOutside}
+use Rattle.present_run.specs.Runs.{AreLandings, AreOf, AreSameOutside}
 use Rattle.present_run.specs.Landings.{positions_of}
 use Rattle.present_run.proofs.Edited.{reset, log_edited, outside}
 use Rattle.present_run.specs.Shown.{landed_of}
@@ -24,5 +25,15 @@ invariant_of-self-2 g c =
 
 pub returns : goal.returns
 returns g c =
-    log_edited (setting c.args.place c.args.byte) (landed_of c.args.self.now) c.set.new.self _ _ _ (c.in_ok-set.ensures {u = tt}) c.edited.ensures.spans c.edited.ensures.steps
+    log_edited (setting c.args.place c.args.byte) (landed_of c.args.self.now) c.set.new.self _ _ _ _ (c.in_ok-set.ensures {u = tt}) c.edited.ensures.rows c.edited.ensures.pasts c.edited.ensures.steps
     (ap positions_of c.edited.ensures.landings)
+
+-- a refused edit leaves the log
+pub invariant_of-self : goal.invariant_of-self
+invariant_of-self g c =
+    let now = c.args.self.now in
+    let same = (c.in_err-set.ensures {u = tt}).0 in record {
+      fits = now.fits;
+      of = subst (λ (log : List LogEvent). AreOf {pages = g.row.PAGES} {span = g.row.SPAN} now.inputs.image log now.runs) (sym same) now.of;
+      landed = subst (λ (log : List LogEvent). AreLandings g.row.PAGES g.row.SPAN (record { image = now.inputs.image; log = log }) now.runs.kept.rows now.landings) (sym same) now.landed;
+    }

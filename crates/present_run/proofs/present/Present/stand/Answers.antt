@@ -21,7 +21,7 @@ returns-clause-spends g c =
     let span = g.row.SPAN in
     let position = c.args.position in
     spends_rest pages span (position / span) (position % span) (holding_of c.args.self.now) (holding_of c.reach.new.self) (holding_of c.stand_at.new.self)
-    c.reach.ensures.spends c.stand_at.ensures.stays.history c.stand_at.ensures.spans c.stand_at.ensures.least
+    c.reach.ensures.spends c.stand_at.ensures.stays.history c.stand_at.ensures.stays.pasts c.stand_at.ensures.rows c.stand_at.ensures.least
     (omega (arith, c.stand_at.ensures.count, mod-eq-sub-div-mul position span))
 
 pub returns-clause-reaches : goal.returns-clause-reaches
@@ -31,7 +31,7 @@ returns-clause-reaches g c =
     let index = c.args.position / span in
     ok_all c.stand_at.result (Reaches pages span index (holding_of c.args.self.now) (holding_of c.stand_at.new.self))
     (reaches_more pages span index (holding_of c.args.self.now) (holding_of c.reach.new.self) (holding_of c.stand_at.new.self)
-    (c.in_ok-reach.ensures {u = tt}).reaches c.stand_at.ensures.stays.history c.stand_at.ensures.spans c.stand_at.ensures.least)
+    (c.in_ok-reach.ensures {u = tt}).reaches c.stand_at.ensures.stays.history c.stand_at.ensures.rows c.stand_at.ensures.least)
 
 pub returns-clause-stays : goal.returns-clause-stays
-returns-clause-stays g c = let stays = stays_on c.reach.ensures.stays c.stand_at.ensures.stays in record { history = stays.history; landings = stays.landings }
+returns-clause-stays g c = let stays = stays_on c.reach.ensures.stays c.stand_at.ensures.stays in record { history = stays.history; landings = stays.landings; pasts = stays.pasts }

@@ -19,8 +19,8 @@ returns-clause-least g c =
     let steps = ap (λ (h : Holding). h.steps) c.stand_in.ensures.same in
     omega (arith, c.go_on.ensures.least, steps)
 
-pub returns-clause-spans : goal.returns-clause-spans
-returns-clause-spans g c = c.go_on.ensures.spans ∙ ap (λ (h : Holding). h.spans) c.stand_in.ensures.same
+pub returns-clause-rows : goal.returns-clause-rows
+returns-clause-rows g c = c.go_on.ensures.rows ∙ ap (λ (h : Holding). h.rows) c.stand_in.ensures.same
 
 pub returns-clause-stays : goal.returns-clause-stays
-returns-clause-stays g c = let stays = stays_on c.stand_in.ensures.stays c.go_on.ensures.stays in record { history = stays.history; landings = stays.landings }
+returns-clause-stays g c = let stays = stays_on c.stand_in.ensures.stays c.go_on.ensures.stays in record { history = stays.history; landings = stays.landings; pasts = stays.pasts }

@@ -21,7 +21,6 @@ invariant_of-self-2 g c =
         ends = of.ends;
         again = of.again;
         known = of.known;
-        patches = of.patches;
         agrees = of.agrees;
       };
       landed = c.args.self.now.landed;

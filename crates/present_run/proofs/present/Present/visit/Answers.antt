@@ -60,10 +60,10 @@ loop-time-preserved-in_default g c =
     let room = c.loop-time.invariant.room c.loop-time-test.true in
     let count : c.visit_in.new.self.runs.live.steps ≤ c.args.self.now.runs.live.steps + (c.args.position % span + (to - c.args.position)) =
     omega (arith, c.visit_in.ensures.count, c.stand_at.ensures.count, p.into, p.more, room, c.loop-time.invariant.after) in record {
-      stays = record { history = all.history; landings = all.landings };
+      stays = record { history = all.history; landings = all.landings; pasts = all.pasts };
       at = λ less elsewhere. absurd (elsewhere (c.visit_in.ensures.stands ∙ ap (λ (o : Option ℕ). Some (unwrap_or o to)) c.in_default.is));
       found = c.loop-time.invariant.found ∙ after_part pages image log address time to last None (omega (arith, p.more)) p.most part;
-      spans = c.visit_in.ensures.spans ∙ (c.stand_at.ensures.spans ∙ c.loop-time.invariant.spans);
+      rows = c.visit_in.ensures.rows ∙ (c.stand_at.ensures.rows ∙ c.loop-time.invariant.rows);
       count = count;
       room = λ less. let start = p.whole less in omega (arith, count, start);
       least = omega (arith, c.visit_in.ensures.least, c.stand_at.ensures.least, c.loop-time.invariant.least);
@@ -94,7 +94,7 @@ loop-time-preserved g c =
       stays = c.loop-time.invariant.stays;
       at = λ less elsewhere. let next = p.next in omega (arith, next, joined);
       found = c.loop-time.invariant.found ∙ after_part pages image log address time to last None (omega (arith, p.more)) p.most part;
-      spans = c.loop-time.invariant.spans;
+      rows = c.loop-time.invariant.rows;
       count = count;
       room = λ less. let start = p.whole less in omega (arith, count, start);
       least = c.loop-time.invariant.least;

@@ -11,7 +11,7 @@ invariant-loop-time g l = record {
   at : l.time < l.last → ¬ (l.self.runs.at ≡ Some l.time) → l.time / g.row.SPAN ≤ l.self.runs.kept.valid;
   found : next_visit g.row.PAGES l.fn.self.inputs.image l.fn.self.inputs.log l.address l.position (l.last - l.position)
       ≡ next_visit g.row.PAGES l.fn.self.inputs.image l.fn.self.inputs.log l.address l.time (l.last - l.time);
-  spans : l.self.runs.kept.spans ≡ l.fn.self.runs.kept.spans;
+  rows : l.self.runs.kept.rows ≡ l.fn.self.runs.kept.rows;
   count : l.self.runs.live.steps ≤ l.fn.self.runs.live.steps + (l.position % g.row.SPAN + (l.time - l.position));
   room : l.time < l.last → l.self.runs.live.steps + l.time % g.row.SPAN ≤ l.fn.self.runs.live.steps + (l.position % g.row.SPAN + (l.time - l.position));
   least : l.fn.self.runs.live.steps ≤ l.self.runs.live.steps;

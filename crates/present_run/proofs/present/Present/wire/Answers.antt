@@ -24,5 +24,5 @@ invariant_of-self-2 g c =
 
 pub returns-clause-log : goal.returns-clause-log
 returns-clause-log g c =
-    log_edited (adding (record { time = c.args.time; kind = Wire; line = c.args.line; byte = c.args.level })) (landed_of c.args.self.now) c.wire.new.self _ _ _ ((c.in_ok-place.ensures {u = tt}).log) c.edited.ensures.spans c.edited.ensures.steps
+    log_edited (adding (record { time = c.args.time; kind = Wire; line = c.args.line; byte = c.args.level })) (landed_of c.args.self.now) c.wire.new.self _ _ _ _ ((c.in_ok-place.ensures {u = tt}).log) c.edited.ensures.rows c.edited.ensures.pasts c.edited.ensures.steps
     (ap positions_of c.edited.ensures.landings)

@@ -1,12 +1,10 @@
 use Rattle.std.proofs.Common.{◌≡◌, ℕ, ◌*◌, ◌/◌, ◌≤◌, inl, inr, map, length, slice_index_or, List, None, Option, min, sym, ap, subst, ◌∙◌, arith}
-use Rattle.r3k_machine.specs.Reset.{reset}
 use Rattle.r3k_machine.specs.Run.{state_at}
 use Rattle.span_fact.specs.Span.{Span}
-use Rattle.checkpoints.specs.Kept.{Kept, span_at}
+use Rattle.checkpoints.specs.Kept.{Kept, first_at, row_at}
 use Rattle.present_run.specs.Index.{Agrees}
 use Rattle.present_run.specs.Ends.{GoesOn, IsJoined}
 use Rattle.present_run.specs.Reuse.{span_of}
-use Rattle.present_run.specs.Runs.{IsAlike, IsKnown}
 use Rattle.present_run.proofs.Again.{ends_before, goes_on_over, joined_before, same_before, starts_before}
 use Rattle.present_run.proofs.Next.{value_count}
 use Rattle.present_run.proofs.runs.Runs.forget.Goals as goal
@@ -26,8 +24,8 @@ returns-clause-of g c =
     let is : now.valid ≡ min valid index = ap (λ (k : Kept). k.valid) c.truncate_valid.ensures in
     let few : now.valid ≤ index = omega (arith, is) in
     let less : now.valid ≤ valid = omega (arith, is) in
-    let spans : now.spans ≡ kept.spans = ap (λ (k : Kept). k.spans) c.truncate_valid.ensures in
-    let at : (i : ℕ) → span_at now i ≡ span_at kept i = λ i. ap (λ (s : List (Option Span)). slice_index_or s i None) spans in
+    let spans : now.rows ≡ kept.rows = ap (λ (k : Kept). k.rows) c.truncate_valid.ensures in
+    let at : (i : ℕ) → first_at now.rows i ≡ first_at kept.rows i = λ i. ap (λ (s : List (List Span)). first_at s i) spans in
     let whole : c.len.result ≡ length all = c.len.ensures ∙ c.args.self.now.ends.ok.0 ∙ sym (value_count (λ end. end.value) c.args.self.now.ends.items) in record {
       sizes = of.sizes;
       start = of.start;
@@ -35,11 +33,11 @@ returns-clause-of g c =
       recorded = tt;
       joined = λ i below.
           subst (λ (o : Option Span). IsJoined pages span i o (span_of pages span image changed i)) (sym (at i))
-          (joined_before pages span image log changed from to now.valid i (span_at kept i) same few below (of.joined i (omega (arith, below, less))));
+          (joined_before pages span image log changed from to now.valid i (first_at kept.rows i) same few below (of.joined i (omega (arith, below, less))));
       ends = ends_before pages span image log changed from to valid now.valid all same few less of.ends;
       again = λ i first past.
-          subst (λ (s : List (Option Span)). GoesOn pages span changed s all i) (sym spans)
-          (goes_on_over pages span image log changed kept.spans all from to valid c.args.self.now.again c.again_from-self.result i (let s = of.sizes.least_span in omega (arith, s)) same of.ends
+          subst (λ (s : List (List Span)). GoesOn pages span changed s all i) (sym spans)
+          (goes_on_over pages span image log changed kept.rows all from to valid c.args.self.now.again c.again_from-self.result i (let s = of.sizes.least_span in omega (arith, s)) same of.ends
           of.joined of.again
           (elim c.again_from-self.ensures.again [
             | inl joined ↦ inl (sym c.valid-joined.ensures ∙ (joined ∙ whole))
@@ -47,11 +45,8 @@ returns-clause-of g c =
           ])
           (omega (arith, c.again_from-self.ensures.last)) first);
       known =
-          c.edit.ensures.known span now.spans (λ n. state_at pages image log (n * span)) (λ n. state_at pages image changed (n * span))
-          (λ n before. same_before pages image log changed from to (n * span) same (starts_before from span n before))
-          (subst (λ (s : List (Option Span)). IsKnown span s (λ n. state_at pages image log (n * span)) c.args.self.now.frontier) (sym spans) of.known);
-      patches =
-          subst (λ (set : List ℕ). IsAlike now.spans 0 set (reset pages image)) (sym c.edit.ensures.patched)
-          (subst (λ (s : List (Option Span)). IsAlike s 0 c.args.self.now.frontier.patched (reset pages image)) (sym spans) of.patches);
-      agrees = subst (λ (s : List (Option Span)). Agrees pages span c.args.self.now.reports s) (sym spans) of.agrees;
+          c.cut.ensures.known span kept.rows now.rows (λ n. state_at pages image log (n * span)) (λ n. state_at pages image changed (n * span))
+          (λ n before. ap (λ (s : List (List Span)). row_at s n) spans)
+          (λ n some before. same_before pages image log changed from to (n * span) same (starts_before from span n before)) of.known;
+      agrees = subst (λ (s : List (List Span)). Agrees pages span c.args.self.now.reports s) (sym spans) of.agrees;
     }

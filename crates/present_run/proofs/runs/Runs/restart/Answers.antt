@@ -1,27 +1,20 @@
-use Rattle.std.proofs.Common.{◌≡◌, ◌*◌, map, slice_get, refl, sym, ap, ◌∙◌, subst, arith}
+use Rattle.std.proofs.Common.{◌≡◌, ◌*◌, map, slice_get, sym, ap, ◌∙◌, subst, arith}
 use Rattle.std.proofs.Math.Nat.{min-zero}
-use Rattle.r3k_machine.specs.State.{State}
-use Rattle.r3k_machine.specs.Reset.{reset}
 use Rattle.r3k_machine.specs.Run.{state_at}
 use Rattle.checkpoints.specs.Kept.{Kept}
 use Rattle.present_run.specs.Index.{Agrees}
-use Rattle.present_run.specs.Runs.{IsAlike}
 use Rattle.present_run.proofs.Again.{no_some}
-use Rattle.present_run.proofs.Known.{at_first}
 use Rattle.present_run.proofs.Next.{no_ends}
 use Rattle.present_run.proofs.runs.Runs.restart.Goals as goal
 
 pub returns-clause-of : goal.returns-clause-of
 returns-clause-of g c =
-    λ image changed log of start same.
+    λ image changed log of start.
     let pages = g.row.PAGES in
     let span = g.row.SPAN in
     let kept = c.args.self.now.kept in
     let now = c.truncate_valid.new.self in
-    let none : now.valid ≡ 0 = ap (λ (k : Kept). k.valid) c.truncate_valid.ensures ∙ min-zero kept.valid in
-    let patches : IsAlike now.spans 0 c.patch.new.self.patched (reset pages changed) =
-    c.patch.ensures.patches now.spans (reset pages image) (reset pages changed)
-    (subst (λ (k : Kept). IsAlike k.spans 0 c.args.self.now.frontier.patched (reset pages image)) (sym c.truncate_valid.ensures) of.patches) same in record {
+    let none : now.valid ≡ 0 = ap (λ (k : Kept). k.valid) c.truncate_valid.ensures ∙ min-zero kept.valid in record {
       sizes = of.sizes;
       start = start;
       stands = tt;
@@ -29,8 +22,8 @@ returns-clause-of g c =
       joined = λ index within. absurd (let e : ⊥ = omega (arith, none, within) in e);
       ends = no_ends pages span changed log _ _ none (ap (map (λ end. end.value)) c.clear.ensures.items);
       again = λ index first past start end is. absurd (no_some start (sym (ap (λ ends. slice_get (map (λ end. end.value) ends) index) c.clear.ensures.items) ∙ is));
-      known = c.patch.ensures.known span now.spans (λ n. state_at pages changed log (n * span))
-          (subst (λ (s : State). IsAlike now.spans 0 c.patch.new.self.patched s) (sym (at_first pages span changed log 0 refl)) patches);
-      patches = patches;
-      agrees = subst (λ (k : Kept). Agrees pages span c.args.self.now.reports k.spans) (sym c.truncate_valid.ensures) of.agrees;
+      known =
+          c.cut.ensures.known span kept.rows now.rows (λ n. state_at pages image log (n * span)) (λ n. state_at pages changed log (n * span))
+          (λ n below. absurd (let e : ⊥ = omega (arith, below) in e)) (λ n some before. absurd (let e : ⊥ = omega (arith, some, before) in e)) of.known;
+      agrees = subst (λ (k : Kept). Agrees pages span c.args.self.now.reports k.rows) (sym c.truncate_valid.ensures) of.agrees;
     }

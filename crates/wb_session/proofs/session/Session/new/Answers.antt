@@ -5,7 +5,7 @@ use Rattle.wb_session.proofs.session.Session.new.Goals as goal
 
 pub invariant_of-result : goal.invariant_of-result
 invariant_of-result g c =
-    let made = c.in_ok-new.ensures {u = tt} in record {
+    let made = c.in_ok-with_pasts.ensures {u = tt} in record {
       sizes = c.requires.sizes;
       fits = subst (λ (h : Landed). FitsRam g.row.PAGES h.history.image) (sym made.1) made.0;
       position = omega arith;
