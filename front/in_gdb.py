@@ -9,7 +9,9 @@ from typing import Optional
 
 import gdb
 
-AS_THEY_ARE = ("arrive", "assert", "assert-console", "expect", "help", "load", "save", "save-image", "save-log", "symbols", "type", "until", "wb")  # their words are no numbers
+# Their words are no numbers.
+AS_THEY_ARE = ("arrive", "assert", "assert-console", "expect", "help", "load", "save", "save-image", "save-log", "symbols",
+               "type", "until", "wb")
 RUNS = ("expect", "until")  # they go on, and are run as `continue` is
 REFUSED = "refused: "  # begins what the stub says where it can't do a thing
 
@@ -32,8 +34,8 @@ def flush() -> None:
 
 
 class CtrlC:
-    """Ctrl-C while the stub answers. gdb would leave the stub at a second one, with all edits. So it is kept from gdb, and the stub
-    has it from front/interrupts.py."""
+    """Ctrl-C while the stub answers. gdb would leave the stub at a second one, with all edits. So it is kept from gdb, and the
+    stub has it from front/interrupts.py."""
 
     KEY = {signal.SIGINT}
 

@@ -1,6 +1,6 @@
-"""Ctrl-C in gdb, for the stub. gdb takes a second Ctrl-C, while it waits for an answer, for a wish to leave the stub with all edits.
-So `bin/wb gdb` notes each one in a file, at which the stub looks while it answers, and front/in_gdb.py keeps them from gdb for that
-time. Short answers are made."""
+"""Ctrl-C in gdb, for the stub. gdb takes a second Ctrl-C, while it waits for an answer, for a wish to leave the stub with all
+edits. So `bin/wb gdb` notes each one in a file, at which the stub looks while it answers, and front/in_gdb.py keeps them from
+gdb for that time. Short answers are made."""
 from __future__ import annotations
 
 import os
@@ -8,7 +8,8 @@ import time
 from pathlib import Path
 
 SHORT = 0.5  # seconds
-VARIABLE = "BEZHAKKOM_INTERRUPTS"  # of the environment; it names the file, which front/in_gdb.py empties before what is typed runs
+# Of the environment. It names the file, which front/in_gdb.py empties before what is typed runs.
+VARIABLE = "BEZHAKKOM_INTERRUPTS"
 
 
 def note(file: Path) -> None:

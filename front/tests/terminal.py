@@ -8,7 +8,7 @@ import time
 
 from front.tests.support import ROOT
 
-PATIENCE = 30
+PATIENCE = 300  # seconds, for a machine that is busy: what does not come fails then
 
 
 class Terminal:

@@ -47,7 +47,8 @@ class Typed(unittest.TestCase):
         self.assertEqual(terminal.end(), 0)
 
     def interrupt(self, terminal: Terminal, keys: bytes = b"\x03") -> None:
-        """Presses Ctrl-C until there is a prompt. gdb drops what is typed before it has handled that, so it is asked until it answers."""
+        """Presses Ctrl-C until there is a prompt. gdb drops what is typed before it has handled that, so it is asked until it
+        answers."""
         terminal.press(keys, PROMPT)
         self.asked += 1
         terminal.press(b"print 7000 + %d\n" % self.asked, b"= %d\r" % (7000 + self.asked))

@@ -23,7 +23,7 @@ from front.tests.support import ROOT, rom
 
 SEED = 55
 LINES = 36  # random ones
-TIMEOUT = 60
+TIMEOUT = 300
 STATUSES = {0, 1, 2, 3, 5}  # those of docs/USING.md but for what is wrong with the program or with bin/wb itself
 
 OPTIONS = ["--log", "--kind", "--strict", "--echo", "--json", "--to", "--words", "--edits", "--background", "--line", "--speed",
