@@ -4,11 +4,14 @@ from __future__ import annotations
 
 import os
 import re
+import signal
 from typing import Optional
 
 import gdb
 
-AS_THEY_ARE = ("arrive", "assert", "assert-console", "expect", "help", "load", "save", "save-image", "save-log", "symbols", "type", "until", "wb")  # their words are no numbers
+# Their words are no numbers.
+AS_THEY_ARE = ("arrive", "assert", "assert-console", "expect", "help", "load", "save", "save-image", "save-log", "symbols",
+               "type", "until", "wb")
 RUNS = ("expect", "until")  # they go on, and are run as `continue` is
 REFUSED = "refused: "  # begins what the stub says where it can't do a thing
 
@@ -30,12 +33,55 @@ def flush() -> None:
             watch.enabled = True
 
 
+class CtrlC:
+    """Ctrl-C while the stub answers. gdb would leave the stub at a second one, with all edits. So it is kept from gdb, and the
+    stub has it from front/interrupts.py."""
+
+    KEY = {signal.SIGINT}
+
+    def __init__(self) -> None:
+        self._file = os.environ.get("BEZHAKKOM_INTERRUPTS")
+        self._is_new = True  # nothing ran since the prompt
+
+    def begin(self) -> None:
+        """Something runs. What was pressed before it was typed is forgotten."""
+        if self._is_new and self._file and os.path.exists(self._file):
+            os.truncate(self._file, 0)
+        self._is_new = False
+
+    def hold(self) -> None:
+        """Keeps it from gdb."""
+        signal.pthread_sigmask(signal.SIG_BLOCK, self.KEY)
+        self.begin()
+
+    def release(self) -> None:
+        """Hands it to gdb again, also where it was pressed meanwhile."""
+        signal.pthread_sigmask(signal.SIG_UNBLOCK, self.KEY)
+
+    def drop(self) -> None:
+        """Hands it to gdb again, where it is pressed from now on."""
+        while signal.sigtimedwait(self.KEY, 0):
+            pass
+        self.release()
+
+    def prompted(self) -> None:
+        """gdb shows its prompt."""
+        self.drop()
+        self._is_new = True
+
+
+ctrl_c = CtrlC()
+
+
 def asked(line: str) -> str:
     """What the stub shows for a line of `monitor`. Where it refuses, that is an error."""
+    ctrl_c.hold()
     try:
         shown = gdb.execute(f"monitor {line}", to_string=True) or ""
     except gdb.error as error:
         raise gdb.GdbError(str(error)) from None
+    finally:
+        ctrl_c.release()
     done, refused, reason = f"\n{shown}".partition(f"\n{REFUSED}")
     if refused:
         gdb.write(f"{done[1:]}\n" if done else "")
@@ -149,6 +195,7 @@ class BeforeQuit(gdb.Command):
 
 def prompt(current_prompt: str) -> str:
     """The prompt, with the position where there is a run."""
+    ctrl_c.prompted()
     try:
         now = here()
     except KeyboardInterrupt:  # it was meant for what came before
@@ -169,6 +216,10 @@ hook("hook-quit", "before-quit")
 hook("hookpost-file", "python name_the_jump()")
 for start in "run", "start", "starti":
     # gdb would start at the position of an earlier `starti N` again.
-    hook(f"hook-{start}", "set args")
+    hook(f"hook-{start}", "set args\npython ctrl_c.hold()")
+for move in "continue", "reverse-continue":
+    hook(f"hook-{move}", "python ctrl_c.hold()")
 gdb.prompt_hook = prompt
 gdb.events.memory_changed.connect(lambda event: flush())
+gdb.events.cont.connect(lambda event: ctrl_c.begin())
+gdb.events.stop.connect(lambda event: ctrl_c.drop())

@@ -1,6 +1,6 @@
-"""Ctrl-C in gdb, for the stub. gdb hands it on only while the program runs. So `bin/wb gdb` notes each one in a file, at
-which the stub looks while it answers anything else. It breaks off an answer that takes long. Else gdb would leave the stub,
-with all edits, when Ctrl-C is pressed again. Short answers are made, as gdb takes Ctrl-C by itself after them."""
+"""Ctrl-C in gdb, for the stub. gdb takes a second Ctrl-C, while it waits for an answer, for a wish to leave the stub with all
+edits. So `bin/wb gdb` notes each one in a file, at which the stub looks while it answers, and front/in_gdb.py keeps them from
+gdb for that time. Short answers are made."""
 from __future__ import annotations
 
 import os
@@ -8,7 +8,8 @@ import time
 from pathlib import Path
 
 SHORT = 0.5  # seconds
-VARIABLE = "BEZHAKKOM_INTERRUPTS"  # of the environment; it names the file
+# Of the environment. It names the file, which front/in_gdb.py empties before what is typed runs.
+VARIABLE = "BEZHAKKOM_INTERRUPTS"
 
 
 def note(file: Path) -> None:
@@ -18,18 +19,28 @@ def note(file: Path) -> None:
 
 
 class Interrupts:
-    """Whether Ctrl-C was pressed since an answer was begun that takes long."""
+    """Whether Ctrl-C was pressed since gdb began what was typed last. Each one ends one answer or run."""
 
     def __init__(self) -> None:
         self._file = os.environ.get(VARIABLE)
+        self._reported = 0
         self.begin()
 
     def begin(self) -> None:
-        self._before = self._count()
+        """An answer begins."""
         self._began = time.monotonic()
+        self._is_to_end = False
 
-    def pressed(self) -> bool:
-        return time.monotonic() > self._began + SHORT and self._count() != self._before
+    def end_answer(self) -> bool:
+        """Whether the answer that was begun takes long and is to end."""
+        self._is_to_end = self._is_to_end or time.monotonic() > self._began + SHORT and self.end_run()
+        return self._is_to_end
+
+    def end_run(self) -> bool:
+        """Whether a run is to end, which may be one of many that gdb makes for what was typed."""
+        count = self._count()
+        found, self._reported = count not in (0, self._reported), count
+        return found
 
     def _count(self) -> int:
         try:

@@ -42,8 +42,8 @@ class Motion:
     def wants_stop(self) -> bool:
         """Whether the debugger wants the present move to end, or the user what is answered besides."""
         if not self._moving:
-            return self.interrupts.pressed()
-        self._interrupted = self._interrupted or self._link.interrupted()
+            return self.interrupts.end_answer()
+        self._interrupted = self._interrupted or self._link.interrupted() or self.interrupts.end_run()
         return self._interrupted
 
     def go_on(self, idle: int) -> bytes:
@@ -144,6 +144,8 @@ class Motion:
         """Where a move stops. An interrupted one stops where its last piece ended."""
         self._moving = True
         try:
+            if self.wants_stop():  # since gdb began what this is a step of
+                return Stop(Reason.INTERRUPTED, self._told)
             return run()
         except Interrupted:
             return Stop(Reason.INTERRUPTED, self._told)

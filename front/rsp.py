@@ -9,10 +9,8 @@ from __future__ import annotations
 
 import os
 import select
-import time
 
 INTERRUPT = 0x03
-AT_ONCE = 0.3  # seconds
 PACKET_BYTES = 0x4000  # the longest payload that is taken
 READ_BYTES = 0x10000
 ESCAPED = b"#$}*"
@@ -59,7 +57,6 @@ class Link:
         self._sink = sink
         self._waiting = bytearray()  # what was read and not yet taken
         self._closed = False
-        self._interrupted_at = 0.0
         self._last = b""  # what was sent last, in case the other side asks for it again
 
     def receive(self) -> bytes | None:
@@ -68,9 +65,7 @@ class Link:
             byte = self._byte()
             if byte is None:
                 return None
-            if byte == INTERRUPT:
-                self._interrupted_at = time.monotonic()
-            elif byte == ord("-") and self.acknowledging:
+            if byte == ord("-") and self.acknowledging:
                 self._write(self._last)
             elif byte == ord("$"):
                 raw = self._raw()
@@ -82,11 +77,7 @@ class Link:
         self._write(self._last)
 
     def interrupted(self) -> bool:
-        """Whether the other side wants the run to end: it has sent 0x03, or closed. Packets that wait are left alone. A 0x03
-        that met the end of a run counts for one that follows at once, as after commands of a breakpoint."""
-        if time.monotonic() < self._interrupted_at + AT_ONCE:
-            self._interrupted_at = 0.0
-            return True
+        """Whether the other side wants the run to end: it has sent 0x03, or closed. Packets that wait are left alone."""
         if len(self._waiting) < READ_BYTES and select.select([self._source], [], [], 0)[0]:
             self._fill()
         while self._waiting and self._waiting[0] != ord("$"):

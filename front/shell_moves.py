@@ -80,10 +80,11 @@ def watch(session: Session, words: list[str]) -> None:
     size = session.number(words[1]) if len(words) > 1 else _size(session, address)
     if not 1 <= size <= _MOST_WATCHED:
         raise Problem(f"1 to {_MOST_WATCHED:,} bytes can be watched, and not {size:,}")
-    if session.physical(address + size - 1) != session.physical(address) + size - 1:
+    place = session.physical(address)
+    if session.physical(address + size - 1) != place + size - 1:
         raise Problem(f"{counted(size, 'byte')} from {address:#010x} on are not in one piece of memory")
     text = f"watch of {counted(size, 'byte')} at {session.address(address)}"
-    _put(session, Mark(_free(session), text, address, Watch(address, size, session.physical(address))))
+    _put(session, Mark(_free(session), text, address, Watch(address, size, place)))
 
 
 def _size(session: Session, address: int) -> int:

@@ -11,7 +11,7 @@ from typing import Optional, Sequence
 ROOT = Path(__file__).resolve().parents[2]
 WB = str(ROOT / "bin/wb")
 DEBUGGER = "gdb-multiarch"
-TIMEOUT = 60
+TIMEOUT = 300
 
 # Neither the user's settings nor the width of a terminal may show.
 PLAIN = ["-nx", "-iex", "set width 0", "-iex", "set style enabled off"]

@@ -8,7 +8,7 @@ import time
 
 from front.tests.support import ROOT
 
-PATIENCE = 30
+PATIENCE = 300  # seconds, for a machine that is busy: what does not come fails then
 
 
 class Terminal:
@@ -33,11 +33,11 @@ class Terminal:
         before, _, self._shown = self._shown.partition(wanted)
         return before + wanted
 
-    def press(self, key: bytes, wanted: bytes) -> bytes:
-        """What is shown up to a text, while a key is pressed again and again. gdb overhears Ctrl-C while it handles a stop."""
+    def press(self, keys: bytes, wanted: bytes) -> bytes:
+        """What is shown up to a text, while keys are pressed again and again."""
         end = time.monotonic() + PATIENCE
         while wanted not in self._shown and time.monotonic() < end:
-            self.type(key)
+            self.type(keys)
             for _ in range(5):
                 self._read()
         return self.until(wanted)

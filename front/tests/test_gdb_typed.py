@@ -5,7 +5,6 @@ import re
 import shutil
 import subprocess
 import tempfile
-import time
 import unittest
 from pathlib import Path
 
@@ -22,6 +21,8 @@ def setUpModule() -> None:
 
 class Typed(unittest.TestCase):
     """gdb on a terminal."""
+
+    asked = 0  # questions, each with its own answer
 
     def gdb(self, *options: str) -> Terminal:
         terminal = Terminal("gdb", *options, *debugger.PLAIN)
@@ -45,27 +46,39 @@ class Typed(unittest.TestCase):
         self.type(terminal, "quit")
         self.assertEqual(terminal.end(), 0)
 
+    def interrupt(self, terminal: Terminal, keys: bytes = b"\x03") -> None:
+        """Presses Ctrl-C until there is a prompt. gdb drops what is typed before it has handled that, so it is asked until it
+        answers."""
+        terminal.press(keys, PROMPT)
+        self.asked += 1
+        terminal.press(b"print 7000 + %d\n" % self.asked, b"= %d\r" % (7000 + self.asked))
+
     def test_a_run_with_such_commands_is_ended(self) -> None:
         terminal = self.gdb("--log", "examples/driver/log", "examples/driver/boot.s")
         self.type(terminal, "break *0xbfc00180", "commands", "silent", "continue", "end", "continue")
         terminal.until(b"[serial line 3]")
-        terminal.press(b"\x03", PROMPT)
-        self.type(terminal, "print 6 * 7", "quit")
-        terminal.until(b"= 42")
+        self.interrupt(terminal)
+        self.type(terminal, "quit")
         self.assertEqual(terminal.end(), 0)
 
-    def test_an_answer_that_takes_long_is_ended(self) -> None:
+    def test_ctrl_c_ends_what_takes_long(self) -> None:
+        """However often it is pressed, the session stays, with its edits."""
+        for line in "wb goto 20,000,000,000", "starti 20,000,000,000", "run 20,000,000,000", "wb until 20,000,000,000":
+            with self.subTest(line=line):
+                terminal = self.gdb("--log", "examples/driver/log", "examples/driver/boot.s")
+                self.type(terminal, "wb add 5 0 65", line)
+                terminal.until(line.encode() + b"\r\n")
+                self.interrupt(terminal, 5 * b"\x03")
+                self.type(terminal, "starti 9", "wb log 0 2", "quit", "quit")
+                terminal.until(b"step 5, line 0, 0x41")
+                self.assertEqual(terminal.end(), 0)
+
+    def test_ctrl_c_ends_many_steps(self) -> None:
         terminal = self.gdb("--log", "examples/driver/log", "examples/driver/boot.s")
-        for line in "wb goto 20,000,000,000", "starti 20,000,000,000":
-            self.type(terminal, "wb add 5 0 65")
-            terminal.until(b"event")
-            terminal.until(b") ")
-            self.type(terminal, line)
-            terminal.until(line.encode() + b"\r\n")
-            time.sleep(1)
-            terminal.press(b"\x03", PROMPT)
-        self.type(terminal, "starti 9", "wb log 0 2", "print 6 * 7", "quit", "quit")
-        self.assertEqual(re.findall(rb"step 5, line 0, 0x41", terminal.until(b"= 42")), [b"step 5, line 0, 0x41"] * 2)
+        self.type(terminal, "stepi 1000000000")
+        terminal.until(b"stepi 1000000000\r\n")
+        self.interrupt(terminal)
+        self.type(terminal, "quit")
         self.assertEqual(terminal.end(), 0)
 
     def test_what_is_not_saved_is_told_before_gdb_quits(self) -> None:

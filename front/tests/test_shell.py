@@ -158,6 +158,7 @@ class Echo(unittest.TestCase):
     def test_refusals(self) -> None:
         for line, said in (
                 ("mem 0x100", "0x00000100 leads nowhere at this position: .* missing or not valid. .* at 0x80000100"),
+                ("watch 0x100", "0x00000100 leads nowhere at this position"),
                 ("mem 0xbfe00000", "physical address 0x1fe00000, where no memory is"),
                 ("mem 0xa0000101", "multiple of 4; .* 0xa0000100"),
                 ("patch loop 0x100000000", "no word"), ("del 7", "refused: there is no event 7: they are 0 to 1"),

@@ -23,7 +23,7 @@ from front.tests.support import ROOT, rom
 
 SEED = 55
 LINES = 36  # random ones
-TIMEOUT = 60
+TIMEOUT = 300
 STATUSES = {0, 1, 2, 3, 5}  # those of docs/USING.md but for what is wrong with the program or with bin/wb itself
 
 OPTIONS = ["--log", "--kind", "--strict", "--echo", "--json", "--to", "--words", "--edits", "--background", "--line", "--speed",
@@ -85,9 +85,10 @@ class Top(unittest.TestCase):
     def test_streams_that_are_closed(self) -> None:
         """A closed stream fails where it is used, in one line."""
         bad = b"bin/wb: standard input or output: Bad file descriptor\n"
+        no_debugger = b"bin/wb: a stub wants a debugger at standard input and output, or --listen HOST:PORT\n"
         for arguments, after, status, said in (
                 (["examples/echo/boot.s"], "<&-", 3, bad), (["shell", "examples/echo/boot.s"], "<&-", 3, bad),
-                (["stub", "examples/echo/boot.s"], "<&-", 3, bad), (["log", "show", "-"], "<&-", 3, bad),
+                (["stub", "examples/echo/boot.s"], "<&-", 2, no_debugger), (["log", "show", "-"], "<&-", 3, bad),
                 (["log", "show", "examples/echo/log"], "<&-", 0, b""), (["log", "show", "examples/echo/log"], ">&-", 3, bad),
                 (["plot", "--to", "9", "examples/echo/boot.s"], ">&-", 3, bad), (["shell", "examples/echo/boot.s"], ">&-", 3, bad),
                 (["none"], "2>&-", 2, b""), (["shell", "examples/echo/boot.s", "examples/echo/script"], "<&- 2>&-", 0, b"")):
