@@ -4,7 +4,7 @@ ghost use Rattle.std.specs.Prelude.{◌≡◌, ◌↔◌, ◌≤◌, IfSome, IsT
 ghost use Rattle.cop0.specs.Registers.{reset_registers, register_of, written};
 ghost use Rattle.cop0.specs.Exception.{entered, vector_of};
 ghost use Rattle.cop0.specs.Status.{in_user_mode, is_isolated, is_swapped, is_usable, page_loaded};
-ghost use Rattle.cop0.specs.Changes.{sampled, is_wanted, fallen, fallen_by, returned, with_ts, with_cm, probed, loaded};
+ghost use Rattle.cop0.specs.Changes.{StaysQuiet, sampled, is_wanted, fallen, fallen_by, returned, with_ts, with_cm, probed, loaded};
 
 use crate::exception::Exc;
 use crate::number::*;
@@ -208,6 +208,18 @@ impl Cop0 {
         ensures { result ≡ is_wanted self.now }
     {
         self.status & IEC != 0 && self.cause & self.status & INTERRUPTS != 0
+    }
+
+    /// Whether a write of Status leaves the mode and the isolation of the cache as they are, and no interrupt is wanted after it.
+    #[inline]
+    pub fn stays_quiet(&self, word: u32) -> bool
+        ensures { IsTrue result ↔ StaysQuiet self.now word }
+    {
+        let status = merge(STATUS_MASK, self.status, word);
+        let same_mode = (status & KUC != 0) == (self.status & KUC != 0);
+        let same_cache = (status & ISC != 0) == (self.status & ISC != 0);
+        let wanted = status & IEC != 0 && self.cause & status & INTERRUPTS != 0;
+        same_mode && same_cache && !wanted
     }
 
     /// Random falls by one, from 8 to 63.

@@ -9,7 +9,7 @@ use Rattle.r3k_live.specs.Living.{counted}
 use Rattle.span_fact.specs.Span.{Span}
 use Rattle.checkpoints.specs.Kept.{AreFar, IsNear, promoted, row_at}
 use Rattle.present_run.specs.History.{History}
-use Rattle.present_run.specs.Reuse.{HasServing, Holding, IsServing, Lacks, Reaches, Serves, Spends, Turns, kept_at, put_one, span_of, stay, use_one}
+use Rattle.present_run.specs.Reuse.{HasServing, Holding, IsServing, Lacks, Reaches, Serves, ServesFirst, Spends, Turns, kept_at, put_one, span_of, stay, use_one}
 
 -- where one serves for each, none is lacking
 pub lacks_none : (pages span : ℕ) (h : Holding) (count lacking : ℕ) → ((index : ℕ) → index < count → Serves pages span h index)
@@ -104,6 +104,12 @@ serves_same pages span mid new index history same serves =
         let s : Span = span_of pages span h.image h.log index in
         ¬ AreFar pages span row s.start s.events
 
+pub first_same : (pages span : ℕ) (mid new : Holding) (index : ℕ) → new.history ≡ mid.history → kept_at new index ≡ kept_at mid index
+    → ServesFirst pages span mid index → ServesFirst pages span new index
+first_same pages span mid new index history same serves =
+    subst (λ (row : List Span). IsServing pages span new.history index (slice_get row 0)) (sym same)
+    (subst (λ (h : History). IsServing pages span h index (slice_get (kept_at mid index) 0)) (sym history) serves)
+
 -- a record that is there comes first
 pub first_promoted : (pages span place : ℕ) (row : List Span) (start : State) (events : List LogEvent) → IsNear pages span (slice_get row place) start events
     → slice_get (promoted place row) 0 ≡ slice_get row place
@@ -168,5 +174,5 @@ pub reaches_more : (pages span count : ℕ) (old mid new : Holding) → Reaches 
     → mid.steps ≤ new.steps → Reaches pages span count old new
 reaches_more pages span count old mid new reaches history rows steps = record {
   least = λ lacking lacks. le_trans (reaches.least lacking lacks) steps;
-  there = λ index below. serves_same pages span mid new index history (ap (λ (s : List (List Span)). row_at s index) rows) (reaches.there index below);
+  there = λ index below. first_same pages span mid new index history (ap (λ (s : List (List Span)). row_at s index) rows) (reaches.there index below);
 }

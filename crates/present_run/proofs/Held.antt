@@ -1,16 +1,17 @@
 -- States of the run that are kept.
 use Rattle.std.proofs.Common.{◌≡◌, ◌⊎◌, inl, inr, ℕ, zero, suc, ◌∷◌, length, get_or, ◌+◌, ◌*◌, ◌/◌, ◌%◌, ◌<◌, ◌≤◌, List, [], Contains, Option, Some, None, IfSome, MatchOption, nat_eq, slice_index_or, take, Result, Ok, Err, OnOk, OnErr, refl, sym, ap, ◌∙◌, subst, arith}
+use Rattle.std.proofs.Math.Nat.{le_trans}
 use Rattle.std.specs.Set.{remove_key}
 use Rattle.r3k_machine.specs.Run.{state_at}
 use Rattle.r3k_machine.specs.State.{State}
 use Rattle.span_fact.specs.Span.{Span}
 use Rattle.present_run.specs.Landings.{HasNone, IsNearest, positions_of}
 use Rattle.present_run.specs.History.{History}
-use Rattle.present_run.specs.Reuse.{Holding, IsServed, IsServing, Reaches, Serves, Spends, span_of, stay}
+use Rattle.present_run.specs.Reuse.{Holding, Reaches, ServesFirst, Spends, stay}
 use Rattle.present_run.specs.Landed.{Landed, Lands}
 use Rattle.present_run.specs.Runs.{AreLandings, IsLanding}
 use Rattle.present_run.proofs.Counts.{lacks_none}
-use Rattle.checkpoints.specs.Kept.{AreFar, first_at, row_at}
+use Rattle.checkpoints.specs.Kept.{row_at}
 use Rattle.present_run.proofs.Spans.{ok_all}
 
 -- nothing is kept
@@ -54,10 +55,10 @@ stays pages span count more h = record {
   turns = λ index. stay (row_at h.rows index) refl;
 }
 
-pub there_are : (pages span count : ℕ) (h : Holding) → ((index : ℕ) → index < count → Serves pages span h index) → Reaches pages span count h h
+pub there_are : (pages span count : ℕ) (h : Holding) → ((index : ℕ) → index < count → ServesFirst pages span h index) → Reaches pages span count h h
 there_are pages span count h served = record {
   least = λ lacking lacks.
-      let none : lacking * span ≡ 0 = ap (λ (n : ℕ). n * span) (lacks_none pages span h count lacking served lacks) ∙ (let e : 0 * span ≡ 0 = omega arith in e) in
+      let none : lacking * span ≡ 0 = ap (λ (n : ℕ). n * span) (lacks_none pages span h count lacking (λ index below far. far 0 (served index below)) lacks) ∙ (let e : 0 * span ≡ 0 = omega arith in e) in
       omega (arith, none);
   there = served;
 }
@@ -78,19 +79,19 @@ here position n states state near = let least = near.least in let most = near.mo
 pub kept_here : (position n : ℕ) (states : List (ℕ × State)) (state : State) → IsNearest position position states n state → Contains (positions_of states) position
 kept_here position n states state near = subst (λ n. Contains (positions_of states) n) (here position n states state near) (held states (n, state) near.there)
 
-pub landing_here : (pages span : ℕ) (h : Holding) (position n : ℕ) (states : List (ℕ × State)) (state : State)
-    → ((e : ℕ × State) → Contains states e → IsLanding pages span h.history h.rows e.0 e.1) → IsNearest position position states n state → IsLanding pages span h.history h.rows position state
-landing_here pages span h position n states state each near =
-    subst (λ n. IsLanding pages span h.history h.rows n state) (here position n states state near) (each (n, state) near.there)
+pub landing_here : (pages span : ℕ) (h : History) (valid position n : ℕ) (states : List (ℕ × State)) (state : State)
+    → AreLandings pages span h valid states → IsNearest position position states n state → IsLanding pages span h valid position state
+landing_here pages span h valid position n states state each near =
+    subst (λ n. IsLanding pages span h valid n state) (here position n states state near) (each (n, state) near.there)
 
 pub none_here : (position : ℕ) (states : List (ℕ × State)) → HasNone position position states → ¬ Contains (positions_of states) position
 none_here position states absent there = absent position there (omega arith) (omega arith)
 
 -- a state that comes to be kept
-pub new_landing : (pages span : ℕ) (h : Holding) (position : ℕ) (e : ℕ × State) → ((index : ℕ) → index < position / span → Serves pages span h index)
-    → ¬ (position % span ≡ 0) → e ≡ (position, state_at pages h.history.image h.history.log position) → IsLanding pages span h.history h.rows e.0 e.1
-new_landing pages span h position e served inside is =
-    subst (λ (e : ℕ × State). IsLanding pages span h.history h.rows e.0 e.1) (sym is) (record { is = refl; inside = inside; served = served })
+pub new_landing : (pages span : ℕ) (h : History) (valid position : ℕ) (e : ℕ × State) → position / span ≤ valid
+    → ¬ (position % span ≡ 0) → e ≡ (position, state_at pages h.image h.log position) → IsLanding pages span h valid e.0 e.1
+new_landing pages span h valid position e joined inside is =
+    subst (λ (e : ℕ × State). IsLanding pages span h valid e.0 e.1) (sym is) (record { is = refl; inside = inside; joined = joined })
 
 -- what a query of the state at a position does with those that are kept
 pub lands_there : {A E : Type 0} {old new : Landed} (span position : ℕ) (states : List ℕ) (steps : ℕ) (x : A) → old.landings ≡ states → old.steps ≡ steps
@@ -132,18 +133,7 @@ lands_not span position states result is absent same = record {
     err_all (Ok x) p = tt
     err_all (Err e) p = p
 
--- each of these states is still one of the run where each span that had a record that serves has one
-pub landed_over : (pages span : ℕ) (h : History) (old new : List (List Span)) (states : List (ℕ × State))
-    → ((i : ℕ) → IsServed pages span h old i → IsServed pages span h new i) → AreLandings pages span h old states → AreLandings pages span h new states
-landed_over pages span h old new states each all e there =
-    let landing = all e there in record { is = landing.is; inside = landing.inside; served = λ index below. each index (landing.served index below) }
-
--- where a row stays
-pub served_same : (pages span : ℕ) (h : History) (old new : List (List Span)) (i : ℕ) → row_at new i ≡ row_at old i → IsServed pages span h old i → IsServed pages span h new i
-served_same pages span h old new i same served =
-    let s : Span = span_of pages span h.image h.log i in
-    subst (λ (row : List Span). ¬ AreFar pages span row s.start s.events) (sym same) served
-
--- where its first record serves
-pub served_first : (pages span : ℕ) (h : History) (rows : List (List Span)) (i : ℕ) → IsServing pages span h i (first_at rows i) → IsServed pages span h rows i
-served_first pages span h rows i near far = far 0 near
+-- each of these states is still one of the run where as many spans are joined, or more
+pub landed_over : (pages span : ℕ) (h : History) (old new : ℕ) (states : List (ℕ × State)) → old ≤ new → AreLandings pages span h old states → AreLandings pages span h new states
+landed_over pages span h old new states more all e there =
+    let landing = all e there in record { is = landing.is; inside = landing.inside; joined = le_trans landing.joined more }

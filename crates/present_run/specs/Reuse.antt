@@ -42,11 +42,12 @@ HasServing pages span h index row =
     let s : Span = span_of pages span h.image h.log index in
     ¬ AreFar pages span row s.start s.events
 
-abbrev pub IsServed : (pages span : ℕ) → History → List (List Span) → ℕ → Type 0
-IsServed pages span h rows index = HasServing pages span h index (row_at rows index)
-
 abbrev pub Serves : (pages span : ℕ) → Holding → ℕ → Type 0
-Serves pages span h index = IsServed pages span h.history h.rows index
+Serves pages span h index = HasServing pages span h.history index (kept_at h index)
+
+-- the record of a number that was used last serves
+abbrev pub ServesFirst : (pages span : ℕ) → Holding → ℕ → Type 0
+ServesFirst pages span h index = IsServing pages span h.history index (slice_get (kept_at h index) 0)
 
 -- of the first `count` spans, `lacking` have no record that serves
 unfoldable pub Lacks : (pages span : ℕ) → Holding → (count lacking : ℕ) → Type 0
@@ -73,7 +74,7 @@ pub record Spends (pages span count more : ℕ) (old new : Holding) : Type 0 whe
   pub most : (lacking : ℕ) → Lacks pages span old count lacking → new.steps ≤ old.steps + (lacking * span + more)
   pub turns : (index : ℕ) → Turns pages span old index (kept_at new index)
 
--- What a query has done where it answers: each span that lacked a record was run, and now all have one that serves.
+-- What a query has done where it answers: each span that lacked a record was run, and the records that it went along come first.
 pub record Reaches (pages span count : ℕ) (old new : Holding) : Type 0 where
   pub least : (lacking : ℕ) → Lacks pages span old count lacking → counted old.steps (lacking * span) ≤ new.steps
-  pub there : (index : ℕ) → index < count → Serves pages span new index
+  pub there : (index : ℕ) → index < count → ServesFirst pages span new index

@@ -16,7 +16,7 @@ use Rattle.r3k_live.specs.Recording.{Records}
 use Rattle.present_run.specs.Index.{Agrees}
 use Rattle.present_run.specs.Ends.{AreEnds, GoesOn, IsJoined}
 use Rattle.present_run.specs.History.{History, event_code}
-use Rattle.present_run.specs.Reuse.{IsServed, span_of}
+use Rattle.present_run.specs.Reuse.{span_of}
 use Rattle.present_run.specs.Sizes.{AreSizes}
 use Rattle.present_run.specs.declared.frontier.Frontier.{Frontier}
 use Rattle.present_run.specs.declared.runs.Runs.{Runs}
@@ -64,15 +64,15 @@ pub record AreOf {pages span : ℕ} (image : Boot) (log : List LogEvent) (runs :
   pub known : IsKnown span runs.kept.rows (λ index. state_at pages image log (index * span)) runs.frontier
   pub agrees : Agrees pages span runs.reports runs.kept.rows
 
--- A state that is kept is that of the run at its position, and each span before that one has a record that serves.
-pub record IsLanding (pages span : ℕ) (h : History) (spans : List (List Span)) (position : ℕ) (state : State) : Type 0 where
+-- A state that is kept is that of the run at its position, inside a span. All spans before that one are joined.
+pub record IsLanding (pages span : ℕ) (h : History) (valid position : ℕ) (state : State) : Type 0 where
   pub is : state ≡ state_at pages h.image h.log position
   pub inside : ¬ (position % span ≡ 0)
-  pub served : (index : ℕ) → index < position / span → IsServed pages span h spans index
+  pub joined : position / span ≤ valid
 
 -- each of these states is kept at its position
-abbrev pub AreLandings : (pages span : ℕ) → History → List (List Span) → List (ℕ × State) → Type 0
-AreLandings pages span h spans states = (e : ℕ × State) → Contains states e → IsLanding pages span h spans e.0 e.1
+abbrev pub AreLandings : (pages span : ℕ) → History → (valid : ℕ) → List (ℕ × State) → Type 0
+AreLandings pages span h valid states = (e : ℕ × State) → Contains states e → IsLanding pages span h valid e.0 e.1
 
 -- each of these facts has one proof at most
 state_set : IsSet State
@@ -96,5 +96,5 @@ ends_prop pages span (Some s) state = hlevel (state_set, props)
 pub AreOf-prop : {pages span : ℕ} (image : Boot) (log : List LogEvent) (runs : Runs pages span) → IsProp (AreOf image log runs)
 AreOf-prop {pages} {span} image log runs = hlevel (near_prop, known_prop, ends_prop, state_set, span_set, props)
 
-pub AreLandings-prop : (pages span : ℕ) (h : History) (spans : List (List Span)) (states : List (ℕ × State)) → IsProp (AreLandings pages span h spans states)
-AreLandings-prop pages span h spans states = hlevel (near_prop, state_set, props)
+pub AreLandings-prop : (pages span : ℕ) (h : History) (valid : ℕ) (states : List (ℕ × State)) → IsProp (AreLandings pages span h valid states)
+AreLandings-prop pages span h valid states = hlevel (state_set, props)

@@ -20,6 +20,7 @@ impl<const PAGES: u32, const SPAN: u32> Present<PAGES, SPAN> {
         requires position { position ≤ max_position }
         ensures stays { Stays self.old self.new }
         ensures stands { IfOk result (λ _. self.new.runs.at ≡ Some position) }
+        ensures joined { IfOk result (λ _. position / SPAN ≤ self.new.runs.kept.valid) }
         ensures spends { Spends PAGES SPAN (position / SPAN) (position % SPAN)
             (holding_of self.old) (holding_of self.new) }
         ensures reaches { IfOk result (λ _. Reaches PAGES SPAN (position / SPAN)
@@ -38,6 +39,7 @@ impl<const PAGES: u32, const SPAN: u32> Present<PAGES, SPAN> {
         requires time { position < 2 ^ 64 }
         ensures stays { Stays self.old self.new }
         ensures stands { IfOk result (λ _. self.new.runs.at ≡ Some position) }
+        ensures valid { self.new.runs.kept.valid ≡ self.old.runs.kept.valid }
         ensures rows { self.new.runs.kept.rows ≡ self.old.runs.kept.rows }
         ensures count { self.new.runs.live.steps ≤ self.old.runs.live.steps + (position - index * SPAN) }
         ensures least { self.old.runs.live.steps ≤ self.new.runs.live.steps }
@@ -60,6 +62,7 @@ impl<const PAGES: u32, const SPAN: u32> Present<PAGES, SPAN> {
         ensures stands { IfOk result (λ time. self.new.runs.at ≡ Some time) }
         ensures in_span { IfOk result (λ time. index * SPAN ≤ time) }
         ensures before { IfOk result (λ time. time ≤ position) }
+        ensures valid { self.new.runs.kept.valid ≡ self.old.runs.kept.valid }
         ensures same { holding_of self.new ≡ holding_of self.old }
     {
         let near = self.landings.nearest(index * SPAN as u64, position);

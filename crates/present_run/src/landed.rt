@@ -5,7 +5,7 @@ ghost use Rattle.r3k_word.specs.Layout.{word_count_of};
 ghost use Rattle.r3k_machine.specs.Run.{state_at};
 ghost use Rattle.present_run.specs.Landings.{positions_of};
 ghost use Rattle.input_log.specs.Limits.{max_position};
-ghost use Rattle.present_run.specs.Reuse.{Reaches, Serves, Spends};
+ghost use Rattle.present_run.specs.Reuse.{Reaches, Spends};
 ghost use Rattle.present_run.specs.Landed.{Lands};
 ghost use Rattle.present_run.specs.Shown.{holding_of, landed_of};
 
@@ -57,7 +57,7 @@ impl<const PAGES: u32, const SPAN: u32> Present<PAGES, SPAN> {
     fn land(&mut self, position: u64)
         requires stands { self.old.runs.at ≡ Some position }
         requires none { ¬ Contains (positions_of self.old.landings) position }
-        requires served { (index : ℕ) → index < position / SPAN → Serves PAGES SPAN (holding_of self.old) index }
+        requires joined { position / SPAN ≤ self.old.runs.kept.valid }
         ensures same { holding_of self.new ≡ holding_of self.old }
         ensures start { position % SPAN ≡ 0 → self.new.landings ≡ self.old.landings }
         ensures positions { (positions_of self.new.landings ≡ take 8 (position ∷ positions_of self.old.landings)) ⊎ (self.new.landings ≡ self.old.landings) }

@@ -1,25 +1,25 @@
 //! The present run of a history: the image and the log that determine it, and all that is kept of it and of earlier runs.
 //!
 //! A run is cut into spans of `SPAN` steps. Of each span that was run a record is kept: where it starts and ends, and what its
-//! steps reported. A query joins the spans before its position, one after the other. A record is joined as it is if it serves: its
-//! events are those of the log, and its start is where the run stands, except for pages that it does not touch. These pages are
-//! carried over to its end. Else the span is run, and its record takes the place of the old one. For the rest of the way the
-//! machine goes on: from the last end, from where it stands, or from a state that is kept inside the span.
+//! steps reported. There may be several of a number, of different pasts. A query joins the spans before its position, one after the
+//! other. A record is joined as it is if it serves: its events are those of the log, and its start is where the run stands, except for
+//! pages that it does not touch. These pages are carried over to its end. It then comes first of its number. Where none serves, the span
+//! is run, and its record comes first. For the rest of the way the machine goes on: from the last end, from where it stands, or from a
+//! state that is kept inside the span.
 //!
-//! So for the next span it must be known in which pages its start may differ from that of its record (`Frontier`). After a span that
-//! was run, pages that either run stored into are added. After one that was joined, pages that it touches are removed.
+//! A record that is known to start where the one before it ends is looked at before the others of its number. Its start can differ from
+//! where the run stands only in pages that are known (`Frontier`). Of another one that serves both memories are compared.
 //!
 //! An edit of the log forgets the spans from its time on, and their ends stay. Once a span ends where it ended before, all that go
 //! on from there are joined again at once. `again` is the first end from which that is known, as each edit breaks the chain at its
-//! own times. A patch changes the start of the run, so no span stays joined. `patched` has the pages in which the first record may
-//! differ from it.
+//! own times. A patch changes the start of the run, so no span stays joined.
 //!
 //! The last 8 states inside spans that were asked for are kept too (`landings`), up to the next edit.
 
 ghost use Rattle.std.specs.Prelude.{◌≡◌, ◌/◌, ◌%◌, ◌<◌, ◌≤◌, ℕ, [], Contains, IfOk, length, nat_eq};
 ghost use Rattle.std.specs.List.{IsDistinct};
 ghost use Rattle.r3k_image.specs.Boot.{FitsRam};
-ghost use Rattle.present_run.specs.Reuse.{Serves};
+ghost use Rattle.present_run.specs.Reuse.{ServesFirst};
 ghost use Rattle.present_run.specs.Runs.{AreLandings, AreLandings-prop, AreOf, AreOf-prop};
 ghost use Rattle.present_run.specs.Sizes.{AreSizes};
 
@@ -41,14 +41,14 @@ pub struct Present<const PAGES: u32, const SPAN: u32> {
     pub(crate) landings: Landings<PAGES>,
     ghost fits: { FitsRam PAGES inputs.image },
     ghost of: { AreOf {pages = PAGES} {span = SPAN} inputs.image inputs.log runs } by { AreOf-prop inputs.image inputs.log runs },
-    ghost landed: { AreLandings PAGES SPAN (record { image = inputs.image; log = inputs.log }) runs.kept.rows landings } by { AreLandings-prop PAGES SPAN (record { image = inputs.image; log = inputs.log }) runs.kept.rows landings },
+    ghost landed: { AreLandings PAGES SPAN (record { image = inputs.image; log = inputs.log }) runs.kept.valid landings } by { AreLandings-prop PAGES SPAN (record { image = inputs.image; log = inputs.log }) runs.kept.valid landings },
 }
 
 impl<const PAGES: u32, const SPAN: u32> Present<PAGES, SPAN> {
     ghost use Rattle.present_run.specs.Landed.{Landed};
     ghost use Rattle.present_run.specs.Shown.{holding_of, landed_of};
 
-    /// The run at reset, of an image that fits. Of each span at most so many records are to be kept, which is of as many pasts.
+    /// The run at reset, of an image that fits. Records of each span are to be kept of at most so many pasts.
     pub fn boot(
         alloc: Global,
         image: Image,
@@ -86,15 +86,15 @@ impl<const PAGES: u32, const SPAN: u32> Present<PAGES, SPAN> {
         &self.inputs.log
     }
 
-    /// How many states inside spans are kept: at most 8, each of another position. No span starts at one, and each span before one
-    /// has a record that serves.
+    /// How many states inside spans are kept: at most 8, each of another position. No span starts at one. Of each span before one the
+    /// record that was used last serves.
     pub fn landings(&self) -> usize
         ensures len { result ≡ length (landed_of self.now).landings }
         ensures few { length (landed_of self.now).landings ≤ 8 }
         ensures distinct { IsDistinct nat_eq (landed_of self.now).landings }
         ensures inside { (position : ℕ) → Contains (landed_of self.now).landings position → ¬ (position % SPAN ≡ 0) }
         ensures served { (position : ℕ) → Contains (landed_of self.now).landings position →
-            (index : ℕ) → index < position / SPAN → Serves PAGES SPAN (holding_of self.now) index }
+            (index : ℕ) → index < position / SPAN → ServesFirst PAGES SPAN (holding_of self.now) index }
     {
         self.landings.len()
     }

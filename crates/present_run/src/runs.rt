@@ -40,7 +40,7 @@ pub(crate) struct Runs<const PAGES: u32, const SPAN: u32> {
 }
 
 impl<const PAGES: u32, const SPAN: u32> Runs<PAGES, SPAN> {
-    /// The run at reset. Of each span at most so many records are to be kept.
+    /// The run at reset. Records of each span are to be kept of at most so many pasts.
     pub(crate) fn boot(
         alloc: Global,
         inputs: &Inputs,

@@ -1,5 +1,6 @@
 -- A run goes on.
 use Rattle.std.proofs.Common.{◌≡◌, ℕ, ◌+◌, ◌<◌, ◌≤◌, List, [], ◌∷◌, ◌++◌, IsFalse, slice_index, sym, ap, subst, ◌∙◌, arith, ◌⊎◌, inl, inr}
+use Rattle.std.proofs.lemmas.Bool.{cases_lt}
 use Rattle.input_log.specs.Event.{LogEvent}
 use Rattle.r3k_word.specs.Layout.{page_of_place}
 use Rattle.r3k_machine.specs.declared.step.Done.{Done}
@@ -72,19 +73,26 @@ pub free_of : (left log : List LogEvent) (time since free n : ℕ) → time ≡ 
 free_of left log time since free n is within same none = λ k before.
     ap (λ (t : ℕ). arriving log (t + k)) (sym is) ∙ (sym (same (time + k) (omega arith)) ∙ none k (omega arith))
 
--- none of some steps came to an address, and if there is one more, the last of them did not either
-pub passes_on : (pages : ℕ) (log : List LogEvent) (from : ℕ) (start : State) (address made quick more : ℕ)
-    → PassesBy pages log from start address made (made + quick) → more ≤ 1
-    → (0 < more → 0 < quick → ¬ ((run pages log from start (made + quick)).core.pc ≡ address))
-    → PassesBy pages log from start address made (made + (quick + more))
-passes_on pages log from start address made quick more passed bound here = λ k after within there.
-    elim (earlier_or k (made + quick) more (omega (arith, within)) bound) [
-      | inl earlier ↦ passed k after earlier there
-      | inr last ↦ here last.1 (omega (arith, last.0, after)) (ap (λ (n : ℕ). (run pages log from start n).core.pc) (sym last.0) ∙ there)
-    ]
-  where
-    earlier_or : (k below more : ℕ) → k < below + more → more ≤ 1 → (k < below) ⊎ ((k ≡ below) × (0 < more))
-    earlier_or k below more within bound = grind arith
+-- some steps, and then more, before which it does not stand at the address
+pub gone_on : (pages : ℕ) (log : List LogEvent) (from : ℕ) (start : State) (address made n more : ℕ) (s t : State) (r mid later : Recording)
+    → HasGoneFor pages log from start address made n r s mid → HasGoneFor pages log from start address (made + n) more mid t later
+    → (0 < n → 0 < more → ¬ ((run pages log from start (made + n)).core.pc ≡ address))
+    → HasGoneFor pages log from start address made (n + more) r t later
+gone_on pages log from start address made n more s t r mid later first second here =
+    let same : made + n + more ≡ made + (n + more) = omega arith in record {
+      gone = subst (λ (k : ℕ). HasGone pages log from start k t later) same second.gone;
+      passed = λ k after within there.
+          elim (cases_lt k (made + n)) [
+            | inl earlier ↦ first.passed k after earlier there
+            | inr late ↦ elim (cases_lt (made + n) k) [
+              | inl past ↦ second.passed k past (omega (arith, within)) there
+              | inr last ↦
+                  let is : k ≡ made + n = omega (arith, late, last) in
+                  here (omega (arith, after, is)) (omega (arith, within, is)) (ap (λ (n : ℕ). (run pages log from start n).core.pc) (sym is) ∙ there)
+            ]
+          ];
+      stood = λ before stood. subst (λ (k : ℕ). HasStood pages log from start k before later.stood) same (second.stood before (first.stood before stood));
+    }
 
 -- no step more
 pub no_more : (pages : ℕ) (log : List LogEvent) (from : ℕ) (start : State) (address made : ℕ) (s : State) (r : Recording)

@@ -1,5 +1,5 @@
 -- Quick steps of a page, one after another.
-use Rattle.std.proofs.Common.{◌≡◌, ℕ, ◌+◌, ◌-◌, ◌*◌, ◌/◌, ◌^◌, ◌<◌, ◌≤◌, List, [], ◌∷◌, ◌++◌, IsFalse, refl, sym, subst, ap, ◌∙◌, arith, inl, inr}
+use Rattle.std.proofs.Common.{◌≡◌, ℕ, ◌+◌, ◌-◌, ◌*◌, ◌/◌, ◌^◌, ◌<◌, ◌≤◌, ◌||◌, nat_eq, List, [], ◌∷◌, ◌++◌, IsFalse, refl, sym, subst, ap, ◌∙◌, arith, inl, inr}
 use Rattle.std.proofs.lemmas.Bool.{cases_lt}
 use Rattle.input_log.specs.Event.{LogEvent}
 use Rattle.r3k_word.specs.Word.{sum_of}
@@ -14,9 +14,12 @@ use Rattle.r3k_machine.specs.Core.{Core}
 use Rattle.r3k_machine.specs.Flow.{with_flow}
 use Rattle.r3k_machine.specs.Quiet.{IsIndexIn, LeadsOn, outcome_elapsed, state_elapsed}
 use Rattle.r3k_machine.specs.declared.flow.Flow.{Flow}
-use Rattle.r3k_live.specs.Going.{Ends, GoesOn, HasGone, HasGoneOn, IsFreeFor, IsWordAt, MayGoOn}
+use Rattle.r3k_live.specs.Going.{Ends, GoesOn, GoesOver, HasGone, HasGoneFor, HasGoneOn, IsFreeFor, IsWordAt, MayGoOn}
 use Rattle.r3k_live.specs.Recording.{Recording, Records}
-use Rattle.r3k_live.proofs.Gone.{quick_more}
+use Rattle.std.proofs.Math.Path.{ap₂}
+use Rattle.r3k_pages.specs.Pages.{holds}
+use Rattle.r3k_live.proofs.Gone.{gone_on, no_more, quick_more, recorded_too}
+use Rattle.r3k_live.proofs.Stood.{stood_more}
 
 -- by none
 pub goes_nowhere : (pages most address : ℕ) (page : CodePage) (made : ℕ) (s : State) (r : Recording) → made ≤ most → MayGoOn pages most page s.core r
@@ -169,13 +172,43 @@ at_next pages most begun first halt end index page s r core new flow after words
   high = omega (arith, more);
 }
 
--- steps from none on, of a run that has come here
-pub from_none : (pages most address : ℕ) (page : CodePage) (n : ℕ) (s t : State) (r later : Recording) → ((s : State) → state_elapsed 0 s ≡ s)
-    → GoesOn pages most address page 0 n s t r later
-    → (log : List LogEvent) (from : ℕ) (start : State) (before : ℕ) → IsFreeFor most log (from + before) → HasGone pages log from start before s r
-    → HasGoneOn pages log from start address page.number before (before + n) (state_elapsed n t) later
-from_none pages most address page n s t r later none goes log from start before free gone =
-    let so_far = subst (λ (u : State). HasGone pages log from start (before + 0) u r) (sym (none s))
-    (subst (λ (n : ℕ). HasGone pages log from start n s r) (let e : before ≡ before + 0 = omega arith in e) gone) in
-    subst (λ (low : ℕ). HasGoneOn pages log from start address page.number low (before + n) (state_elapsed n t) later)
-    (let e : before + 0 ≡ before = omega arith in e) (goes.runs log from start before free so_far)
+-- no page yet
+pub over_none : (pages most address : ℕ) (page : CodePage) (s : State) (r : Recording) → ((s : State) → state_elapsed 0 s ≡ s) → MayGoOn pages most page s.core r
+    → GoesOver pages most address 0 s s r r
+over_none pages most address page s r none may = record {
+  bound = omega arith;
+  count = omega arith;
+  quiet = may.quiet;
+  runs = λ log from start before free gone. subst (λ (u : State). HasGoneFor pages log from start address before 0 r u r) (sym (none s)) (no_more pages log from start address before s r gone);
+}
+
+-- the steps of one page more, after which the page of the PC is noted
+pub over_more : (pages most address : ℕ) (page : CodePage) (made n : ℕ) (s t u : State) (r mid quick later : Recording) → made ≤ n
+    → GoesOver pages most address made s t r mid → GoesOn pages most address page made n t u mid quick
+    → ((steps : List Done) → Records pages steps quick → Records pages steps later)
+    → ((other : ℕ) → holds later.stood other ≡ (holds quick.stood other || nat_eq (u.core.pc / PAGE_BYTES) other)) → later.steps ≡ quick.steps
+    → GoesOver pages most address n s u r later
+over_more pages most address page made n s t u r mid quick later more over on records stood steps = record {
+  bound = on.bound;
+  count = omega (arith, over.count, on.count, steps, more);
+  quiet = on.may.quiet;
+  runs = λ log from start before free gone.
+      let first = over.runs log from start before free gone in
+      let second = on.runs log from start before free first.gone in
+      let sum : before + made + (n - made) ≡ before + n = omega (arith, more) in
+      let gone = recorded_too pages log from start (before + n) (state_elapsed n u) quick later records second.gone in
+      subst (λ (k : ℕ). HasGoneFor pages log from start address before k r (state_elapsed n u) later) (let e : made + (n - made) ≡ n = omega (arith, more) in e)
+      (gone_on pages log from start address before made (n - made) (state_elapsed made t) (state_elapsed n u) r mid later first
+      (record {
+        gone = subst (λ (k : ℕ). HasGone pages log from start k (state_elapsed n u) later) (sym sum) gone;
+        passed = λ k after below. second.passed k (omega (arith, after)) (omega (arith, below, sum));
+        stood = λ set so_far.
+            stood_more pages log from start (before + made) (n - made) page.number set mid.stood later.stood so_far
+            (λ k above below. second.begins k above (omega (arith, below, sum)))
+            (λ other.
+            stood other
+            ∙ ap₂ (λ (set : List ℕ) (pc : ℕ). holds set other || nat_eq (pc / PAGE_BYTES) other) on.stood
+            (ap (λ (s : State). s.core.pc) second.gone.state ∙ ap (λ (k : ℕ). (run pages log from start k).core.pc) (sym sum)));
+      })
+      (λ some others. second.passed (before + made) (omega arith) (omega (arith, others, sum))));
+}

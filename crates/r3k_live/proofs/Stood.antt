@@ -112,16 +112,3 @@ begins_more pages log from start page low high so_far here k above below =
       | inl earlier ↦ so_far k above earlier
       | inr late ↦ ap (λ (n : ℕ). (run pages log from start n).core.pc / PAGE_BYTES) (let e : k ≡ high = omega (arith, late, below) in e) ∙ here
     ]
-
--- some steps begin in a page, and if there is one more, that too
-pub begins_on : (pages : ℕ) (log : List LogEvent) (from : ℕ) (start : State) (page made quick more : ℕ)
-    → BeginsIn pages log from start page made (made + quick) → more ≤ 1
-    → (0 < more → (run pages log from start (made + quick)).core.pc / PAGE_BYTES ≡ page)
-    → BeginsIn pages log from start page made (made + (quick + more))
-begins_on pages log from start page made quick more so_far bound here k above below =
-    elim (cases_lt k (made + quick)) [
-      | inl earlier ↦ so_far k above earlier
-      | inr late ↦
-          ap (λ (n : ℕ). (run pages log from start n).core.pc / PAGE_BYTES) (let e : k ≡ made + quick = omega (arith, late, below, bound) in e)
-          ∙ here (omega (arith, late, below))
-    ]

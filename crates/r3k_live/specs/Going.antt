@@ -62,6 +62,16 @@ pub record GoesOn (pages most address : ℕ) (page : CodePage) (made n : ℕ) (s
       → HasGone pages log from start (before + made) (state_elapsed made s) r
       → HasGoneOn pages log from start address page.number (before + made) (before + n) (state_elapsed n t) later
 
+-- Quick steps go on from page to page, n of them. Their ticks and falls of Random are still to come. So goes any run that no event reaches
+-- in these times.
+pub record GoesOver (pages most address n : ℕ) (s t : State) (r later : Recording) : Type 0 where
+  pub bound : n ≤ most
+  pub count : later.steps ≡ r.steps + n
+  pub quiet : IsQuietFor most t.core
+  pub runs : (log : List LogEvent) (from : ℕ) (start : State) (before : ℕ) → IsFreeFor most log (from + before)
+      → HasGone pages log from start before s r
+      → HasGoneFor pages log from start address before n r (state_elapsed n t) later
+
 -- the number of the word of a page at an address, if that lies in the page
 abbrev pub IsWordAt : (page : CodePage) → (address index : ℕ) → Type 0
 IsWordAt page address index = (other : ℕ) → IsIndexIn page address other → other ≡ index

@@ -20,10 +20,10 @@ use r3k_word::layout::{PAGE_WORDS, address_of, word_count};
 use std::alloc::{AllocError, Global};
 
 // How many pages of RAM may be open.
-const RAM_SLOTS: u32 = 64;
+const RAM_SLOTS: u32 = 512;
 
 // How many pages may be open.
-const SLOTS: usize = 128;
+const SLOTS: usize = 576;
 
 // Words in a page.
 const WORDS: usize = PAGE_WORDS as usize;

@@ -9,7 +9,7 @@ ghost use Rattle.r3k_machine.specs.Run.{arriving};
 ghost use Rattle.r3k_machine.specs.State.{State};
 ghost use Rattle.r3k_machine.specs.Reports.{IsPage};
 ghost use Rattle.r3k_pages.specs.Pages.{holds};
-ghost use Rattle.r3k_live.specs.Going.{AreLeft, Ends, GoesOn, HasGone, HasGoneFor, IsFreeFor, IsWordAt, MayGoOn};
+ghost use Rattle.r3k_live.specs.Going.{AreLeft, Ends, GoesOn, GoesOver, HasGone, HasGoneFor, IsFreeFor, IsWordAt, MayGoOn};
 ghost use Rattle.r3k_live.specs.Living.{state_of};
 ghost use Rattle.r3k_live.specs.Slots.{is_open};
 
@@ -145,41 +145,90 @@ fn step_straight<const PAGES: u32, const SPAN: u32>(
     false
 }
 
-// Makes quick steps in an open page that was touched before, at most `most`, and ends after one that comes to an address. Their ticks
-// and falls of Random are still to come. It makes none where the core does not stand straight. It has one caller, so that all of a step
-// is in line.
+// Makes quick steps in an open page that was touched before, up to `most` in all after `begun`, and ends after one that comes to an
+// address. Their ticks and falls of Random are still to come. It makes none where the core does not stand straight. It has one caller, so
+// that all of a step is in line.
 #[inline(never)]
 fn quick_steps<const PAGES: u32, const SPAN: u32>(
     core: &mut Core,
     mut flow: Flow,
     memory: &mut FlatMemory<PAGES>,
     page: CodePage,
+    begun: u32,
     most: u32,
     stop: u64,
     recorder: &mut Recorder<PAGES, SPAN>,
-) -> (u32, Flow)
+) -> Flow
     requires may { MayGoOn PAGES most page (with_flow core.old flow) recorder.old }
     requires page { IsPage PAGES page.page }
     requires opened { IsTrue (is_open PAGES memory.old.opened.items page.page) }
-    requires room { recorder.old.steps + most ≤ SPAN }
-    ensures goes { GoesOn PAGES most stop page 0 result.0
-        (state_of (with_flow core.old flow) memory.old) (state_of (with_flow core.new result.1) memory.new) recorder.old recorder.new }
+    requires begun { begun ≤ recorder.old.steps }
+    requires made { recorder.old.steps ≤ begun + most }
+    requires room { begun + most ≤ SPAN }
+    ensures goes { GoesOn PAGES most stop page (recorder.old.steps - begun) (recorder.new.steps - begun)
+        (state_of (with_flow core.old flow) memory.old) (state_of (with_flow core.new result) memory.new) recorder.old recorder.new }
+    ensures least { recorder.old.steps ≤ recorder.new.steps }
     ensures opened { IsTrue (is_open PAGES memory.new.opened.items page.page) }
 {
-    let begun = recorder.steps();
     if !flow.is_straight() {
-        return (0, flow);
+        return flow;
     }
     let halt = halt_in(page, stop);
     loop {
         let Some(index) = page.index(flow.pc()) else {
-            return (recorder.steps() - begun, flow);
+            return flow;
         };
         if !step_straight(
             core, &mut flow, memory, page, index, halt, begun, most, recorder,
         ) {
-            return (recorder.steps() - begun, flow);
+            return flow;
         }
+    }
+}
+
+// Makes quick steps in an open page that was touched before, and goes on with them from page to page, as long as these were touched
+// before. They are at most `most`, and it ends after one that comes to an address. Their ticks and falls of Random are still to come.
+// The page of the last of them is open.
+#[inline(always)]
+fn quick_pages<const PAGES: u32, const SPAN: u32>(
+    core: &mut Core,
+    flow: &mut Flow,
+    memory: &mut FlatMemory<PAGES>,
+    page: &mut CodePage,
+    most: u32,
+    stop: u64,
+    recorder: &mut Recorder<PAGES, SPAN>,
+) -> u32
+    requires may { MayGoOn PAGES most page.old (with_flow core.old flow.old) recorder.old }
+    requires page { IsPage PAGES page.old.page }
+    requires opened { IsTrue (is_open PAGES memory.old.opened.items page.old.page) }
+    requires room { recorder.old.steps + most ≤ SPAN }
+    ensures goes { GoesOver PAGES most stop result (state_of (with_flow core.old flow.old) memory.old)
+        (state_of (with_flow core.new flow.new) memory.new) recorder.old recorder.new }
+    ensures code { IsCodePage PAGES (with_flow core.new flow.new) page.new }
+    ensures page { IsPage PAGES page.new.page }
+    ensures opened { IsTrue (is_open PAGES memory.new.opened.items page.new.page) }
+{
+    quiet_laws();
+    let begun = recorder.steps();
+    loop {
+        let before = recorder.steps();
+        *flow = quick_steps(core, *flow, memory, *page, begun, most, stop, recorder);
+        let here = flow.pc() / PAGE_BYTES;
+        recorder.stand(here);
+        let steps = recorder.steps();
+        if steps == before || steps - begun == most || here == page.number {
+            return steps - begun;
+        }
+        core.set_flow(*flow);
+        let Some(next) = code_page(core, memory) else {
+            return steps - begun;
+        };
+        if !recorder.has_touched(next.page) {
+            return steps - begun;
+        }
+        memory.open_page(next.page);
+        *page = next;
     }
 }
 
@@ -208,12 +257,10 @@ fn quiet_on<const PAGES: u32, const SPAN: u32>(
     requires room { IsTrue wanted → recorder.old.steps < SPAN }
     ensures bound { result ≤ 1 }
     ensures wanted { 0 < result → IsTrue wanted }
-    ensures here { 0 < result → core.old.pc / PAGE_BYTES ≡ page.number }
     ensures steps { recorder.new.steps ≡ recorder.old.steps + result }
-    ensures gone { (log : List LogEvent) (from : ℕ) (start : State) (made : ℕ) → (IsTrue wanted → arriving log (from + made) ≡ []) →
+    ensures goes { (log : List LogEvent) (from : ℕ) (start : State) (address made : ℕ) → (IsTrue wanted → arriving log (from + made) ≡ []) →
         HasGone PAGES log from start made (state_of core.old memory.old) recorder.old →
-        HasGone PAGES log from start (made + result) (state_of core.new memory.new) recorder.new }
-    ensures stood { recorder.new.stood ≡ recorder.old.stood }
+        HasGoneFor PAGES log from start address made result recorder.old (state_of core.new memory.new) recorder.new }
 {
     if !wanted {
         return 0;
@@ -222,16 +269,17 @@ fn quiet_on<const PAGES: u32, const SPAN: u32>(
         return 0;
     };
     recorder.note(done);
+    recorder.stand(core.pc() / PAGE_BYTES);
     1
 }
 
-// Makes quick steps as long as they stay in an open page that was touched before, and then one more of that page, at most `most` in
+// Makes quick steps as long as they stay in open pages that were touched before, and then one more of the last page, at most `most` in
 // all. It ends after one that comes to an address.
 #[inline(always)]
 fn run_in<const PAGES: u32, const SPAN: u32>(
     core: &mut Core,
     memory: &mut FlatMemory<PAGES>,
-    page: CodePage,
+    mut page: CodePage,
     most: u32,
     stop: u64,
     recorder: &mut Recorder<PAGES, SPAN>,
@@ -247,14 +295,13 @@ fn run_in<const PAGES: u32, const SPAN: u32>(
         HasGoneFor PAGES log from start stop made result recorder.old (state_of core.new memory.new) recorder.new }
 {
     quiet_laws();
-    let (made, flow) = quick_steps(core, core.flow(), memory, page, most, stop, recorder);
+    let mut flow = core.flow();
+    let made = quick_pages(core, &mut flow, memory, &mut page, most, stop, recorder);
     core.set_flow(flow);
     core.elapse(made);
     learn(memory, page, core.pc());
     let wanted = goes_on(made, most, core.pc(), stop);
-    let more = quiet_on(core, memory, page, wanted, recorder);
-    recorder.stand(core.pc() / PAGE_BYTES);
-    made + more
+    made + quiet_on(core, memory, page, wanted, recorder)
 }
 
 // The same from where the machine stands, in quiet times. It makes no step where the times are not quiet, or the page was not touched

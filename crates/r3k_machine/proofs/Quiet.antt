@@ -17,7 +17,7 @@ use Rattle.tlb64.specs.declared.entry.TheConstants.{GLOBAL}
 use Rattle.cop0.specs.Registers.{Registers, register_of}
 use Rattle.cop0.specs.declared.number.TheConstants.{RANDOM}
 use Rattle.cop0.specs.Changes as control
-use Rattle.cop0.specs.Status.{in_user_mode, is_usable}
+use Rattle.cop0.specs.Status.{in_user_mode, is_isolated, is_usable}
 use Rattle.kn02_bus.specs.declared.bus.Lines.{Lines}
 use Rattle.kn02_bus.specs.Lines.{lines_of}
 use Rattle.kn02_bus.specs.Access as access
@@ -73,7 +73,9 @@ outcome_aged ticks falls o = record { state = state_aged ticks falls o.state; do
 -- what an instruction leaves as it is, and where it leads
 pub record Keeps (old new : Core) : Type 0 where
   pub bus : new.bus ≡ old.bus
-  pub status : new.cop0.status ≡ old.cop0.status
+  pub user : in_user_mode new.cop0 ≡ in_user_mode old.cop0
+  pub isolated : is_isolated new.cop0 ≡ is_isolated old.cop0
+  pub unwanted : IsFalse (control.is_wanted old.cop0) → IsFalse (control.is_wanted new.cop0)
   pub cause : new.cop0.cause ≡ old.cop0.cause
   pub entry_hi : new.cop0.entry_hi ≡ old.cop0.entry_hi
   pub entries : new.entries ≡ old.entries
@@ -90,17 +92,17 @@ quiet_kept n old new keeps quiet = record {
   counts = rw keeps.bus quiet.counts;
   sampled = rw keeps.bus
       (sampled_by new.cop0 (lines_of old.bus) (rw keeps.cause (ap (λ (c : Registers). c.cause) quiet.sampled)));
-  unwanted = rw (keeps.status, keeps.cause) quiet.unwanted;
+  unwanted = keeps.unwanted quiet.unwanted;
 }
 
 pub code_kept : (pages : ℕ) (page : CodePage) (old new : Core) → Keeps old new → IsCodePage pages old page → IsCodePage pages new page
 unfolding meaning
 code_kept pages page old new keeps code = record {
   within = code.within;
-  fetched = λ address here aligned. rw (keeps.entries, keeps.status, keeps.entry_hi) (code.fetched address here aligned);
+  fetched = λ address here aligned. rw (keeps.entries, keeps.user, keeps.entry_hi) (code.fetched address here aligned);
   over_bus = record {
     within = code.over_bus.within;
-    over = λ some. record { kernel = rw keeps.status (code.over_bus.over some).kernel; shared = rw keeps.status (code.over_bus.over some).shared };
+    over = λ some. record { kernel = keeps.user ∙ (code.over_bus.over some).kernel; shared = keeps.isolated ∙ (code.over_bus.over some).shared };
   };
 }
 
@@ -205,12 +207,12 @@ read_aged falls c number other = rw (ne_eqb number RANDOM other) refl
 pub effect_ages : (pages ticks falls : ℕ) (s : State) (page : ℕ) (effect : Effect) → StaySteady s.core.bus s.core.bus → StaySteady s.core.bus (after ticks s.core.bus)
     → IsQuickEffect pages s effect
     → Ages ticks falls s (completion_of_effect pages s page effect) (completion_of_effect pages (state_aged ticks falls s) page effect)
-effect_ages pages ticks falls s page (Write number value) now later quick = record { outcome = _; is = refl; later_is = refl; keeps = record { bus = refl; status = refl; cause = refl; entry_hi = refl; entries = refl; leads = record { here = refl; next = λ free. refl } } }
-effect_ages pages ticks falls s page (WriteHi value) now later quick = record { outcome = _; is = refl; later_is = refl; keeps = record { bus = refl; status = refl; cause = refl; entry_hi = refl; entries = refl; leads = record { here = refl; next = λ free. refl } } }
-effect_ages pages ticks falls s page (WriteLo value) now later quick = record { outcome = _; is = refl; later_is = refl; keeps = record { bus = refl; status = refl; cause = refl; entry_hi = refl; entries = refl; leads = record { here = refl; next = λ free. refl } } }
-effect_ages pages ticks falls s page (WriteHiLo hi lo) now later quick = record { outcome = _; is = refl; later_is = refl; keeps = record { bus = refl; status = refl; cause = refl; entry_hi = refl; entries = refl; leads = record { here = refl; next = λ free. refl } } }
-effect_ages pages ticks falls s page (Jump target) now later quick = record { outcome = _; is = refl; later_is = refl; keeps = record { bus = refl; status = refl; cause = refl; entry_hi = refl; entries = refl; leads = record { here = refl; next = λ taken. absurd (true≢false taken) } } }
-effect_ages pages ticks falls s page (JumpAndLink target number value) now later quick = record { outcome = _; is = refl; later_is = refl; keeps = record { bus = refl; status = refl; cause = refl; entry_hi = refl; entries = refl; leads = record { here = refl; next = λ taken. absurd (true≢false taken) } } }
+effect_ages pages ticks falls s page (Write number value) now later quick = record { outcome = _; is = refl; later_is = refl; keeps = record { bus = refl; user = refl; isolated = refl; unwanted = λ still. still; cause = refl; entry_hi = refl; entries = refl; leads = record { here = refl; next = λ free. refl } } }
+effect_ages pages ticks falls s page (WriteHi value) now later quick = record { outcome = _; is = refl; later_is = refl; keeps = record { bus = refl; user = refl; isolated = refl; unwanted = λ still. still; cause = refl; entry_hi = refl; entries = refl; leads = record { here = refl; next = λ free. refl } } }
+effect_ages pages ticks falls s page (WriteLo value) now later quick = record { outcome = _; is = refl; later_is = refl; keeps = record { bus = refl; user = refl; isolated = refl; unwanted = λ still. still; cause = refl; entry_hi = refl; entries = refl; leads = record { here = refl; next = λ free. refl } } }
+effect_ages pages ticks falls s page (WriteHiLo hi lo) now later quick = record { outcome = _; is = refl; later_is = refl; keeps = record { bus = refl; user = refl; isolated = refl; unwanted = λ still. still; cause = refl; entry_hi = refl; entries = refl; leads = record { here = refl; next = λ free. refl } } }
+effect_ages pages ticks falls s page (Jump target) now later quick = record { outcome = _; is = refl; later_is = refl; keeps = record { bus = refl; user = refl; isolated = refl; unwanted = λ still. still; cause = refl; entry_hi = refl; entries = refl; leads = record { here = refl; next = λ taken. absurd (true≢false taken) } } }
+effect_ages pages ticks falls s page (JumpAndLink target number value) now later quick = record { outcome = _; is = refl; later_is = refl; keeps = record { bus = refl; user = refl; isolated = refl; unwanted = λ still. still; cause = refl; entry_hi = refl; entries = refl; leads = record { here = refl; next = λ taken. absurd (true≢false taken) } } }
 effect_ages pages ticks falls s page (Trap trap) now later quick = absurd quick
 effect_ages pages ticks falls s page (Load kind number address) now later (physical, loaded, plain, is) = record {
   outcome = _;
@@ -218,7 +220,7 @@ effect_ages pages ticks falls s page (Load kind number address) now later (physi
   later_is =
       plain_load pages s.core.bus (state_aged ticks falls s) page kind number address (meaning_of_load (aged ticks falls s.core) kind address) physical loaded
       later (record { means = meaning_aged ticks falls s.core _ _ address ∙ plain.means; shared = plain.shared }) is;
-  keeps = record { bus = refl; status = refl; cause = refl; entry_hi = refl; entries = refl; leads = record { here = refl; next = λ free. refl } };
+  keeps = record { bus = refl; user = refl; isolated = refl; unwanted = λ still. still; cause = refl; entry_hi = refl; entries = refl; leads = record { here = refl; next = λ free. refl } };
 }
 effect_ages pages ticks falls s page (Store kind address value) now later (physical, word, plain, stands) = record {
   outcome = _;
@@ -226,14 +228,18 @@ effect_ages pages ticks falls s page (Store kind address value) now later (physi
   later_is =
       plain_store pages (state_aged ticks falls s) page kind address value (meaning_of_store (aged ticks falls s.core) kind address) physical word
       (record { means = meaning_aged ticks falls s.core _ _ address ∙ plain.means; shared = plain.shared }) stands;
-  keeps = record { bus = refl; status = refl; cause = refl; entry_hi = refl; entries = refl; leads = record { here = refl; next = λ free. refl } };
+  keeps = record { bus = refl; user = refl; isolated = refl; unwanted = λ still. still; cause = refl; entry_hi = refl; entries = refl; leads = record { here = refl; next = λ free. refl } };
 }
 effect_ages pages ticks falls s page (MoveFromControl number control) now later (other, usable) =
-    record { outcome = _; is = refl; later_is = rw (read_aged falls s.core.cop0 control other) refl; keeps = record { bus = refl; status = refl; cause = refl; entry_hi = refl; entries = refl; leads = record { here = refl; next = λ free. refl } } }
-effect_ages pages ticks falls s page (MoveToControl control value) now later (is, usable) =
+    record { outcome = _; is = refl; later_is = rw (read_aged falls s.core.cop0 control other) refl; keeps = record { bus = refl; user = refl; isolated = refl; unwanted = λ still. still; cause = refl; entry_hi = refl; entries = refl; leads = record { here = refl; next = λ free. refl } } }
+effect_ages pages ticks falls s page (MoveToControl control value) now later (inr (is, stays), usable) =
     subst (λ (n : ℕ). Ages ticks falls s (completion_of_effect pages s page (MoveToControl n value)) (completion_of_effect pages (state_aged ticks falls s) page (MoveToControl n value)))
     (sym is)
-    (record { outcome = _; is = refl; later_is = refl; keeps = record { bus = refl; status = refl; cause = refl; entry_hi = refl; entries = refl; leads = record { here = refl; next = λ free. refl } } })
+    (record { outcome = _; is = refl; later_is = refl; keeps = record { bus = refl; user = stays.user; isolated = stays.isolated; unwanted = λ _. stays.unwanted; cause = refl; entry_hi = refl; entries = refl; leads = record { here = refl; next = λ free. refl } } })
+effect_ages pages ticks falls s page (MoveToControl control value) now later (inl is, usable) =
+    subst (λ (n : ℕ). Ages ticks falls s (completion_of_effect pages s page (MoveToControl n value)) (completion_of_effect pages (state_aged ticks falls s) page (MoveToControl n value)))
+    (sym is)
+    (record { outcome = _; is = refl; later_is = refl; keeps = record { bus = refl; user = refl; isolated = refl; unwanted = λ still. still; cause = refl; entry_hi = refl; entries = refl; leads = record { here = refl; next = λ free. refl } } })
 effect_ages pages ticks falls s page ReturnFromException now later quick = absurd quick
 effect_ages pages ticks falls s page ReadEntry now later quick = absurd quick
 effect_ages pages ticks falls s page WriteIndexedEntry now later quick = absurd quick

@@ -1,13 +1,14 @@
 -- Quiet steps (own): nothing comes before the instruction but ticks that only count, and the instruction touches registers, PC and
 -- memory alone. So all ticks and falls of Random of many such steps may come after the last of them.
-use Rattle.std.specs.Prelude.{◌≡◌, ℕ, ◌+◌, ◌-◌, ◌*◌, ◌/◌, ◌%◌, ◌^◌, ◌<◌, ◌≤◌, Bool, false, true, IsFalse, IsTrue, List, Option, None, Some, Ok, slice_index}
+use Rattle.std.specs.Prelude.{◌≡◌, ℕ, ◌+◌, ◌-◌, ◌*◌, ◌/◌, ◌%◌, ◌^◌, ◌<◌, ◌≤◌, ◌⊎◌, Bool, false, true, IsFalse, IsTrue, List, Option, None, Some, Ok, slice_index}
 use Rattle.r3k_word.specs.Layout.{page_of_place, place_of_word}
 use Rattle.r3k_word.specs.Word.{sum_of}
 use Rattle.r3k_word.specs.declared.layout.TheConstants.{PAGE_BYTES, PAGE_WORDS}
 use Rattle.cop0.specs.Changes as control
+use Rattle.cop0.specs.Changes.{StaysQuiet}
 use Rattle.cop0.specs.Status as status
 use Rattle.cop0.specs.Status.{in_user_mode, is_usable}
-use Rattle.cop0.specs.declared.number.TheConstants.{ENTRY_LO, RANDOM}
+use Rattle.cop0.specs.declared.number.TheConstants.{ENTRY_LO, RANDOM, STATUS}
 use Rattle.kn02_bus.specs.State.{BusState}
 use Rattle.kn02_bus.specs.Lines.{lines_of}
 use Rattle.kn02_bus.specs.Quiet.{after, quiet_of, steady_word}
@@ -74,8 +75,8 @@ abbrev pub steady_over_bus : List ℕ → BusState → Region → Option ℕ →
 steady_over_bus words bus region (Some place) = Some (record { word = slice_index words place; page = Some (page_of_place place) })
 steady_over_bus words bus region None = steady_elsewhere (steady_of bus region)
 
--- An effect on registers, EntryLo, PC and memory alone: loads are of such a word, and stores of one of RAM. Of coprocessor 0, Random
--- is not read, and EntryLo alone is written.
+-- An effect on registers, EntryLo, Status, PC and memory alone: loads are of such a word, and stores of one of RAM. Of coprocessor 0,
+-- Random is not read, and Status is written only where mode and cache stay as they are and no interrupt comes to be wanted.
 abbrev pub IsQuickEffect : ℕ → State → Effect → Type 0
 IsQuickEffect pages s (Write number value) = Unit {0}
 IsQuickEffect pages s (WriteHi value) = Unit {0}
@@ -90,7 +91,8 @@ IsQuickEffect pages s (Store kind address value) =
     (physical : Physical) × (word : ℕ) × IsPlain s.core (meaning_of_store s.core kind address) physical
     × (ram_word pages physical.address ≡ Some word)
 IsQuickEffect pages s (MoveFromControl number control) = (¬ (control ≡ RANDOM)) × IsTrue (is_usable s.core.cop0)
-IsQuickEffect pages s (MoveToControl control value) = (control ≡ ENTRY_LO) × IsTrue (is_usable s.core.cop0)
+IsQuickEffect pages s (MoveToControl control value) =
+    ((control ≡ ENTRY_LO) ⊎ ((control ≡ STATUS) × StaysQuiet s.core.cop0 value)) × IsTrue (is_usable s.core.cop0)
 IsQuickEffect pages s effect = ⊥
 
 -- the instruction at PC has such an effect

@@ -1,11 +1,13 @@
 //! Quick steps: those before which nothing happens but counting, and whose instruction touches registers, PC and memory alone.
 
-ghost use Rattle.std.specs.Prelude.{◌≡◌, ◌*◌, ◌/◌, ◌^◌, ◌<◌, ◌≤◌, ℕ, [], IfSome, IsTrue, None, Ok, Some};
+ghost use Rattle.std.specs.Prelude.{◌≡◌, ◌⊎◌, ◌*◌, ◌/◌, ◌^◌, ◌<◌, ◌≤◌, ℕ, [], IfSome, IsTrue, None, Ok, Some};
 ghost use Rattle.r3k_exec.specs.declared.operands.Effect.TheVariants.{Load, Store};
 ghost use Rattle.r3k_word.specs.Layout.{place_of_word};
 ghost use Rattle.r3k_word.specs.Word.{sum_of};
 ghost use Rattle.r3k_word.specs.declared.layout.TheConstants.{PAGE_BYTES, PAGE_WORDS};
 ghost use Rattle.kn02_bus.specs.Region.{region_of};
+ghost use Rattle.cop0.specs.Changes.{StaysQuiet};
+ghost use Rattle.cop0.specs.declared.number.TheConstants.{ENTRY_LO, STATUS};
 ghost use Rattle.r3k_machine.specs.Quiet.{IsCodePage, IsIndexIn, IsOverBusFor, IsQuick, IsQuickEffect, IsQuietFor, IsReached, elapsed, steady_over_bus};
 ghost use Rattle.r3k_machine.specs.Address.{meaning};
 ghost use Rattle.r3k_machine.specs.Flow.{with_flow};
@@ -20,7 +22,7 @@ use crate::load_store::{Loaded, Stored, Word, put};
 use crate::memory::Mem;
 use crate::state::Core;
 use crate::step::{Done, run_fetched};
-use cop0::number::{ENTRY_LO, RANDOM};
+use cop0::number::{ENTRY_LO, RANDOM, STATUS};
 use r3k_decode::Register;
 use r3k_exec::{Effect, LoadKind, StoreKind, effect};
 use r3k_word::arithmetic::{add, subtract};
@@ -56,6 +58,18 @@ impl Core {
     {
         self.bus.pass(steps);
         self.processor.cop0.fall_by(steps);
+    }
+
+    // Whether a write of a control register is quick.
+    #[inline(always)]
+    fn is_quick_control(&self, control: Register, value: u32) -> bool
+        ensures { IsTrue result → (control ≡ ENTRY_LO) ⊎ ((control ≡ STATUS) × StaysQuiet self.now.cop0 value) }
+    {
+        match control.number() {
+            ENTRY_LO => true,
+            STATUS => self.cop0().stays_quiet(value),
+            _ => false,
+        }
     }
 
     // How many bytes from kseg0 on loads and stores reach over the bus.
@@ -432,7 +446,7 @@ fn perform_quick<M: Mem>(
             flow.set_slot(register, value);
         }
         Effect::MoveToControl { control, value } => {
-            if over_bus == 0 || control.number() != ENTRY_LO {
+            if over_bus == 0 || !core.is_quick_control(control, value) {
                 return None;
             }
             core.complete_in(flow);

@@ -5,7 +5,7 @@ ghost use Rattle.std.specs.List.{IsDistinct};
 ghost use Rattle.r3k_image.specs.Boot.{FitsRam};
 ghost use Rattle.r3k_image.specs.declared.fault.ImageFault.TheVariants.{Bad, Memory};
 ghost use Rattle.r3k_image.specs.declared.fault.ImageKind.TheVariants.{Pages};
-ghost use Rattle.present_run.specs.Reuse.{Serves};
+ghost use Rattle.present_run.specs.Reuse.{ServesFirst};
 ghost use Rattle.present_run.specs.Sizes.{AreSizes};
 ghost use Rattle.present_run.specs.Landed.{holding};
 
@@ -48,8 +48,8 @@ impl<const PAGES: u32, const SPAN: u32> Timeline<PAGES, SPAN> {
         Timeline::with_pasts(alloc, image, log, 1)
     }
 
-    /// The same, which keeps records of each span in up to as many pasts. So what was edited and is taken back, or asked of two pasts in
-    /// turn, runs no span again. Of more pasts the one that was used least recently is dropped.
+    /// The same, which keeps records of each span in several pasts, at most `pasts`. So an edit that is taken back runs no span again,
+    /// and neither do questions of two pasts in turn. Of each span the record that was used least recently is dropped first.
     pub fn with_pasts(
         alloc: Global,
         image: Image,
@@ -83,16 +83,16 @@ impl<const PAGES: u32, const SPAN: u32> Timeline<PAGES, SPAN> {
         self.present.log()
     }
 
-    /// How many states inside spans are kept: at most 8, each of another position. No span starts at one, and each span before one
-    /// has a record that serves. That they are states of the run follows from what `core_at` and `word_at` answer there without a
-    /// step.
+    /// How many states inside spans are kept: at most 8, each of another position. No span starts at one. Of each span before one the
+    /// record that was used last serves. That they are states of the run follows from what `core_at` and `word_at` answer there
+    /// without a step.
     pub fn landings(&self) -> usize
         ensures len { result ≡ length self.now.landings }
         ensures few { length self.now.landings ≤ 8 }
         ensures distinct { IsDistinct nat_eq self.now.landings }
         ensures inside { (position : ℕ) → Contains self.now.landings position → ¬ (position % SPAN ≡ 0) }
         ensures served { (position : ℕ) → Contains self.now.landings position →
-            (index : ℕ) → index < position / SPAN → Serves PAGES SPAN (holding self.now) index }
+            (index : ℕ) → index < position / SPAN → ServesFirst PAGES SPAN (holding self.now) index }
     {
         self.present.landings()
     }

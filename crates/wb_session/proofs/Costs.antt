@@ -5,7 +5,7 @@ use Rattle.std.specs.Option.{ok_or}
 use Rattle.std.specs.Result.{is_ok}
 use Rattle.std.proofs.lemmas.Bool.{eq-eqb, true≢false}
 use Rattle.std.specs.Set.{remove_key}
-use Rattle.timeline.specs.Reuse.{Holding, Lacks, Reaches, Serves, Spends, kept_at, stay}
+use Rattle.timeline.specs.Reuse.{Holding, Lacks, Reaches, ServesFirst, Spends, kept_at, stay}
 use Rattle.timeline.proofs.Counts.{turned_on}
 use Rattle.refusal.specs.declared.fault.Fault.{Fault}
 use Rattle.refusal.specs.declared.fault.Fault.TheVariants.{Memory, Unaligned, NotMemory}
@@ -72,11 +72,11 @@ pub words_refused : (pages span count : ℕ) (old new : Held) (fault : Fault)
 words_refused pages span count old new fault asks free lands = record { asks = asks; free = free; lands = lands }
 
 -- Several queries of words at one position.
--- where each span has a record that serves, none is lacking
-all_there : (pages span : ℕ) (h : Holding) (count : ℕ) → ((index : ℕ) → index < count → Serves pages span h index) → Lacks pages span h count 0
+-- where the first record of each span serves, none is lacking
+all_there : (pages span : ℕ) (h : Holding) (count : ℕ) → ((index : ℕ) → index < count → ServesFirst pages span h index) → Lacks pages span h count 0
 unfolding Lacks
 all_there pages span h zero all = refl
-all_there pages span h (suc index) all = inl (all index (omega arith), all_there pages span h index (λ i below. all i (omega (arith, below))))
+all_there pages span h (suc index) all = inl ((λ far. far 0 (all index (omega arith))), all_there pages span h index (λ i below. all i (omega (arith, below))))
 
 -- nothing was asked yet
 pub nothing_spent : (pages span count : ℕ) (h : Holding) → Spends pages span count 0 h h

@@ -1,6 +1,6 @@
 //! The index: which pages each span stored into.
 
-ghost use Rattle.std.specs.Prelude.{◌≡◌, ◌≢◌, ◌+◌, ◌-◌, ◌*◌, ◌^◌, ◌<◌, ◌≤◌, ℕ, IfOk, IfSome, OnErr, [], length, max, min};
+ghost use Rattle.std.specs.Prelude.{◌≡◌, ◌≢◌, ◌+◌, ◌-◌, ◌*◌, ◌^◌, ◌<◌, ◌≤◌, ℕ, IfOk, IfSome, IsTrue, OnErr, [], length, max, min};
 ghost use Rattle.std.specs.List.Sorted.{IsStrictlyIncreasing};
 ghost use Rattle.write_index.specs.Pages.{HasDigits, IsLast, pages_at};
 ghost use Rattle.write_index.specs.declared.tree.TheConstants.{MAX_SPANS};
@@ -53,12 +53,28 @@ impl WriteIndex {
         ensures same { OnErr result (self.new ≡ self.old) }
     {
         let index = index as usize;
+        if self.has(index, pages) {
+            return Ok(());
+        }
         let set = PageSet::new(self.alloc, pages)?;
         let count = self.count.max(index + 1);
         deepen(self.alloc, &mut self.levels)?;
         update(self.alloc, &mut self.levels, self.count, index, set)?;
         self.count = count;
         Ok(())
+    }
+
+    // Whether a span is there and has just these pages.
+    fn has(&self, index: usize, pages: &[u32]) -> bool
+        ensures { IsTrue result → (index < length self.now) × (pages_at self.now index ≡ pages.now) }
+    {
+        if index >= self.count {
+            return false;
+        }
+        match self.levels.first() {
+            Some(level) => level.node(index).is(pages),
+            None => false,
+        }
     }
 
     /// The last span below one that stored into a page. It looks at the pages of at most two nodes for each binary digit of the

@@ -1,6 +1,6 @@
 //! A set of pages.
 
-ghost use Rattle.std.specs.Prelude.{◌≡◌, IfOk, []};
+ghost use Rattle.std.specs.Prelude.{◌≡◌, ◌↔◌, IfOk, IsTrue, []};
 ghost use Rattle.std.specs.List.Sorted.{IsStrictlyIncreasing};
 ghost use Rattle.r3k_pages.specs.Pages.{holds};
 ghost use Rattle.write_index.specs.Pages.{IsUnion};
@@ -43,6 +43,13 @@ impl PageSet {
         Ok(PageSet {
             pages: Vec::from_slice(alloc, pages)?,
         })
+    }
+
+    /// Whether the set has just these pages.
+    pub(crate) fn is(&self, pages: &[u32]) -> bool
+        ensures { IsTrue result ↔ (self.now ≡ pages.now) }
+    {
+        self.pages.as_slice() == pages
     }
 
     /// Whether a page is in the set.

@@ -8,10 +8,10 @@ use Rattle.r3k_live.proofs.stretch.quick_steps.Given as goal
 -- they went on, and the next one is straight
 abbrev pub invariant-loop-index : goal.invariant-loop-index
 invariant-loop-index g l = record {
-  goes : GoesOn g.row.PAGES l.most l.stop l.page 0 (l.recorder.steps - l.begun)
+  goes : GoesOn g.row.PAGES l.most l.stop l.page (l.fn.recorder.steps - l.begun) (l.recorder.steps - l.begun)
       (state_of (with_flow l.fn.core l.fn.flow) l.fn.memory) (state_of (with_flow l.core l.flow) l.memory) l.fn.recorder l.recorder;
   straight : IsStraight l.flow;
-  least : l.begun ≤ l.recorder.steps;
+  least : l.fn.recorder.steps ≤ l.recorder.steps;
   opened : IsTrue (is_open g.row.PAGES l.memory.opened.items l.page.page);
 }
 

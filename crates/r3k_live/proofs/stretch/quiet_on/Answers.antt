@@ -1,18 +1,36 @@
-use Rattle.std.proofs.Common.{◌≡◌, ℕ, ◌+◌, List, ap, subst, ◌∙◌, arith}
+use Rattle.std.proofs.Common.{◌≡◌, ℕ, ◌+◌, ◌/◌, ◌||◌, ◌++◌, ◌∷◌, [], List, nat_eq, sym, ap, ◌∙◌, arith}
+use Rattle.std.proofs.Math.Path.{ap₂}
 use Rattle.input_log.specs.Event.{LogEvent}
+use Rattle.r3k_word.specs.declared.layout.TheConstants.{PAGE_BYTES}
+use Rattle.r3k_machine.specs.State.{State}
 use Rattle.r3k_machine.specs.Step.{outcome_of_step}
-use Rattle.r3k_live.specs.Going.{HasGone}
+use Rattle.r3k_pages.specs.Pages.{holds}
 use Rattle.r3k_live.specs.Living.{state_of}
-use Rattle.r3k_live.proofs.Gone.{one_more}
+use Rattle.r3k_live.proofs.Gone.{no_more, one_more}
+use Rattle.r3k_live.proofs.Stood.{begins_once, stood_more}
 use Rattle.r3k_live.proofs.stretch.quiet_on.Goals as goal
 
-pub returns-clause-gone : goal.returns-clause-gone
-returns-clause-gone g c = λ log from start made free gone.
+pub returns-clause-goes : goal.returns-clause-goes
+returns-clause-goes g c = λ log from start address made free so_far.
     let s = state_of c.args.core.now c.args.memory.now in
-    one_more g.row.PAGES log from start made s (state_of c.quiet_step.new.core c.quiet_step.new.memory) c.in-Some.done c.args.recorder.now c.note.new.self gone
-    (ap (λ (events : List LogEvent). outcome_of_step g.row.PAGES events s) (free c.if-not-wanted.false) ∙ c.in-Some.ensures.ran) c.note.ensures.records c.in-Some.ensures.within.words
+    let t = state_of c.quiet_step.new.core c.quiet_step.new.memory in
+    let gone = one_more g.row.PAGES log from start made s t c.in-Some.done c.args.recorder.now c.stand.new.self so_far
+    (ap (λ (events : List LogEvent). outcome_of_step g.row.PAGES events s) (free c.if-not-wanted.false) ∙ c.in-Some.ensures.ran)
+    (λ steps records. c.stand.ensures.records (steps ++ c.in-Some.done ∷ []) (c.note.ensures.records steps records)) c.in-Some.ensures.within.words in record {
+      gone = gone;
+      passed = λ k after below there. omega (arith, after, below);
+      stood = λ before stood.
+          stood_more g.row.PAGES log from start made 1 _ before c.args.recorder.now.stood c.stand.new.self.stood stood (begins_once g.row.PAGES log from start made)
+          (λ page.
+          c.stand.ensures.stood page
+          ∙ ap₂ (λ (set : List ℕ) (pc : ℕ). holds set page || nat_eq (pc / PAGE_BYTES) page) c.note.ensures.stood (c.pc.ensures ∙ ap (λ (s : State). s.core.pc) gone.state));
+    }
 
-pub returns-in_default-clause-gone : goal.returns-in_default-clause-gone
-returns-in_default-clause-gone g c = λ log from start made free gone.
+pub returns-then-not-wanted-clause-goes : goal.returns-then-not-wanted-clause-goes
+returns-then-not-wanted-clause-goes g c = λ log from start address made free gone.
+    no_more g.row.PAGES log from start address made (state_of c.args.core.now c.args.memory.now) c.args.recorder.now gone
+
+pub returns-in_default-clause-goes : goal.returns-in_default-clause-goes
+returns-in_default-clause-goes g c = λ log from start address made free gone.
     rw (c.quiet_step.ensures.core c.in_default.is, c.quiet_step.ensures.words c.in_default.is)
-    (subst (λ (n : ℕ). HasGone g.row.PAGES log from start n (state_of c.args.core.now c.args.memory.now) c.args.recorder.now) (let e : made ≡ made + 0 = omega arith in e) gone)
+    (no_more g.row.PAGES log from start address made (state_of c.args.core.now c.args.memory.now) c.args.recorder.now gone)

@@ -6,8 +6,9 @@ use Rattle.span_fact.specs.Span.{Span}
 use Rattle.checkpoints.specs.Kept.{Kept, first_at}
 use Rattle.present_run.specs.Index.{Agrees, Index}
 use Rattle.present_run.specs.Reuse.{span_of}
-use Rattle.present_run.specs.Runs.{AreLandings, IsKnown}
+use Rattle.present_run.specs.Runs.{IsKnown}
 use Rattle.present_run.specs.Ends.{AreEnds, GoesOn, IsJoined}
+use Rattle.present_run.proofs.Held.{landed_over}
 use Rattle.present_run.proofs.Again.{goes_on_put, joined_by, there_is}
 use Rattle.present_run.proofs.present.Present.join.Goals as goal
 
@@ -65,7 +66,8 @@ invariant_of-self-2 g c =
         agrees = subst (λ (r : Index). Agrees pages span r now.rows) (sym c.sum_up_to.ensures)
             (subst (λ (s : List (List Span)). Agrees pages span c.args.self.now.runs.reports s) (sym spans) of.agrees);
       };
-      landed = subst (λ (s : List (List Span)). AreLandings pages span (record { image = image; log = log }) s c.args.self.now.landings) (sym spans) c.args.self.now.landed;
+      landed = landed_over pages span (record { image = image; log = log }) kept.valid now.valid c.args.self.now.landings
+          (omega (arith, count, c.joined_by-count.ensures.more, c.valid-index.ensures)) c.args.self.now.landed;
     }
 
 pub invariant_of-self : goal.invariant_of-self

@@ -6,7 +6,8 @@ use Rattle.checkpoints.specs.Kept.{Kept, NearlyApplies, first_at}
 use Rattle.present_run.specs.Index.{Agrees}
 use Rattle.present_run.specs.Reuse.{span_of}
 use Rattle.present_run.specs.Ends.{IsJoined}
-use Rattle.present_run.specs.Runs.{AreLandings, IsKnown}
+use Rattle.present_run.specs.Runs.{IsKnown}
+use Rattle.present_run.proofs.Held.{landed_over}
 use Rattle.present_run.proofs.Again.{over_joined}
 use Rattle.present_run.proofs.Known.{end_known, known_before, own_events}
 use Rattle.present_run.proofs.Spans.{map_ok}
@@ -60,7 +61,8 @@ invariant_of-self g c =
           (λ end is. sym (end_known pages span image log kept.valid end.value o there
           (subst (λ (s : State). IfSome o (λ r. end.value ≡ end_of pages span (record r { start = s }))) c.requires.start is)))
           c.carry_over.ensures.end)) of;
-      landed = subst (λ (s : List (List Span)). AreLandings pages span (record { image = image; log = log }) s c.args.self.now.landings) (sym rows) c.args.self.now.landed;
+      landed = landed_over pages span (record { image = image; log = log }) c.args.self.now.runs.kept.valid c.carry_over.new.kept.valid c.args.self.now.landings
+          (omega (arith, ap (λ (k : Kept). k.valid) c.carry_over.ensures.kept)) c.args.self.now.landed;
     }
 
 pub join-requires : goal.join-requires

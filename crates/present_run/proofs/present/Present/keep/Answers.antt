@@ -6,12 +6,11 @@ use Rattle.span_fact.specs.Span.{Span, end_of}
 use Rattle.checkpoints.specs.Kept.{first_at, row_at}
 use Rattle.present_run.specs.Index.{Has}
 use Rattle.present_run.proofs.Indexed.{agrees_same}
-use Rattle.present_run.specs.Reuse.{IsServed, IsServing, span_of}
+use Rattle.present_run.specs.Reuse.{span_of}
 use Rattle.present_run.specs.Ends.{AreEnds, IsJoined}
 use Rattle.present_run.proofs.Again.{goes_on_kept, over_kept}
-use Rattle.present_run.proofs.Held.{landed_over, served_first, served_same}
+use Rattle.present_run.proofs.Held.{landed_over}
 use Rattle.present_run.proofs.Known.{known_before, known_by}
-use Rattle.present_run.proofs.Near.{is_joined}
 use Rattle.present_run.proofs.Spans.{ends}
 use Rattle.present_run.proofs.present.Present.keep.Goals as goal
 
@@ -23,8 +22,8 @@ invariant_of-self g c =
       fits = now.fits;
       of = over_kept now.inputs.image now.inputs.log now.runs c.reserve.new.self now.runs.reports firsts c.reserve.ensures.valid
           (agrees_same g.row.PAGES g.row.SPAN now.runs.reports now.runs.kept.rows c.reserve.new.self.rows firsts now.of.agrees) now.of;
-      landed = landed_over g.row.PAGES g.row.SPAN (record { image = now.inputs.image; log = now.inputs.log }) now.runs.kept.rows c.reserve.new.self.rows now.landings
-          (λ i. served_same g.row.PAGES g.row.SPAN (record { image = now.inputs.image; log = now.inputs.log }) now.runs.kept.rows c.reserve.new.self.rows i (c.reserve.ensures.rows i)) now.landed;
+      landed = landed_over g.row.PAGES g.row.SPAN (record { image = now.inputs.image; log = now.inputs.log }) now.runs.kept.valid c.reserve.new.self.valid now.landings
+          (omega (arith, c.reserve.ensures.valid)) now.landed;
     }
 
 pub invariant_of-self-in-Break-branch-2 : goal.invariant_of-self-in-Break-branch-2
@@ -35,8 +34,8 @@ invariant_of-self-in-Break-branch-2 g c =
       fits = now.fits;
       of = over_kept now.inputs.image now.inputs.log now.runs c.reserve.new.self c.take_in.new.self firsts c.reserve.ensures.valid
           (λ i. (c.in_err-take_in.ensures {u = tt}).same i (first_at c.reserve.new.self.rows i) (agrees i)) now.of;
-      landed = landed_over g.row.PAGES g.row.SPAN (record { image = now.inputs.image; log = now.inputs.log }) now.runs.kept.rows c.reserve.new.self.rows now.landings
-          (λ i. served_same g.row.PAGES g.row.SPAN (record { image = now.inputs.image; log = now.inputs.log }) now.runs.kept.rows c.reserve.new.self.rows i (c.reserve.ensures.rows i)) now.landed;
+      landed = landed_over g.row.PAGES g.row.SPAN (record { image = now.inputs.image; log = now.inputs.log }) now.runs.kept.valid c.reserve.new.self.valid now.landings
+          (omega (arith, c.reserve.ensures.valid)) now.landed;
     }
 
 pub run_over-requires : goal.run_over-requires
@@ -110,13 +109,7 @@ invariant_of-self-2 g c =
               ((c.in_ok-take_in.ensures {u = tt}).others i (first_at kept.rows i) (λ same. other (same ∙ number)) (of.agrees i))
         ];
       };
-      landed = landed_over pages span (record { image = image; log = log }) kept.rows now.rows c.args.self.now.landings
-          (λ i. elim (cases_eq i valid) [
-            | inl is ↦ λ _.
-                served_first pages span (record { image = image; log = log }) now.rows i
-                (subst (λ (n : ℕ). IsServing pages span (record { image = image; log = log }) n (first_at now.rows n)) (sym is) (is_joined pages span image log valid (first_at now.rows valid) here).near)
-            | inr other ↦ served_same pages span (record { image = image; log = log }) kept.rows now.rows i (rows i other)
-          ]) c.args.self.now.landed;
+      landed = landed_over pages span (record { image = image; log = log }) valid now.valid c.args.self.now.landings (omega (arith, valid_is)) c.args.self.now.landed;
     }
 
 pub returns-clause-others : goal.returns-clause-others

@@ -12,7 +12,7 @@ invariant_of-self-clause-landed g c = λ e there.
     let is = (c.in-Ok.ensures {u = tt}).kept ∙ if_some _ now.runs.at position c.requires.stands now.of.stands in
     on _ _ c.add-refused.result c.add-refused.ensures.among c.add-refused.ensures.same
     (λ among. elim (among e there) [
-      | inl new ↦ new_landing g.row.PAGES g.row.SPAN (holding_of now) position e c.requires.served c.if-position-eq0.false (new ∙ ap (λ (s : State). (position, s)) is)
+      | inl new ↦ new_landing g.row.PAGES g.row.SPAN (holding_of now).history now.runs.kept.valid position e c.requires.joined c.if-position-eq0.false (new ∙ ap (λ (s : State). (position, s)) is)
       | inr old ↦ now.landed e old
     ])
     (λ same. now.landed e (subst (λ l. Contains l e) same there))

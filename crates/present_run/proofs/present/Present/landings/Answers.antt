@@ -1,3 +1,4 @@
+use Rattle.std.proofs.Common.{arith}
 use Rattle.present_run.proofs.Held.{held_by}
 use Rattle.present_run.proofs.present.Present.landings.Goals as goal
 
@@ -9,4 +10,5 @@ returns-clause-inside g c = λ position there.
 pub returns-clause-served : goal.returns-clause-served
 returns-clause-served g c = λ position there index below.
     let state = held_by c.args.self.now.landings position there in
-    (c.args.self.now.landed (position, state.0) state.1).served index below
+    let landing = c.args.self.now.landed (position, state.0) state.1 in
+    (c.args.self.now.of.joined index (omega (arith, below, landing.joined))).near

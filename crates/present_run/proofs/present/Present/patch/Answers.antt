@@ -53,5 +53,5 @@ invariant_of-self-in_default-patch g c =
     let same = (c.in_default-patch.ensures {u = tt}).0 in record {
       fits = subst (λ (image : Boot). FitsRam g.row.PAGES image) (sym same) now.fits;
       of = subst (λ (image : Boot). AreOf {pages = g.row.PAGES} {span = g.row.SPAN} image now.inputs.log now.runs) (sym same) now.of;
-      landed = subst (λ (image : Boot). AreLandings g.row.PAGES g.row.SPAN (record { image = image; log = now.inputs.log }) now.runs.kept.rows now.landings) (sym same) now.landed;
+      landed = subst (λ (image : Boot). AreLandings g.row.PAGES g.row.SPAN (record { image = image; log = now.inputs.log }) now.runs.kept.valid now.landings) (sym same) now.landed;
     }

@@ -6,11 +6,11 @@ use Rattle.span_fact.specs.Span.{Span}
 use Rattle.checkpoints.specs.Kept.{first_at, promoted, row_at}
 use Rattle.checkpoints.proofs.Rows.{some_within}
 use Rattle.present_run.specs.Index.{Has}
-use Rattle.present_run.specs.Reuse.{IsServing, span_of}
+use Rattle.present_run.specs.Reuse.{span_of}
 use Rattle.present_run.specs.Ends.{AreEnds, IsJoined}
 use Rattle.present_run.proofs.Again.{goes_on_kept, over_kept}
-use Rattle.present_run.proofs.Counts.{first_promoted, first_used}
-use Rattle.present_run.proofs.Held.{landed_over, served_first, served_same}
+use Rattle.present_run.proofs.Counts.{first_promoted}
+use Rattle.present_run.proofs.Held.{landed_over}
 use Rattle.present_run.proofs.Near.{none_near, promoted_zero}
 use Rattle.present_run.proofs.present.Present.promote.Goals as goal
 
@@ -54,7 +54,6 @@ invariant_of-self-2 g c =
     let others : (i : ℕ) → ¬ (i ≡ valid) → first_at now.rows i ≡ first_at kept.rows i = λ i other. ap (λ (row : List Span). slice_get row 0) (rows i other) in
     let row : row_at now.rows valid ≡ promoted c.args.place (row_at kept.rows valid) =
     ap (row_at now.rows) (sym n_is) ∙ (c.promote.ensures.row ∙ ap (λ (n : ℕ). promoted c.args.place (row_at kept.rows n)) n_is) in
-    let near = first_used pages span c.args.place (row_at kept.rows valid) (row_at now.rows valid) _ _ c.requires.serves row in
     let here : first_at now.rows valid ≡ Some fact =
     ap (λ (row : List Span). slice_get row 0) row
     ∙ (first_promoted pages span c.args.place (row_at kept.rows valid) _ _ c.requires.serves
@@ -85,11 +84,5 @@ invariant_of-self-2 g c =
               ((c.in_ok-take_in.ensures {u = tt}).others i (first_at kept.rows i) (λ same. other (same ∙ number)) (of.agrees i))
         ];
       };
-      landed = landed_over pages span (record { image = image; log = log }) kept.rows now.rows c.args.self.now.landings
-          (λ i. elim (cases_eq i valid) [
-            | inl is ↦ λ _.
-                served_first pages span (record { image = image; log = log }) now.rows i
-                (subst (λ (n : ℕ). IsServing pages span (record { image = image; log = log }) n (first_at now.rows n)) (sym is) near)
-            | inr other ↦ served_same pages span (record { image = image; log = log }) kept.rows now.rows i (rows i other)
-          ]) c.args.self.now.landed;
+      landed = landed_over pages span (record { image = image; log = log }) valid now.valid c.args.self.now.landings (omega (arith, c.promote.ensures.valid)) c.args.self.now.landed;
     }

@@ -130,7 +130,7 @@ returns-clause-reaches g c =
       least = λ lacking lacks.
           (within pages span old now c.args.index c.loop-self.self.runs.kept.valid lacking
           (omega (arith, c.loop-self-test.false)) so_far.beyond so_far.count lacks).0;
-      there = λ i below far. far 0 (c.loop-self.self.of.joined i (omega (arith, below, c.loop-self-test.false))).near;
+      there = λ i below. (c.loop-self.self.of.joined i (omega (arith, below, c.loop-self-test.false))).near;
     }
 
 pub returns-in_err-extend-clause-stays : goal.returns-in_err-extend-clause-stays

@@ -35,5 +35,5 @@ invariant_of-self g c =
     let same = (c.in_err-set.ensures {u = tt}).0 in record {
       fits = now.fits;
       of = subst (λ (log : List LogEvent). AreOf {pages = g.row.PAGES} {span = g.row.SPAN} now.inputs.image log now.runs) (sym same) now.of;
-      landed = subst (λ (log : List LogEvent). AreLandings g.row.PAGES g.row.SPAN (record { image = now.inputs.image; log = log }) now.runs.kept.rows now.landings) (sym same) now.landed;
+      landed = subst (λ (log : List LogEvent). AreLandings g.row.PAGES g.row.SPAN (record { image = now.inputs.image; log = log }) now.runs.kept.valid now.landings) (sym same) now.landed;
     }

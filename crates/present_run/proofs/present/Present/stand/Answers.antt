@@ -1,4 +1,4 @@
-use Rattle.std.proofs.Common.{◌/◌, ◌%◌, ◌<◌, arith}
+use Rattle.std.proofs.Common.{◌/◌, ◌%◌, ◌<◌, ◌≤◌, arith}
 use Rattle.std.proofs.Math.Nat.{div-mul-le_self, lt-div-mul-add, mod-eq-sub-div-mul}
 use Rattle.present_run.specs.Reuse.{Reaches}
 use Rattle.present_run.specs.Shown.{holding_of}
@@ -35,3 +35,8 @@ returns-clause-reaches g c =
 
 pub returns-clause-stays : goal.returns-clause-stays
 returns-clause-stays g c = let stays = stays_on c.reach.ensures.stays c.stand_at.ensures.stays in record { history = stays.history; landings = stays.landings; pasts = stays.pasts }
+
+pub returns-clause-joined : goal.returns-clause-joined
+returns-clause-joined g c =
+    ok_all c.stand_at.result (c.args.position / g.row.SPAN ≤ c.stand_at.new.self.runs.kept.valid)
+    (omega (arith, (c.in_ok-reach.ensures {u = tt}).joined, c.stand_at.ensures.valid))

@@ -15,22 +15,22 @@ invariant_of-self-clause-landed g c = λ e there. c.args.self.now.landed e (c.to
 pub returns-in-Some-clause-word : goal.returns-in-Some-clause-word
 returns-in-Some-clause-word g c =
     let now = c.args.self.now in
-    let landing = landing_here g.row.PAGES g.row.SPAN (holding_of now) c.args.position c.in-Some.field-0-0 now.landings c.in-Some.state.now.value now.landed c.in-Some.ensures in
+    let landing = landing_here g.row.PAGES g.row.SPAN (holding_of now).history now.runs.kept.valid c.args.position c.in-Some.field-0-0 now.landings c.in-Some.state.now.value now.landed c.in-Some.ensures in
     c.word-word.ensures ∙ ap (λ (words : List ℕ). slice_index words c.args.place) (c.memory.ensures.words ∙ ap (λ (s : State). s.words) (c.deref.ensures ∙ landing.is))
 
 pub returns-in-Some-clause-reaches : goal.returns-in-Some-clause-reaches
 returns-in-Some-clause-reaches g c =
     let now = c.args.self.now in
     let position = c.args.position in
-    let landing = landing_here g.row.PAGES g.row.SPAN (holding_of now) position c.in-Some.field-0-0 now.landings c.in-Some.state.now.value now.landed c.in-Some.ensures in
-    there_are g.row.PAGES g.row.SPAN (position / g.row.SPAN) (holding_of now) landing.served
+    let landing = landing_here g.row.PAGES g.row.SPAN (holding_of now).history now.runs.kept.valid position c.in-Some.field-0-0 now.landings c.in-Some.state.now.value now.landed c.in-Some.ensures in
+    there_are g.row.PAGES g.row.SPAN (position / g.row.SPAN) (holding_of now) (λ i below. (now.of.joined i (omega (arith, below, landing.joined))).near)
 
 pub returns-in-Some-clause-lands : goal.returns-in-Some-clause-lands
 returns-in-Some-clause-lands g c =
     let now = c.args.self.now in
     let position = c.args.position in
     let there = kept_here position c.in-Some.field-0-0 now.landings c.in-Some.state.now.value c.in-Some.ensures in
-    let landing = landing_here g.row.PAGES g.row.SPAN (holding_of now) position c.in-Some.field-0-0 now.landings c.in-Some.state.now.value now.landed c.in-Some.ensures in
+    let landing = landing_here g.row.PAGES g.row.SPAN (holding_of now).history now.runs.kept.valid position c.in-Some.field-0-0 now.landings c.in-Some.state.now.value now.landed c.in-Some.ensures in
     lands_there g.row.SPAN position (positions_of now.landings) now.runs.live.steps c.word-word.result refl refl there landing.inside refl (c.touch.ensures.first there)
 
 pub returns-in_err-stand-clause-lands : goal.returns-in_err-stand-clause-lands
@@ -46,7 +46,7 @@ land-requires g c =
         (c.in_ok-stand.ensures {u = tt}).stands,
         (
           λ there. absent (subst (λ l. Contains (positions_of l) c.args.position) c.stand.ensures.stays.landings there),
-          (c.in_ok-stand.ensures {u = tt}).reaches.there,
+          (c.in_ok-stand.ensures {u = tt}).joined,
         ),
       ),
     )
