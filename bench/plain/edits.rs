@@ -170,12 +170,12 @@ pub fn reader(seed: u64) -> Image {
     image
 }
 
-/// An image whose code stores instructions into its own page, into another one, and into one whose words stand a multiple of 64 K
-/// words away, through kseg0 and kseg1, and in delay slots. An exception goes on with one of the pages.
+/// An image whose code stores instructions into its own page, into another one, and into one that lies 512 pages away, through kseg0
+/// and kseg1, and in delay slots. An exception goes on with one of the pages.
 pub fn rewriter(seed: u64) -> Image {
     let mut random = Random(seed ^ 0x7777_7777_7777_7777);
     let mut image = Image::raw_rom(&[]).expect("an empty ROM");
-    let bodies = [RAM_BODY, RAM_BODY + 0x1000, RAM_BODY + 0x4_0000];
+    let bodies = [RAM_BODY, RAM_BODY + 0x1000, RAM_BODY + 0x20_0000];
     let count = 8 + random.below(24);
     let mut code = Code { random: &mut random, words: Vec::new() };
     for (register, body) in (8..).zip(bodies) {

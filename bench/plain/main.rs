@@ -3,12 +3,13 @@
 //! `plain [--kind rom|image|source] [--size N] [--log N] [--pages N] [--without PART,..]` reads what the proved program reads,
 //! and writes what it writes. The parts are `translation`, `caches`, `devices` and `kinds`, of which the last are the events
 //! other than sound bytes. Each query runs from reset, by the simplest means.
-//! `plain --random image|reader|log|script --seed N [--without PART,..] [--asks COMMAND,..]` writes a random one instead:
+//! `plain --random image|reader|rewriter|caller|log|script --seed N [--without PART,..] [--asks COMMAND,..]` writes a random one instead:
 //! an image of many instructions, one that reads what arrives, a log, or a script of these commands. `plain --random edits
 //! --seed N`, with the words and the input of a run, writes a script of edits for it.
 
 mod bus;
 mod caches;
+mod calls;
 mod clock;
 mod control;
 mod edits;
@@ -148,6 +149,7 @@ fn main() -> io::Result<ExitCode> {
             "image" => random::image(options.seed, options.parts).write(),
             "reader" => edits::reader(options.seed).write(),
             "rewriter" => edits::rewriter(options.seed).write(),
+            "caller" => calls::caller(options.seed).write(),
             "log" => random::log(options.seed, options.parts).write(),
             _ => random::script(options.seed, &commands).into_bytes(),
         };

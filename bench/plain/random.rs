@@ -45,18 +45,18 @@ const HANDLER: [u32; 2] = [26, 27];
 const CODE: [u32; 3] = [28, 29, 30];
 
 // Registers of coprocessor 0.
-const INDEX: u32 = 0;
+pub const INDEX: u32 = 0;
 const RANDOM: u32 = 1;
-const ENTRY_LO: u32 = 2;
-const ENTRY_HI: u32 = 10;
-const CONTROL_STATUS: u32 = 12;
-const CAUSE: u32 = 13;
-const EPC: u32 = 14;
+pub const ENTRY_LO: u32 = 2;
+pub const ENTRY_HI: u32 = 10;
+pub const CONTROL_STATUS: u32 = 12;
+pub const CAUSE: u32 = 13;
+pub const EPC: u32 = 14;
 
 pub const NOP: u32 = 0;
-const TLBWI: u32 = 0x4200_0002;
+pub const TLBWI: u32 = 0x4200_0002;
 const TLBWR: u32 = 0x4200_0006;
-const RFE: u32 = 0x4200_0010;
+pub const RFE: u32 = 0x4200_0010;
 
 // Where parts of an image stand, as physical addresses.
 const SETUP: u32 = ROM + 0x200;
@@ -79,15 +79,15 @@ fn ori(register: u32, value: u32) -> u32 {
     0x3400_0000 | register << 21 | register << 16 | value & 0xFFFF
 }
 
-fn mtc0(register: u32, control: u32) -> u32 {
+pub fn mtc0(register: u32, control: u32) -> u32 {
     0x4080_0000 | register << 16 | control << 11
 }
 
-fn mfc0(register: u32, control: u32) -> u32 {
+pub fn mfc0(register: u32, control: u32) -> u32 {
     0x4000_0000 | register << 16 | control << 11
 }
 
-fn jr(register: u32) -> u32 {
+pub fn jr(register: u32) -> u32 {
     register << 21 | 8
 }
 
@@ -102,7 +102,7 @@ impl Code<'_> {
         self.words.extend([lui(register, value), ori(register, value)]);
     }
 
-    fn set_control(&mut self, control: u32, value: u32) {
+    pub fn set_control(&mut self, control: u32, value: u32) {
         self.set(1, value);
         self.words.push(mtc0(1, control));
     }
@@ -135,7 +135,7 @@ impl Code<'_> {
     }
 
     /// Receivers, lines, scanner, the clock and the board.
-    fn set_devices(&mut self) {
+    pub fn set_devices(&mut self) {
         for line in 0..4 {
             let value = line | self.random.pick(&[0, 0x1000, 0x1000]);
             self.store(0xBFE0_0008, value);
