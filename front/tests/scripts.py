@@ -8,7 +8,7 @@ from contextlib import redirect_stderr, redirect_stdout
 from dataclasses import dataclass
 from pathlib import Path
 
-from front import cli
+from bezhakkom import cli
 from front.tests.support import ROOT
 
 

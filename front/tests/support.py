@@ -6,11 +6,11 @@ import unittest
 from pathlib import Path
 from typing import Optional, Sequence
 
-from front.driver import Driver
-from front.image import Image
-from front.limits import GREATEST_POSITION, READS
-from front.log import Event
-from front.replies import Registers, is_refusal, registers
+from bezhakkom.driver import Driver
+from bezhakkom.image import Image
+from bezhakkom.limits import GREATEST_POSITION, READS
+from bezhakkom.log import Event
+from bezhakkom.replies import Registers, is_refusal, registers
 
 ROOT = Path(__file__).resolve().parents[2]
 

@@ -34,11 +34,12 @@ class Terminal:
         return before + wanted
 
     def press(self, keys: bytes, wanted: bytes) -> bytes:
-        """What is shown up to a text, while keys are pressed again and again."""
+        """What is shown up to a text, while keys are pressed again and again, twice a second: not at once when they are echoed."""
         end = time.monotonic() + PATIENCE
         while wanted not in self._shown and time.monotonic() < end:
             self.type(keys)
-            for _ in range(5):
+            pause = time.monotonic() + 0.5
+            while wanted not in self._shown and time.monotonic() < pause:
                 self._read()
         return self.until(wanted)
 
@@ -54,8 +55,22 @@ class Terminal:
 
     def end(self) -> int:
         """Waits until the command ends, and gives its status as the system has it."""
+        return self.leave(b"")
+
+    def leave(self, keys: bytes) -> int:
+        """The same, while keys are pressed again and again: gdb drops what is typed before it has handled a Ctrl-C."""
+        end = time.monotonic() + PATIENCE
+        pressed = -1.0
         while self._read():
-            pass
+            now = time.monotonic()
+            if now > end:
+                raise AssertionError(f"the command does not end; it shows {self._shown!r}")
+            if keys and now > pressed + 0.5:
+                pressed = now
+                try:
+                    self.type(keys)
+                except OSError:  # it ends
+                    break
         _, status = os.waitpid(self.process, 0)
         os.close(self._terminal)
         return status

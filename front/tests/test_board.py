@@ -34,7 +34,7 @@ class Board(InFolder):
         for options, said in (
                 (["--unit", "0"], "--unit wants a number from 1 to 65,535, and 0 is none"),
                 (["--byte-time", "65536"], "--byte-time wants a number from 1 to 65,535, and 65536 is none"),
-                (["--unit", "x"], "--unit wants a number, and x is none"),
+                (["--unit", "x"], "--unit wants a number from 1 to 65,535, and x is none"),
                 (["--clock", "89-02-29 00:00:00"], "--clock wants a time, 'YY-MM-DD HH:MM:SS', and 89-02-29 00:00:00 is none"),
                 (["--clock", "noon"], "--clock wants a time, 'YY-MM-DD HH:MM:SS', or registers 0 to 11, such as "
                                       "'0 0 0 0 0 0 1 1 1 0 32 6'"),
@@ -50,6 +50,17 @@ class Board(InFolder):
             lines.append("gdb --unit 0 x.rom")
         for line in lines:
             self.check(line.split(), b"", b"", "bin/wb: --unit wants a number from 1 to 65,535, and 0 is none\n", 2)
+
+    def test_load_keeps_them(self) -> None:
+        """They are the board's, and not the program's."""
+        login = str(ROOT / "examples/login/login.elf")
+        self.check(["image", "--unit", "3", login, "other.img"], b"", b"", "", 0)
+        script = f"load other.img\nload {login}\nsave-image saved.img\n".encode()
+        done = run(["shell", "--unit", "100", "--byte-time", "20", login], script, self.folder)
+        self.assertEqual((done.stdout.decode().splitlines()[:3], done.stderr), (
+            ["the byte time, the unit and the clock stay as they are; other.img says others, which it has where it is opened",
+             "0 words of the image changed by other.img", f"0 words of the image changed by {login}"], b""))
+        self.assertEqual((self.folder / "saved.img").read_bytes()[8:16], bytes([20, 0, 0, 0, 100, 0, 0, 0]))
 
     def test_several_files(self) -> None:
         """Words of each file, a jump to the entry of the first ELF, and the symbols of both."""

@@ -4,10 +4,10 @@ from __future__ import annotations
 import random
 import unittest
 
-from front import agent, conditions, replies
-from front.agent import Failed, Known
-from front.limits import RESET_PC
-from front.states import replies_at
+from bezhakkom import agent, conditions, replies
+from bezhakkom.agent import Failed, Known
+from bezhakkom.limits import RESET_PC
+from bezhakkom.states import replies_at
 from front.tests.support import DATA, random_rom, rom, start, states
 
 END = 300  # positions that are looked at one by one

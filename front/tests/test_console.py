@@ -9,9 +9,9 @@ import time
 import unittest
 from pathlib import Path
 
-from front import loading
-from front import log as logs
-from front.log import Event, Kind
+from bezhakkom import loading
+from bezhakkom import log as logs
+from bezhakkom.log import Event, Kind
 from front.tests.support import ROOT, needs_kinds
 from front.tests.terminal import Terminal
 

@@ -10,13 +10,13 @@ import unittest
 from typing import Optional
 from unittest import mock
 
-from front import driver as drivers
-from front import loading
-from front.driver import Driver
-from front.errors import Ended, Interrupted, Refused
-from front.image import Image
-from front.log import Event, Kind
-from front.replies import Where, Writer
+from bezhakkom import driver as drivers
+from bezhakkom import loading
+from bezhakkom.driver import Driver
+from bezhakkom.errors import Ended, Interrupted, Refused
+from bezhakkom.image import Image
+from bezhakkom.log import Event, Kind
+from bezhakkom.replies import Where, Writer
 from front.tests.support import ROOT, needs_erase, needs_kinds, random_rom, rom, start
 
 ECHO = ROOT / "examples/echo"
@@ -179,7 +179,7 @@ class Mirrors(unittest.TestCase):
         self.mirrors(kinds=True, erase=True)
 
     def mirrors(self, kinds: bool = False, erase: bool = False) -> None:
-        for seed in range(12):
+        for seed in range(6):
             source = random.Random(seed)
             image = rom(random_rom(source))
             log = sorted((Event(source.randrange(400), 0, source.randrange(256)) for _ in range(3)), key=lambda it: it.time)
@@ -190,8 +190,17 @@ class Mirrors(unittest.TestCase):
                 self.assertEqual((anew.log, anew.patches, anew.position), (plain.log, plain.patches, plain.position))
                 self.assertEqual([_event(it) for it in plain.ask("log 0 32")[1:]], plain.log)
                 self.assertEqual(f"pos {plain.position}", plain.ask("pos")[0])
+                self.plays_again(plain, start(image, log))
             plain.close()
             anew.close()
+
+    def plays_again(self, driver: Driver, fresh: Driver) -> None:
+        """The journal makes of a fresh program what a driver starts again with."""
+        look = ["goto 400", "regs", "mem 0x100 8", "mem 0x200 1", "mem 0x1fc00000 32", "log 0 32"]
+        driver.close()
+        fresh.values(driver.journal)
+        self.assertEqual(fresh.ask_all(look), driver.ask_all(look))
+        fresh.close()
 
     def test_reverting(self) -> None:
         """Any log becomes any other one, also among events of one time."""

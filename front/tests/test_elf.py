@@ -7,12 +7,12 @@ import unittest
 from dataclasses import replace
 from typing import Sequence
 
-from front import elf
-from front.boot import Boot, Source, boot_of
-from front.elf import Symbol
-from front.errors import Problem
-from front.image import Image, SymbolFile, kind_of
-from front.symbols import Symbols, symbols_of
+from bezhakkom import elf
+from bezhakkom.initial import Boot, Source, boot_of
+from bezhakkom.elf import Symbol
+from bezhakkom.errors import Problem
+from bezhakkom.image import Image, SymbolFile, kind_of
+from bezhakkom.symbols import Symbols, symbols_of
 
 # Where the parts of a made ELF stand.
 _HEADER_BYTES, _PROGRAM_BYTES, _SECTION_BYTES = 52, 32, 40

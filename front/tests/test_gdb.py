@@ -202,6 +202,10 @@ class Login(GdbTest):
                            "starti 50000", "print session.length")
         self.holds(lines, "$1 = 3", "at 50000", "$2 = -1")
 
+    def test_without_the_stub_nothing_is_started(self) -> None:
+        lines = self.batch("disconnect", "run")
+        self.assertEqual([it for it in lines if "run" in it], ["Don't know how to run.  Try \"help target\"."])
+
     def test_start_and_kill(self) -> None:
         lines = self.batch("run 40000", "start", POSITION, "kill", "run", POSITION)
         self.holds(lines, "Sorry, operatorsesame.", "at 112", "[Inferior 1 (Remote target) killed]", "at 110960")
@@ -282,8 +286,8 @@ class UserProgram(GdbTest):
 
 class Missing(GdbTest):
     def test_what_is_wrong_is_told_before_gdb_is_started(self) -> None:
-        for words, reason in (("", "usage:"), ("none.elf", "there is no file none.elf"), ("--through --log", "--log wants a file"),
-                              ("--fast examples/login/login.elf", "there is no option --fast"),
+        for words, reason in (("", "usage:"), ("none.elf", "there is no file none.elf"), ("--through --log", "argument --log: expected one argument"),
+                              ("--fast examples/login/login.elf", "unrecognized arguments: --fast"),
                               ("examples/login/log", "is a log, no image")):
             self.assertIn(reason, debugger.run([debugger.WB, "gdb", *words.split()]))
 
@@ -300,15 +304,16 @@ class Missing(GdbTest):
 
 
 class Reads(GdbTest):
-    STUB = ("import sys; sys.path.insert(0, '.'); from front import loading, rsp, session, stub, symbols; "
-            "from front.driver import Driver; "
+    STUB = ("import sys; sys.path.insert(0, 'front'); from bezhakkom import loading, rsp, session, stub, symbols; "
+            "from bezhakkom.driver import Driver; "
             "driver = Driver.start(loading.image('examples/login/login.elf'), most_reads=100); "
             "stub.Stub(session.Session(driver, symbols.Symbols()), rsp.Link(0, 1)).serve(); driver.close()")
 
     def test_the_program_is_started_again(self) -> None:
         commands = [f"target remote | {sys.executable} -B -c \"{self.STUB}\"", "monitor patch p:0x200 7", "stepi 112", POSITION,
                     "reverse-stepi 12", POSITION, "x/xw 0x80000200"]
-        line = [debugger.DEBUGGER, "-q", *debugger.PLAIN, "-iex", "set osabi none", "-batch", "examples/login/login.elf",
+        line = [debugger.DEBUGGER, "-q", *debugger.PLAIN, "-iex", "set osabi none", "-iex", "set remotetimeout 300", "-batch",
+                "examples/login/login.elf",
                 *(word for command in commands for word in ("-ex", command))]
         self.holds(debugger.run(line).splitlines(), "at 112", "at 100", "0x80000200:\t0x00000007")
 

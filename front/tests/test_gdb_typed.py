@@ -58,8 +58,7 @@ class Typed(unittest.TestCase):
         self.type(terminal, "break *0xbfc00180", "commands", "silent", "continue", "end", "continue")
         terminal.until(b"[serial line 3]")
         self.interrupt(terminal)
-        self.type(terminal, "quit")
-        self.assertEqual(terminal.end(), 0)
+        self.assertEqual(terminal.leave(b"quit\n"), 0)
 
     def test_ctrl_c_ends_what_takes_long(self) -> None:
         """However often it is pressed, the session stays, with its edits."""
@@ -69,17 +68,32 @@ class Typed(unittest.TestCase):
                 self.type(terminal, "wb add 5 0 65", line)
                 terminal.until(line.encode() + b"\r\n")
                 self.interrupt(terminal, 5 * b"\x03")
-                self.type(terminal, "starti 9", "wb log 0 2", "quit", "quit")
-                terminal.until(b"step 5, line 0, 0x41")
-                self.assertEqual(terminal.end(), 0)
+                terminal.press(b"starti 9\nwb log 0 2\n", b"step 5, line 0, 0x41")
+                self.assertEqual(terminal.leave(b"quit\n"), 0)
 
     def test_ctrl_c_ends_many_steps(self) -> None:
+        """However often it is pressed, the session stays, with its edits."""
         terminal = self.gdb("--log", "examples/driver/log", "examples/driver/boot.s")
-        self.type(terminal, "stepi 1000000000")
-        terminal.until(b"stepi 1000000000\r\n")
-        self.interrupt(terminal)
-        self.type(terminal, "quit")
-        self.assertEqual(terminal.end(), 0)
+        self.type(terminal, "wb add 5 0 65")
+        for keys in b"\x03", 2 * b"\x03", 9 * b"\x03":
+            self.type(terminal, "stepi 1000000000")
+            terminal.until(b"stepi 1000000000\r\n")
+            self.interrupt(terminal, keys)
+        terminal.press(b"starti 9\nwb log 0 2\n", b"step 5, line 0, 0x41")
+        self.assertEqual(terminal.leave(b"quit\n"), 0)
+
+    def test_ctrl_c_ends_loops_of_gdb(self) -> None:
+        """Once pressed it ends the step, and the loop or the user's command with it."""
+        terminal = self.gdb("--log", "examples/driver/log", "examples/driver/boot.s")
+        self.type(terminal, "define many", "while 1", "stepi", "end", "end")
+        for lines in (("while 1", "stepi", "end"), ("many",), ("while 1", "next", "end")):
+            self.type(terminal, *lines)
+            terminal.until(b" in loop ()")
+            terminal.type(b"\x03")
+            terminal.until(PROMPT)
+            self.asked += 1
+            terminal.press(b"print 7000 + %d\n" % self.asked, b"= %d\r" % (7000 + self.asked))
+        self.assertEqual(terminal.leave(b"quit\n"), 0)
 
     def test_what_is_not_saved_is_told_before_gdb_quits(self) -> None:
         terminal = self.gdb("examples/login/login.elf")

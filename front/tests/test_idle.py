@@ -20,8 +20,11 @@ class Debugger(unittest.TestCase):
 
     def test_a_run_that_does_nothing(self) -> None:
         """It pauses between the bytes of the greeting, and goes on when it is asked again."""
-        shown = "\n".join(debugger.batch("login/login.elf", "wb idle 12", "continue", "continue", "wb idle 0", "continue"))
-        self.assertEqual(shown.count("[Nothing was sent in the last 12 steps, and the log has no more events.]"), 2)
+        shown = "\n".join(debugger.batch("login/login.elf", "wb idle 12", "continue", "continue", "wb expect 'x'", "wb idle 0", "continue"))
+        self.assertEqual(shown.count("[The run pauses: nothing was sent in the last 12 steps, and the log has no more events. "
+                                     "`continue` goes on, and `wb idle N` changes that number, 0 for never.]"), 2)
+        self.assertRegex(shown, r"did not send 'x': the run pauses at step \d+, as nothing was sent in the last 12 steps, and the log has "
+                                "no more events. The same line goes on, and `wb idle N` changes")
         self.assertRegex(shown, "on the program waits for a byte, and the log has no more.]")
 
     def test_progress_on_a_terminal(self) -> None:
@@ -35,8 +38,7 @@ class Debugger(unittest.TestCase):
         self.assertTrue(re.search(rb"position [\d,]+, \d+ million", shown), shown)
         terminal.type(b"\x03")
         terminal.until(b"Interrupt")
-        terminal.type(b"quit\n")
-        terminal.end()
+        terminal.leave(b"quit\n")
 
 
 if __name__ == "__main__":

@@ -8,8 +8,8 @@ import socket
 import subprocess
 import unittest
 
-from front import listening
-from front.errors import Problem
+from bezhakkom import listening
+from bezhakkom.errors import Problem
 from front.tests.support import ROOT
 from front.tests.wire import packed
 

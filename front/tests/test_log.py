@@ -9,11 +9,11 @@ import unittest
 from pathlib import Path
 from unittest import mock
 
-from front import log as logs
-from front.errors import Problem
-from front.log import Event, Kind
-from front.image import IMAGE, RAW_ROM
-from front.saving import save
+from bezhakkom import log as logs
+from bezhakkom.errors import Problem
+from bezhakkom.log import Event, Kind
+from bezhakkom.image import IMAGE, RAW_ROM
+from bezhakkom.saving import save
 from front.tests.support import ROOT
 
 

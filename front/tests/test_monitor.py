@@ -5,7 +5,7 @@ import tempfile
 import unittest
 from pathlib import Path
 
-from front import loading
+from bezhakkom import loading
 from front.tests.support import ROOT, needs_erase, needs_kinds, start
 from front.tests.wire import COUNTER, ECHO, TYPED, StubTest, Wire
 

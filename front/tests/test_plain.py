@@ -14,6 +14,7 @@ import time
 import unittest
 from pathlib import Path
 
+from bezhakkom.cli import COMMANDS
 from front.tests.outside import WB, InFolder, run
 from front.tests.support import ROOT, needs_erase, needs_kinds
 from front.tests.test_elf import made
@@ -33,15 +34,17 @@ class Plain(InFolder):
                     self.assertEqual((done.stdout, done.stderr, done.returncode), (expected, b"", 0))
 
     def test_statuses(self) -> None:
-        """What goes wrong, in the words that were always used."""
+        """What goes wrong, each in one line."""
         rom, bad = self.put("x.rom", bytes(8)), self.put("x.img", b"R3KIMG1\n")
         source, script = self.put("x.s", b"foo\n"), self.put("script", b"pos\n")
         log = self.put("bad.log", b"R3KLOG1\n\1\0\0\0")
-        usage = "bin/wb: usage: bin/wb [OPTIONS] IMAGE [SCRIPT]\n"
+        usage = "usage: bin/wb [OPTIONS] IMAGE [SCRIPT]\n"
+        missing = f"bin/wb: the following arguments are required: IMAGE; {usage}"
         cases: list[tuple[list[str], bytes, str, int]] = [
                 ([rom, script], b"pos 0\n", "", 0),
-                ([], b"", usage, 2), ([rom, script, script], b"", usage, 2), (["-x"], b"", usage, 2),
-                (["--log"], b"", "bin/wb: --log wants a file\n", 2),
+                ([], b"", missing, 2), ([rom, script, script], b"", f"bin/wb: unrecognized arguments: script; {usage}", 2),
+                ([rom, "-x"], b"", f"bin/wb: unrecognized arguments: -x; {usage}", 2),
+                (["--log"], b"", f"bin/wb: argument --log: expected one argument; {usage}", 2),
                 (["none"], b"", "bin/wb: there is no file none\n", 2),
                 ([rom, "none"], b"", "bin/wb: there is no file none\n", 2),
                 (["--log", "none", rom], b"", "bin/wb: there is no file none\n", 2),
@@ -65,8 +68,8 @@ class Plain(InFolder):
                 ([log], "x.log is a log, no image: bin/wb --log x.log IMAGE", 2), (["empty"], "empty is empty; .* --kind rom", 2),
                 (["x.S"], "C preprocessor and GNU as. .* mipsel-linux-gnu-gcc ", 2), (["gnu.s"], "looks like source for GNU as", 1),
                 (["--log", "x.img", rom], "x.img is an image, no log", 1), (["--log", "text", rom], "bin/wb log make", 1),
-                (["--what", rom], "no option --what", 2), (["--kind", "tape", rom], "tape is no kind of image; there are rom", 2),
-                (["--json=5", rom], "--json has no value", 2)):
+                (["--what", rom], "unrecognized arguments: --what; usage: ", 2), (["--kind", "tape", rom], "tape is no kind of image; there are rom", 2),
+                (["--json=5", rom], "argument --json: ignored explicit argument '5'", 2)):
             done = run(arguments, b"", self.folder)
             self.assertRegex(done.stderr.decode(), said)
             self.assertEqual((done.stdout, done.returncode), (b"", status), arguments)
@@ -149,7 +152,7 @@ class Plain(InFolder):
         self.assertEqual([objects[at]["error"]["name"] for at in (1, 3)], ["Range", "TooFar"])
 
     def test_help(self) -> None:
-        for arguments in (["--help"], *([it, "--help"] for it in ("shell", "console", "log", "image"))):
+        for arguments in (["--help"], *([it, "--help"] for it in COMMANDS)):
             done = run(arguments)
             self.assertEqual((done.stderr, done.returncode), (b"", 0))
             self.assertIn(b"Example", done.stdout)
@@ -169,7 +172,11 @@ class Plain(InFolder):
         self.assertEqual((self.folder / "letter").read_bytes(), b"Dear Sir")
         self.check(["log", "make", "-", "letter", "--force"], text, b"", "", 0)
         self.check(["log", "make", "-", "/dev/full"], text, b"", "bin/wb: /dev/full can't be written: No space left on device\n", 2)
-        self.check(["log"], b"", b"", "bin/wb: usage: bin/wb log show LOG | bin/wb log make [--force] TEXT LOG\n", 2)
+        usage = "usage: bin/wb log {show LOG | make [--force] TEXT LOG}\n"
+        for words, why in ((["log"], "the following arguments are required: show | make, FILE"),
+                           (["log", "make", "text"], "`show` takes one file, and `make` two"),
+                           (["log", "show", "text", "made"], "`show` takes one file, and `make` two")):
+            self.check(words, b"", b"", f"bin/wb: {why}; {usage}", 2)
 
 
 class Typed(unittest.TestCase):

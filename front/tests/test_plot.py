@@ -114,15 +114,15 @@ class Plot(unittest.TestCase):
 
     def test_what_is_wrong_is_told(self) -> None:
         for words, reason in (
-                (["examples/login/login.elf"], "usage:"), (["--to", "x", *LOGIN[2:]], "x is none"),
+                (["examples/login/login.elf"], "usage:"), (["--to", "x", *LOGIN[2:]], "argument --to: 'x' is no number"),
                 (["--to", "0", *LOGIN[2:]], "from 1 to"),
-                (["--background", "red", *LOGIN], "there is no background red"),
+                (["--background", "red", *LOGIN], "argument --background: invalid choice: 'red'"),
                 (["--words", "nothing", *LOGIN], "there is no word nothing"),
                 (["--words", "p:0x1fe00000", *LOGIN], "no memory stands at the physical address 0x1fe00000"),
                 (["--words", "0xbfe00000", *LOGIN], "0xbfe00000 leads to the physical address 0x1fe00000, where no memory is"),
                 (["--words", "0x1000", *LOGIN], "0x00001000 is mapped at none of "),
                 (["--edits", "goto 5", *LOGIN], "goto 5 is no edit"),
-                (["--edits", "del 99", *LOGIN], "error 4 NoEvent")):
+                (["--edits", "del 99", *LOGIN], "there is no event 99: they are 0 to ")):
             self.assertIn(reason, debugger.run([debugger.WB, "plot", *words]))
 
 

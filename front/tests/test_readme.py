@@ -11,6 +11,7 @@ import tempfile
 import unittest
 from pathlib import Path
 
+from front.tests import pages
 from front.tests.support import ROOT
 
 PAGE = (ROOT / "README.md").read_text()
@@ -34,26 +35,33 @@ def fresh(folder: Path) -> tuple[Path, dict[str, str]]:
 
 
 class Readme(unittest.TestCase):
-    def test_the_first_command(self) -> None:
-        """It is unpacked, and shows the page's lines in their order. What the script says in between is shown too."""
-        block = re.search(r"(?m)(?:^    .*\n)+", PAGE)
-        assert block
-        start, *lines = (line[4:] for line in block[0].splitlines())
-        self.assertEqual(len(lines) + 1, 10)
+    def test_the_first_commands(self) -> None:
+        """They are unpacked, and show the page's lines in their order. What the scripts say in between is shown too."""
+        blocks = [[line[4:] for line in it.splitlines()] for it in re.findall(r"(?m)(?:^    .*\n)+", PAGE.split("\n## Linux\n")[0])]
+        self.assertEqual([len(it) for it in blocks], [10, 4])
         with tempfile.TemporaryDirectory() as name:
             copy, environment = fresh(Path(name))
-            done = subprocess.run(shlex.split(start)[1:], cwd=copy, env=environment, stdin=subprocess.DEVNULL,
-                                  capture_output=True, text=True)
-        self.assertEqual((done.stderr, done.returncode), ("", 0))
-        shown = iter(done.stdout.splitlines())
-        for line in lines:
-            self.assertIn(line, shown)
+            for start, *lines in blocks:
+                done = subprocess.run(shlex.split(start)[1:], cwd=copy, env=environment, stdin=subprocess.DEVNULL,
+                                      capture_output=True, text=True)
+                self.assertEqual((done.stderr, done.returncode), ("", 0))
+                shown = iter(done.stdout.splitlines())
+                for line in lines:
+                    self.assertIn(line, shown)
 
     def test_the_walk_is_that_of_the_page_of_debugging(self) -> None:
         page = (ROOT / "docs/DEBUGGING.md").read_text()
         typed = re.findall(r"(?m)^    > (.*)$", page.split("## The same in the shell\n")[1].split("\n## ")[0])
         walk = [it for it in (ROOT / "examples/login/walk").read_text().splitlines() if not it.startswith("#")]
         self.assertEqual(walk, typed)
+
+    def test_its_lines_of_linux_are_of_that_page(self) -> None:
+        """As are those at the head of the page. examples/linux/check compares the page with Linux."""
+        page = (ROOT / "docs/LINUX.md").read_text()
+        for lines in (pages.transcript(PAGE, "Linux"), pages.indented(page.split("\n## ")[0])):
+            walk = iter(pages.transcript(page, "A walk in gdb"))
+            for line in lines:
+                self.assertIn(line, walk)
 
     def test_what_it_names_is_there(self) -> None:
         for name in set(re.findall(r"`((?:bin|bench|docs|front|examples|\.ci)/[\w./-]*)", PAGE)):

@@ -5,7 +5,7 @@ import random
 import time
 import unittest
 
-from front.rsp import PACKET_BYTES
+from bezhakkom.rsp import PACKET_BYTES
 from front.tests.support import rom, start
 from front.tests.wire import Wire
 

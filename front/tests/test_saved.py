@@ -8,8 +8,8 @@ import tempfile
 import unittest
 from pathlib import Path
 
-from front import saved
-from front.log import Event
+from bezhakkom import gdb_stops, saved
+from bezhakkom.log import Event
 from front.tests import debugger
 from front.tests.scripts import shell
 from front.tests.support import ROOT
@@ -123,6 +123,34 @@ class Saved(unittest.TestCase):
         plain = subprocess.run([str(ROOT / "bin/wb"), self.file], cwd=ROOT, capture_output=True, text=True)
         self.assertEqual((plain.returncode, plain.stderr), (2, f"bin/wb: {self.file} is a session: bin/wb shell {self.file}\n"))
 
+    def test_one_that_is_cut(self) -> None:
+        """Wherever it is cut, that is one line. Where it ends within a line, or before the empty one, that line is named."""
+        self.save("whole")
+        content = Path(self.file).read_bytes()
+        head = content.index(b"\n\n") + 2
+        contents = content.index(b"\ncontents\n")
+        for end in (*range(len("bezhakkom session 1"), head), *range(head + 1, contents, 7), *range(contents + 1, len(content), 501)):
+            Path(self.file).write_bytes(content[:end])
+            done = shell(self.file)
+            lines = content[:end].count(b"\n")
+            if content[end - 1:end] != b"\n":
+                said = f"{self.file} is cut within line {lines + 1}, its last one, which has no line end"
+            elif end < head:
+                said = f"{self.file} is cut after line {lines}: an empty line and the lines of the shell are missing"
+            else:
+                continue
+            self.assertEqual((done.stderr, done.returncode), (f"bin/wb: {said}\n", 2))
+
+    def test_a_session_writes_no_file(self) -> None:
+        self.save()
+        file = self.folder / "made"
+        whole = Path(self.file).read_text()
+        for name in f"save-log {file}", f"save-i {file}", f"monitor save {file}", f"load {file}", "quit":
+            Path(self.file).write_text(f"{whole}{name}\n")
+            done = shell(self.file)
+            self.assertRegex(done.stderr, f":{whole.count(chr(10)) + 1}: `{name.split()[0]}` is no line of a session, which has add, ")
+            self.assertEqual((done.returncode, file.exists()), (2, False))
+
     def test_a_line_that_fails(self) -> None:
         self.save()
         Path(self.file).write_text(Path(self.file).read_text() + "break nowhere\nadd 7 0 'q'\n")
@@ -139,9 +167,62 @@ class Saved(unittest.TestCase):
         self.assertIn("$1 = 55555\n", shown)
         self.assertIn("<main>", shown)
         first, second = (Path(it).read_text().splitlines() for it in (self.file, again))
-        # gdb has its own breakpoints, and what was typed is shown as it was read.
-        self.assertEqual([it for it in second if not it.startswith("#")],
-                         [it for it in first if not it.startswith(("#", "break", "watch"))])
+        # What was typed is shown as it was read.
+        self.assertEqual([it for it in second if not it.startswith("#")], [it for it in first if not it.startswith("#")])
+
+    def gdb(self, *words: str, commands: tuple[str, ...]) -> list[str]:
+        line = [debugger.WB, "gdb", *words, *debugger.PLAIN, "-batch", *(word for it in commands for word in ("-ex", it))]
+        return debugger.run(line).splitlines()
+
+    def test_stops_of_gdb(self) -> None:
+        """They stop where the same ones stop that are typed. What can't be kept is named."""
+        debugger.needed()
+        typed = ("break 48 if session.length == 3", "tbreak print", "break read_line", "disable 3", "watch -l session.user[8]",
+                 "watch session.length if session.length < 0", "hbreak *0xbfc002ec", "break send if c == 10", "rwatch session.line",
+                 'break print if $_streq("a", "b")', "break 53", "commands", "silent", "end", "ignore 10 2")
+        script = self.folder / "typed"
+        script.write_text("\n".join(typed) + "\n")
+        runs = ("delete 8-10", *['printf "at %d\\n", $position', "continue"] * 8)
+        options = ("--log", "examples/login/log", LOGIN)
+        wanted = self.gdb(*options, commands=("starti 120", f"source {script}", f"wb save {self.file}", *runs))
+        self.assertEqual([it for it in wanted if it.startswith("not saved")],
+                         [f"not saved: stop {it}: a session keeps breakpoints, and watches of stores, without `$_` in them"
+                          for it in (8, 9)] + ["not saved: the commands of stop 10", "not saved: the count for `ignore` of stop 10"])
+        kept = ["break login.c:48 if session.length == 3", "tbreak print", "disabled break read_line", "watch -location session.user[8]",
+                "watch session.length if session.length < 0", "hbreak *0xbfc002ec", "break send if c == 10", "break login.c:53"]
+        self.assertEqual([it[4:] for it in Path(self.file).read_text().splitlines() if it.startswith("gdb ")], kept)
+        shown = self.gdb(self.file, commands=("info breakpoints", *runs))
+        stops = [it for it in shown if it.startswith("at ")]
+        self.assertEqual(stops, [it for it in wanted if it.startswith("at ")])
+        self.assertGreater(len(set(stops)), 5)
+        self.assertTrue(any(it.startswith("3 ") and " keep n " in it for it in shown), shown)
+        # The shell keeps them.
+        again = str(self.folder / "again.session")
+        said = shell(self.file, lines=("stops", "gdb", f"save {again}", "delete", "stops", "gdb")).stdout.splitlines()
+        self.assertEqual(said[:len(kept)], [f"kept for gdb: {it}" for it in kept])
+        self.assertEqual((said[len(kept):-2], said[-1]), (kept, "there are none; `break A` and `watch A` make one"))
+        self.assertEqual(Path(again).read_text(), Path(self.file).read_text())
+
+    def test_a_session_runs_nothing_in_gdb(self) -> None:
+        debugger.needed()
+        self.save()
+        file = self.folder / "made"
+        lines = (f"gdb shell touch {file}", f"gdb watch $_shell(\"touch {file}\")", f"gdb break main if $_shell(\"touch {file}\")",
+                 f"gdb disabled python open('{file}', 'w')", "gdb tbreak main")
+        with open(self.file, "a") as opened:
+            opened.writelines(f"{it}\n" for it in lines)
+        shown = self.gdb(self.file, commands=("starti", "continue"))
+        self.assertEqual(sum("can't be made: it is no breakpoint or watch that a session can have" in it for it in shown), 4, shown)
+        self.assertIn("Temporary breakpoint", "\n".join(shown))
+        self.assertFalse(file.exists())
+
+    def test_stops_that_both_have(self) -> None:
+        for address, size, line in ((0xBFC00200, None, "break *0xbfc00200"), (0x80001009, 1, "watch *(char *) 0x80001009"),
+                                    (0x500, 2, "watch *(short *) 0x00000500"), (0x80001020, 4, "watch *(int *) 0x80001020"),
+                                    (0x80001000, 33, "watch *(char (*)[33]) 0x80001000")):
+            self.assertEqual((gdb_stops.line(address, size), gdb_stops.parts(line)), (line, (address, size)))
+        for line in "break main", "break *0xbfc00200 if c == 3", "tbreak *0xbfc00200", "watch *(long *) 0x500", "watch session":
+            self.assertIsNone(gdb_stops.parts(line))
 
     def test_the_page(self) -> None:
         """The session on the page is what its walk saves."""

@@ -5,10 +5,10 @@ import random
 import unittest
 from unittest import mock
 
-from front import loading, search
-from front.log import Event
+from bezhakkom import loading, search
+from bezhakkom.log import Event
 from front.tests.support import DATA, ROOT, random_rom, rom, start, states, stored
-from front.visits import Visits
+from bezhakkom.visits import Visits
 
 IMAGES = 50
 CASES = 10

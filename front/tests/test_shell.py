@@ -9,16 +9,16 @@ import time
 import unittest
 from pathlib import Path
 
-from front import expressions, loading
-from front import log as logs
-from front.commands import COMMANDS
-from front.driver import Driver
-from front.errors import Problem
-from front.habits import translated
-from front.log import Event, Kind
-from front.session import Session, distance
-from front.shell import Shell
-from front.symbols import symbols_of
+from bezhakkom import expressions, loading
+from bezhakkom import log as logs
+from bezhakkom.commands import COMMANDS
+from bezhakkom.driver import Driver
+from bezhakkom.errors import Problem
+from bezhakkom.habits import translated
+from bezhakkom.log import Event, Kind
+from bezhakkom.session import Session, distance
+from bezhakkom.shell import Shell
+from bezhakkom.symbols import symbols_of
 from front.tests.scripts import Done, shell
 from front.tests.support import ROOT, needs_erase, needs_kinds
 
@@ -208,12 +208,13 @@ class Pauses(unittest.TestCase):
         count = 0
         while not talk("expect 'password'")[0].startswith("step"):
             count += 1
-            self.assertRegex(talk.said[0], "line 0 did not send 'password': up to step .* nothing was sent for 12 steps, and the log "
-                             "has no more events; the same line goes on, and `idle N` changes that number. It sent ")
+            self.assertRegex(talk.said[0], "line 0 did not send 'password': the run pauses at step .*, as nothing was sent in the last 12 "
+                             "steps, and the log has no more events. The same line goes on, and `idle N` changes that number, 0 for "
+                             "never. It sent ")
         self.assertGreater(count, 10)
         self.assertEqual(talk.driver.console(0), b"password")
-        self.assertRegex(talk("continue")[0], "^nothing was sent in the last 12 steps, .*: `continue` goes on, ")
-        self.assertRegex(talk("visit 0x80000000")[0], "does not come to 0x80000000 up to step .*: nothing was sent .*: `visit` goes on")
+        self.assertRegex(talk("continue")[0], "^the run pauses: nothing was sent in the last 12 steps, .*. `continue` goes on, ")
+        self.assertRegex(talk("visit 0x80000000")[0], "does not come to 0x80000000 up to step .*; the run pauses: .*. `visit` goes on, ")
         here = talk.driver.position
         self.assertRegex(talk("expect 'x' 9")[0], f"was looked for up to step {here + 9:,}. It sent nothing")
         self.assertEqual((talk("idle 0"), talk.driver.position), (["long runs don't pause"], here))

@@ -5,15 +5,15 @@ import random
 import unittest
 from typing import Optional, Sequence
 
-from front import ticks, travel
-from front.driver import Driver
-from front.limits import GREATEST_POSITION
-from front.log import Event, Kind
-from front.replies import memory, registers
-from front.standstill import Quiet, Standstill, quiet, standstill
-from front.states import registers_at
+from bezhakkom import ticks, travel
+from bezhakkom.driver import Driver
+from bezhakkom.limits import GREATEST_POSITION
+from bezhakkom.log import Event, Kind
+from bezhakkom.replies import memory, registers
+from bezhakkom.standstill import Quiet, Standstill, quiet, standstill
+from bezhakkom.states import registers_at
 from front.tests.support import DATA, immediate, needs_kinds, random_rom, rom, start
-from front.travel import Reason, Stops
+from bezhakkom.travel import Reason, Stops
 
 STEPS = 600
 LOOKED_AT = 100

@@ -11,10 +11,10 @@ import time
 import unittest
 import unittest.mock
 
-from front import target
-from front.commands import COMMANDS
-from front.log import Event
-from front.stub import ANSWERS
+from bezhakkom import target
+from bezhakkom.commands import COMMANDS
+from bezhakkom.log import Event
+from bezhakkom.stub import ANSWERS
 from front.tests.support import needs_erase, rom, start
 from front.tests.wire import COUNTER, ECHO, TYPED, StubTest
 
@@ -341,7 +341,7 @@ class Hostile(StubTest):
     def test_a_fault_of_the_stub_costs_nothing(self) -> None:
         wire = self.wire(ECHO, TYPED)
         wire.command("del 1")
-        with unittest.mock.patch("front.memory.read", side_effect=ZeroDivisionError("here")):
+        with unittest.mock.patch("bezhakkom.memory.read", side_effect=ZeroDivisionError("here")):
             self.refusals(wire, ("mbfc00000,4", "ZeroDivisionError here; the session goes on"))
         self.assertEqual(wire.command("wb log 0 2"), "log 1\n0 70 0 0x41\n")
 

@@ -15,9 +15,9 @@ from pathlib import Path
 from typing import Sequence
 from unittest import mock
 
-from front import cli, image_command
-from front.driver import Driver
-from front.errors import Problem
+from bezhakkom import cli, image_command
+from bezhakkom.driver import Driver
+from bezhakkom.errors import Problem
 from front.tests.outside import WB
 from front.tests.support import ROOT, rom
 

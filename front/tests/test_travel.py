@@ -5,11 +5,11 @@ import random
 import unittest
 from typing import Optional
 
-from front import loading, travel
-from front.log import Event
-from front.replies import memory, registers
+from bezhakkom import loading, travel
+from bezhakkom.log import Event
+from bezhakkom.replies import memory, registers
 from front.tests.support import DATA, random_rom, rom, start
-from front.travel import Reason, Stop, Stops, Watch
+from bezhakkom.travel import Reason, Stop, Stops, Watch
 
 STEPS = 400
 PROGRAMS, CASES = 12, 8

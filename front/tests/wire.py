@@ -6,12 +6,12 @@ import threading
 import unittest
 from typing import Optional, Sequence
 
-from front.driver import Driver
-from front.log import Event
-from front.rsp import Link
-from front.session import Session
-from front.stub import Stub
-from front.symbols import symbols_of
+from bezhakkom.driver import Driver
+from bezhakkom.log import Event
+from bezhakkom.rsp import Link
+from bezhakkom.session import Session
+from bezhakkom.stub import Stub
+from bezhakkom.symbols import symbols_of
 from front.tests.support import rom, start
 
 TIMEOUT = 30

@@ -1,0 +1,44 @@
+"""What can go wrong, each with a message for the user."""
+from __future__ import annotations
+
+from pathlib import Path
+
+from .installed import NAME
+
+
+class Problem(Exception):
+    """One sentence for the user about what went wrong, and the status with which a command ends for it."""
+
+    def __init__(self, message: str, status: int = 2) -> None:
+        super().__init__(message)
+        self.status = status
+
+
+class Refused(Problem):
+    """A command that the program answered with `error N Name`, and a sentence about it where there is one."""
+
+    def __init__(self, number: int, name: str, command: str, sentence: str = "") -> None:
+        super().__init__(sentence or f"{command}: error {number} {name}", 5)
+        self.number = number
+        self.name = name
+        self.command = command
+
+
+class Ended(Problem):
+    """The program ended by itself. The next question starts it anew with all edits."""
+
+
+class Unexpected(Problem):
+    """What no module foresaw, as one line with the place where it came up."""
+
+    def __init__(self, error: Exception) -> None:
+        trace = error.__traceback__
+        while trace and trace.tb_next:
+            trace = trace.tb_next
+        where = f", at {Path(trace.tb_frame.f_code.co_filename).name}:{trace.tb_lineno}" if trace else ""
+        what = " ".join(f"{type(error).__name__} {error}".split())
+        super().__init__(f"a fault of {NAME} itself{where}: {what[:300]}", 70)
+
+
+class Interrupted(KeyboardInterrupt):
+    """A turn was ended by Ctrl-C, between two commands. The driver is in step."""

@@ -1,0 +1,26 @@
+"""Stops of the shell as gdb has them: in a session each front end finds its own, and those that both can have."""
+from __future__ import annotations
+
+import re
+from typing import Optional
+
+_TYPES = {1: "char *", 2: "short *", 4: "int *"}
+_BREAK = re.compile(r"break \*(0x[0-9a-f]{1,8})")
+_WATCH = re.compile(r"watch \*\((?:(char|short|int) \*|char \(\*\)\[(\d{1,4})\])\) (0x[0-9a-f]{1,8})")
+_SIZES = {"char": 1, "short": 2, "int": 4}
+
+
+def line(address: int, size: Optional[int]) -> str:
+    """gdb's line for a watch of a size, or a breakpoint."""
+    if size is None:
+        return f"break *{address:#010x}"
+    return f"watch *({_TYPES.get(size) or f'char (*)[{size}]'}) {address:#010x}"
+
+
+def parts(text: str) -> Optional[tuple[int, Optional[int]]]:
+    """The address and the size of a stop whose line is of this form: the shell can have it too."""
+    found = _BREAK.fullmatch(text)
+    if found:
+        return int(found[1], 16), None
+    found = _WATCH.fullmatch(text)
+    return (int(found[3], 16), _SIZES[found[1]] if found[1] else int(found[2])) if found else None

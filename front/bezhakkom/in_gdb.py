@@ -1,0 +1,307 @@
+"""Runs inside gdb, where `bin/wb gdb` loads it: the command `wb`, a prompt that shows the position, and a word before gdb
+quits without what was edited."""
+from __future__ import annotations
+
+import os
+import re
+import signal
+from typing import Callable, Optional
+
+import gdb
+
+# Their words are no numbers.
+AS_THEY_ARE = ("arrive", "assert", "assert-console", "causes", "compare", "expect", "fuzz", "help", "load", "save", "save-image",
+               "save-log", "shrink", "symbols", "try", "type", "until", "wb", "when")
+RUNS = ("expect", "until")  # they go on, and are run as `continue` is
+MOVES = [begin + move for move in ("continue", "step", "next", "stepi", "nexti", "finish") for begin in ("", "reverse-")]
+MOVES += ["until", "advance"]
+REFUSED = "refused: "  # begins what the stub says where it can't do a thing
+
+QUOTES = frozenset("'\"")
+NUMBER = re.compile(r"\d[\w,]*")
+IN_GROUPS = re.compile(r"(?<![\w.,])\d{1,3}(?:,\d{3})+(?![\w,])")
+WITHOUT_NUMBER = (gdb.TYPE_CODE_ARRAY, gdb.TYPE_CODE_STRUCT, gdb.TYPE_CODE_UNION, gdb.TYPE_CODE_FUNC)
+OF_WORDS = ("dis", "mem", "patch", "visit", "where", "writer")  # their numbers have 32 bits, also those that gdb shows below 0
+
+
+def flush() -> None:
+    """Makes gdb forget what it read, and also the values that it compares watches with: the run has moved, or is another
+    one."""
+    gdb.execute("maintenance flush register-cache", to_string=True)
+    gdb.execute("maintenance flush dcache", to_string=True)
+    for watch in gdb.breakpoints():
+        if watch.type == gdb.BP_HARDWARE_WATCHPOINT and watch.enabled:
+            watch.enabled = False
+            watch.enabled = True
+
+
+class CtrlC:
+    """Ctrl-C while the stub answers. gdb would leave the stub at a second one, with all edits. So it is kept from gdb, and the
+    stub has it from front/bezhakkom/interrupts.py."""
+
+    KEY = {signal.SIGINT}
+
+    def __init__(self) -> None:
+        self._file = os.environ.get("BEZHAKKOM_INTERRUPTS")
+        self._is_new = True  # nothing ran since the prompt
+        self._has_ended = False  # Ctrl-C has ended a run since the prompt
+
+    def begin(self) -> None:
+        """Something runs. What was pressed before it was typed is forgotten."""
+        if self._is_new and self._file and os.path.exists(self._file):
+            os.truncate(self._file, 0)
+        self._is_new = False
+
+    def hold(self) -> None:
+        """Keeps it from gdb, where the stub has it."""
+        if self._file:
+            signal.pthread_sigmask(signal.SIG_BLOCK, self.KEY)
+        self.begin()
+
+    def release(self) -> None:
+        """Hands it to gdb again, also where it was pressed meanwhile."""
+        signal.pthread_sigmask(signal.SIG_UNBLOCK, self.KEY)
+
+    def drop(self) -> None:
+        """Hands it to gdb again, where it is pressed from now on."""
+        while signal.sigtimedwait(self.KEY, 0):
+            pass
+        self.release()
+
+    def go(self) -> None:
+        """A run or steps begin. Where Ctrl-C ended those before, in the same line, loop or script, that ends here too."""
+        if self._has_ended:
+            self._has_ended = False
+            raise gdb.GdbError("Quit")
+        self.hold()
+
+    def stopped(self, event: object) -> None:
+        """A run or steps have stopped."""
+        self.drop()
+        self._has_ended = getattr(event, "stop_signal", "") == "SIGINT"
+
+    def prompted(self) -> None:
+        """gdb shows its prompt."""
+        self.drop()
+        self._is_new, self._has_ended = True, False
+
+
+ctrl_c = CtrlC()
+
+
+def asked(line: str, show: Callable[[str], None] = lambda shown: None) -> str:
+    """What the stub shows for a line of `monitor`. Where it refuses, that is an error. It is shown before gdb has the Ctrl-C that ended
+    it: gdb shows nothing after that."""
+    ctrl_c.hold()
+    try:
+        shown = gdb.execute(f"monitor {line}", to_string=True) or ""
+        done, refused, reason = f"\n{shown}".partition(f"\n{REFUSED}")
+        if refused:
+            gdb.write(f"{done[1:]}\n" if done else "")
+            raise gdb.GdbError(reason.rstrip())
+        show(shown)
+        return shown
+    except gdb.error as error:
+        raise gdb.GdbError(str(error)) from None
+    finally:
+        ctrl_c.release()
+
+
+def as_number(word: str, of_words: bool) -> str:
+    """A word of a command: a number stays, and anything else is an expression of gdb's, without blanks."""
+    if word.startswith("p:"):
+        return "p:" + as_number(word[2:], of_words)
+    if NUMBER.fullmatch(word):
+        return word
+    plain = IN_GROUPS.sub(lambda it: it[0].replace(",", ""), word)
+    if "," in plain:
+        raise gdb.GdbError(f"{word} is no number: a comma stands before three digits, as in 40,024")
+    try:
+        value = gdb.parse_and_eval(plain)
+        if value.type.strip_typedefs().code in WITHOUT_NUMBER:
+            value = value.address
+        is_word = of_words or value.type.strip_typedefs().code == gdb.TYPE_CODE_PTR
+        return str(int(value) & 0xFFFF_FFFF if is_word else int(value))
+    except gdb.error as error:
+        raise gdb.GdbError(f"{word}: {error}") from None
+
+
+def whole(name: str) -> str:
+    """The name that a beginning is of, where its words are no numbers; the stub knows the others."""
+    found = [it for it in AS_THEY_ARE if len(name) > 2 and it.startswith(name)]
+    return found[0] if len(found) == 1 else name
+
+
+def here() -> Optional[tuple[int, int]]:
+    """The position and the PC, where there is a run."""
+    try:
+        frame = gdb.newest_frame()
+        return int(frame.read_register("position")), int(frame.read_register("pc"))
+    except gdb.error:
+        return None
+
+
+class Workbench(gdb.Command):
+    """Asks the workbench: wb LINE. `wb help` lists the commands.
+Numbers may be expressions without blanks: wb writer &session.length, wb goto $position-100."""
+
+    def __init__(self) -> None:
+        super().__init__("wb", gdb.COMMAND_RUNNING)
+
+    def invoke(self, line: str, from_terminal: bool) -> None:
+        line = line or "help"
+        name, *words = line.split()
+        name = whole(name)
+        if name not in AS_THEY_ARE and not QUOTES.intersection(line):
+            line = " ".join([name, *(as_number(word, name in OF_WORDS) for word in words)])
+        if name in RUNS:
+            asked(f"next-run {line}")
+            gdb.execute("continue")
+            return
+        before = here()
+        try:
+            if name == "save":
+                stops.keep()
+            asked(line, gdb.write)
+        finally:
+            flush()
+        if here() != before:
+            gdb.execute("frame")
+
+
+class Stops:
+    """Breakpoints and watches as lines, which a session keeps. A session may come from anybody, so that such a line is one of these
+    commands, and calls no function of gdb's: their names begin with `$_`, and `$_shell` runs programs."""
+
+    COMMAND = re.compile(r"(disabled )?((?:break|tbreak|hbreak|thbreak|watch) .*)")
+    NAMES = {gdb.BP_BREAKPOINT: "break", gdb.BP_HARDWARE_BREAKPOINT: "hbreak", gdb.BP_WATCHPOINT: "watch",
+             gdb.BP_HARDWARE_WATCHPOINT: "watch"}
+    FOLDERS = re.compile(r"^/.*/(?=[^/:]+:\d+$)")  # of a source, which is elsewhere where the session is opened
+
+    def make(self) -> None:
+        """Makes those of the session that was opened."""
+        if not here():
+            return
+        for line in asked("gdb").splitlines():
+            try:
+                self._make(line)
+            except gdb.error as error:
+                gdb.write(f"the session's stop `{line}` can't be made: {error}\n")
+
+    def _make(self, line: str) -> None:
+        found = self.COMMAND.fullmatch(line)
+        if not found or "$_" in line:
+            raise gdb.error("it is no breakpoint or watch that a session can have")
+        gdb.execute(found[2], to_string=True)
+        if found[1]:
+            max(gdb.breakpoints(), key=lambda it: it.number).enabled = False
+
+    def keep(self) -> None:
+        """Hands those that there are to the session that is saved, and says what it can't have."""
+        asked("gdb none")
+        for it in gdb.breakpoints():
+            line = self._line(it)
+            if line:
+                asked(f"gdb {line}")
+            else:
+                gdb.write(f"not saved: stop {it.number}: a session keeps breakpoints, and watches of stores, without `$_` in them\n")
+            for name, value in ("commands", it.commands), ("count for `ignore`", it.ignore_count):
+                if line and value:
+                    gdb.write(f"not saved: the {name} of stop {it.number}\n")
+
+    def _line(self, stop: gdb.Breakpoint) -> Optional[str]:
+        name, where = self.NAMES.get(stop.type), self.FOLDERS.sub("", stop.location or stop.expression or "")
+        line = " ".join([f"{name} {where}", *([f"if {stop.condition}"] if stop.condition else [])])
+        if not name or not where or "$_" in line:
+            return None
+        return ("" if stop.enabled else "disabled ") + ("t" if stop.temporary else "") + line
+
+
+stops = Stops()
+
+
+class Load(gdb.Command):
+    """Loads a program that was built anew: load [FILE]. Without FILE it is the present one, and its symbols are read again.
+The log and all else stay, and the run is at position 0."""
+
+    def __init__(self) -> None:
+        super().__init__("load", gdb.COMMAND_FILES, gdb.COMPLETE_FILENAME)
+
+    def invoke(self, line: str, from_terminal: bool) -> None:
+        space = gdb.current_progspace()
+        present = space.filename if space else None
+        name = os.path.abspath(line.strip()) if line.strip() else present
+        if name is None:
+            raise gdb.GdbError("load wants a file: load FILE")
+        asked("goto 0")
+        gdb.write(asked(f"load {name}"))
+        if name == present:
+            gdb.execute(f"file {name}", to_string=True)
+        flush()
+
+
+def name_the_jump() -> None:
+    """Gives the jump at the reset vector a symbol, which `file` takes away."""
+    file = os.environ.get("BEZHAKKOM_JUMP")
+    if file:
+        gdb.execute(f"add-symbol-file {file}", to_string=True)
+
+
+class BeforeRun(gdb.Command):
+    """Begins what runs or steps: it is ended by Ctrl-C, and what goes on after that is not begun."""
+
+    def __init__(self) -> None:
+        super().__init__("before-run", gdb.COMMAND_OBSCURE)
+
+    def invoke(self, line: str, from_terminal: bool) -> None:
+        ctrl_c.go()
+
+
+class BeforeQuit(gdb.Command):
+    """Says what was edited and is not saved, before gdb quits. A second `quit` leaves without it."""
+
+    def __init__(self) -> None:
+        super().__init__("before-quit", gdb.COMMAND_OBSCURE)
+        self._said = ""
+
+    def invoke(self, line: str, from_terminal: bool) -> None:
+        try:
+            unsaved = asked("unsaved").replace("(save-", "(wb save-")
+        except gdb.GdbError:
+            return  # there is no run
+        if unsaved and unsaved != self._said and os.isatty(0):
+            self._said = unsaved
+            raise gdb.GdbError(f"{unsaved}`quit` again leaves without it.")
+
+
+def prompt(current_prompt: str) -> str:
+    """The prompt, with the position where there is a run."""
+    ctrl_c.prompted()
+    try:
+        now = here()
+    except KeyboardInterrupt:  # it was meant for what came before
+        now = here()
+    return f"({now[0]:,}) " if now else current_prompt
+
+
+def hook(command: str, line: str) -> None:
+    """Lets gdb run a line with a command, as `help define` says."""
+    gdb.execute(f"define {command}\n{line}\nend")
+
+
+Workbench()
+Load()
+BeforeRun()
+BeforeQuit()
+name_the_jump()
+hook("hook-quit", "before-quit")
+hook("hookpost-file", "python name_the_jump()")
+for start in "run", "start", "starti":
+    # gdb would start at the position of an earlier `starti N` again.
+    hook(f"hook-{start}", "set args\nbefore-run")
+for move in MOVES:
+    hook(f"hook-{move}", "before-run")
+gdb.prompt_hook = prompt
+gdb.events.memory_changed.connect(lambda event: flush())
+gdb.events.cont.connect(lambda event: ctrl_c.begin())
+gdb.events.stop.connect(ctrl_c.stopped)

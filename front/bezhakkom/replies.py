@@ -1,0 +1,113 @@
+"""The replies of the program: what they say."""
+from __future__ import annotations
+
+import re
+from dataclasses import dataclass
+from functools import lru_cache
+from typing import Optional, Sequence
+
+from .errors import Refused
+from .limits import COMMAND_BYTES
+
+CONTROL_NAMES = ("index", "random", "entrylo", "context", "badvaddr", "entryhi", "status", "cause", "epc", "prid")
+
+
+@dataclass(frozen=True)
+class Registers:
+    """The processor at a position. `load` is the register and the value that has not landed yet."""
+
+    pc: int
+    next_pc: int
+    hi: int
+    lo: int
+    delay: bool
+    load: Optional[tuple[int, int]]
+    general: list[int]
+
+
+@dataclass(frozen=True)
+class Where:
+    """Where a virtual address leads: `kind` is cached, uncached, adel, refill or tlbl; the first two have a physical address."""
+
+    kind: str
+    physical: Optional[int]
+
+
+@dataclass(frozen=True)
+class Writer:
+    """What wrote a word last: `kind` is step, image or never, and a step has its number."""
+
+    kind: str
+    step: Optional[int]
+
+
+@lru_cache(1 << 12)
+def words_of(command: str) -> tuple[str, ...]:
+    """The words of a command, as the program divides it."""
+    return tuple(word for word in command.replace("\t", " ").split(" ") if word)
+
+
+def number_of(word: str) -> Optional[int]:
+    """The number that a word of a command is, decimal or hexadecimal after 0x, as the program reads it. No command has room for a word
+    of more bytes than a line."""
+    if len(word) > COMMAND_BYTES:
+        return None
+    if re.fullmatch("0x[0-9a-fA-F]+", word):
+        return int(word, 16)
+    return int(word) if re.fullmatch("[0-9]+", word) else None
+
+
+def is_refusal(line: str) -> bool:
+    return line.startswith("error ")
+
+
+def refusal_of(command: str, lines: Sequence[str]) -> Optional[Refused]:
+    """The refusal that a reply is, or None."""
+    if not lines or not is_refusal(lines[0]):
+        return None
+    _, number, name = lines[0].split()
+    return Refused(int(number), name, command)
+
+
+def registers(lines: Sequence[str]) -> Registers:
+    """The value of a reply to `regs`."""
+    _, pc, _, following, _, hi, _, lo, _, delay, _, *load = lines[0].split()
+    general = [int(word, 16) for line in lines[1:] for word in line.split()[1:]]
+    pending = None if load == ["none"] else (int(load[0][1:]), int(load[1], 16))
+    return Registers(int(pc, 16), int(following, 16), int(hi, 16), int(lo, 16), delay == "1", pending, general)
+
+
+def control(lines: Sequence[str]) -> dict[str, int]:
+    """The value of a reply to `cp0`: the registers by their names."""
+    words = lines[0].split()
+    return {name: int(word, 16) for name, word in zip(words[::2], words[1::2])}
+
+
+def where(lines: Sequence[str]) -> Where:
+    """The value of a reply to `where`."""
+    words = lines[0].split()
+    if words[1].startswith("0x"):
+        return Where(words[2], int(words[1], 16))
+    return Where(words[-1], None)
+
+
+def writer(lines: Sequence[str]) -> Writer:
+    """The value of a reply to `writer`."""
+    word = lines[0].split()[1]
+    return Writer("step", int(word)) if word.isdigit() else Writer(word, None)
+
+
+def memory(lines: Sequence[str]) -> list[int]:
+    """The words of a reply to `mem`."""
+    return [int(line.split()[1], 16) for line in lines]
+
+
+def console(lines: Sequence[str]) -> tuple[int, bytes]:
+    """How many bytes a line had sent, and those that a reply to `console` shows."""
+    _, count, shown = lines[0].split()[1:]
+    return int(count), b"" if shown == "none" else bytes.fromhex(shown)
+
+
+def last_number(lines: Sequence[str]) -> int:
+    """The number at the end of a reply of one line: of `pos`, `event`, `find` and `log`."""
+    return int(lines[0].split()[-1], 0)

@@ -1,0 +1,207 @@
+"""What the shell knows while it runs: the driver, symbols, stops and edits; and how steps and addresses are shown to people."""
+from __future__ import annotations
+
+import re
+from contextlib import contextmanager
+from dataclasses import dataclass, field
+from typing import Callable, Iterator, Optional
+
+from . import expressions, gdb_stops, places
+from .driver import Driver
+from .errors import Problem
+from .idle import IDLE_STEPS
+from .log import Event
+from .saved import Origin, lines_of_edit
+from .symbols import Symbols
+from .travel import Watch
+
+_BRANCHES = frozenset("beq bne bltz bgez bltzal bgezal blez bgtz".split())
+_JUMPS = frozenset(("j", "jal"))
+_TARGET = re.compile(r"0x[0-9a-f]{8}$")
+
+
+@dataclass(frozen=True)
+class Mark:
+    """A breakpoint or a watch, with the number by which people know it."""
+
+    number: int
+    text: str
+    address: int
+    watch: Optional[Watch] = None
+
+
+@dataclass(frozen=True)
+class Edit:
+    """What stood before an edit, the line that made it, and the commands that this was for the workbench."""
+
+    line: str
+    log: list[Event]
+    patches: list[tuple[int, int]]
+    made: list[str]
+
+
+@dataclass(frozen=True)
+class Paused:
+    """An `expect` that paused at a position, and from which place of the line on it looks for its text."""
+
+    line: int
+    text: bytes
+    first: int
+    position: int
+
+
+@dataclass
+class Session:
+    """A debugger on one run. `tell` takes what is shown, line by line."""
+
+    driver: Driver
+    symbols: Symbols
+    tell: Callable[[str], None] = print
+    marks: list[Mark] = field(default_factory=list)
+    stops_of_gdb: list[str] = field(default_factory=list)  # kept for a session that gdb opens, as gdb's lines
+    edits: list[Edit] = field(default_factory=list)
+    # Of each line, the steps over which a text was typed last; what is typed within them goes on after it.
+    typed: dict[int, range] = field(default_factory=dict)
+    idle: int = IDLE_STEPS  # after so many steps in which nothing happens long runs pause
+    limit: int = 0  # so many steps an `expect` goes on
+    paused: Optional[Paused] = None
+    origin: Optional[Origin] = None
+    logs: dict[str, list[Event]] = field(default_factory=dict)  # that were kept under a name
+    saved_log: list[Event] = field(default_factory=list)
+    saved_patches: list[tuple[int, int]] = field(default_factory=list)
+
+    def number(self, text: str) -> int:
+        return expressions.number(text, self.driver, self.symbols)
+
+    def physical(self, address: int) -> int:
+        """The physical address that a virtual one leads to at the position, in RAM or ROM."""
+        return places.physical(self.driver, address)
+
+    def word_at(self, text: str) -> tuple[int, int]:
+        """The virtual and the physical address of the word that a text names."""
+        address = self.number(text)
+        if address % 4:
+            raise Problem(f"{address:#x} is no multiple of 4; the word that it is in is at {address & ~3:#010x}")
+        return address, self.physical(address)
+
+    def patch(self, text: str, word: int) -> int:
+        """Starts the machine with a word at the place that a text names, and gives its virtual address."""
+        address, physical = self.word_at(text)
+        if not -1 << 31 <= word < 1 << 32:
+            raise Problem(f"{word:#x} is no word: it is below 0x100000000")
+        self.driver.patch(physical, word & 0xFFFF_FFFF)
+        return address
+
+    # How things are shown
+
+    def address(self, address: int) -> str:
+        """`0xbfc00078 <main+0x78>`."""
+        name = self.symbols.name(address)
+        return f"{address:#010x} <{name}>" if name else f"{address:#010x}"
+
+    def place(self, address: int) -> str:
+        """`main+0x78`, or the address where it has no name."""
+        return self.symbols.name(address) or f"{address:#010x}"
+
+    def instruction(self, address: int) -> str:
+        """The text of the instruction at a virtual address, with the name of its target."""
+        physical = self.driver.physical(address)
+        if physical is None or address % 4:
+            return "no instruction can be fetched here"
+        line = self.driver.ask(f"dis {physical & ~3} 1")[0]
+        if line.startswith("error"):
+            return "no instruction can be fetched here"
+        return self.retargeted(address, physical, line.split(None, 2)[2])
+
+    def retargeted(self, address: int, physical: int, text: str) -> str:
+        """The text of an instruction, whose target the program counted from the physical address, at its virtual address."""
+        name = text.partition(" ")[0]
+        found = _TARGET.search(text)
+        if not found or name not in _BRANCHES | _JUMPS:
+            return text
+        target = int(found[0], 16)
+        if name in _JUMPS:
+            target = (address + 4) & 0xF000_0000 | target & 0x0FFF_FFFF
+        else:
+            target = (target - physical + address) & 0xFFFF_FFFF
+        return text[:found.start()] + self.address(target)
+
+    def step(self, step: int) -> str:
+        """`step 40,017, main+0x78, 1,001 steps ago: sw r2, 0(r3)`, as seen from the position."""
+        with self.at(step):
+            pc = self.driver.registers().pc
+            text = self.instruction(pc)
+        return f"step {step:,}, {self.place(pc)}, {distance(step, self.driver.position)}: {text}"
+
+    @contextmanager
+    def at(self, position: int) -> Iterator[None]:
+        """Looks at another position, and comes back."""
+        here = self.driver.position
+        try:
+            self.driver.goto(position)
+            yield
+        finally:
+            self.driver.goto(here)
+
+    def show_position(self) -> None:
+        """Where the run is, and the instruction that comes next."""
+        state = self.driver.registers()
+        slot = "   (delay slot)" if state.delay else ""
+        self.tell(f"step {self.driver.position:,}, {self.place(state.pc)}: {self.instruction(state.pc)}{slot}")
+
+    # Edits
+
+    @contextmanager
+    def editing(self, line: str) -> Iterator[None]:
+        """Keeps what stood before, where a line edits, so that it can be taken back."""
+        driver = self.driver
+        log, patches, count = list(driver.log), list(driver.patches), len(driver.journal)
+        try:
+            yield
+        finally:
+            if driver.log != log or driver.patches != patches:
+                self.edits.append(Edit(line, log, patches, driver.journal[count:]))
+
+    def made_again(self) -> list[str]:
+        """Lines that make the edits, stops, settings and the position again, from the log and the image before the first edit."""
+        lines = [line for edit in self.edits for line in lines_of_edit(edit.line, edit.made)]
+        lines.append(f"goto {self.driver.position:,}")
+        for mark in self.marks:
+            at = mark.address
+            if mark.watch and self.driver.physical(at) != mark.watch.place:
+                at = places.always_at(mark.watch.place)  # its page is mapped elsewhere here
+            lines.append(self._stop_again(at, mark.watch.size if mark.watch else None))
+        for stop in self.stops_of_gdb:
+            parts = gdb_stops.parts(stop)
+            lines.append(self._stop_again(*parts) if parts else f"gdb {stop}")
+        settings = (("idle", self.idle, IDLE_STEPS), ("limit", self.limit, 0))
+        return lines + [f"{name} {value:,}" for name, value, usual in settings if value != usual]
+
+    def _stop_again(self, address: int, size: Optional[int]) -> str:
+        return f"break {self._named(address)}" if size is None else f"watch {self._named(address)} {size}"
+
+    def _named(self, address: int) -> str:
+        """An address by a name that means it alone."""
+        name = self.symbols.name(address)
+        try:
+            return name if name and self.number(name) == address else f"{address:#010x}"
+        except Problem:
+            return f"{address:#010x}"
+
+    def unsaved(self) -> list[str]:
+        """What was edited and is not saved."""
+        log = ["the log (save-log FILE)"] if self.driver.log != self.saved_log else []
+        image = ["the image (save-image FILE)"] if self.driver.patches != self.saved_patches else []
+        return log + image
+
+
+def counted(count: int, name: str) -> str:
+    """`1,001 steps`, `1 step`."""
+    return f"{count:,} {name}" + ("" if count == 1 else "s")
+
+
+def distance(step: int, here: int) -> str:
+    """`1,001 steps ago`, as seen from a position."""
+    if step == here:
+        return "now"
+    return f"{counted(abs(step - here), 'step')} {'ago' if step < here else 'ahead'}"

@@ -1,0 +1,70 @@
+"""Names of addresses, and back. kseg0 and kseg1 addresses of one physical word have the same names."""
+from __future__ import annotations
+
+from bisect import bisect_right
+from typing import Iterable, Optional
+
+from . import elf
+from .initial import Source
+from .elf import Symbol, physical_of
+from .image import Image
+from .limits import ROM
+
+# Of several names of one address the first of these kinds is shown.
+_ORDER = {"func": 0, "object": 1, "other": 2}
+
+
+class Symbols:
+    """The symbols of a program."""
+
+    def __init__(self, symbols: Iterable[Symbol] = ()) -> None:
+        self._by_name: dict[str, Symbol] = {}
+        at: dict[int, Symbol] = {}
+        for symbol in sorted(symbols, key=lambda it: (_ORDER[it.kind], not it.size, it.name)):
+            self._by_name.setdefault(symbol.name, symbol)
+            at.setdefault(physical_of(symbol.address), symbol)
+        self._starts = sorted(at)
+        self._sorted = [at[it] for it in self._starts]
+
+    def address(self, name: str) -> Optional[int]:
+        """The address of a name, or None."""
+        symbol = self._by_name.get(name)
+        return symbol.address if symbol else None
+
+    def at(self, address: int) -> Optional[tuple[Symbol, int]]:
+        """The symbol that an address belongs to, and how far the address is beyond its start."""
+        physical = physical_of(address)
+        place = bisect_right(self._starts, physical) - 1
+        if place < 0:
+            return None
+        symbol, distance = self._sorted[place], physical - self._starts[place]
+        return (symbol, distance) if distance < (symbol.size or _UNSIZED) else None
+
+    def name(self, address: int) -> str:
+        """`main+0x78`, or the empty text where no symbol is known."""
+        found = self.at(address)
+        if not found:
+            return ""
+        symbol, distance = found
+        return f"{symbol.name}+{distance:#x}" if distance else symbol.name
+
+    def names(self) -> list[str]:
+        """All names, in order."""
+        return sorted(self._by_name)
+
+
+# A symbol without a size reaches to the next one, but not beyond this many bytes.
+_UNSIZED = 0x1000
+
+
+def symbols_of(image: Image) -> Symbols:
+    """The symbols of the ELFs of an image, and the labels of a source."""
+    found = [symbol for file in image.elves for symbol in elf.symbols(file)]
+    if image.kind == "source":
+        found += (Symbol(name, _virtual(place), 0, "other") for name, place in Source(image.content).labels.items())
+    return Symbols(found)
+
+
+def _virtual(place: int) -> int:
+    """Where code at a physical address runs: ROM from reset in kseg1, RAM mostly in kseg0."""
+    return place | (0xA000_0000 if place in ROM else 0x8000_0000)

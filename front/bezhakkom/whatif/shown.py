@@ -1,0 +1,266 @@
+"""What was found, as text for people and as values for programs."""
+from __future__ import annotations
+
+from dataclasses import asdict
+from typing import Any, Dict, Iterator, List, Optional, Sequence, Tuple
+
+from .. import expressions
+from .. import log as logs
+from ..log import Event, Kind, quoted
+from ..replies import Registers
+from ..session import Session, counted
+from .causes import DEL, SET, Causes
+from .compare import Comparison
+from .futures import OUT, STEP, VALUE, Futures, Label, Outcome
+from .fuzz import Fuzzed
+from .questions import Console, Question, Sent
+from .shrink import Shrunk
+from .when import When
+
+Value = Dict[str, Any]
+
+_WORDS = 32  # that differ are shown at most
+_TAIL = 60  # bytes of what a line sent are shown at most
+
+
+def stopped(done: int, whole: int) -> str:
+    return f"interrupted: {done:,} of {whole:,} were tried, and what follows is what these show"
+
+
+# Values and events
+
+def value_of(session: Session, question: Question, answer: Any) -> str:
+    """An answer as text."""
+    if isinstance(question, Console):
+        return text_of(answer)
+    if isinstance(question, Sent):
+        return "nothing" if answer is None else byte(answer)
+    name = session.symbols.name(answer)
+    return f"{answer:#010x}" + (f" <{name}>" if name else "")
+
+
+def text_of(content: bytes) -> str:
+    """What a line sent: all, or its end."""
+    return quoted(content) if len(content) <= _TAIL else f"..{quoted(content[-_TAIL:])}"
+
+
+def byte(value: int) -> str:
+    return quoted([value]) if 32 <= value < 127 else f"{value:#04x}"
+
+
+def what(event: Event) -> str:
+    if event.kind == Kind.WIRE:
+        return f"external line {event.line} gets {event.byte}"
+    return f"line {event.line}, {byte(event.byte)}" + (" with a framing error" if event.kind == Kind.FRAMING else "")
+
+
+def runs(log: Sequence[Event], indices: Sequence[int]) -> Iterator[str]:
+    """Events of one line that follow one another, as its text with their steps and numbers."""
+    at = 0
+    while at < len(indices):
+        end = at + 1
+        first = log[indices[at]]
+        while (end < len(indices) and indices[end] == indices[end - 1] + 1 and first.kind != Kind.WIRE
+               and (log[indices[end]].line, log[indices[end]].kind) == (first.line, first.kind)):
+            end += 1
+        last = log[indices[end - 1]]
+        if end == at + 1:
+            yield f"step {first.time:,}, {what(first)} (event {indices[at]:,})"
+        else:
+            text = quoted(log[it].byte for it in indices[at:end])
+            framing = " with framing errors" if first.kind == Kind.FRAMING else ""
+            yield (f"steps {first.time:,} to {last.time:,}, line {first.line}, {text}{framing} "
+                   f"(events {indices[at]:,} to {indices[end - 1]:,})")
+        at = end
+
+
+def event_value(event: Event) -> Value:
+    return {"time": event.time, "line": event.line, "byte": event.byte, "kind": event.kind.name.lower()}
+
+
+# causes
+
+def causes(session: Session, name: str, question: Question, ways: Sequence[str], values: int, found: Causes) -> Iterator[str]:
+    shown = value_of(session, question, found.answer)
+    if found.is_stopped:
+        yield stopped(found.asked, found.events) + ", from the last event before the position back"
+    yield f"{name} at step {found.position:,}: {shown}"
+    lists = {SET: (found.by_value, f"by value ({counted(values, 'other value')} tried)"), DEL: (found.by_being_there, "by being there")}
+    for way in ways:
+        indices, how = lists[way]
+        yield f"{len(indices):,} of {counted(found.asked, 'event')} decide it {how}" + (":" if indices else "")
+        for run in runs(found.log, indices):
+            yield f"  {run}"
+
+
+def causes_value(found: Causes, ways: Sequence[str]) -> Value:
+    answer = list(found.answer) if isinstance(found.answer, bytes) else found.answer
+    lists = {SET: ("by_value", found.by_value), DEL: ("by_being_there", found.by_being_there)}
+    return {"position": found.position, "answer": answer, "events": found.events, "tried": found.asked,
+            **{lists[way][0]: [{"event": it, **event_value(found.log[it])} for it in lists[way][1]] for way in ways}}
+
+
+# try
+
+def futures(session: Session, index: int, names: Sequence[Tuple[str, Question]], position: int, found: Futures) -> Iterator[str]:
+    event = found.event
+    if found.is_stopped:
+        yield stopped(found.tried, found.whole)
+    yield (f"event {index:,}, {what(event)} in step {event.time:,}: {counted(found.tried, 'past')}, "
+           f"{counted(len(found.outcomes), 'outcome')} at step {position:,}")
+    for outcome, labels in sorted(found.outcomes.items(), key=lambda it: -len(it[1])):
+        as_it_is = " (as it is)" if (VALUE, event.byte) in labels or (STEP, event.time) in labels else ""
+        yield f"{len(labels):6,}: {spelled(labels, event)}{as_it_is}"
+        yield f"        {_outcome(session, names, outcome)}"
+
+
+def _outcome(session: Session, names: Sequence[Tuple[str, Question]], outcome: Outcome) -> str:
+    if not outcome.came:
+        return "it does not come true"
+    sent = [f"line {line} sends {text_of(it)}" for line, it in enumerate(outcome.sent) if it] or ["nothing is sent"]
+    values = [f"{name} is {value_of(session, question, it)}" for (name, question), it in zip(names, outcome.values)]
+    return ", ".join([*sent, f"in {outcome.place}", *values])
+
+
+def futures_value(index: int, names: Sequence[Tuple[str, Question]], position: int, found: Futures) -> Value:
+    def one(outcome: Outcome, labels: Sequence[Label]) -> Value:
+        changes = {"values": [it for kind, it in labels if kind == VALUE], "steps": [it for kind, it in labels if kind == STEP],
+                   "taken_out": (OUT, 0) in labels}
+        if not outcome.came:
+            return {"came_true": False, **changes}
+        answers = {name: list(it) if isinstance(it, bytes) else it for (name, _), it in zip(names, outcome.values)}
+        return {"came_true": True, "sent": [list(it) for it in outcome.sent], "in": outcome.place, "answers": answers, **changes}
+
+    return {"event": index, **event_value(found.event), "position": position, "pasts": found.whole, "tried": found.tried,
+            "outcomes": [one(*it) for it in found.outcomes.items()]}
+
+
+def spelled(labels: Sequence[Label], event: Event) -> str:
+    """Values, steps and being taken out, as ranges."""
+    def name(value: int) -> str:
+        return f"level {value}" if event.kind == Kind.WIRE else byte(value)
+
+    parts = [name(low) if low == high else f"{name(low)}..{name(high)}"
+             for low, high, _ in _ranges([it for kind, it in labels if kind == VALUE], 1)]
+    for low, high, gap in _ranges([it for kind, it in labels if kind == STEP], 0):
+        by = f" by {gap:,}" if gap > 1 else ""
+        parts.append(f"step {low:,}" if low == high else f"steps {low:,}..{high:,}{by}")
+    parts += ["taken out" for kind, _ in labels if kind == OUT]
+    return ", ".join(parts)
+
+
+def _ranges(values: Sequence[int], gap: int) -> List[Tuple[int, int, int]]:
+    """Runs of values with a gap between them, or where it is 0, with the gap that each begins with."""
+    made: List[Tuple[int, int, int]] = []
+    for it in sorted(values):
+        if made:
+            low, high, apart = made[-1]
+            if it - high == (gap or (apart if high > low else it - high)):
+                made[-1] = low, it, it - high
+                continue
+        made.append((it, it, gap))
+    return made
+
+
+# shrink
+
+def shrunk(found: Shrunk, condition: str, name: str) -> Iterator[str]:
+    if found.is_stopped:
+        yield f"interrupted after {counted(found.tried, 'past')}: the log may be smaller still"
+    yield f"{len(found.log):,} of {counted(len(found.before), 'event')} are left, and `{condition}` comes true at step {found.position:,}:"
+    yield from (f"  {line}" for line in logs.show(found.log))
+    yield f"the log as it was is kept as {name}; `undo` brings it back"
+
+
+def shrunk_value(found: Shrunk) -> Value:
+    return {"before": len(found.before), "events": [event_value(it) for it in found.log], "position": found.position,
+            "tried": found.tried, "stopped": found.is_stopped}
+
+
+# compare
+
+def comparison(session: Session, found: Comparison, other: str) -> Iterator[str]:
+    if found.first_event is not None:
+        yield f"the events differ from step {found.first_event:,} on"
+    if found.is_stopped:
+        yield "interrupted: what follows is what was found up to then"
+    if found.registers:
+        position, here, there = found.registers
+        yield f"registers differ from step {position:,} on: {', '.join(_registers(session, here, there, other))}"
+    else:
+        yield f"registers don't differ up to step {found.compared:,}"
+    for it in found.sent:
+        one, two = (f"{byte(side[0])} in step {side[1]:,}" if side else "nothing" for side in (it.here, it.there))
+        yield f"line {it.line}: byte {it.place:,} is {one} here, {two} {other}"
+    if not found.sent:
+        yield "the lines sent the same"
+    of = "" if not found.is_stopped else f" below {found.words_to:#010x}"
+    yield f"{counted(len(found.words), 'word')} of RAM{of} differ" + (":" if found.words else "")
+    for word in found.words[:_WORDS]:
+        yield f"  {session.address(word.physical | 0x8000_0000)}: {word.here:#010x} here, {word.there:#010x} {other}"
+    if len(found.words) > _WORDS:
+        yield f"  and {len(found.words) - _WORDS:,} more; --json has all"
+
+
+def _registers(session: Session, here: Registers, there: Registers, other: str) -> Iterator[str]:
+    names = ["pc", "next_pc", "hi", "lo", "delay", "load"]
+    pairs = [(name, getattr(here, name), getattr(there, name)) for name in names]
+    pairs += [(name, one, two) for name, one, two in zip(expressions.REGISTERS, here.general, there.general)]
+    for name, one, two in pairs:
+        if one != two:
+            first, second = (session.place(it) if name == "pc" else f"{it:#x}" if type(it) is int else _loaded(it) for it in (one, two))
+            yield f"{name} {first} here, {second} {other}"
+
+
+def _loaded(it: object) -> str:
+    if isinstance(it, tuple):
+        return f"{it[1]:#x} on its way to {expressions.REGISTERS[it[0]]}"
+    return "nothing" if it is None else "yes" if it else "no"
+
+
+def comparison_value(found: Comparison) -> Value:
+    registers = None
+    if found.registers:
+        position, here, there = found.registers
+        registers = {"position": position, "here": asdict(here), "there": asdict(there)}
+    return {"position": found.position, "first_event": found.first_event, "compared": found.compared, "registers": registers,
+            "sent": [asdict(it) for it in found.sent], "words": [asdict(it) for it in found.words], "words_to": found.words_to,
+            "stopped": found.is_stopped}
+
+
+# when
+
+def when(session: Session, text: str, found: When) -> Iterator[str]:
+    if found.is_stopped:
+        yield f"interrupted: up to step {found.reached:,} it does not hold that {text}"
+    elif found.position is None:
+        yield f"up to step {found.reached:,} it does not hold that {text}"
+    elif not found.position:
+        yield f"{text} holds at step 0: the image sets it so, or memory begins so"
+    else:
+        yield f"{text} holds first at step {found.position:,}, after {session.step(found.position - 1)}"
+
+
+def when_value(found: When) -> Value:
+    return {"position": found.position, "reached": found.reached, "stopped": found.is_stopped}
+
+
+# fuzz
+
+def fuzzed(found: Fuzzed, condition: str, file: Optional[str]) -> Iterator[str]:
+    tried = f"{counted(found.tried, 'input')} tried from seed {found.seed}, {counted(found.outcomes, 'outcome')}"
+    if found.is_stopped:
+        yield "interrupted" + (": the log may be smaller still" if found.log else "")
+    if not found.shrunk:
+        yield f"{tried}: `{condition}` did not come true"
+        return
+    yield f"{tried}: `{condition}` comes true at step {found.shrunk.position:,} with"
+    yield from (f"  {line}" for line in logs.show(found.shrunk.log))
+    if file:
+        yield f"the session is saved in {file}; `bin/wb shell {file}` opens it"
+
+
+def fuzzed_value(found: Fuzzed, file: Optional[str]) -> Value:
+    return {"seed": found.seed, "tried": found.tried, "outcomes": found.outcomes, "stopped": found.is_stopped,
+            "crash": None if found.log is None else [event_value(it) for it in found.log],
+            "shrunk": None if found.shrunk is None else shrunk_value(found.shrunk), "file": file}

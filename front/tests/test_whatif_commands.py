@@ -1,0 +1,244 @@
+"""The commands that ask what if, as they are typed: in the shell, in gdb and on a terminal."""
+from __future__ import annotations
+
+import json
+import re
+import time
+import unittest
+from typing import Any
+
+from bezhakkom.whatif.futures import OUT, STEP, VALUE
+from bezhakkom.whatif.shown import runs, spelled
+from bezhakkom.log import Event, Kind
+from front.tests import debugger
+from front.tests.outside import InFolder
+from front.tests.scripts import shell
+from front.tests.terminal import Terminal
+
+LOADER = ("--log", "examples/loader/log", "examples/loader/loader.elf")
+LOGIN = ("--log", "examples/login/log", "examples/login/login.elf")
+ECHO = ("--log", "examples/echo/log", "examples/echo/boot.s")
+
+
+def said(*lines: str, guest: tuple[str, ...] = ECHO) -> list[str]:
+    """What the shell says to the last of some lines."""
+    done = shell("--echo", *guest, lines=lines)
+    return done.stdout.rpartition(f"> {lines[-1]}\n")[2].splitlines()
+
+
+def value(*lines: str, guest: tuple[str, ...] = ECHO) -> Any:
+    """What it says to it with --json."""
+    one, = said(*lines[:-1], f"{lines[-1]} --json", guest=guest)
+    return json.loads(one)
+
+
+class Said(unittest.TestCase):
+    maxDiff = None
+
+    def test_causes(self) -> None:
+        # Bytes 0x41 and 0x42 arrive in steps 70 and 200, and the program sends each back.
+        self.assertEqual(said("goto 256", "causes console by set"), [
+            "what line 0 sent at step 256: 'AB'",
+            "2 of 2 events decide it by value (1 other value tried):",
+            "  steps 70 to 200, line 0, 'AB' (events 0 to 1)"])
+        self.assertEqual(said("goto 256", "causes sent 0 1 by both values 2"), [
+            "byte 1 of line 0 at step 256: 'B'",
+            "1 of 2 events decide it by value (2 other values tried):",
+            "  step 200, line 0, 'B' (event 1)",
+            "2 of 2 events decide it by being there:",
+            "  steps 70 to 200, line 0, 'AB' (events 0 to 1)"])
+        self.assertEqual(said("goto 100", "causes sp"), [
+            "sp at step 100: 0x00000000",
+            "0 of 1 event decide it by value (1 other value tried)",
+            "0 of 1 event decide it by being there"])
+
+    def test_causes_as_a_value(self) -> None:
+        event = {"time": 200, "line": 0, "byte": 0x42, "kind": "byte"}
+        self.assertEqual(value("goto 256", "causes sent 0 1 by set"), {
+            "position": 256, "answer": 0x42, "events": 2, "tried": 2, "by_value": [{"event": 1, **event}]})
+
+    def test_try(self) -> None:
+        self.assertEqual(said("goto 230", "try 1 'A'..'C' 0x42 del"), [
+            "event 1, line 0, 'B' in step 200: 4 pasts, 4 outcomes at step 230",
+            "     1: 'A'", "        line 0 sends 'A', in loop",
+            "     1: 'B' (as it is)", "        line 0 sends 'B', in loop",
+            "     1: 'C'", "        line 0 sends 'C', in loop",
+            "     1: taken out", "        nothing is sent, in loop"])
+        self.assertEqual(said("goto 256", "try 1 moved 180..190 by 5 until console 'B' show pc")[:2], [
+            "event 1, line 0, 'B' in step 200: 3 pasts, 1 outcome at step 256", "     3: steps 180..190 by 5"])
+
+    def test_try_as_a_value(self) -> None:
+        found = value("goto 256", "try 1 'A'..'C' until console 'C'")
+        self.assertEqual((found["event"], found["pasts"], found["tried"]), (1, 3, 3))
+        self.assertEqual([(it["came_true"], it["values"]) for it in found["outcomes"]], [(False, [65, 66]), (True, [67])])
+
+    def test_when(self) -> None:
+        # The byte is stored in step 77 and shows from position 78 on, as docs/USING.md has it.
+        self.assertEqual(said("goto 256", "when 0xa0000100 == 0x8041"), [
+            "0xa0000100 == 0x8041 holds first at step 78, after step 77, loop+0x8, 179 steps ago: sw r6, 256(r8)"])
+        self.assertEqual(said("goto 256", "when 0xa0000100==0x1234"), ["up to step 256 it does not hold that 0xa0000100==0x1234"])
+        self.assertEqual(value("goto 256", "when 0xa0000100 > 0x8042 at 250"), {"position": None, "reached": 250, "stopped": False})
+
+    def test_compare(self) -> None:
+        shown = said("goto 256", "set 1 'C'", "compare")
+        self.assertEqual(shown[0], "the events differ from step 200 on")
+        self.assertRegex(shown[1], r"^registers differ from step 2\d\d on: load 0x8043 on its way to a2 here, "
+                                   r"0x8042 on its way to a2 before$")
+        self.assertEqual(shown[2], "line 0: byte 1 is 'C' in step 215 here, 'B' in step 215 before")
+        self.assertEqual(shown[-1], "`undo` goes back to before `set 1 'C'`")
+        self.assertEqual(said("goto 256", "compare"), ["there is no edit to compare with; `compare LOG` compares with a log"])
+        self.assertEqual(said("goto 256", "del 0", "compare examples/echo/log")[2],
+                         "line 0: byte 0 is 'B' in step 215 here, 'A' in step 83 there")
+        self.assertEqual(value("goto 256", "set 1 'C'", "compare")["sent"],
+                         [{"line": 0, "place": 1, "here": [0x43, 215], "there": [0x42, 215]}])
+
+    def test_shrink_is_an_edit(self) -> None:
+        lines = ("goto 256", "shrink until console 'B' as all-of-it")
+        self.assertEqual(said(*lines), ["1 of 2 events are left, and `console 'B'` comes true at step 216:", "  200 0 'B'",
+                                        "the log as it was is kept as all-of-it; `undo` brings it back"])
+        self.assertEqual(said(*lines, "log")[0], "1 event, 1 before this position")
+        self.assertEqual(said(*lines, "compare all-of-it")[0], "the events differ from step 70 on")
+        self.assertEqual(said(*lines, "undo", "log")[0], "2 events, 2 before this position")
+        found = value("goto 256", "shrink until word 0xa0000100 == 0x8042")
+        self.assertEqual((found["before"], found["events"], found["stopped"]),
+                         (2, [{"time": 200, "line": 0, "byte": 66, "kind": "byte"}], False))
+
+    def test_help(self) -> None:
+        self.assertEqual(said("help when"), [
+            "when A ..: shows the first step up to here after which the word at A has a value: when count == 3, when count > 8",
+            "usage: when ADDRESS OP VALUE [at N] [--json]"])
+
+    def test_jobs(self) -> None:
+        for line in ("causes session+0x20 values 3", "try 2 all"):
+            self.assertEqual(said("goto 130,000", f"{line} --jobs 2", guest=LOGIN), said("goto 130,000", line, guest=LOGIN))
+
+    def test_all_is_as_before(self) -> None:
+        lines = ("goto 250", "patch 0xa0000200 7", "causes console", "try 0 all", "when 0xa0000100 == 5", "compare", "unsaved")
+        self.assertEqual(said(*lines), ["not saved: the image (save-image FILE)"])
+        self.assertEqual(said(*lines, "pos")[0].partition(",")[0], "step 250")
+        self.assertEqual(said(*lines, "log")[1:], ["     0: step 70, line 0, 0x41 'A', 180 steps ago",
+                                                   "     1: step 200, line 0, 0x42 'B', 50 steps ago"])
+
+    def test_wrong_words(self) -> None:
+        for line, why in (
+                ("causes", "usage: causes WHAT .."),
+                ("causes nowhere", "there is no symbol and no register nowhere"),
+                ("causes sp by luck", "`by` is followed by set, del, both. usage: causes"),
+                ("causes sp values 0", "1 to 255 other values can be tried, and not 0"),
+                ("causes sp more", "more means nothing here. usage: causes"),
+                ("causes sp --jobs", "a word is missing after `--jobs`. usage: causes"),
+                ("causes sp --jobs 0", "1 to 64 processes can be used, and not 0"),
+                ("causes sent 0", "a line and a place stand after `sent`. usage: causes"),
+                ("causes console 7", "there is no line 7; they are 0 to 3"),
+                ("try 9", "there is no event 9: they are 0 to 1"),
+                ("try 0 300", "a byte is 0 to 255, and the level of an external line 0 or 1"),
+                ("try 0 9..8", "9..8 has nothing in it. usage: try"),
+                ("try 1", "a change in step 200 does not show at position 150: go to one after it, or name it by `at N`"),
+                ("try 0 moved 0..9999999", "at most 1,048,576 pasts are tried together"),
+                ("try 0 until sp", "`sp` is no condition; there are pc ADDRESS, "),
+                ("shrink until console 'x'", "that does not come true up to step 150; "),
+                ("shrink sp 5", "sp means nothing here. usage: shrink"),
+                ("shrink until", "a word is missing after `until`. usage: shrink"),
+                ("shrink until pc 3", "3 is no address of an instruction"),
+                ("when 0xa0000100 5 5", "a word is compared by ==, !=, <, <=, > or >=. usage: when"),
+                ("compare nowhere", "there is no file nowhere"),
+                ("fuzz 300 until pc 0 steps 9", "the log has no event from step 300 on that could be changed"),
+                ("fuzz 200 until pc 0", "nothing is run from step 200 to step 150: "),
+        ):
+            shown = said("goto 150", line)
+            self.assertEqual(len(shown), 1, shown)
+            self.assertTrue(shown[0].startswith(why), shown)
+
+    def test_ranges_and_runs(self) -> None:
+        event = Event(5, 0, 65)
+        labels = [(VALUE, it) for it in (3, 4, 48, 49, 50, 255)] + [(OUT, 0)] + [(STEP, it) for it in (10, 12, 14, 20)]
+        self.assertEqual(spelled(labels, event), "0x03..0x04, '0'..'2', 0xff, steps 10..14 by 2, step 20, taken out")
+        self.assertEqual(spelled([(VALUE, 0)], Event(5, 0, 1, Kind.WIRE)), "level 0")
+        log = [Event(1, 0, 65), Event(2, 0, 66), Event(2, 1, 67), Event(3, 0, 1, Kind.WIRE), Event(4, 0, 1, Kind.WIRE),
+               Event(5, 0, 68, Kind.FRAMING), Event(6, 0, 69, Kind.FRAMING)]
+        self.assertEqual(list(runs(log, range(7))), [
+            "steps 1 to 2, line 0, 'AB' (events 0 to 1)", "step 2, line 1, 'C' (event 2)", "step 3, external line 0 gets 1 (event 3)",
+            "step 4, external line 0 gets 1 (event 4)", "steps 5 to 6, line 0, 'DE' with framing errors (events 5 to 6)"])
+        self.assertEqual(list(runs(log, [0, 6])), ["step 1, line 0, 'A' (event 0)", "step 6, line 0, 'E' with a framing error (event 6)"])
+
+
+class Saved(InFolder):
+    def test_fuzz_saves_what_crashes(self) -> None:
+        file = self.folder / "crash.session"
+        lines = ("arrive 20000 0 'S11B0018452C20494E2054574F205245434F5244532E205448452045C4\\r' 1000",
+                 "arrive 90000 0 'S104000000FB\\r' 1000", "goto 150,000",
+                 f"fuzz 15,000 until pc fatal steps 185,000 seed 3 tries 1500 save {file} --json")
+        found = json.loads(said(*lines, guest=LOADER[2:])[0])
+        self.assertEqual(found["file"], str(file))
+        opened = shell(str(file), lines=("pos", "log 0 1"))
+        self.assertRegex(opened.stdout, r"^step [\d,]+, fatal: ")
+        self.assertIn(f"{len(found['shrunk']['events']):,} events, ", opened.stdout)
+        file.write_text("no session")
+        shown, why = said(*lines, guest=LOADER[2:])
+        self.assertEqual(json.loads(shown), {**found, "file": None})
+        self.assertEqual(why, f"{file} is there and is no session. `fuzz .. save {file} force` overwrites it")
+        self.assertEqual(file.read_text(), "no session")
+
+
+class OnATerminal(unittest.TestCase):
+    def test_ctrl_c(self) -> None:
+        """One stops it, shows what was found, and all is as before. The guest takes long for each past: each value of the last byte
+        has its own way through 100 million steps."""
+        terminal = Terminal("shell", *LOADER)
+        terminal.until(b"wb 0> ")
+        terminal.type(b"goto 100,000,000\n")
+        terminal.until(b"wb 100,000,000> ")
+        for line, shows in (("try 178", rb"interrupted: [\d,]+ of 256 were tried, and what follows"),
+                            ("try 178 --jobs 2", rb"interrupted: [\d,]+ of 256 were tried"),
+                            ("causes v0 values 255", rb"interrupted: [\d,]+ of 181 were tried.*from the last event"),
+                            ("shrink until pc fatal at 100,000,000", rb"interrupted after [\d,]+ past|left, and")):
+            terminal.type(line.encode() + b"\n")
+            terminal.until(b" a second")
+            terminal.type(b"\x03")
+            shown = terminal.until(b"wb 100,000,000> ")
+            self.assertRegex(re.sub(rb"\s+", b" ", shown), shows)
+        terminal.type(b"undo\n")
+        terminal.until(b"wb 100,000,000> ")
+        terminal.type(b"log 177 2\n")
+        shown = terminal.until(b"wb 100,000,000> ")
+        self.assertIn(b"181 events, 181 before this position", shown)
+        terminal.type(b"quit\nquit\n")
+        terminal.end()
+
+
+class InGdb(unittest.TestCase):
+    def setUp(self) -> None:
+        debugger.needed()
+
+    def test_ctrl_c(self) -> None:
+        """What was found is shown before gdb has the key."""
+        terminal = Terminal("gdb", *LOADER, *debugger.PLAIN)
+        terminal.until(b"(0) ")
+        terminal.type(b"wb goto 100000000\n")
+        terminal.until(b"(100,000,000) ")
+        shown = b""
+        for pause in 0.3, 1, 3, 9:
+            # A key that comes before anything was tried ends it with nothing to show.
+            if b"of 256 were tried, and what follows is what these show" not in shown:
+                terminal.type(b"wb try 178\n")
+                terminal.until(b"wb try 178\r\n")
+                time.sleep(pause)
+                terminal.type(b"\x03")
+                shown = terminal.until(b"(100,000,000) ")
+        self.assertIn(b"of 256 were tried, and what follows is what these show", shown)
+        terminal.press(b"wb log 178 2\n", b"181 events, 181 before this position")
+        terminal.leave(b"quit\n")
+
+    def test_they_answer(self) -> None:
+        shown = debugger.batch("login/login.elf", "wb goto 130000", "wb causes session+0x20 by del", "wb when session+0x20 == 0xffffffff",
+                               "wb try 2 'a' del", "wb causes sp --json", log="login/log")
+        text = "\n".join(shown)
+        self.assertIn("of 10 events decide it by being there:", text)
+        self.assertIn("session+0x20 == 0xffffffff holds first at step 40,025, after step 40,024, read_line+0x30", text)
+        self.assertIn("event 2, line 0, 0x08 in step 40,000: 2 pasts, ", text)
+        found = json.loads(next(it for it in shown if it.startswith("{")))
+        self.assertEqual((found["position"], found["events"]), (130_000, 10))
+
+
+if __name__ == "__main__":
+    unittest.main()
