@@ -33,6 +33,13 @@ class Terminal:
         before, _, self._shown = self._shown.partition(wanted)
         return before + wanted
 
+    def shows(self, wanted: bytes, seconds: float) -> bool:
+        """Whether a text is shown within a time. What is shown up to it, and with it, is taken then."""
+        end = time.monotonic() + seconds
+        while wanted not in self._shown and time.monotonic() < end:
+            self._read()
+        return wanted in self._shown and bool(self.until(wanted))
+
     def press(self, keys: bytes, wanted: bytes) -> bytes:
         """What is shown up to a text, while keys are pressed again and again, twice a second: not at once when they are echoed."""
         end = time.monotonic() + PATIENCE

@@ -29,6 +29,13 @@ class Typed(unittest.TestCase):
         terminal.until(b"(0) ")
         return terminal
 
+    def edited(self) -> Terminal:
+        """gdb on the driver's run, with an event more in the log."""
+        terminal = self.gdb("--log", "examples/driver/log", "examples/driver/boot.s")
+        self.type(terminal, "wb add 5 0 65")
+        terminal.until(b"event 0\r\n(0) ")
+        return terminal
+
     def type(self, terminal: Terminal, *lines: str) -> None:
         for line in lines:
             terminal.type(line.encode() + b"\n")
@@ -46,12 +53,28 @@ class Typed(unittest.TestCase):
         self.type(terminal, "quit")
         self.assertEqual(terminal.end(), 0)
 
+    def begin(self, terminal: Terminal, line: str) -> None:
+        """Types what takes long where gdb waits for it, and waits until it is taken. A Ctrl-C that came before would drop it, and
+        leave gdb deaf up to the next key: it reads a key that it was told of, and that the system has dropped."""
+        self.type(terminal, line)
+        terminal.until(line.encode() + b"\r\n")
+
     def interrupt(self, terminal: Terminal, keys: bytes = b"\x03") -> None:
-        """Presses Ctrl-C until there is a prompt. gdb drops what is typed before it has handled that, so it is asked until it
-        answers."""
+        """Presses Ctrl-C until there is a prompt."""
         terminal.press(keys, PROMPT)
-        self.asked += 1
-        terminal.press(b"print 7000 + %d\n" % self.asked, b"= %d\r" % (7000 + self.asked))
+        self.settle(terminal)
+
+    def settle(self, terminal: Terminal) -> None:
+        """Asks until the last question is answered: then gdb has handled every key. What is typed before it has handled a Ctrl-C it
+        drops."""
+        patience = 0.5
+        while True:
+            self.asked += 1
+            self.type(terminal, f"print 7000 + {self.asked}")
+            if terminal.shows(b"= %d\r" % (7000 + self.asked), patience):
+                break
+            patience *= 2
+        terminal.until(PROMPT)
 
     def test_a_run_with_such_commands_is_ended(self) -> None:
         terminal = self.gdb("--log", "examples/driver/log", "examples/driver/boot.s")
@@ -64,20 +87,17 @@ class Typed(unittest.TestCase):
         """However often it is pressed, the session stays, with its edits."""
         for line in "wb goto 20,000,000,000", "starti 20,000,000,000", "run 20,000,000,000", "wb until 20,000,000,000":
             with self.subTest(line=line):
-                terminal = self.gdb("--log", "examples/driver/log", "examples/driver/boot.s")
-                self.type(terminal, "wb add 5 0 65", line)
-                terminal.until(line.encode() + b"\r\n")
+                terminal = self.edited()
+                self.begin(terminal, line)
                 self.interrupt(terminal, 5 * b"\x03")
                 terminal.press(b"starti 9\nwb log 0 2\n", b"step 5, line 0, 0x41")
                 self.assertEqual(terminal.leave(b"quit\n"), 0)
 
     def test_ctrl_c_ends_many_steps(self) -> None:
         """However often it is pressed, the session stays, with its edits."""
-        terminal = self.gdb("--log", "examples/driver/log", "examples/driver/boot.s")
-        self.type(terminal, "wb add 5 0 65")
+        terminal = self.edited()
         for keys in b"\x03", 2 * b"\x03", 9 * b"\x03":
-            self.type(terminal, "stepi 1000000000")
-            terminal.until(b"stepi 1000000000\r\n")
+            self.begin(terminal, "stepi 1000000000")
             self.interrupt(terminal, keys)
         terminal.press(b"starti 9\nwb log 0 2\n", b"step 5, line 0, 0x41")
         self.assertEqual(terminal.leave(b"quit\n"), 0)
@@ -91,8 +111,7 @@ class Typed(unittest.TestCase):
             terminal.until(b" in loop ()")
             terminal.type(b"\x03")
             terminal.until(PROMPT)
-            self.asked += 1
-            terminal.press(b"print 7000 + %d\n" % self.asked, b"= %d\r" % (7000 + self.asked))
+            self.settle(terminal)
         self.assertEqual(terminal.leave(b"quit\n"), 0)
 
     def test_what_is_not_saved_is_told_before_gdb_quits(self) -> None:
