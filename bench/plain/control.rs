@@ -4,7 +4,7 @@
 /// two bits of the isolated cache, and IEc. The mask of the interrupts stands at the same place in Cause.
 pub const CU0: u32 = 1 << 28;
 pub const BEV: u32 = 1 << 22;
-const TS: u32 = 1 << 21;
+pub const TS: u32 = 1 << 21;
 const CM: u32 = 1 << 19;
 pub const SWAPPED: u32 = 1 << 17;
 pub const ISOLATED: u32 = 1 << 16;

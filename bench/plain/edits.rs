@@ -344,11 +344,12 @@ impl Script {
         let line =
             if used.is_empty() || self.random.one_in(6) { self.random.below(4) } else { self.random.pick(&used) };
         let sent = seen.sent[line as usize];
-        let question = match self.random.below(8) {
+        let question = match self.random.below(9) {
             0..=3 => format!("writer {address:#x}"),
             4 => format!("mem {address:#x} {}", 1 + self.random.below(4)),
             5 => format!("find {line} {}", self.random.below(sent + 2)),
             6 => format!("console {line} {} 256", self.random.below(sent + 1)),
+            7 => format!("trace {}", 1 + self.random.below(64)),
             _ => self.random.pick(&["regs", "cp0", "log 0 32", "pos"]).into(),
         };
         self.tell(&question);

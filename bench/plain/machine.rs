@@ -44,11 +44,12 @@ impl Parts {
     pub const ALL: Parts = Parts { pages: 2048, translation: true, caches: true, devices: true, kinds: true };
 }
 
-/// What a step reported: the byte that it sent, and the address of the word of RAM that it stored into.
+/// What a step reported: the byte that it sent, the address of the word of RAM that it stored into, and whether it took an exception.
 #[derive(Clone, Copy, Debug, Default, PartialEq)]
 pub struct Done {
     pub sent: Option<Sent>,
     pub stored: Option<u32>,
+    pub excepted: bool,
 }
 
 /// A physical address.
@@ -121,6 +122,17 @@ impl Machine {
         self.words[self.place(physical).expect("an address of memory")]
     }
 
+    /// The same machine with its memory, which this one lacks until it is given back.
+    pub fn lent(&mut self) -> Machine {
+        let words = std::mem::take(&mut self.words);
+        Machine { words, ..self.clone() }
+    }
+
+    /// Takes the memory back.
+    pub fn give_back(&mut self, other: Machine) {
+        self.words = other.words;
+    }
+
     /// The same state with another's memory.
     #[cfg(test)]
     pub fn with_words_of(mut self, other: &Machine) -> Machine {
@@ -133,9 +145,9 @@ impl Machine {
         place(self.parts.ram_words(), physical)
     }
 
-    /// One step, in which these events take effect first.
+    /// The begin of a step: these events take effect, the devices tick, and the interrupts are sampled.
     #[inline]
-    pub fn step(&mut self, events: &[Event]) -> Done {
+    pub fn sample(&mut self, events: &[Event]) {
         if self.parts.devices {
             for &event in events {
                 self.bus.take(event);
@@ -144,11 +156,18 @@ impl Machine {
             let (board, clock) = self.bus.interrupts();
             self.control.sample(board, clock);
         }
+    }
+
+    /// One step, in which these events take effect first.
+    #[inline]
+    pub fn step(&mut self, events: &[Event]) -> Done {
+        self.sample(events);
         self.done = Done::default();
         let (pc, delay) = (self.pc, self.delay);
         let ran = if self.control.wants_interrupt() { Err(Exception::Interrupt) } else { self.instruct(pc) };
         if let Err(exception) = ran {
             self.land();
+            self.done.excepted = true;
             self.pc = self.control.enter(exception, pc, delay);
             self.next_pc = self.pc + 4;
             self.delay = false;
@@ -202,7 +221,7 @@ impl Machine {
     }
 
     /// What an address means for a load of a byte.
-    pub fn where_is(mut self, address: u32) -> Result<Physical, Exception> {
+    pub fn where_is(&mut self, address: u32) -> Result<Physical, Exception> {
         self.physical(address, 0, false)
     }
 

@@ -25,6 +25,7 @@ mod source;
 mod table;
 #[cfg(test)]
 mod tests;
+mod trace;
 mod translation;
 
 use std::io::{Read, Write};

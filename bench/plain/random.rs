@@ -411,6 +411,7 @@ pub fn script(seed: u64, commands: &[&str]) -> String {
                 }
                 "mem" | "dis" => format!("{address:#x} 16"),
                 "console" => format!("{line} {} 256", random.below(3)),
+                "trace" => (1 + random.below(64)).to_string(),
                 "log" => "0 32".into(),
                 _ => String::new(),
             };

@@ -45,6 +45,7 @@ pub enum Command {
     Writer(u32),
     Visit { address: u32, limit: u64 },
     Find { line: u8, place: u64 },
+    Trace(u64),
     Log { from: u64, count: usize },
     Add(Event),
     Del(u64),
@@ -60,7 +61,7 @@ const ANY: u64 = u64::MAX;
 const WORD: u64 = 0xFFFF_FFFF;
 
 /// The name of each command, with the least and the greatest of each of its numbers.
-const COMMANDS: [(&str, &[(u64, u64)]); 25] = [
+const COMMANDS: [(&str, &[(u64, u64)]); 26] = [
     ("pos", &[]),
     ("goto", &[(0, ANY)]),
     ("step", &[(0, ANY)]),
@@ -76,6 +77,7 @@ const COMMANDS: [(&str, &[(u64, u64)]); 25] = [
     ("writer", &[(0, WORD)]),
     ("visit", &[(0, WORD), (1, 1_048_576)]),
     ("find", &[(0, 3), (0, ANY)]),
+    ("trace", &[(1, 64)]),
     ("log", &[(0, ANY), (1, 32)]),
     ("add", &[(0, GREATEST - 1), (0, 3), (0, 255)]),
     ("ferr", &[(0, GREATEST - 1), (0, 3), (0, 255)]),
@@ -126,6 +128,7 @@ fn command(name: &str, n: &[u64]) -> Command {
         "writer" => Command::Writer(n[0] as u32),
         "visit" => Command::Visit { address: n[0] as u32, limit: n[1] },
         "find" => Command::Find { line: n[0] as u8, place: n[1] },
+        "trace" => Command::Trace(n[0]),
         "log" => Command::Log { from: n[0], count: n[1] as usize },
         "add" => added(Kind::Byte, n),
         "ferr" => added(Kind::Framing, n),

@@ -4,7 +4,7 @@ use std::fmt::Write;
 
 use crate::control::{Control, Exception};
 use crate::image::Image;
-use crate::log::{GREATEST, Kind, Log};
+use crate::log::{Event, GREATEST, Kind, Log};
 use crate::machine::{Done, Machine, Parts};
 use crate::script::{Command, Refusal};
 use crate::table;
@@ -135,6 +135,7 @@ impl Session {
                 let place = usize::try_from(place).map_err(|_| Refusal::NotFound)?;
                 format!("find {}\n", sent.get(place).ok_or(Refusal::NotFound)?.0)
             }
+            Command::Trace(count) => self.trace(count)?,
             Command::Log { from, count } => self.events(from, count),
             _ => unreachable!("no query: {command:?}"),
         })
@@ -159,6 +160,19 @@ impl Session {
             None if self.image.words.contains_key(&address) => "writer image\n".into(),
             None => "writer never\n".into(),
         }
+    }
+
+    /// What the next steps do.
+    fn trace(&self, count: u64) -> Result<String, Refusal> {
+        if self.position + count > GREATEST {
+            return Err(Refusal::TooFar);
+        }
+        let mut machine = self.machine();
+        let line = |time| {
+            let now: Vec<Event> = self.log.events.iter().filter(|event| event.time == time).copied().collect();
+            machine.traced(time, &now)
+        };
+        Ok((self.position..self.position + count).map(line).collect())
     }
 
     /// How many events the log has.

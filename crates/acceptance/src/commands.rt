@@ -1,6 +1,6 @@
 //! Moves, and queries of the processor: the worked examples, and values by hand.
 use crate::programs::ZEROS;
-use crate::served::{answers, run_image};
+use crate::served::{answers, run_image, says};
 use std::alloc::Global;
 use std::process::Abort;
 use std::str;
@@ -48,6 +48,21 @@ fn registers_by_number(rt: HostRuntime) -> Result<(), Fail> {
         reg 0 => r0 0x00000000; reg => error 2 Syntax; reg 32 => error 3 Range; reg 32 1 => error 2 Syntax
         reg r1 => error 2 Syntax; pos => pos 2";
     answers(&rt, "rom", rom, dialogue)
+}
+
+/// What steps do, by the manual: a store of a byte and a load of its word, HI and LO, a store to a device, and a reserved instruction.
+#[test]
+fn steps_that_are_followed(rt: HostRuntime) -> Result<(), Fail> {
+    let source =
+        "lui r1, 0xa000; addiu r2, r0, 0x34; sb r2, 5(r1); lw r3, 4(r1); mult r2, r2; lui r4, 0xbfe0; sh r2, 26(r4); .word 0xffffffff";
+    let dialogue =
+        "trace 9 => 0 pc 0xbfc00000 word 0x3c01a000 r1 0xa0000000; 1 pc 0xbfc00004 word 0x24020034 r2 0x00000034
+        2 pc 0xbfc00008 word 0xa0220005 store 0x00000004 0x00003400
+        3 pc 0xbfc0000c word 0x8c230004 r3 0x00003400 load 0x00000004 0x00003400
+        4 pc 0xbfc00010 word 0x00420018 hi 0x00000000 lo 0x00000a90; 5 pc 0xbfc00014 word 0x3c04bfe0 r4 0xbfe00000
+        6 pc 0xbfc00018 word 0xa482001a store 0x1fe00018 0x00340000; 7 pc 0xbfc0001c word 0xffffffff exception 10
+        8 pc 0xbfc00180 word 0x00000000; pos => pos 0; goto 1099511627775 => pos 1099511627775; trace 1 => error 7 TooFar";
+    says(&rt, source, b"", dialogue)
 }
 
 #[test]

@@ -1339,6 +1339,24 @@ fn using(rt: HostRuntime) -> Result<(), Fail> {
         &rt,
         alloc,
         "source",
+        LOAD_SLOT,
+        b"",
+        b"\
+        trace 4\n\
+        pos\n\
+        trace 65\n",
+        b"\
+        0 pc 0xbfc00000 word 0x3c01a000 r1 0xa0000000\n\
+        1 pc 0xbfc00004 word 0x8c220100 r2 0x00000005 load 0x00000100 0x00000005\n\
+        2 pc 0xbfc00008 word 0x00401821 r3 0x00000000\n\
+        3 pc 0xbfc0000c word 0x00402021 r4 0x00000005\n\
+        pos 0\n\
+        error 3 Range\n",
+    )?;
+    holds(
+        &rt,
+        alloc,
+        "source",
         ECHO,
         b"\
         \x52\x33\x4b\x4c\x4f\x47\x31\x0a\x02\x00\x00\x00\x46\x00\x00\x00\

@@ -55,6 +55,9 @@ find 0 1 = Ok Some Find line 0 place 1 / find 3 18446744073709551615 = Ok Some F
 writer 0x1fc00000 = Ok Some Writer 0x1fc00000 / \twriter 4294967295  = Ok Some Writer 0xffffffff
 find 4 0; find 0 18446744073709551616; writer 0x100000000 = Err Range
 find 4 x; find 4; find x 18446744073709551616; find 4 0 8; writer 0x100000000 1; writer; writer r2 = Err Syntax
+trace 1 = Ok Some Trace 1 / trace 0x40 = Ok Some Trace 64
+trace 0; trace 65 = Err Range
+trace; trace 65 1; trace x = Err Syntax
 add 70 0 0x41 = Ok Some Add time 70 line 0 byte 0x41 / add 0xfffffffffe 3 255 = Ok Some Add time 1099511627774 line 3 byte 255
 del 1 = Ok Some Del 1 / del 18446744073709551615 = Ok Some Del 18446744073709551615
 set 2 0x41 = Ok Some Set event 2 byte 0x41 / set 18446744073709551615 0xff = Ok Some Set event 18446744073709551615 byte 255

@@ -3,7 +3,7 @@ use Rattle.std.specs.Prelude.{ℕ, ◌+◌, ◌*◌, ◌^◌, Bool, not, ◌||�
 use Rattle.r3k_word.specs.Word.{field_of, with_field_of, difference_of, has}
 use Rattle.cop0.specs.declared.exception.Exc.{Exc}
 use Rattle.cop0.specs.declared.exception.ExcCode.{ExcCode}
-use Rattle.cop0.specs.declared.status.TheConstants.{CU0, KUC, ISC, SWC, INTERRUPTS, BD}
+use Rattle.cop0.specs.declared.status.TheConstants.{CU0, KUC, ISC, SWC, TS, INTERRUPTS, BD}
 use Rattle.cop0.specs.Codes.{code_of, ce_of}
 use Rattle.cop0.specs.Registers.{Registers}
 
@@ -17,6 +17,10 @@ is_isolated c = has c.status ISC
 
 abbrev pub is_swapped : Registers → Bool
 is_swapped c = has c.status SWC
+
+-- TS: several entries matched an address since reset (Kane and Heinrich, chapter 4)
+abbrev pub is_shut_down : Registers → Bool
+is_shut_down c = has c.status TS
 
 -- coprocessor 0 is usable: in kernel mode, or with CU0
 abbrev pub is_usable : Registers → Bool

@@ -3,7 +3,7 @@
 ghost use Rattle.std.specs.Prelude.{◌≡◌, ◌↔◌, ◌≤◌, IfSome, IsTrue};
 ghost use Rattle.cop0.specs.Registers.{reset_registers, register_of, written};
 ghost use Rattle.cop0.specs.Exception.{entered, vector_of};
-ghost use Rattle.cop0.specs.Status.{in_user_mode, is_isolated, is_swapped, is_usable, page_loaded};
+ghost use Rattle.cop0.specs.Status.{in_user_mode, is_isolated, is_swapped, is_usable, page_loaded, is_shut_down};
 ghost use Rattle.cop0.specs.Changes.{StaysQuiet, sampled, is_wanted, fallen, fallen_by, returned, with_ts, with_cm, probed, loaded};
 
 use crate::exception::Exc;
@@ -240,6 +240,13 @@ impl Cop0 {
         ensures { self.new ≡ fallen_by falls self.old }
     {
         self.random = 8 + (self.random - 8 + (56 - falls % 56)) % 56;
+    }
+
+    /// Whether TS is set: several entries matched an address since reset.
+    pub fn is_shut_down(&self) -> bool
+        ensures { result ≡ is_shut_down self.now }
+    {
+        self.status & TS != 0
     }
 
     /// Sets TS: several entries matched an address.

@@ -1,5 +1,5 @@
 -- The run from reset by spans.
-use Rattle.std.proofs.Common.{◌≡◌, ℕ, zero, suc, ◌≤◌, ◌==◌, None, IfSome, inl, inr, ◌+◌, ◌-◌, ◌*◌, List, Option, Some, unwrap_or, Result, Ok, Err, IfOk, MatchResult, OnErr, nat_eq, true, sym, ap, ◌∙◌, subst, arith, zero-add, refl}
+use Rattle.std.proofs.Common.{◌≡◌, ℕ, zero, suc, ◌≤◌, ◌==◌, None, IfSome, inl, inr, ◌+◌, ◌-◌, ◌*◌, List, Option, Some, unwrap_or, Result, Ok, Err, IfOk, MatchResult, OnErr, nat_eq, true, sym, ap, ◌∙◌, subst, arith, zero-add, refl, ◌++◌, [], ◌∷◌}
 use Rattle.std.proofs.Math.Nat.{add-mul}
 use Rattle.std.proofs.Math.Path.{ap₂}
 use Rattle.std.specs.Option.{option_eq}
@@ -9,7 +9,9 @@ use Rattle.input_log.specs.Event.{LogEvent}
 use Rattle.input_log.specs.Log.{window_of}
 use Rattle.r3k_image.specs.Boot.{Boot}
 use Rattle.r3k_machine.specs.Reset.{reset}
-use Rattle.r3k_machine.specs.Run.{next_visit, run, state_at}
+use Rattle.r3k_machine.specs.Run.{arriving, next_visit, run, state_at}
+use Rattle.r3k_machine.specs.Step.{next}
+use Rattle.r3k_machine.specs.Traced.{traced_at, traces_at}
 use Rattle.r3k_machine.proofs.Splits.{run_own, run_split, run_within}
 use Rattle.r3k_machine.specs.State.{State}
 use Rattle.span_fact.specs.Span.{Span, end_of}
@@ -104,6 +106,20 @@ pub gone_on : (pages : ℕ) (image : Boot) (log : List LogEvent) (time position 
 gone_on pages image log time position before =
     gone_within pages image log time position (position - time) (omega (arith, before))
     ∙ ap (state_at pages image log) (let e : time + (position - time) ≡ position = omega (arith, before) in e)
+
+-- one step on
+pub one_on : (pages : ℕ) (image : Boot) (log : List LogEvent) (position : ℕ)
+    → next pages (arriving log position) (state_at pages image log position) ≡ state_at pages image log (position + 1)
+unfolding run
+one_on pages image log position =
+    ap (λ (t : ℕ). next pages (arriving log t) (state_at pages image log position)) (sym (zero-add position))
+    ∙ ap (state_at pages image log) (let e : suc position ≡ position + 1 = omega arith in e)
+
+-- one step more
+pub traces_more : (pages : ℕ) (image : Boot) (log : List LogEvent) (position n : ℕ)
+    → traces_at pages image log position (n + 1) ≡ traces_at pages image log position n ++ traced_at pages image log (position + n) ∷ []
+unfolding traces_at
+traces_more pages image log position n = ap (traces_at pages image log position) (let e : n + 1 ≡ suc n = omega arith in e)
 
 -- a visit, by its steps and by its position
 abbrev pub after_time : ℕ → Option ℕ → Option ℕ

@@ -1,6 +1,7 @@
 pub use Rattle.r3k_image.specs.Boot
 pub use Rattle.input_log.specs.Event
 pub use Rattle.r3k_machine.specs.Run
+pub use Rattle.r3k_machine.specs.Traced
 pub mod History
 pub mod Sizes
 pub mod Console

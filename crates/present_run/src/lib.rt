@@ -3,6 +3,7 @@
 #![tactic(auto)]
 
 mod edits;
+mod following;
 mod frontier;
 mod going;
 mod index;

@@ -1,4 +1,5 @@
 pub use Rattle.r3k_machine.specs.Run
+pub use Rattle.r3k_machine.specs.Traced
 pub use Rattle.r3k_machine.specs.Reports
 pub use Rattle.r3k_machine.specs.Locality
 pub use Rattle.r3k_pages.specs.Pages

@@ -1,14 +1,17 @@
 //! The machine that runs.
 
-ghost use Rattle.std.specs.Prelude.{◌≡◌, ◌+◌, ◌-◌, ◌^◌, ◌<◌, ◌≤◌, ℕ, [], IfOk, None, length, min, slice_index, unwrap_or};
+ghost use Rattle.std.specs.Prelude.{◌≡◌, ◌+◌, ◌-◌, ◌^◌, ◌||◌, ◌<◌, ◌≤◌, ℕ, [], IfOk, IfSome, None, length, min, slice_index, unwrap_or};
 ghost use Rattle.r3k_word.specs.Layout.{word_count_of};
 ghost use Rattle.r3k_word.specs.declared.layout.TheConstants.{MAX_RAM_PAGES};
 ghost use Rattle.input_log.specs.Log.{AreInOrder, AreWithin};
-ghost use Rattle.r3k_pages.specs.Pages.{SameOutside};
+ghost use Rattle.r3k_pages.specs.Pages.{SameOutside, holds};
+ghost use Rattle.r3k_machine.specs.Reports.{IsRamWord};
 ghost use Rattle.r3k_machine.specs.Reset.{reset};
 ghost use Rattle.r3k_machine.specs.Run.{run, trace};
+ghost use Rattle.r3k_machine.specs.Step.{next};
+ghost use Rattle.r3k_machine.specs.Traced.{traced};
 ghost use Rattle.r3k_live.specs.Living.{counted, state_of};
-ghost use Rattle.r3k_live.specs.Record.{dirty_pages};
+ghost use Rattle.r3k_live.specs.Record.{dirty_pages, stores_in};
 ghost use Rattle.r3k_live.specs.Recording.{Records};
 ghost use Rattle.r3k_live.specs.Standing.{HasStood};
 ghost use Rattle.r3k_live.specs.Visits.{first_visit};
@@ -19,7 +22,7 @@ use crate::recorder::Recorder;
 use crate::stretch::advance;
 use input_log::{Cursor, Event};
 use r3k_image::Image;
-use r3k_machine::{Core, Mem};
+use r3k_machine::{Core, Done, Mem, Traced, follow};
 use r3k_pages::PageMarks;
 use r3k_word::layout::PAGE_BYTES;
 use std::alloc::{AllocError, Global};
@@ -139,6 +142,19 @@ impl<const PAGES: u32> Live<PAGES> {
         self.go_on(from, events, steps, address as u64, recorder)
     }
 
+    /// Makes a step, in which these events take effect, and says what it did. It takes no memory.
+    pub fn follow(&mut self, events: &[Event]) -> Traced
+        ensures state { self.new.state ≡ next PAGES events.now self.old.state }
+        ensures traced { result ≡ traced PAGES events.now self.old.state }
+        ensures count { self.new.steps ≡ counted self.old.steps 1 }
+        ensures least { self.old.steps ≤ self.new.steps }
+    {
+        let traced = follow(&mut self.core, &mut self.memory, events);
+        mark_stored(&mut self.changed, traced.done);
+        self.steps = counted(self.steps, 1);
+        traced
+    }
+
     // Steps until the PC holds an address, or `steps` times.
     fn go_on<const SPAN: u32>(
         &mut self,
@@ -219,6 +235,16 @@ impl<const PAGES: u32> Live<PAGES> {
         ensures { result ≡ self.now.steps }
     {
         self.steps
+    }
+}
+
+// Marks the page that a step stored into.
+fn mark_stored<const PAGES: u32>(changed: &mut PageMarks<PAGES>, done: Done)
+    requires { IfSome done.stored (IsRamWord PAGES) }
+    ensures { (page : ℕ) → holds changed.new page ≡ (holds changed.old page || stores_in page done.stored) }
+{
+    if let Some(address) = done.stored {
+        changed.mark(address / PAGE_BYTES);
     }
 }
 

@@ -32,6 +32,7 @@ pub mod Reset
 pub mod Step
 pub mod Reports
 pub mod Run
+pub mod Traced
 pub mod Known
 pub mod Quiet
 pub mod Locality

@@ -127,11 +127,16 @@ Completion = Result Outcome Raised
 abbrev pub completion_without_access : State → ℕ → Core → Completion
 completion_without_access s page core = Ok (record { state = record s { core = core }; done = fetching (Some page) })
 
--- A load. One that merges keeps bytes of the register once the pending load has landed.
+-- A load, by the processor as its access left it. One that merges keeps bytes of the register once the pending load has landed.
+abbrev pub core_after_loading : Core → LoadKind → (number address : ℕ) → Result Loaded Exception → Core
+core_after_loading core kind number address (Err exception) = core
+core_after_loading core kind number address (Ok w) =
+    with_slot (passed core) number (loaded kind (address % 4) w.word (register (passed core) number))
+
 abbrev pub completion_of_load : State → ℕ → LoadKind → (number address : ℕ) → Result Loaded Exception → Completion
 completion_of_load s page kind number address (Err exception) = Err (raised s.core exception)
 completion_of_load s page kind number address (Ok w) = Ok (record {
-  state = record s { core = with_slot (passed s.core) number (loaded kind (address % 4) w.word (register (passed s.core) number)) };
+  state = record s { core = core_after_loading s.core kind number address (Ok w) };
   done = loading page w.page;
 })
 

@@ -41,8 +41,8 @@ pub enum Exception {
 }
 
 impl Exception {
-    // The code in Cause.
-    fn code(self) -> ExcCode
+    /// The code in Cause.
+    pub(crate) fn code(self) -> ExcCode
         ensures { result ≡ code_of self }
     {
         match self {

@@ -1,25 +1,26 @@
 //! What an instruction does to the machine.
 
-ghost use Rattle.std.specs.Prelude.{◌≡◌, ◌<◌, IfOk};
+ghost use Rattle.std.specs.Prelude.{◌≡◌, ◌<◌, IfOk, IfSome};
 ghost use Rattle.cop0.specs.Changes as control;
 ghost use Rattle.cop0.specs.Registers.{written};
 ghost use Rattle.r3k_machine.specs.Exceptions.{is_unusable};
 ghost use Rattle.r3k_machine.specs.Flow.{moved};
 ghost use Rattle.r3k_machine.specs.State.{landed, with_register};
-ghost use Rattle.r3k_machine.specs.Step.{IsCompletion, branched, completion_of_word, operands_of, passed, completion_of_effect};
+ghost use Rattle.r3k_machine.specs.Step.{IsCompletion, branched, completion_of_word, core_after_loading, operands_of, passed, completion_of_effect};
 ghost use Rattle.r3k_machine.specs.LoadSlot.{slot_after_load};
+ghost use Rattle.r3k_machine.specs.LoadStore.{core_after_load, loaded_from};
 ghost use Rattle.r3k_machine.specs.Reports.{IsPage, IsReport};
 
 use crate::exception::Exception;
 use crate::flow::{Flow, write_register};
-use crate::load_store::{Word, load, store};
+use crate::load_store::{Loaded, Word, load, store};
 use crate::memory::Mem;
 use crate::state::Core;
 use crate::step::Done;
 use cop0::Coprocessor;
 use cop0::number::{INDEX, RANDOM};
 use r3k_decode::{Insn, Register, decode};
-use r3k_exec::{Effect, Operands, effect};
+use r3k_exec::{Effect, LoadKind, Operands, effect};
 use r3k_word::field::field;
 
 impl Core {
@@ -117,10 +118,30 @@ impl Core {
     }
 }
 
-// Performs the effect of the instruction at the PC, which was fetched from a page. An exception leaves the words as they were, and the
-// processor as the access left it.
+/// Loads into a register: the value waits in the slot. An exception leaves the processor as the access left it.
 #[inline]
-fn perform_effect<M: Mem>(
+pub(crate) fn perform_load<M: Mem>(
+    core: &mut Core,
+    memory: &M,
+    kind: LoadKind,
+    register: Register,
+    address: u32,
+) -> Result<Loaded, Exception>
+    ensures loaded { result ≡ loaded_from M.ram (M.words memory.now) core.old kind address }
+    ensures page { IfOk result (λ loaded. IfSome loaded.page (IsPage M.ram)) }
+    ensures core { core.new ≡ core_after_loading (core_after_load M.ram core.old kind address) kind register address result }
+{
+    let loaded = load(core, memory, kind, address)?;
+    core.complete();
+    let kept = core.registers()[register.index()];
+    core.set_slot(register, kind.loaded(address, loaded.word, kept));
+    Ok(loaded)
+}
+
+/// Performs the effect of the instruction at the PC, which was fetched from a page. An exception leaves the words as they were, and the
+/// processor as the access left it.
+#[inline]
+pub(crate) fn perform_effect<M: Mem>(
     core: &mut Core,
     memory: &mut M,
     page: u32,
@@ -169,10 +190,7 @@ fn perform_effect<M: Mem>(
             register,
             address,
         } => {
-            let loaded = load(core, memory, kind, address)?;
-            core.complete();
-            let kept = core.registers()[register.index()];
-            core.set_slot(register, kind.loaded(address, loaded.word, kept));
+            let loaded = perform_load(core, memory, kind, register, address)?;
             return Ok(Done::loading(page, loaded.page));
         }
         Effect::Store {

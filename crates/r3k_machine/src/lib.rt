@@ -16,6 +16,7 @@ mod memory;
 mod quick;
 mod state;
 pub mod step;
+mod traced;
 mod translation;
 
 pub use address::Where;
@@ -27,3 +28,4 @@ pub use memory::Mem;
 pub use quick::{CodePage, code_page, learn, quick_step, quiet_step};
 pub use state::Core;
 pub use step::Done;
+pub use traced::{Access, AccessKind, RegisterWrite, Traced, follow};

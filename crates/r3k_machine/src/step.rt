@@ -89,7 +89,7 @@ impl Core {
     // The log's events take effect.
     #[inline]
     #[tactic(auto, unfolding(crate::specs::Step::arrived))]
-    fn arrive(&mut self, events: &[Event])
+    pub(crate) fn arrive(&mut self, events: &[Event])
         ensures { self.new ≡ arrived events.now self.old }
     {
         if !events.is_empty() {
@@ -109,7 +109,7 @@ impl Core {
     // Cause takes the interrupt lines.
     #[inline]
     #[tactic(auto, unfolding(crate::specs::Step::sampled))]
-    fn sample(&mut self)
+    pub(crate) fn sample(&mut self)
         ensures { self.new ≡ sampled self.old }
     {
         let lines = self.bus.lines();

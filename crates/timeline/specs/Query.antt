@@ -5,6 +5,8 @@ use Rattle.std.specs.Option.{ok_or}
 use Rattle.std.specs.FinMap as map
 use Rattle.r3k_machine.specs.Core.{Core}
 use Rattle.r3k_machine.specs.Run.{console_of, last_writer, next_visit, senders_of, state_at, trace_at}
+use Rattle.r3k_machine.specs.Traced.{traces_at}
+use Rattle.r3k_machine.specs.declared.traced.Traced.{Traced}
 use Rattle.r3k_word.specs.Layout.{place_of_word}
 use Rattle.refusal.specs.declared.fault.Fault.{Fault}
 use Rattle.refusal.specs.declared.fault.Fault.TheVariants.{NotFound, NotMemory, Range, TooFar, Unaligned}
@@ -60,6 +62,11 @@ abbrev pub writer_at : ℕ → History → (position address : ℕ) → Result W
 writer_at pages h position address =
     of_word pages address (λ _. up_to_max position
     (Ok (writer_of (last_writer address (trace_at pages h.image h.log position)) (map.get h.image.words address))))
+
+-- what each of a number of steps from a position on does
+abbrev pub followed : ℕ → History → (position count : ℕ) → Result (List Traced) Fault
+followed pages h position count =
+    if nat_le 1 count && nat_le count 64 then up_to_max (position + count) (Ok (traces_at pages h.image h.log position count)) else Err Range
 
 -- the most steps that a search for a PC goes
 abbrev pub max_visit : ℕ

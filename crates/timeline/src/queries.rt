@@ -10,7 +10,7 @@
 ghost use Rattle.std.specs.Prelude.{◌≡◌, ◌≤◌, IfOk, MatchResult, Ok};
 ghost use Rattle.refusal.specs.Given.{Gives, GivesFault};
 ghost use Rattle.input_log.specs.Limits.{max_position};
-ghost use Rattle.timeline.specs.Query.{console_at, core_at, next_pc, sent_at, word_at, writer_at, writer_of};
+ghost use Rattle.timeline.specs.Query.{console_at, core_at, followed, next_pc, sent_at, word_at, writer_at, writer_of};
 ghost use Rattle.present_run.specs.Landed.{Asks, Lands};
 
 use crate::timeline::Timeline;
@@ -18,12 +18,15 @@ use crate::writer::Writer;
 use arrayvec::ArrayVec;
 use dz_serial::SerialLine;
 use input_log::MAX_POSITION;
-use r3k_machine::Core;
+use r3k_machine::{Core, Traced};
 use r3k_word::layout::place_of;
 use refusal::Fault;
 
 // The most steps that a search for a PC goes.
 const MAX_VISIT: u64 = 1_048_576;
+
+// The most steps that are followed at once.
+const MAX_FOLLOWED: u64 = 64;
 
 impl<const PAGES: u32, const SPAN: u32> Timeline<PAGES, SPAN> {
     /// The processor at a position.
@@ -147,6 +150,24 @@ impl<const PAGES: u32, const SPAN: u32> Timeline<PAGES, SPAN> {
         }
         let found = self.present.next_visit(position, address, last)?;
         found.ok_or(Fault::NotFound)
+    }
+
+    /// What each of `count` steps from a position on does. `Range` for a count that is not 1 to 64.
+    pub fn follow(&mut self, position: u64, count: u64) -> Result<ArrayVec<Traced, 64>, Fault>
+        ensures steps { MatchResult result
+            (λ steps. followed PAGES self.old.history position count ≡ Ok steps.items)
+            (GivesFault (followed PAGES self.old.history position count)) }
+        ensures asks { Asks PAGES SPAN position count self.old self.new result }
+        ensures landings { self.new.landings ≡ self.old.landings }
+        ensures same { self.new.history ≡ self.old.history }
+    {
+        if count == 0 || count > MAX_FOLLOWED {
+            return Err(Fault::Range);
+        }
+        if position.saturating_add(count) > MAX_POSITION {
+            return Err(Fault::TooFar);
+        }
+        Ok(self.present.follow(position, count)?)
     }
 }
 

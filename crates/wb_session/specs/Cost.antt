@@ -3,7 +3,7 @@ use Rattle.std.specs.Prelude.{◌≡◌, ◌⊎◌, ℕ, ◌-◌, ◌*◌, ◌%�
 use Rattle.timeline.specs.Landed.{Asks, Landed, Lands}
 use Rattle.refusal.specs.declared.fault.Fault.{Fault}
 use Rattle.wb_text.specs.declared.command.Command.{Command}
-use Rattle.wb_text.specs.declared.command.Command.TheVariants.{Pos, Goto, Step, Back, Visit, Regs, Reg, Cp0, Tlb, Where, Mem, Dis, Console, Find, Writer, Log, Add, Ferr, Wire, Del, Set, Move, Erase, Patch, Quit}
+use Rattle.wb_text.specs.declared.command.Command.TheVariants.{Pos, Goto, Step, Back, Visit, Regs, Reg, Cp0, Tlb, Where, Mem, Dis, Console, Find, Writer, Trace, Log, Add, Ferr, Wire, Del, Set, Move, Erase, Patch, Quit}
 use Rattle.wb_text.specs.declared.reply.Reply.{Reply}
 use Rattle.wb_text.specs.declared.reply.Reply.TheVariants.{Fault as Refused}
 use Rattle.wb_session.specs.Session.{Held}
@@ -63,6 +63,7 @@ Costs pages span (Dis address count) old new reply = AsksWords pages span count 
 Costs pages span (Console line from count) old new reply = AsksSteps pages span 0 old new reply
 Costs pages span (Find line place) old new reply = AsksSteps pages span 0 old new reply
 Costs pages span (Writer address) old new reply = AsksSteps pages span 0 old new reply
+Costs pages span (Trace count) old new reply = AsksSteps pages span count old new reply
 Costs pages span (Log from count) old new reply = AsksNothing old new
 Costs pages span (Add time line byte) old new reply = Edits old new reply
 Costs pages span (Ferr time line byte) old new reply = Edits old new reply

@@ -19,14 +19,15 @@ use Rattle.timeline.specs.Console.{part_of}
 use Rattle.input_log.specs.Limits.{max_position}
 use Rattle.timeline.specs.History.{History}
 use Rattle.timeline.specs.Landed.{Landed}
-use Rattle.timeline.specs.Query.{console_at, core_at, next_pc, sent_at, writer_at}
+use Rattle.timeline.specs.Query.{console_at, core_at, followed, next_pc, sent_at, writer_at}
 use Rattle.timeline.specs.Sizes.{AreSizes}
 use Rattle.timeline.specs.declared.writer.Writer.{Writer as LastWriter}
 use Rattle.timeline.specs.declared.writer.Writer.TheVariants as last
 use Rattle.wb_options.specs.declared.fault.RunFault.{RunFault}
 use Rattle.wb_options.specs.declared.fault.RunFault.TheVariants.{Memory as OutOfMemory, BadImage}
 use Rattle.wb_text.specs.declared.command.Command.{Command}
-use Rattle.wb_text.specs.declared.command.Command.TheVariants.{Pos, Goto, Step, Back, Visit, Regs, Reg, Cp0, Tlb, Where as WhereIs, Mem, Dis, Console, Find, Writer as WriterOf, Log, Add, Ferr, Wire, Del, Set, Move, Erase, Patch, Quit}
+use Rattle.wb_text.specs.declared.command.Command.TheVariants.{Pos, Goto, Step, Back, Visit, Regs, Reg, Cp0, Tlb, Where as WhereIs, Mem, Dis, Console, Find, Writer as WriterOf, Trace, Log, Add, Ferr, Wire, Del, Set, Move, Erase, Patch, Quit}
+use Rattle.r3k_machine.specs.declared.traced.Traced.{Traced}
 use Rattle.refusal.specs.declared.fault.Fault.{Fault}
 use Rattle.refusal.specs.declared.fault.Fault.TheVariants.{Memory, NotFound, TooFar}
 use Rattle.wb_text.specs.declared.memory.Words.{Words}
@@ -38,7 +39,7 @@ use Rattle.wb_text.specs.declared.reply.Writer.TheVariants as writer
 use Rattle.wb_text.specs.declared.reply.Where.{Where}
 use Rattle.wb_text.specs.declared.reply.Where.TheVariants.{Cached, Uncached, AddressError, Refill, Miss}
 use Rattle.wb_text.specs.declared.reply.Reply.{Reply}
-use Rattle.wb_text.specs.declared.reply.Reply.TheVariants.{Position, Registers, Register, Control, Entry as EntryReply, Where as Place, Memory as MemoryReply, Instructions, Console as ConsoleReply, Found, Writer as WriterReply, Log as LogReply, Event, Left, Patched, Nothing, Fault as Refused}
+use Rattle.wb_text.specs.declared.reply.Reply.TheVariants.{Position, Registers, Register, Control, Entry as EntryReply, Where as Place, Memory as MemoryReply, Instructions, Console as ConsoleReply, Found, Writer as WriterReply, Trace as TraceReply, Log as LogReply, Event, Left, Patched, Nothing, Fault as Refused}
 use Rattle.wb_session.specs.Memory.{places_of}
 
 -- what a session is: an image, a log and a position
@@ -167,6 +168,10 @@ console_shown line shown = ConsoleReply line shown.0 (record { items = shown.1 }
 abbrev pub log_shown : (from count : ℕ) → List LogEvent → Reply
 log_shown from count log = LogReply (length log) from (record { items = part_of from count log })
 
+-- what `trace` shows of steps, by the position at which the first one begins
+abbrev pub trace_shown : (position : ℕ) → List Traced → Reply
+trace_shown position steps = TraceReply position (record { items = steps })
+
 -- The answers that show what a query gives, make a move, edit the log, and patch the image. A refusal keeps the session.
 abbrev pub shows : {A : Type 0} → Triple → (A → Reply) → Result A Fault → Answer
 shows s show (Ok answered) = answer s (show answered)
@@ -205,6 +210,7 @@ plain pages s (Dis address count) = shows s (λ words. Instructions words) (word
 plain pages s (Console line from count) = shows s (console_shown line) (console_at pages (history_of s) s.position line from count)
 plain pages s (Find line place) = shows s (λ step. Found step) (sent_at pages (history_of s) s.position line place)
 plain pages s (WriterOf address) = shows s (λ last. WriterReply (shown_writer last)) (writer_at pages (history_of s) s.position address)
+plain pages s (Trace count) = shows s (trace_shown s.position) (followed pages (history_of s) s.position count)
 plain pages s (Log from count) = answer s (log_shown from count s.log)
 plain pages s (Add time line byte) = edits s (λ _. Event (length (up_to time s.log))) (adding (record { time = time; kind = Byte; line = line; byte = byte }) s.log)
 plain pages s (Ferr time line byte) = edits s (λ _. Event (length (up_to time s.log))) (adding (record { time = time; kind = Framing; line = line; byte = byte }) s.log)
@@ -233,6 +239,7 @@ takes_memory (Dis address count) = true
 takes_memory (Console line from count) = true
 takes_memory (Find line place) = true
 takes_memory (WriterOf address) = true
+takes_memory (Trace count) = true
 takes_memory (Log from count) = false
 takes_memory (Add time line byte) = true
 takes_memory (Ferr time line byte) = true

@@ -19,7 +19,7 @@ use timeline::{MAX_POSITION, Timeline};
 use wb_options::RunFault;
 use wb_text::{
     Address, ByteCount, ByteValue, Command, EntryNumber, EventCount, EventTime, Level, LineNumber,
-    RegisterNumber, Reply, StepCount, WireNumber, WordValue,
+    RegisterNumber, Reply, StepCount, TraceCount, WireNumber, WordValue,
 };
 
 // How many pasts are kept side by side.
@@ -95,6 +95,7 @@ impl<const PAGES: u32, const SPAN: u32> Session<PAGES, SPAN> {
             Command::Console { line, from, count } => self.console(line, from, count),
             Command::Find { line, place } => self.find(line, place),
             Command::Writer(address) => self.writer(address),
+            Command::Trace(count) => self.trace(count),
             Command::Log { from, count } => self.events(from, count),
             Command::Add { time, line, byte } => self.add(time, line, byte),
             Command::Ferr { time, line, byte } => self.ferr(time, line, byte),
@@ -253,6 +254,20 @@ impl<const PAGES: u32, const SPAN: u32> Session<PAGES, SPAN> {
     {
         match self.timeline.writer_at(self.position, address.get() as u32) {
             Ok(writer) => Reply::Writer(writer_shown(writer)),
+            Err(fault) => Reply::Fault(fault),
+        }
+    }
+
+    // Shows what steps from the position on do.
+    fn trace(&mut self, count: TraceCount) -> Reply
+        ensures answers { Answers PAGES (triple_of self.old) (command.Trace count) (triple_of self.new) result }
+        ensures costs { Costs PAGES SPAN (command.Trace count) self.old self.new result }
+    {
+        match self.timeline.follow(self.position, count.get()) {
+            Ok(steps) => Reply::Trace {
+                first: self.position,
+                steps,
+            },
             Err(fault) => Reply::Fault(fault),
         }
     }

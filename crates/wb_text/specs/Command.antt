@@ -6,7 +6,7 @@ use Rattle.input_log.specs.Limits.{max_time}
 use Rattle.wb_text.specs.Number.{number_of, number_within}
 use Rattle.wb_text.specs.Words.{words_of, begins_comment}
 use Rattle.wb_text.specs.declared.command.Command.{Command}
-use Rattle.wb_text.specs.declared.command.Command.TheVariants.{Pos, Goto, Step, Back, Visit, Regs, Reg, Cp0, Tlb, Where, Mem, Dis, Console, Find, Writer, Log, Add, Ferr, Wire, Del, Set, Move, Erase, Patch, Quit}
+use Rattle.wb_text.specs.declared.command.Command.TheVariants.{Pos, Goto, Step, Back, Visit, Regs, Reg, Cp0, Tlb, Where, Mem, Dis, Console, Find, Writer, Trace, Log, Add, Ferr, Wire, Del, Set, Move, Erase, Patch, Quit}
 use Rattle.refusal.specs.declared.fault.Fault.{Fault}
 use Rattle.refusal.specs.declared.fault.Fault.TheVariants.{Syntax}
 
@@ -37,7 +37,7 @@ numbers_of (range ∷ ranges) (word ∷ words) =
 
 -- the ranges of numbers: of any, of a register, of a translation entry, of an address, of a word, of a line of the serial
 -- part, of a byte, of an external line, of its level, of an event's time, of how many words, bytes and events a reply shows,
--- and of how many steps are searched
+-- of how many steps are followed, and of how many are searched
 abbrev pub any_number : ℕ × ℕ
 any_number = (0, 2 ^ 64 - 1)
 
@@ -76,6 +76,9 @@ byte_count = (1, 256)
 
 abbrev pub event_count : ℕ × ℕ
 event_count = (1, 32)
+
+abbrev pub trace_count : ℕ × ℕ
+trace_count = (1, 64)
 
 abbrev pub step_count : ℕ × ℕ
 step_count = (1, 2 ^ 20)
@@ -126,6 +129,7 @@ commands =
     ∷ three (codes "console") line_number any_number byte_count Console
     ∷ two (codes "find") line_number any_number Find
     ∷ one (codes "writer") address Writer
+    ∷ one (codes "trace") trace_count Trace
     ∷ two (codes "log") any_number event_count Log
     ∷ three (codes "add") event_time line_number byte_value Add
     ∷ three (codes "ferr") event_time line_number byte_value Ferr

@@ -6,6 +6,7 @@ use Rattle.input_log.specs.declared.event.Kind.{Kind}
 use Rattle.input_log.specs.declared.event.Kind.TheVariants.{Byte, Framing, Wire}
 use Rattle.input_log.specs.Event.{LogEvent}
 use Rattle.wb_text.specs.Text.{word_text, byte_text, register_text, line}
+use Rattle.wb_text.specs.Trace.{steps_text}
 use Rattle.wb_text.specs.declared.reply.ControlRegisters.{ControlRegisters}
 use Rattle.refusal.specs.declared.fault.Fault.{Fault}
 use Rattle.refusal.specs.declared.fault.Fault.TheVariants.{Memory as OutOfMemory, Syntax, Range, NoEvent, Unaligned, NotMemory, TooFar, NotFound}
@@ -17,7 +18,7 @@ use Rattle.wb_text.specs.declared.reply.Where.TheVariants.{Cached, Uncached, Add
 use Rattle.wb_text.specs.declared.reply.Writer.{Writer}
 use Rattle.wb_text.specs.declared.reply.Writer.TheVariants.{Step, Image, Never}
 use Rattle.wb_text.specs.declared.reply.Reply.{Reply}
-use Rattle.wb_text.specs.declared.reply.Reply.TheVariants.{Position, Registers, Register, Control, Entry, Where as Place, Memory, Instructions, Console, Found, Writer as Wrote, Log, Event, Left, Patched, Nothing, Fault as Refused}
+use Rattle.wb_text.specs.declared.reply.Reply.TheVariants.{Position, Registers, Register, Control, Entry, Where as Place, Memory, Instructions, Console, Found, Writer as Wrote, Trace, Log, Event, Left, Patched, Nothing, Fault as Refused}
 
 -- a refusal by its number and name
 abbrev pub refusal_text : Fault → List ℕ
@@ -150,6 +151,7 @@ text_of (Instructions w) = all_words_text true w
 text_of (Console number total bytes) = line (console_text number total bytes.items)
 text_of (Found step) = line (codes "find " ++ decimal step)
 text_of (Wrote writer) = line (writer_text writer)
+text_of (Trace first steps) = steps_text first steps.items
 text_of (Log total first events) = log_text total first events.items
 text_of (Event number) = line (codes "event " ++ decimal number)
 text_of (Left total) = line (codes "log " ++ decimal total)
@@ -157,11 +159,12 @@ text_of Patched = line (codes "ok")
 text_of Nothing = []
 text_of (Refused fault) = line (refusal_text fault)
 
--- a reply has a text: it is not that of `quit`, and shows a word if it shows words
+-- a reply has a text: it is not that of `quit`, and shows a word or a step if it shows words or steps
 abbrev pub HasText : Reply → Type 0
 HasText Nothing = ⊥
 HasText (Memory w) = 0 < length w.words.items
 HasText (Instructions w) = 0 < length w.words.items
+HasText (Trace first steps) = 0 < length steps.items
 HasText reply = Unit {0}
 
 -- a text that is not empty and whose last byte is a line feed

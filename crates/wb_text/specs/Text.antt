@@ -5,7 +5,7 @@ use Rattle.std.specs.Fmt.{decimal, digit_glyph}
 
 -- the most bytes of a reply
 abbrev pub text_bytes : ℕ
-text_bytes = 4096
+text_bytes = 16384
 
 -- the hexadecimal digit of a word at a place, counted from the right
 abbrev pub hexadecimal_digit : ℕ → ℕ → ℕ

@@ -45,6 +45,9 @@ pub type ByteCount = Bounded<1, 256>;
 /// How many events a reply shows at most.
 pub type EventCount = Bounded<1, 32>;
 
+/// How many steps are followed.
+pub type TraceCount = Bounded<1, 64>;
+
 /// How many steps a search runs at most.
 pub type StepCount = Bounded<1, 1_048_576>;
 

@@ -7,7 +7,7 @@ ghost use Rattle.wb_text.specs.Command.{command_of, command_of_words, command_na
 
 use crate::bounded::{
     Address, AnyNumber, Bounded, ByteCount, ByteValue, EntryNumber, EventCount, EventTime, Level,
-    LineNumber, RegisterNumber, StepCount, WireNumber, WordCount, WordValue,
+    LineNumber, RegisterNumber, StepCount, TraceCount, WireNumber, WordCount, WordValue,
 };
 use crate::number::number;
 use crate::words::first_word;
@@ -63,6 +63,8 @@ pub enum Command {
     },
     /// Shows the last writer of a word of memory.
     Writer(Address),
+    /// Shows what this many steps from the position on do.
+    Trace(TraceCount),
     /// Shows events of the log, from one on.
     Log {
         from: u64,
@@ -195,6 +197,7 @@ fn command_by_name(name: &[u8], rest: &[u8]) -> Result<Command, Fault>
         b"console" (line: LineNumber, from: AnyNumber, count: ByteCount) => Command::Console { line, from: from.get(), count },
         b"find" (line: LineNumber, place: AnyNumber) => Command::Find { line, place: place.get() },
         b"writer" (address: Address) => Command::Writer(address),
+        b"trace" (count: TraceCount) => Command::Trace(count),
         b"log" (from: AnyNumber, count: EventCount) => Command::Log { from: from.get(), count },
         b"add" (time: EventTime, line: LineNumber, byte: ByteValue) => Command::Add { time, line, byte },
         b"ferr" (time: EventTime, line: LineNumber, byte: ByteValue) => Command::Ferr { time, line, byte },

@@ -7,11 +7,12 @@ pub mod memory;
 mod number;
 pub mod reply;
 mod text;
+mod trace;
 mod words;
 
 pub use bounded::{
     Address, Bounded, ByteCount, ByteValue, EntryNumber, EventCount, EventTime, Level, LineNumber,
-    RegisterNumber, StepCount, WireNumber, WordCount, WordValue,
+    RegisterNumber, StepCount, TraceCount, WireNumber, WordCount, WordValue,
 };
 pub use command::{Command, parse_line};
 pub use memory::Words;

@@ -11,8 +11,10 @@ ghost use Rattle.wb_text.specs.Reply.{bytes_text, console_text, writer_text, kin
 use crate::bounded::{EntryNumber, LineNumber, RegisterNumber};
 use crate::memory::Words;
 use crate::text::{Text, push_byte, push_decimal, push_text, push_word};
+use crate::trace::push_steps;
 use arrayvec::ArrayVec;
 use input_log::{Event, Kind};
+use r3k_machine::Traced;
 use refusal::Fault;
 
 /// A load that has not landed: its register and the value.
@@ -113,6 +115,11 @@ pub enum Reply {
     Found(u64),
     /// The last writer of a word, of `writer`.
     Writer(Writer),
+    /// What steps did, of which `first` is the first one's number, of `trace`.
+    Trace {
+        first: u64,
+        steps: ArrayVec<Traced, 64>,
+    },
     /// How many events the log has, and some of them, of which `first` is the first one's number,
     /// of `log`.
     Log {
@@ -157,6 +164,7 @@ pub fn reply_text(reply: &Reply) -> Text
         }
         Reply::Found(step) => push_number(&mut text, b"find ", *step),
         Reply::Writer(writer) => push_writer(&mut text, *writer),
+        Reply::Trace { first, steps } => push_steps(&mut text, *first, steps),
         Reply::Log {
             total,
             first,

@@ -7,8 +7,8 @@ ghost use Rattle.wb_text.specs.Text.{text_bytes, word_text, byte_text};
 
 use arrayvec::ArrayVec;
 
-/// The most bytes of a reply.
-pub const TEXT_BYTES: usize = 4096;
+/// The most bytes of a reply: room for the 64 lines of `trace`.
+pub const TEXT_BYTES: usize = 16384;
 
 /// The text of a reply.
 pub type Text = ArrayVec<u8, TEXT_BYTES>;

@@ -6,13 +6,8 @@ pub returns-in-Load-clause-completes : goal.returns-in-Load-clause-completes
 returns-in-Load-clause-completes g c = rw (
   c.in-Load.is,
   c.loading.ensures,
-  c.set_slot.ensures,
-  c.loaded.ensures,
-  c.index.ensures.value,
-  c.registers.ensures.registers,
-  c.complete-in-Load.ensures,
   c.in_ok-loaded-in-Load.ensures.core,
-  ← c.in_ok-loaded-in-Load.ensures.word,
+  ← c.in_ok-loaded-in-Load.ensures.loaded,
 ) refl
 
 pub returns-in-Store-clause-completes : goal.returns-in-Store-clause-completes
@@ -51,7 +46,7 @@ returns-clause-completes g c =
       | in-MoveFromControl w ↦ rw (
         w.in-MoveFromControl.is,
         w.core-is,
-        w.set_slot-in-MoveFromControl.ensures,
+        w.set_slot.ensures,
         w.complete-in-MoveFromControl.ensures,
         w.read-value.ensures,
         w.number.ensures.value,

@@ -44,6 +44,9 @@ returns-in-Find g c = rw c.in-Find.is c.find.ensures
 pub returns-in-Writer : goal.returns-in-Writer
 returns-in-Writer g c = rw c.in-Writer.is c.writer.ensures
 
+pub returns-in-Trace : goal.returns-in-Trace
+returns-in-Trace g c = rw c.in-Trace.is c.trace.ensures
+
 pub returns-in-Log : goal.returns-in-Log
 returns-in-Log g c = rw c.in-Log.is (record { answers = inl (ap (answer (triple_of c.args.self.now)) c.events.ensures); costs = refl })
 
