@@ -12,10 +12,12 @@ if TYPE_CHECKING:
     from .errors import Ended, Problem, Refused
     from .log import Event, Kind
     from .machine import Machine, Memory, NotReached, Step, boot, events
+    from .tracing import Access, Traced
 
-__all__ = ["Ended", "Event", "Kind", "Machine", "Memory", "NotReached", "Problem", "Refused", "Step", "boot", "events"]
+__all__ = ["Access", "Ended", "Event", "Kind", "Machine", "Memory", "NotReached", "Problem", "Refused", "Step", "Traced", "boot", "events"]
 
-_MODULES = {"Ended": "errors", "Problem": "errors", "Refused": "errors", "Event": "log", "Kind": "log"}
+_MODULES = {"Access": "tracing", "Ended": "errors", "Event": "log", "Kind": "log", "Problem": "errors", "Refused": "errors",
+            "Traced": "tracing"}
 
 
 def __getattr__(name: str) -> object:

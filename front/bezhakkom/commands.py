@@ -42,9 +42,10 @@ COMMANDS: dict[str, Command] = {}
 # The groups of the help, in order.
 MOVES, STOPS = "Moving", "Stops"
 HOLDS, BEFORE = "What the machine holds", "What happened before"
+STEPS = "What steps do"
 SERIAL, CHECKS = "The serial lines", "Checks, for scripts"
 PAST, WHAT_IF, FILES, SHELL = "The past", "What if", "Files", "The shell"
-GROUPS = (MOVES, STOPS, HOLDS, BEFORE, SERIAL, CHECKS, PAST, WHAT_IF, FILES, SHELL)
+GROUPS = (MOVES, STOPS, HOLDS, BEFORE, STEPS, SERIAL, CHECKS, PAST, WHAT_IF, FILES, SHELL)
 
 # Short names, as gdb has them.
 SHORT = {"s": "step", "si": "step", "rs": "back", "rsi": "back", "c": "continue", "rc": "reverse-continue", "b": "break",

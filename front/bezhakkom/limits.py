@@ -16,6 +16,7 @@ SPAN = 65_536
 
 # The most that one command asks for.
 VISIT_STEPS = 1_048_576
+TRACED = 64  # steps
 WORDS = 32
 CONSOLE_BYTES = 256
 

@@ -4,9 +4,10 @@ from __future__ import annotations
 from dataclasses import dataclass
 from typing import Any, Callable, Optional, Sequence, Union
 
-from . import replies
+from . import replies, tracing
 from .limits import (
-    COMMAND_BYTES, CONSOLE_BYTES, EXTERNAL_LINES, GREATEST_POSITION, GREATEST_TIME, LINES, MOST_EVENTS, VISIT_STEPS, WORDS)
+    COMMAND_BYTES, CONSOLE_BYTES, EXTERNAL_LINES, GREATEST_POSITION, GREATEST_TIME, LINES, MOST_EVENTS, TRACED, VISIT_STEPS,
+    WORDS)
 from .replies import is_refusal, number_of, words_of
 
 Value = Union[None, int, str, list, dict]
@@ -95,6 +96,8 @@ _ROWS = (
     Command("console", "L F C", f"{_LINE}, and 1 to {CONSOLE_BYTES} bytes are shown", _console, runs=True),
     Command("find", "L P", _LINE, runs=True),
     Command("writer", "A", _ADDRESS, lambda lines: dict(vars(replies.writer(lines))), runs=True),
+    Command("trace", "C", f"1 to {TRACED} steps are followed", lambda lines: [tracing.value(line) for line in lines],
+            lambda numbers, first: numbers[0] - 1, runs=True),
     Command("log", "F C", "1 to 32 events are shown", _log, _events_after),
     Command("add", "T L B", _BYTE, edits_log=True),
     Command("ferr", "T L B", _BYTE, edits_log=True),

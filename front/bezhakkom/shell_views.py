@@ -10,7 +10,7 @@ from .log import Event, Kind
 from .places import UNMAPPED
 from .session import Session, counted, distance
 
-_CODES = {0: "interrupt", 1: "store to a page that is not dirty", 2: "no entry for a load or fetch", 3: "no entry for a store",
+CODES = {0: "interrupt", 1: "store to a page that is not dirty", 2: "no entry for a load or fetch", 3: "no entry for a store",
           4: "address error of a load or fetch", 5: "address error of a store", 6: "bus error of a fetch",
           7: "bus error of a load", 8: "system call", 9: "breakpoint", 10: "reserved instruction",
           11: "coprocessor unusable", 12: "overflow"}
@@ -65,7 +65,7 @@ def cp0(session: Session, words: list[str]) -> None:
     status, cause = control["status"], control["cause"]
     session.tell(f"{'user' if status & 2 else 'kernel'} mode, interrupts {'on' if status & 1 else 'off'}")
     if control["epc"]:
-        session.tell(f"the last exception: {_CODES.get(cause >> 2 & 31, 'unknown')}, at {session.address(control['epc'])}"
+        session.tell(f"the last exception: {CODES.get(cause >> 2 & 31, 'unknown')}, at {session.address(control['epc'])}"
                      f"{' in its delay slot' if cause >> 31 else ''}")
 
 

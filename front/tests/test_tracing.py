@@ -1,0 +1,131 @@
+"""What steps do, against the machine stepped from outside: its registers, memory and console before and after each step."""
+from __future__ import annotations
+
+import unittest
+from pathlib import Path
+from tempfile import TemporaryDirectory
+
+import bezhakkom
+from bezhakkom import tracing
+from bezhakkom.driver import Driver
+from bezhakkom.limits import GREATEST_POSITION, RAM
+from front.tests import brute, scripts
+from front.tests.support import ROOT
+
+STEPS = 150
+VECTORS = (0x8000_0000, 0x8000_0080, 0xBFC0_0100, 0xBFC0_0180)
+
+
+class Lines(unittest.TestCase):
+    def test_all_parts(self) -> None:
+        line = ("7 pc 0xbfc00004 word 0x8c220100 r2 0x00000005 hi 0x00000001 lo 0x00000002 store 0x00000100 0x00000003 sent 3 0x41 ts "
+                "exception 12")
+        self.assertEqual(tracing.read(line), tracing.Traced(7, 0xBFC0_0004, 0x8C22_0100, (2, 5), (1, 2), tracing.Access("store", 0x100, 3),
+                                                            (3, 0x41), True, 12))
+        self.assertEqual(tracing.read("0 pc 0xbfc00180 word none exception 0"), tracing.Traced(0, 0xBFC0_0180, None, exception=0))
+        self.assertEqual(tracing.value("0 pc 0x00000004 word none exception 6"), {"step": 0, "pc": 4, "word": None, "exception": 6})
+
+
+class Steps(unittest.TestCase):
+    def check(self, run: Driver, first: int) -> set[str]:
+        """Each step is as its neighbours show it. Gives the parts that were met."""
+        met: set[str] = set()
+        run.goto(first + 1)
+        steps = list(run.traced(first, first + STEPS))
+        self.assertEqual((run.position, [it.step for it in steps]), (first + 1, list(range(first, first + STEPS))))
+        for it in steps:
+            run.goto(it.step)
+            before, place = run.registers(), run.physical(it.pc)
+            sent = [run.sent(line) for line in range(4)]
+            run.goto(it.step + 1)
+            after = run.registers()
+            self.assertEqual(it.pc, before.pc)
+            if it.word is not None:
+                assert place is not None
+                self.assertEqual(it.word, run.words(place, 1)[0])
+            if it.exception is not None:
+                met.add("interrupt" if it.exception == 0 else "exception")
+                self.assertIn(after.pc, VECTORS)
+                self.assertEqual(run.control()["cause"] >> 2 & 31, it.exception)
+                self.assertIsNone(it.write)
+            elif it.access and it.access.kind == "load" or after.load:
+                met.add("load")
+                self.assertEqual(it.write, after.load)
+            else:
+                landed = list(before.general)
+                for register, value in filter(None, (before.load, it.write)):
+                    landed[register] = value
+                self.assertEqual(after.general, landed)
+            if it.access and it.access.kind == "store" and it.access.address in RAM:
+                met.add("store")
+                self.assertEqual(run.writer(it.access.address).step, it.step)
+                self.assertEqual(run.words(it.access.address, 1), [it.access.word])
+            if it.hi_lo or (before.hi, before.lo) != (after.hi, after.lo):
+                self.assertEqual(it.hi_lo, (after.hi, after.lo))
+            told = [run.sent(line) for line in range(4)]
+            if it.sent:
+                met.add("sent")
+                line, byte = it.sent
+                self.assertEqual((told[line], run.console(line)[-1]), (sent[line] + 1, byte))
+            else:
+                self.assertEqual(told, sent)
+        return met
+
+    def test_a_login(self) -> None:
+        with brute.fresh(brute.image("login/login.elf"), brute.log_of("login")) as run:
+            met = self.check(run, 0) | self.check(run, 39_990) | self.check(run, 110_900)
+        self.assertLessEqual({"load", "store", "sent"}, met)
+
+    def test_a_driver(self) -> None:
+        with brute.fresh(brute.image("driver/boot.s"), brute.log_of("driver")) as run:
+            met = set().union(*(self.check(run, at) for at in (0, 400, 4_096)))
+        self.assertIn("interrupt", met)
+
+    def test_exceptions(self) -> None:
+        with brute.fresh(brute.image("exceptions/boot.s"), []) as run:
+            self.assertIn("exception", self.check(run, 0))
+
+
+class InTheShell(unittest.TestCase):
+    """Numbers by hand, as in the walk of docs/DEBUGGING.md: the step at 40,024 stores the length that the one before made -1."""
+
+    def shown(self, *lines: str) -> str:
+        return scripts.shell("--log", "examples/login/log", "examples/login/login.elf", lines=lines).stdout
+
+    def test_trace(self) -> None:
+        shown = self.shown("goto 40,023", "trace 2").splitlines()
+        self.assertRegex(shown[-2], r"^40,023 read_line\+\w+: addiu r3, r3, -1   v1 = 0xffffffff$")
+        self.assertRegex(shown[-1], r"^40,024 read_line\+\w+: sw r3, 32\(r2\)   stores 0xffffffff into 0x80001020 <session\+0x20>$")
+
+    def test_a_trace_in_a_file(self) -> None:
+        with TemporaryDirectory() as folder:
+            name = Path(folder, "steps")
+            shown = self.shown("goto 40,000", f"trace 100 to {name}", "position")
+            self.assertIn("has 100 steps", shown)
+            lines = name.read_text().splitlines()
+        self.assertEqual((lines[0], len(lines)), ("# what steps 40,000 to 40,099 do", 101))
+        self.assertTrue(lines[25].startswith("40,024 read_line"))
+
+    def test_io(self) -> None:
+        shown = self.shown("goto 6684", "io 3").splitlines()
+        self.assertRegex("\n".join(shown), r"(?m)^6,684 receive\+0x4: lw r2, 8\(r2\)   v0 = 0x00000000; loads 0x00000000 from p:0x1fe00008$")
+        self.assertIn("none of the next 2 steps does", self.shown("goto 6685", "io 2"))
+
+    def test_stores(self) -> None:
+        shown = self.shown("goto 40,025", "stores session+0x20 2").splitlines()
+        self.assertRegex(shown[-2], r"^0xffffffff by step 40,024, ")
+        self.assertRegex(shown[-1], r"^0x00000000 by step \d\d,\d{3}, ")
+        self.assertIn("no step before this position stored at", self.shown("stores session+0x20"))
+
+    def test_refusals(self) -> None:
+        shown = self.shown("trace 0", "trace 1 2", "trace to")
+        self.assertIn("how many are shown is 1 or more", shown)
+        self.assertEqual(shown.count("usage: trace [C]"), 2)
+        with bezhakkom.boot(ROOT / "examples/load-slot/boot.s") as machine:
+            machine.goto(GREATEST_POSITION)
+            with self.assertRaisesRegex(bezhakkom.Problem, "1 steps can't be followed: a position is 0 to 1,099,511,627,775"):
+                machine.trace(1)
+
+
+if __name__ == "__main__":
+    unittest.main()
