@@ -1,0 +1,116 @@
+// Requests: one is under way at most. What is wanted meanwhile is put together, and of a drag only the latest place is kept.
+import {$, s, columns, say} from "./state.js";
+
+const SLOW = 30, QUICK = 12;                // milliseconds of an answer after which the next one looks at fewer places, or at more
+const MOST_EDITS = 2000;                    // of one request
+const MOST_NAME = 200;                      // characters of the name of an edit
+let want = null, busy = false, resting = 0, failures = 0;
+let numbers = 0, edits = 0;
+let unsent = [], sent = [];                 // edits that no reply has confirmed
+let draw = () => {}, settled = () => {};
+export const timings = [];                  // of each answered hand movement, for the measures
+
+export function onReply(drawn, rested) { draw = drawn; settled = rested; }
+export const isBusy = () => busy || want !== null || unsent.length > 0 || sent.length > 0 || resting !== 0;
+export const lastEdit = () => edits;
+
+// An edit has a number, and is made once, however often it is sent.
+export function edit(one, began) {
+  if (one.name) one.name = one.name.replace(/[^\x20-\x7e]/g, "?").slice(0, MOST_NAME);
+  const last = unsent.findIndex(it => one.do === "change" && it.do === "change" && it.id === one.id && it.gesture === one.gesture);
+  if (last >= 0) Object.assign(unsent[last], one, {name: unsent[last].name});
+  else unsent.push({...one, number: ++edits});
+  return ask({draw: true, live: true}, began);
+}
+
+export function ask(part, began) {
+  clearTimeout(resting); resting = 0;
+  want = want || {waiting: []};
+  const {draw, ...rest} = part;
+  // What is only asked at rest makes way for the hand.
+  if (part.live) { delete want.rest; delete want.sweep; }
+  Object.assign(want, rest);
+  want.draw = want.draw || draw;
+  want.live = !!part.live;
+  if (began && !want.began) want.began = began;
+  const answered = new Promise(resolve => want.waiting.push(resolve));
+  if (!busy) pump();
+  return answered;
+}
+
+function body(wanted) {
+  const {waiting, began, draw, ghost, ...made} = wanted;
+  made.number = ++numbers;
+  made.edits = sent = [...sent, ...unsent.splice(0, Math.max(0, MOST_EDITS - sent.length))];
+  made.cursor = s.cursor;
+  if (draw) {
+    made.view = {begin: Math.round(s.view.begin), end: Math.round(s.view.end), columns: columns(), samples: s.samples};
+    made.ghost = s.showGhost && (!!ghost || !made.live);
+  }
+  return made;
+}
+
+async function post(name, content) {
+  const reply = await fetch(name, {method: "POST", headers: {"Content-Type": "application/json"}, body: JSON.stringify(content), keepalive: name === "left"});
+  if (!reply.ok) throw new Error(`the server refuses: ${reply.status}`);
+  return name === "ask" ? reply.json() : null;
+}
+export const stop = () => post("stop", {}).catch(() => {});
+export const leave = () => post("left", {}).catch(() => {});
+
+async function pump() {
+  busy = true;
+  const wanted = want, begun = performance.now();
+  want = null;
+  const made = body(wanted);
+  let reply;
+  try {
+    reply = await post("ask", made);
+    failures = 0;
+  } catch (error) {
+    busy = false;
+    say(`The server does not answer. ${sent.length ? "Edits are kept and sent again. " : ""}(${error.message})`);
+    // What was wanted is wanted again, after what came meanwhile.
+    const newer = want;
+    want = {...wanted, ...(newer || {}), waiting: [...wanted.waiting, ...(newer ? newer.waiting : [])]};
+    resting = setTimeout(() => { resting = 0; if (!busy && want) pump(); }, Math.min(5000, 200 << Math.min(failures++, 5)));
+    return;
+  }
+  const got = performance.now();
+  if (reply.edit !== undefined) {
+    sent = sent.filter(it => it.number > reply.edit);
+    edits = Math.max(edits, reply.edit);
+  }
+  take(reply, made);
+  draw(reply);
+  if (wanted.began) {
+    const timing = {live: made.live, edits: made.edits.length, wait: begun - wanted.began, net: got - begun, draw: performance.now() - got, ...reply.cost};
+    timings.push(timing);
+    requestAnimationFrame(() => { const after = new MessageChannel(); after.port1.onmessage = () => timing.paint = performance.now() - wanted.began; after.port2.postMessage(0); });
+  }
+  busy = false;
+  for (const resolve of wanted.waiting) resolve(reply);
+  if (unsent.length) ask({draw: true, live: true});
+  if (want) return busy || pump();
+  if (made.view && (made.live || reply.more)) resting = setTimeout(() => { resting = 0; if (!busy) ask({draw: true, rest: true, ghost: true}); }, made.live ? 150 : 0);
+  else if (made.view && !made.rest) resting = setTimeout(() => { resting = 0; if (!busy) ask({draw: true, rest: true, ghost: true}); }, 0);
+  else if (made.rest) settled();
+}
+
+function take(reply, made) {
+  if (reply.state) s.state = reply.state;
+  if (reply.now) {
+    s.now = reply.now;
+    s.live = made.live;
+    // What the hand has moved on since stays under the hand.
+    const ahead = new Set([...unsent, ...sent].map(it => it.id));
+    for (const id of [...s.pending.keys()]) if (!ahead.has(id)) s.pending.delete(id);
+  }
+  if (reply.ghost) s.ghost = reply.ghost;
+  if (reply.has_ghost === false) s.ghost = null;
+  if (reply.cursor && reply.cursor_at !== undefined) s.at = reply.cursor;
+  // A guest that is slow is looked at in fewer places, as the hand comes first.
+  if (made.live && made.edits.length && reply.cost)
+    s.samples = reply.cost.milliseconds > SLOW ? Math.max(12, s.samples >> 1) : reply.cost.milliseconds < QUICK ? Math.min(96, s.samples * 2) : s.samples;
+  if (reply.problem) say(reply.problem);
+}

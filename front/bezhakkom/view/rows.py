@@ -1,0 +1,341 @@
+"""What each row of the page asks.
+
+A row is a generator: it yields the questions that it lacks, each at its position, and is sent their replies. The questions of all rows
+are asked together, in the order of their positions, so that the machine goes along each span once. What is known is not asked again.
+"""
+from __future__ import annotations
+
+from dataclasses import dataclass, field
+from typing import Any, Callable, Dict, Generator, Iterable, List, Optional, Sequence, Set, Tuple
+
+from .. import replies
+from ..driver import Driver, unmapped
+from ..instruction import LOADS, STORES, address, code
+from ..limits import CONSOLE_BYTES, LINES, RAM, RESET_PC, ROM, SPAN, VISIT_STEPS
+from ..program import WINDOW
+from ..symbols import Symbols
+from .past import Past, Visited
+
+Question = Tuple[int, str]
+Row = Generator[List[Question], List[List[str]], Any]
+
+SAMPLES = 96  # of words and of the PC, at most
+EXACT = 480  # so many positions are looked at one by one
+MOST_STORES = 64  # of a word that are followed back
+CUTS = 8  # parts of a stretch of bytes, of which some may be far apart
+TEXT = 16_384  # bytes of a line that are shown
+MOST_VISITS, MOST_VISITED = 32, 1_024  # of a function that are looked for in a view, and functions in views of which they are kept
+MOST_HINTS = 64  # views of which it is kept what they asked
+LABELLED = 4_096  # bytes in view that may have labels
+UNNAMED = 256  # bytes of code that stand for a function, where no symbol is known
+BEFORE, SHOWN = 6, 14  # instructions that are shown before the one at the cursor, and in all
+
+
+@dataclass
+class Cost:
+    """What was asked: questions, and batches of them."""
+
+    questions: int = 0
+    batches: int = 0
+
+
+@dataclass
+class Asker:
+    """Asks the questions of rows of one driver."""
+
+    driver: Driver
+    lead: List[str] = field(default_factory=list)  # edits that are made before what is asked next
+    cost: Cost = field(default_factory=Cost)
+    hints: Dict[Any, Any] = field(default_factory=dict)  # what a row found the last time, which an edit mostly leaves near
+
+    def run(self, rows: Sequence[Row]) -> List[Any]:
+        """The values of rows."""
+        values: List[Any] = [None] * len(rows)
+        wanted: Dict[int, List[Question]] = {}
+        for number, row in enumerate(rows):
+            self._go_on(row, number, None, wanted, values)
+        while wanted:
+            answered = self._asked([it for those in wanted.values() for it in those])
+            asked, wanted = wanted, {}
+            for number, those in asked.items():
+                mine, answered = answered[:len(those)], answered[len(those):]
+                self._go_on(rows[number], number, mine, wanted, values)
+        return values
+
+    def _go_on(self, row: Row, number: int, answered: Any, wanted: Dict[int, List[Question]], values: List[Any]) -> None:
+        try:
+            those = row.send(answered)
+            while not those:
+                those = row.send([])
+            wanted[number] = those
+        except StopIteration as end:
+            values[number] = end.value
+
+    def _asked(self, questions: Sequence[Question]) -> List[List[str]]:
+        """The replies to questions, in one batch. A question that stands there twice is asked once."""
+        places: Dict[Question, int] = {}
+        commands: List[str] = []
+        last = -1
+        for question in sorted(set(questions)):
+            position, command = question
+            if position != last:
+                commands.append(f"goto {position}")
+                last = position
+            places[question] = len(commands)
+            commands.append(command)
+            if command.startswith("visit "):
+                last = -1
+        self.driver.window = len(self.lead) + len(commands)
+        answered = self.with_lead(commands)
+        self.cost.questions += len(places)
+        self.cost.batches += 1
+        return [answered[places[it]] for it in questions]
+
+    def with_lead(self, commands: Sequence[str] = ()) -> List[List[str]]:
+        """The replies to commands, before which the edits are made."""
+        lead, self.lead = self.lead, []
+        try:
+            answered = self.driver.ask_all([*lead, *commands])
+        finally:
+            self.driver.window = WINDOW
+        for command, lines in zip(lead, answered):
+            refusal = replies.refusal_of(command, lines)
+            if refusal:
+                raise refusal
+        del self.driver.journal[:]
+        return answered[len(lead):]
+
+
+@dataclass(frozen=True)
+class View:
+    """A stretch of the run in so many columns. The rest of the run is asked up to `until`."""
+
+    begin: int
+    end: int
+    columns: int
+    samples: int
+    until: int
+
+    @property
+    def width(self) -> int:
+        """The steps of a column."""
+        return max(1, (self.end - self.begin) // self.columns)
+
+    def positions(self, most: int = EXACT) -> List[int]:
+        """Positions to look at: all, or samples. Where these are far apart they begin spans, where nothing is run for them."""
+        begin, end = self.begin, self.end
+        if end - begin <= most:
+            return list(range(begin, end))
+        found = (begin + (end - begin) * number // self.samples for number in range(self.samples))
+        if end - begin > self.samples * SPAN // 4:
+            found = (max(begin, position // SPAN * SPAN) for position in found)
+        return sorted(set(found))
+
+    def is_exact(self, most: int = EXACT) -> bool:
+        return self.end - self.begin <= most
+
+
+def counts(past: Past, positions: Iterable[int]) -> Row:
+    """How many bytes each line had sent before some positions."""
+    wanted = sorted(set(positions))
+    known = past.known.counts
+    lack = [(line, at) for at in wanted for line in range(LINES) if at not in known[line]]
+    answered = yield [(at, f"console {line} 0 1") for line, at in lack]
+    for (line, at), lines in zip(lack, answered):
+        known[line][at] = replies.console(lines)[0]
+    return {at: [known[line][at] for line in range(LINES)] for at in wanted}
+
+
+def sent(past: Past, view: View, hints: Dict[Any, Any]) -> Row:
+    """Of each line, places of bytes with the steps that sent them. The bytes between two of them stand within a column, or all of them are
+    there. And how many were sent before the view, in it, and in all."""
+    known, key = past.known, ("sent", view.begin, view.end, view.columns)
+    guess = [(line, place) for line, place in hints.get(key, ()) if place not in known.steps[line]]
+    ends = (view.begin, view.end, view.until)
+    lack = [(line, at) for at in sorted(set(ends)) for line in range(LINES) if at not in known.counts[line]]
+    answered = yield [*((at, f"console {line} 0 1") for line, at in lack), *((view.until, f"find {line} {place}") for line, place in guess)]
+    for (line, at), lines in zip(lack, answered):
+        known.counts[line][at] = replies.console(lines)[0]
+    _note_steps(past, guess, answered[len(lack):])
+    low, high, whole = ([known.counts[line][at] for line in range(LINES)] for at in ends)
+    shown: List[Set[int]] = [set() for _ in range(LINES)]
+    work = [(line, low[line], high[line] - 1) for line in range(LINES) if high[line] > low[line]]
+    while work:
+        missing = sorted({(line, place) for line, first, last in work for place in (first, last) if place not in known.steps[line]})
+        _note_steps(past, missing, (yield [(view.until, f"find {line} {place}") for line, place in missing]))
+        more = []
+        for line, first, last in work:
+            shown[line].update((first, last))
+            if last - first > 1 and known.steps[line][last] - known.steps[line][first] > view.width:
+                cuts = sorted({first + (last - first) * part // CUTS for part in range(CUTS + 1)})
+                more += [(line, one, two) for one, two in zip(cuts, cuts[1:])]
+        work = more
+    if len(hints) > MOST_HINTS:
+        hints.clear()
+    hints[key] = [(line, place) for line in range(LINES) for place in shown[line]]
+    return [{"marks": [[place, known.steps[line][place]] for place in sorted(shown[line])], "low": low[line], "high": high[line],
+             "whole": whole[line]} for line in range(LINES)]
+
+
+def _note_steps(past: Past, places: Sequence[Tuple[int, int]], answered: Sequence[List[str]]) -> None:
+    for (line, place), lines in zip(places, answered):
+        if not replies.is_refusal(lines[0]):
+            past.known.steps[line][place] = replies.last_number(lines)
+
+
+def text(past: Past, view: View, cursor: int) -> Row:
+    """Of each line, what it sent: all up to `until`, or where that is long, what is near the cursor and what is in view. Parts are
+    [place, text]."""
+    here = min(cursor, view.until)
+    known = past.known
+    # What a line sent after what is known of it is asked together with how much that is.
+    nearest = [_first_unknown(pieces) for pieces in known.text]
+    lack = [(line, at) for at in sorted({view.begin, view.end, here, view.until}) for line in range(LINES) if at not in known.counts[line]]
+    answered = yield [(at, f"console {line} {nearest[line] * CONSOLE_BYTES} {CONSOLE_BYTES}" if at == view.until else f"console {line} 0 1")
+                      for line, at in lack]
+    for (line, at), lines in zip(lack, answered):
+        known.counts[line][at], content = replies.console(lines)
+        if at == view.until and content:
+            known.text[line][nearest[line]] = content
+    asked, parts = [], []
+    for line in range(LINES):
+        whole, before, low, high = (known.counts[line][at] for at in (view.until, here, view.begin, view.end))
+        ranges = [range(max(0, min(before + TEXT // 4, whole) - TEXT), min(whole, max(before + TEXT // 4, TEXT)))]
+        if high - low <= LABELLED and not (low >= ranges[0].start and high <= ranges[0].stop):
+            ranges.append(range(low, high))
+        parts.append(ranges)
+        pieces = past.known.text[line]
+        for it in ranges:
+            for piece in range(it.start // CONSOLE_BYTES, -(-it.stop // CONSOLE_BYTES)):
+                if len(pieces.get(piece, b"")) < min(it.stop - piece * CONSOLE_BYTES, CONSOLE_BYTES):
+                    asked.append((line, piece))
+    answered = yield [(view.until, f"console {line} {piece * CONSOLE_BYTES} {CONSOLE_BYTES}") for line, piece in asked]
+    for (line, piece), lines in zip(asked, answered):
+        past.known.text[line][piece] = replies.console(lines)[1]
+    return [[[it.start, _text_of(past, line, it)] for it in ranges] for line, ranges in enumerate(parts)]
+
+
+def _first_unknown(pieces: Dict[int, bytes]) -> int:
+    """The number of the first piece that is not known whole."""
+    number = 0
+    while len(pieces.get(number, b"")) == CONSOLE_BYTES:
+        number += 1
+    return number
+
+
+def _text_of(past: Past, line: int, places: range) -> str:
+    first = places.start // CONSOLE_BYTES
+    pieces = (past.known.text[line].get(piece, b"") for piece in range(first, -(-places.stop // CONSOLE_BYTES)))
+    begin = places.start - first * CONSOLE_BYTES
+    return b"".join(pieces)[begin:begin + len(places)].decode("latin-1")
+
+
+def word(past: Past, place: int, view: View) -> Row:
+    """The values of a word at samples, and the stores into it that are known: of each column the last one, with what the word holds after
+    it, back from the view's end to position `exact`. Before that there are only samples."""
+    values = past.known.values.setdefault(place, {})
+    writers = past.known.writers.setdefault(place, {})
+    exact, stores, lack = _chain(values, writers, view)
+    positions = [view.begin, *(it for it in view.positions(0) if view.begin < it < exact), view.end]
+    missing = [*(it for it in positions if it not in values), *(it for it in lack if it not in positions)]
+    answered = yield [(at, f"mem {place} 1") for at in missing]
+    for at, lines in zip(missing, answered):
+        values[at] = replies.memory(lines)[0]
+    return {"samples": [[at, values[at]] for at in positions], "stores": [[step, values[step + 1]] for step in stores], "exact": exact}
+
+
+def _chain(values: Dict[int, int], writers: Dict[int, int], view: View) -> Tuple[int, List[int], List[int]]:
+    """From which position on the stores are known, those stores, and the positions after them whose values are not known."""
+    at, stores = view.end, []
+    while at > view.begin and at in writers:
+        step = writers[at]
+        if step < view.begin:
+            at = view.begin
+            break
+        stores.append(step)
+        at = max(view.begin, view.begin + (step - view.begin) // view.width * view.width)
+    stores.reverse()
+    return at, stores, [step + 1 for step in stores if step + 1 not in values]
+
+
+def followed(past: Past, place: int, view: View) -> Row:
+    """Follows the stores into a word back by one column. Whether there are more to follow."""
+    writers = past.known.writers.setdefault(place, {})
+    at, stores, _ = _chain(past.known.values.setdefault(place, {}), writers, view)
+    if at <= view.begin or len(stores) >= MOST_STORES:
+        return False
+    lines, = yield [(at, f"writer {place}")]
+    step = replies.writer(lines).step
+    writers[at] = -1 if step is None else step
+    return True
+
+
+def functions(past: Past, view: View, name: Callable[[int], str]) -> Row:
+    """In which function the PC is: at all positions in view, or at samples."""
+    positions, known = view.positions(), past.known.counters
+    lack = [it for it in positions if it not in known]
+    answered = yield [(at, "regs") for at in lack]
+    for at, lines in zip(lack, answered):
+        known[at] = int(lines[0].split()[1], 16)
+    names: Dict[str, int] = {}
+    runs = [[at, names.setdefault(name(known[at]), len(names))] for at in positions]
+    return {"names": list(names), "at": runs, "exact": view.is_exact()}
+
+
+def entered(past: Past, address: int, view: View) -> Row:
+    """Looks for one more visit of an address in view. Whether there are more to look for."""
+    key = (address, view.begin)
+    if len(past.known.visits) > MOST_VISITED and key not in past.known.visits:
+        past.known.visits.clear()
+    # Visits are looked for above a position, so one at the view's begin from the position before it on.
+    first = Visited((0,), 0) if not view.begin and address == RESET_PC else Visited((), max(0, view.begin - 1))
+    it = past.known.visits.setdefault(key, first)
+    if it.upto >= view.end - 1 or len(it.positions) >= MOST_VISITS:
+        return False
+    steps = min(VISIT_STEPS, view.end - 1 - it.upto)
+    lines, = yield [(it.upto, f"visit {address} {steps}")]
+    if replies.is_refusal(lines[0]):
+        past.known.visits[key] = Visited(it.positions, it.upto + steps)
+    else:
+        at = replies.last_number(lines)
+        past.known.visits[key] = Visited((*it.positions, at), at)
+    return True
+
+
+def visits(past: Past, address: int, view: View) -> Tuple[List[int], bool]:
+    """The visits of an address in view that are known, and whether these are all."""
+    it = past.known.visits.get((address, view.begin), Visited((), 0))
+    return [at for at in it.positions if at < view.end], it.upto >= view.end - 1
+
+
+def function_of(symbols: Symbols, counter: int) -> str:
+    """The name of the function that an address is in."""
+    found = symbols.at(counter)
+    return found[0].name if found else f"{counter // UNNAMED * UNNAMED:#010x}"
+
+
+def cursor(past: Past, position: int, words: Sequence[int], symbols: Symbols) -> Row:
+    """What the machine holds at a position: registers, words, and the instructions around the next one."""
+    regs, control, *memory = yield [(position, "regs"), (position, "cp0"), *((position, f"mem {it} 1") for it in words)]
+    state = replies.registers(regs)
+    physical = unmapped(state.pc)
+    if physical is None:
+        lines, = yield [(position, f"where {state.pc}")]
+        physical = replies.where(lines).physical
+    listed, accessed = [], None
+    part = next((it for it in (RAM, ROM) if physical is not None and physical in it and not physical % 4), None)
+    if part is not None and physical is not None:
+        first = max(part.start, physical - 4 * BEFORE)
+        lines = (yield [(position, f"dis {first} {min(SHOWN, (part.stop - first) // 4)}")])[0]
+        for line in lines:
+            place, content, shown = line.split(None, 2)
+            at = (state.pc + int(place, 16) - physical) & 0xFFFF_FFFF
+            listed.append([at, symbols.name(at), shown, int(place, 16) == physical])
+            if int(place, 16) == physical and (code(int(content, 16)) in LOADS or code(int(content, 16)) in STORES):
+                accessed = address(int(content, 16), state)
+    found = yield from counts(past, [position])
+    return {"position": position, "pc": state.pc, "name": symbols.name(state.pc), "registers": state.general, "next": state.next_pc,
+            "hi": state.hi, "lo": state.lo, "delay": state.delay, "load": state.load, "control": replies.control(control),
+            "listed": listed, "sent": found[position], "words": [replies.memory(it)[0] for it in memory],
+            "accessed": accessed, "accessed_name": None if accessed is None else symbols.name(accessed) or f"{accessed:#010x}"}
+

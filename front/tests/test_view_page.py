@@ -1,0 +1,361 @@
+"""The page in a real browser: after each gesture it shows what a run from reset with its log does."""
+from __future__ import annotations
+
+import random
+import re
+import unittest
+from contextlib import contextmanager
+from pathlib import Path
+from typing import Any, Iterator, Sequence
+from xml.etree import ElementTree
+
+from bezhakkom import log as logs
+from bezhakkom.log import Event
+from bezhakkom.view.desk import Desk
+from front.tests import browser as browsers
+from front.tests import brute, viewed
+from front.tests.browser import Browser, to
+from front.tests.support import needs_kinds
+from front.tests.viewed import BUTTON, DRIVER, LOGIN, READY, laid_out, served
+
+SEED = 78
+LENGTH = 0x1020
+
+
+class Page(unittest.TestCase):
+    browser: Browser
+    desk: Desk
+
+    @classmethod
+    def setUpClass(cls) -> None:
+        if not browsers.is_here():
+            raise unittest.SkipTest(browsers.WANTED)
+        cls.browser = Browser()
+        cls.addClassCleanup(cls.browser.close)
+
+    @contextmanager
+    def page(self, *words: str) -> Iterator[None]:
+        """The page on what a line opens, at rest."""
+        with laid_out(*words) as self.desk, served(self.desk) as server:
+            self.browser.go(server.address)
+            self.rest()
+            yield
+            self.rest()
+            self.assertEqual(self.browser.errors(), [])
+            self.browser.go("about:blank")
+
+    def rest(self) -> None:
+        self.browser.waits(READY)
+
+    def place(self, event: int) -> tuple[float, float]:
+        """Where the handle of an event is."""
+        x, y = self.browser.run("const it = window.bezhakkom.handle(arguments[0]).getBoundingClientRect(); return [it.x + 2, it.y + 9]", event)
+        return x, y
+
+    def at(self, step: int, kind: str) -> tuple[float, float]:
+        """Where a step is on the first row of a kind."""
+        x, y = self.browser.run("""const b = window.bezhakkom, box = document.getElementById('canvas').getBoundingClientRect();
+            return [box.x + b.X(arguments[0]), box.y + b.rows().find(it => it.kind === arguments[1]).y + 10]""", step, kind)
+        return x, y
+
+    def shown(self) -> dict[str, Any]:
+        self.rest()
+        found: dict[str, Any] = self.browser.run("""const s = window.bezhakkom.s; return {now: s.now, at: s.at, ghost: s.ghost, state: s.state,
+            columns: document.getElementById('canvas').clientWidth - 270}""")
+        return found
+
+    def log(self) -> list[Event]:
+        return viewed.events_of(self.shown()["now"]["events"])
+
+    def check(self, name: str, log: Sequence[Event], words: Sequence[int] = (), exact: bool = True) -> None:
+        """The page shows a log, and what a fresh program does with it: its rows, its handles, its console and the machine."""
+        shown = self.shown()
+        image = brute.image(name)
+        sent = viewed.check(self, image, log, shown["now"], words, exact, shown["columns"], shown["at"])
+        handles = self.browser.run("return [...document.querySelectorAll('.event')].map(it => [+it.dataset.id, +it.getAttribute('aria-valuenow')])")
+        self.assertEqual(sorted(handles), sorted([it[0], it[1]] for it in shown["now"]["events"]))
+        self.assertEqual([it[1] for it in handles], sorted(it[1] for it in handles))  # Tab goes along time
+        shown_there = self.browser.run("return Object.fromEntries([...document.querySelectorAll('#consoles section')].map(it => [it.dataset.line, it.children[1].textContent]))")
+        for line, content in enumerate(sent):
+            if content and len(content) < 16_000:
+                plain = re.sub(r"[^\n\t\x20-\x7e]", lambda it: {8: "\\b", 27: "\\e"}.get(ord(it[0]), f"\\x{ord(it[0]):02x}"), content.replace("\r", ""))
+                self.assertEqual(shown_there[str(line)], plain)
+
+    def key_on(self, event: int, *keys: str, held: Sequence[str] = ()) -> None:
+        self.browser.run("window.bezhakkom.handle(arguments[0]).focus()", event)
+        self.browser.keys(*keys, held=held)
+
+    # The hand
+
+    def test_drags(self) -> None:
+        """A backspace is dragged, at 16 milliseconds and without gaps. Each drag is one step of undo."""
+        log = brute.log_of("login")
+        with self.page(*LOGIN):
+            self.check("login/login.elf", log, [LENGTH])
+            for wait in (16, 0):
+                x, y = self.place(2)
+                self.browser.drag(x, y, [(x + 5 * it, y) for it in range(1, 25)], wait)
+                moved = next(it for it in self.shown()["now"]["events"] if it[0] == 2)
+                self.assertGreater(moved[1], 60_000)
+                self.check("login/login.elf", brute.moved(log, 2, moved[1]), [LENGTH])
+                self.assertEqual(viewed.events_of(self.shown()["ghost"]["events"]), log)
+                self.assertRegex(self.browser.run("return document.getElementById('said').textContent"), "^Line 0 sends '.*' where the other past sends '")
+                self.browser.keys("z", held=["Control"])
+                self.check("login/login.elf", log, [LENGTH])
+                self.assertIsNone(self.shown()["state"]["undo"])
+
+    def test_random_gestures(self) -> None:
+        """Moves, turns, characters, insertions, deletions and undos, each checked against a fresh program."""
+        source = random.Random(SEED)
+        log = brute.log_of("login")
+        pasts = [log]
+        with self.page(*LOGIN):
+            for turn in range(6):
+                events = self.shown()["now"]["events"]
+                one = source.choice(events)
+                do = source.choice(["drag", "wheel", "type", "insert", "delete", "undo"])
+                if do == "undo":
+                    self.browser.keys("z", held=["Control"])
+                    pasts = pasts[:-1] or pasts
+                else:
+                    if do == "drag":
+                        x, y = self.place(one[0])
+                        self.browser.drag(x, y, [(x + source.randrange(-40, 60), y) for _ in range(5)] + [(x + 37, y)])
+                    elif do == "wheel":
+                        self.browser.wheel(*self.place(one[0]), source.choice([-120, 120]))
+                    elif do == "type":
+                        self.key_on(one[0], source.choice("ABu"))
+                    elif do == "insert":
+                        self.browser.click(*self.at(source.randrange(120_000, 190_000), "in"), times=2)
+                    else:
+                        self.key_on(one[0], "Delete")
+                    pasts.append(self.log())
+                self.assertEqual(self.log(), pasts[-1], (turn, do))
+                self.check("login/login.elf", pasts[-1], [LENGTH])
+
+    def test_keys(self) -> None:
+        """Tab goes through events. On one, arrows move and turn it, and letters are values; elsewhere they are commands."""
+        log = brute.log_of("login")
+        with self.page(*LOGIN):
+            self.browser.run("window.bezhakkom.handle(0).focus()")
+            self.browser.keys("Tab", "Tab")
+            self.assertEqual(self.browser.run("return document.activeElement.dataset.id"), "2")
+            self.browser.keys("Right", "Right", "Left", "Up")
+            self.assertEqual(self.log()[2], Event(40_001, 0, 9))
+            self.browser.keys("u")
+            self.assertEqual(self.log()[2], Event(40_001, 0, ord("u")))
+            self.browser.keys("Delete")
+            self.check("login/login.elf", brute.without(log, 2), [LENGTH])
+            while self.shown()["state"]["undo"] is not None:
+                self.browser.keys("z", held=["Control"])
+            self.check("login/login.elf", log, [LENGTH])
+            self.browser.keys("z", held=["Control", "Shift"])
+            self.assertNotEqual(self.log(), log)
+            self.browser.keys("z", held=["Control"])
+            # Enter begins a text in the event's place, with more bytes after it.
+            self.key_on(0, "Enter")
+            self.browser.keys("a", "\\", "x", "0", "1", "é", "Enter")
+            self.rest()
+            self.assertEqual(self.log()[:3], [Event(20_000, 0, 0x61), Event(21_000, 0, 1), Event(22_000, 0, 0xE9)])
+            self.browser.keys("z", held=["Control"])
+            self.assertEqual(self.log(), log)
+            self.key_on(0, "Escape")
+            self.assertEqual(self.browser.run("return document.activeElement.id"), "canvas")
+            self.browser.keys("Home", "Right", "Right")
+            self.assertEqual(self.shown()["at"]["position"], 2)
+            self.browser.keys(".")
+            # The first line of start.S makes two instructions, and so do all that follow: `la`.
+            self.browser.waits(f"window.bezhakkom.s.at.position === 4 && {READY}")
+            self.browser.keys("g")
+            self.assertFalse(self.browser.run("return document.getElementById('show-ghost').checked"))
+            self.browser.keys("g")
+            self.assertEqual(self.log(), log)
+
+    def test_several_events(self) -> None:
+        log = brute.log_of("login")
+        with self.page(*LOGIN):
+            (x, y), (low, _), (high, _) = self.place(1), self.at(25_000, "in"), self.at(45_000, "in")
+            self.browser.acts({"type": "key", "id": "keys", "actions": [{"type": "keyDown", "value": browsers.KEYS["Shift"]}, *[{"type": "pause"}] * 4,
+                                                                       {"type": "keyUp", "value": browsers.KEYS["Shift"]}]},
+                              {"type": "pointer", "id": "mouse", "parameters": {"pointerType": "mouse"},
+                               "actions": [{"type": "pause"}, to(low, y + 14), browsers.DOWN, to(high, y + 14), browsers.UP, {"type": "pause"}]})
+            self.assertEqual(self.browser.run("return document.querySelectorAll('.event.selected').length"), 2)
+            self.browser.drag(x, y, [(x + 3, y), (x + 9, y)])
+            found = self.log()
+            by = next(it for it in self.shown()["now"]["events"] if it[0] == 1)[1] - log[1].time
+            self.assertGreater(by, 0)
+            self.assertEqual(found, brute.moved(brute.moved(log, 2, log[2].time + by), 1, log[1].time + by))
+            self.check("login/login.elf", found, [LENGTH])
+            self.key_on(1, "Delete")
+            self.assertEqual(len(self.log()), 8)
+            self.browser.keys("z", held=["Control"])
+            self.assertEqual(self.log(), found)
+
+    def test_edges_of_a_wire(self) -> None:
+        needs_kinds(self)
+        with self.page("--to", "1000", *BUTTON):
+            # The log is `100 0 1 wire`, `110 2 1 wire`, `120 0 0 wire`.
+            self.key_on(2, *["Right"] * 3)
+            self.assertEqual(self.log()[2].time, 123)
+            x, y = self.place(2)
+            self.browser.drag(x, y, [(x + 20, y), (x + 200, y)])
+            self.assertGreater(self.log()[2].time, 10_000)
+            self.key_on(2, "1")
+            self.assertEqual(self.log()[2].byte, 1)
+            self.check("button/boot.s", self.log())
+
+    def test_far_away(self) -> None:
+        """Where a pixel is 100,000 steps a drag asks for zoom, and Shift moves by hundredths."""
+        with self.page("--to", "10000000", *LOGIN):
+            self.browser.run("window.bezhakkom.s.width = 370; window.bezhakkom.ask({draw: true, live: true})")  # 100 columns
+            self.rest()
+            x, y = self.place(9)
+            self.browser.drag(x, y, [(x + 40, y)])
+            self.assertEqual(self.log(), brute.log_of("login"))
+            self.browser.acts({"type": "key", "id": "keys", "actions": [{"type": "keyDown", "value": browsers.KEYS["Shift"]}, *[{"type": "pause"}] * 4,
+                                                                       {"type": "keyUp", "value": browsers.KEYS["Shift"]}]},
+                              {"type": "pointer", "id": "mouse", "parameters": {"pointerType": "mouse"},
+                               "actions": [{"type": "pause"}, to(x, y), browsers.DOWN, to(x + 30, y), browsers.UP, {"type": "pause"}]})
+            # 30 hundredths of a pixel, which is a hundredth of the run's 10,027,008 steps.
+            self.assertEqual(self.log()[-1].time, 110_000 + round(30 * 10_027_008 / 100 / 100))
+
+    # What is shown
+
+    def test_bytes_of_one_step_fan_out(self) -> None:
+        """The log has 18 bytes in step 5,000. Each has a handle of its own, beside the others."""
+        with self.page("--to", "16000", *DRIVER):
+            places = self.browser.run("return [...document.querySelectorAll('.event')].filter(it => it.getAttribute('aria-valuenow') === '5000').map(it => it.offsetLeft)")
+            self.assertEqual(len(set(places)), 18)
+
+    def test_names_and_values(self) -> None:
+        """Events are sliders with names and values, and a table has the same facts."""
+        with self.page(*LOGIN):
+            found = self.browser.run("const it = window.bezhakkom.handle(1); return ['role', 'aria-label', 'aria-valuenow', 'aria-valuetext', 'tabindex'].map(a => it.getAttribute(a))")
+            self.assertEqual(found, ["slider", "event on line 0", "30000", "step 30,000, line 0, '\\b' 0x08", "0"])
+            self.browser.run("document.getElementById('facts').open = true")
+            table = self.browser.waits("document.querySelector('#table table') && document.querySelector('#table table').textContent")
+            for fact in ("'\\b' 0x0830,000", "session+320xffffffff40,024", "59 of 59 bytes in view", "receive"):
+                self.assertIn(fact, table)
+            unnamed = self.browser.run("return [...document.querySelectorAll('button, select, input, [tabindex]')].filter(it => !(it.textContent.trim() || it.getAttribute('aria-label') || it.labels && it.labels.length)).map(it => it.outerHTML)")
+            self.assertEqual(unnamed, [])
+
+    def test_jumps(self) -> None:
+        with self.page(*LOGIN):
+            for label, position in (("previous store of session+32", 110_951), ("previous store of session+32", 100_031),
+                                    ("next store of session+32", 110_951), ("previous send of line 0 sends", 110_933),
+                                    ("previous event of line 0 receives", 110_000)):
+                self.browser.run("document.querySelector(`[aria-label='${arguments[0]}']`).click()", label)
+                self.browser.waits(f"window.bezhakkom.s.at.position === {position} && {READY}")
+            # A click on a byte goes to the step that sent it: the sixth one is the first `o` of the prompt.
+            self.browser.run("document.querySelector('.console [data-place]').click()")
+            self.browser.waits(f"window.bezhakkom.s.at.position === 147 && {READY}")
+
+    def test_a_sweep(self) -> None:
+        """The borders of outcomes are exact, and a click makes one so."""
+        log = brute.log_of("login")
+        with self.page(*LOGIN):
+            self.browser.run("window.bezhakkom.handle(2).focus(); document.getElementById('wanted').value = \"'Welcome'\"; document.getElementById('sweep-time').click()")
+            done = self.browser.waits("window.bezhakkom.s.sweep && window.bezhakkom.s.sweep.took && window.bezhakkom.s.sweep.done")
+            texts = self.browser.run("return window.bezhakkom.s.sweep.texts")
+            borders = [(two[0], texts[two[1]]) for one, two in zip(done, done[1:]) if one[1] != two[1]]
+            self.assertTrue(borders)
+            for step, text in borders:
+                for at, comes in ((step, text == "it comes true"), (step - 1, text != "it comes true")):
+                    with brute.fresh(brute.image("login/login.elf"), brute.moved(log, 2, at)) as driver:
+                        driver.goto(self.desk.end)
+                        self.assertEqual(b"Welcome" in driver.console(0), comes, at)
+            self.browser.run("[...document.querySelectorAll('.outcome')].find(it => it.textContent.includes('it comes true')).click()")
+            self.rest()
+            self.assertIn("Welcome", self.browser.run("return document.querySelector('.console').textContent"))
+            self.check("login/login.elf", self.log(), [LENGTH])
+
+    def test_kept_pasts_and_questions(self) -> None:
+        """A past is kept under a name, stands beside another, and is gone back to; and what the menu asks of many pasts is shown."""
+        log = brute.log_of("login")
+        with self.page(*LOGIN):
+            self.key_on(2, "Delete")
+            self.rest()
+            self.browser.run("document.getElementById('keep').click()")
+            self.browser.keys(*"one", "Enter")
+            self.browser.waits("window.bezhakkom.s.state.kept.length")
+            self.browser.keys("z", held=["Control"])
+            self.rest()
+            self.browser.run("const it = document.getElementById('against'); it.value = arguments[0]; it.dispatchEvent(new Event('change'))",
+                             self.shown()["state"]["kept"][0])
+            self.rest()
+            self.assertEqual(viewed.events_of(self.shown()["ghost"]["events"]), brute.without(log, 2))
+            self.assertEqual(self.log(), log)
+            self.browser.run("document.getElementById('back').click()")
+            self.check("login/login.elf", brute.without(log, 2), [LENGTH])
+            self.browser.run("document.getElementById('causes').click()")
+            self.browser.keys("Enter")
+            said = self.browser.waits("/decided by the value of/.test(document.getElementById('said').textContent) && document.getElementById('said').textContent")
+            self.assertTrue(said.startswith("session+0x20 at step 196,608: "), said)
+            self.browser.run("document.getElementById('wanted').value = \"'Welcome'\"; document.getElementById('shrink').click()")
+            self.browser.waits("/events are left/.test(document.getElementById('said').textContent)")
+            # The password and Return are enough: that is 7 bytes.
+            self.assertEqual(bytes(it.byte for it in self.log()), b"sesame\r")
+            self.check("login/login.elf", self.log(), [LENGTH])
+
+    def test_markup_stays_text(self) -> None:
+        """What is in a log or is sent by a program makes no element."""
+        markup = "<img src=x onerror=alert(1)>"
+        log = [Event(1_000 + 700 * at, 0, ord(it)) for at, it in enumerate(markup)]
+        with self.page("--to", "60000", str(brute.ROOT / "examples/echo/boot.s")):
+            before = self.browser.run("return document.images.length")
+            self.browser.keys("Tab")
+            self.browser.run("document.getElementById('canvas').focus(); window.bezhakkom.s.cursor = 1000")
+            self.browser.keys("Enter", *markup, "Enter")
+            self.rest()
+            self.assertEqual([it.byte for it in self.log()], [it.byte for it in log])
+            self.assertIn(markup, self.browser.run("return document.querySelector('.console').textContent"))
+            self.assertEqual(self.browser.run("return document.images.length"), before)
+            self.check("echo/boot.s", self.log())
+
+    def test_a_program_that_dies_in_a_drag(self) -> None:
+        log = brute.log_of("login")
+        with self.page(*LOGIN):
+            x, y = self.place(2)
+            self.browser.pointer(to(x, y), browsers.DOWN, to(x + 10, y), to(x + 20, y))
+            program = self.desk._driver._program
+            assert program
+            program._process.kill()
+            self.browser.pointer(to(x + 30, y), to(x + 60, y), browsers.UP)
+            moved = next(it for it in self.shown()["now"]["events"] if it[0] == 2)
+            self.assertGreater(moved[1], 45_000)
+            self.check("login/login.elf", brute.moved(log, 2, moved[1]), [LENGTH])
+
+    def test_saving(self) -> None:
+        """The log is saved by its key and read back; the picture is SVG, and the page that is saved has no script."""
+        with self.page(*LOGIN):
+            self.key_on(2, "Delete")
+            self.rest()
+            self.browser.keys("s", held=["Control"])
+            self.assertEqual(logs.read(self.saved("login.log"), "login.log"), brute.without(brute.log_of("login"), 2))
+            for kind, name in (("svg", "login.svg"), ("page", "login.html"), ("session", "login.session")):
+                self.browser.run("document.getElementById('save-kind').value = arguments[0]; document.getElementById('save').click()", kind)
+                content = self.saved(name)
+                if kind == "svg":
+                    texts = [it.text for it in ElementTree.fromstring(content).iter("{http://www.w3.org/2000/svg}text")]
+                    self.assertIn("line 0 receives", texts)
+                    self.assertIn("session+32", texts)
+                elif kind == "page":
+                    self.assertNotIn(b"<script", content)
+                    self.assertIn(b"Welcome, operator.", content)
+                else:
+                    self.assertTrue(content.startswith(b"bezhakkom session 1\n"))
+            self.assertFalse(self.shown()["state"]["unsaved"])
+
+    def test_the_pictures_of_the_page(self) -> None:
+        """They are as they are made now: `front/view_pictures` makes them anew."""
+        for name, content in viewed.pictures(self.browser).items():
+            self.assertEqual(content, (brute.ROOT / "docs" / name).read_text(), name)
+
+    def saved(self, name: str) -> bytes:
+        file = Path(self.browser.downloads, name)
+        self.browser.until(file.exists)
+        return file.read_bytes()
+
+
+if __name__ == "__main__":
+    unittest.main()
