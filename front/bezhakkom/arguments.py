@@ -28,7 +28,16 @@ class Parser(argparse.ArgumentParser):
         """The values of a line."""
         return self.parse_intermixed_args(arguments)
 
+    def parse_known_args(self, args: Any = None, namespace: Any = None) -> Any:
+        self._words = list(args or ())
+        return super().parse_known_args(args, namespace)
+
     def error(self, message: str) -> NoReturn:
+        """Of several faults argparse reports a word that is missing first. An option that there is not may be why."""
+        unknown = [it for it in self._words[:(self._words + ["--"]).index("--")]
+                   if it[:1] == "-" and it != "-" and it.partition("=")[0] not in self._option_string_actions]
+        if unknown and "arguments are required" in message:
+            message = f"unrecognized arguments: {' '.join(unknown)}"
         raise Problem(f"{message}; usage: {self.usage}")
 
 

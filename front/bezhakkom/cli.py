@@ -13,8 +13,8 @@ from .errors import Interrupted, Problem, Unexpected
 from .loading import say
 
 # The commands, each a module of this package with a function `main` on its words.
-COMMANDS = ("shell", "gdb", "stub", "console", "plot", "log", "image")
-_MODULES = {"log": "log_command", "image": "image_command"}
+COMMANDS = ("shell", "gdb", "stub", "console", "view", "plot", "log", "image")
+_MODULES = {"log": "log_command", "image": "image_command", "view": "view.command"}
 
 
 def main(arguments: Sequence[str]) -> int:

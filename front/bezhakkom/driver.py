@@ -12,18 +12,19 @@ from copy import deepcopy
 from dataclasses import replace
 from typing import Any, Callable, Iterator, Optional, Sequence, Tuple
 
-from . import replies
+from . import replies, tracing
 from .errors import Ended, Interrupted, Problem, Refused
 from .explain import explained
 from .image import Image
 from .initial import Boot, boot_of
-from .limits import CONSOLE_BYTES, GREATEST_POSITION, READS, SPAN, WORDS
+from .limits import CONSOLE_BYTES, GREATEST_POSITION, READS, SPAN, TRACED, WORDS
 from .log import ADDS, Event, Kind, changes
 from .log import write as write_log
 from .progress import TerminalProgress
-from .program import Program, reads_of
+from .program import WINDOW, Program, Stop, reads_of
 from .protocol import COMMANDS, command_of
 from .replies import Registers, Where, Writer, number_of, words_of
+from .tracing import Traced
 from .visits import Visits
 
 # A run to a far position is made in pieces of this many steps, between which it is shown, or ended.
@@ -44,6 +45,8 @@ class Driver:
         self.report = report
         # Asked in each turn: true to end it, as Ctrl-C does.
         self.wants_stop: Callable[[], bool] = lambda: False
+        # The most commands under way. With more of them quick ones take less time, and a turn is ended later.
+        self.window = WINDOW
         self._most_reads = most_reads
         self._original: Optional[Boot] = None
         self._boot: Optional[Boot] = None
@@ -132,6 +135,28 @@ class Driver:
         commands = [f"mem {at} {size}" for at, size in _pieces(physical, count, WORDS, 4)]
         return [word for lines in self.values(commands) for word in replies.memory(lines)]
 
+    def shown(self, physical: int, count: int) -> bytes:
+        """Words of memory as the program shows them: a line of WORD_LINE bytes for each. Texts are compared in far less time than
+        words."""
+        commands = [f"goto {self.position}", *(f"mem {at} {size}" for at, size in _pieces(physical, count, WORDS, 4)), "pos"]
+        script, told = "".join(f"{it}\n" for it in commands).encode(), f"pos {self.position}\n".encode()
+        with self.long_run():
+            self._run_ahead(self.position)
+            if self._started().reads + reads_of(script) > self._most_reads:
+                self.close()
+            program = self._started()
+            with self._in_step() as stop:
+                text = program.text(script, told, stop)
+            program.position = self.position
+            if stop():
+                raise Interrupted()
+        refused = text.find(b"error ")
+        if refused >= 0:
+            refusal = replies.refusal_of(commands[1], text[refused:].decode().splitlines())
+            assert refusal
+            raise explained(refusal)
+        return text[len(told):-len(told)]
+
     def where(self, virtual: int) -> Where:
         return replies.where(self.value(f"where {virtual}"))
 
@@ -155,6 +180,17 @@ class Driver:
         rest = _pieces(first + CONSOLE_BYTES, count - first - CONSOLE_BYTES, CONSOLE_BYTES, 1)
         more = self.values([f"console {line} {at} {size}" for at, size in rest])
         return shown + b"".join(replies.console(lines)[1] for lines in more)
+
+    def traced(self, first: int, end: int) -> Iterator[Traced]:
+        """What each step from one on and before another one does. The position stays."""
+        while first < min(end, GREATEST_POSITION):
+            here, count = self.position, min(TRACED, end - first, GREATEST_POSITION - first)
+            try:
+                lines = self.values([f"goto {first}", f"trace {count}"])[1]
+            finally:
+                self.goto(here)
+            yield from map(tracing.read, lines)
+            first += count
 
     def find(self, line: int, place: int) -> int:
         """The step that sent the byte at a place of a line's console."""
@@ -231,24 +267,30 @@ class Driver:
     def _replies(self, program: Program, commands: Sequence[str]) -> Iterator[list[str]]:
         """The replies to commands, with the position that the program has after each."""
         count = 0
+        with self._in_step() as stop:
+            for reply in program.turn(commands, stop, self.window):
+                found = command_of(words_of(commands[count]))
+                if found and found.shows_position and not replies.is_refusal(reply[0]):
+                    program.position = replies.last_number(reply)
+                count += 1
+                yield reply
+        if stop() or count < len(commands):
+            raise Interrupted()
+
+    @contextmanager
+    def _in_step(self) -> Iterator[Stop]:
+        """A turn, which asks what is given whether it is to end. A program of which not all replies are taken is ended."""
         with _patience(self.wants_stop) as stop:
             try:
-                for reply in program.turn(commands, stop):
-                    found = command_of(words_of(commands[count]))
-                    if found and found.shows_position and not replies.is_refusal(reply[0]):
-                        program.position = replies.last_number(reply)
-                    count += 1
-                    yield reply
+                yield stop
             except Ended:
                 self.close()
                 if stop() > 1:
                     raise Interrupted() from None
                 raise
             except BaseException:
-                self.close()  # replies are under way that nobody takes
+                self.close()
                 raise
-            if stop() or count < len(commands):
-                raise Interrupted()
 
     def _started(self) -> Program:
         """The program, started where it is not."""

@@ -3,7 +3,7 @@ from __future__ import annotations
 
 import struct
 from dataclasses import dataclass, replace
-from typing import Iterator, NamedTuple
+from typing import Iterator, NamedTuple, Sequence
 
 from .initial import Boot
 from .errors import Problem
@@ -15,7 +15,7 @@ _EXECUTABLE, _SHARED = 2, 3
 _MAPPED_END = 0x8000_0000  # virtual addresses below it are mapped by translation entries
 _LOAD = 1
 _SYMBOL_TABLE = 2
-_ALLOCATED = 2
+_ALLOCATED, _COMPRESSED = 2, 0x800
 _NOTES = {7, 0x7000_0006, 0x7000_002A}  # notes, .reginfo, .MIPS.abiflags
 _UNDEFINED, _ABSOLUTE = 0, 0xFFF1
 _KINDS = {0: "other", 1: "object", 2: "func"}
@@ -82,11 +82,26 @@ def symbols(file: SymbolFile) -> Iterator[Symbol]:
         yield replace(symbol, address=symbol.address + file.offset & 0xFFFF_FFFF)
 
 
+def sections(file: SymbolFile, names: Sequence[str]) -> dict[str, bytes]:
+    """The contents of sections of an ELF, by their names. Those that are compressed are left out."""
+    return _Reader(file.content, file.name, (_EXECUTABLE, _SHARED)).sections(names)
+
+
 class _Reader:
     def __init__(self, content: bytes, name: str, kinds: tuple[int, ...]) -> None:
         self.content = content
         self.name = name
         self.kinds = kinds
+
+    def sections(self, names: Sequence[str]) -> dict[str, bytes]:
+        *_, at, _, _, _, _, size, count, of_names = self._unpack(_HEADER, 16, "its header")
+        headers = [_Section(*self._unpack(_SECTION_HEADER, at + it * size, f"section header {it}")) for it in range(count)]
+        if of_names >= count:
+            return {}
+        texts = self._bytes(headers[of_names].offset, headers[of_names].size, "its names")
+        found = {texts[it.name:texts.find(b"\0", it.name)].decode("ascii", "replace"): it for it in headers}
+        return {name: self._bytes(found[name].offset, found[name].size, name) for name in names
+                if name in found and not found[name].flags & _COMPRESSED}
 
     def read(self) -> Elf:
         self._check_machine()

@@ -2,7 +2,11 @@
 from __future__ import annotations
 
 import re
-from typing import Optional
+from typing import Iterator, Optional
+
+from . import memory
+
+MOST_WATCHED = 256  # bytes of a watch of gdb's
 
 _TYPES = {1: "char *", 2: "short *", 4: "int *"}
 _BREAK = re.compile(r"break \*(0x[0-9a-f]{1,8})")
@@ -10,11 +14,15 @@ _WATCH = re.compile(r"watch \*\((?:(char|short|int) \*|char \(\*\)\[(\d{1,4})\])
 _SIZES = {"char": 1, "short": 2, "int": 4}
 
 
-def line(address: int, size: Optional[int]) -> str:
-    """gdb's line for a watch of a size, or a breakpoint."""
+def lines(address: int, size: Optional[int]) -> Iterator[str]:
+    """gdb's lines for a breakpoint, or a watch of a size: one for each piece of a page, of as many bytes as gdb can watch."""
     if size is None:
-        return f"break *{address:#010x}"
-    return f"watch *({_TYPES.get(size) or f'char (*)[{size}]'}) {address:#010x}"
+        yield f"break *{address:#010x}"
+        return
+    for virtual, count in memory.pieces(address, size):
+        for at in range(virtual, virtual + count, MOST_WATCHED):
+            part = min(virtual + count - at, MOST_WATCHED)
+            yield f"watch *({_TYPES.get(part) or f'char (*)[{part}]'}) {at:#010x}"
 
 
 def parts(text: str) -> Optional[tuple[int, Optional[int]]]:

@@ -30,16 +30,19 @@ from .log import Event, Kind
 from .saving import save
 from .session import Session, counted
 from .symbols import symbols_of
+from .tracing import Traced
 from .travel import Reason, Stops, Watch
 from .whatif import causes as _causes
 from .whatif import compare as _compare
 from .whatif import futures as _futures
+from .whatif import fuzz as _fuzz
 from .whatif import shrink as _shrink
 from .whatif import when as _when
 from .whatif.causes import Causes
 from .whatif.compare import Comparison
 from .whatif.conditions import Condition
 from .whatif.futures import Futures
+from .whatif.fuzz import Fuzzed
 from .whatif.pasts import Question
 from .whatif.shrink import Shrunk
 from .whatif.when import When
@@ -58,12 +61,14 @@ class NotReached(Problem, AssertionError):
 
 @dataclass(frozen=True)
 class Step:
-    """A step of a run: its number, and the instruction that it runs, with its address and the name of its place."""
+    """A step of a run: its number, and the instruction that it runs, with its address, the name of its place, and its source line as
+    `login.c:44`, where the image has that."""
 
     number: int
     pc: int
     place: str
     instruction: str
+    source: str = ""
 
     def __str__(self) -> str:
         return f"step {self.number:,}, {self.place}: {self.instruction}"
@@ -159,7 +164,7 @@ class Machine:
     def _step(self, number: int) -> Step:
         with self.session.at(number):
             pc = self.driver.registers().pc
-            return Step(number, pc, self.session.place(pc), self.session.instruction(pc))
+            return Step(number, pc, self.session.place(pc), self.session.instruction(pc), self.session.symbols.line(pc))
 
     # Going on
 
@@ -260,6 +265,12 @@ class Machine:
         """The step before this position that stored into the word at a place last, or None where no step did."""
         step = self.driver.writer(self.session.word_at(str(place))[1]).step
         return None if step is None else self._step(step)
+
+    def trace(self, steps: int = 1) -> list[Traced]:
+        """What the next steps do. The position stays."""
+        if steps < 0 or self.position + steps > GREATEST_POSITION:
+            raise Problem(f"{steps:,} steps can't be followed: a position is 0 to {GREATEST_POSITION:,}")
+        return list(self.driver.traced(self.position, self.position + steps))
 
     # The past
 
@@ -367,6 +378,12 @@ class Machine:
         """The smallest log in which a condition of the shell's comes true up to here, or a position: `pc fatal`, `console 'Sorry'`,
         `word count > 3`."""
         return _shrink.shrink(self.driver, self._condition(until), self.position if at is None else at, executor=executor)
+
+    def fuzz(self, first: int, until: str, *, at: Optional[int] = None, seed: int = 1, tries: int = 100_000,
+             executor: Optional[Executor] = None) -> Fuzzed:
+        """Other bytes from step `first` on until a condition of the shell's comes true up to here, or a position. What does it is
+        shrunk. The seed decides what is tried."""
+        return _fuzz.fuzz(self.driver, self._condition(until), first, self.position if at is None else at, seed, tries, executor)
 
     def compare(self, log: Iterable[Event]) -> Comparison:
         """What differs up to here from the past with another log: the first registers, the first byte of each line, and words."""

@@ -27,6 +27,7 @@ Other front ends, each with its own --help:
   {NAME} gdb ELF            gdb, forwards and backwards through the run
   {NAME} stub IMAGE         gdb's remote protocol on standard input and output
   {NAME} console IMAGE      a terminal on a serial line
+  {NAME} view IMAGE         a page on which the past is dragged
   {NAME} plot --to N IMAGE  a picture of a run
   {NAME} log show FILE      a log as text, and `log make` back
   {NAME} image ELF .. OUT   ELFs and other files as one image or a raw ROM

@@ -1,6 +1,7 @@
 """One process of the program: starts it, hands commands in and replies out, and notices that it ended."""
 from __future__ import annotations
 
+import fcntl
 import os
 import select
 import signal
@@ -18,8 +19,11 @@ from .protocol import has_reply, lines_after
 # What is shipped, by checksums.
 SHIPPED = (PACKAGE if IS_INSTALLED else REPOSITORY / "bin") / "r3kwb.txt"
 
-# The most commands under way. All of these are answered before a turn can end.
+# The most commands under way, where no other number is given. All of these are answered before a turn can end.
 WINDOW = 64
+
+# For replies that nobody has taken yet. Linux's F_SETPIPE_SZ has a name in Python from 3.10 on.
+_SET_PIPE_SIZE, _PIPE_BYTES = 1031, 1 << 20
 
 # How often a turn looks whether it is to end, in milliseconds.
 _GLANCE = 50
@@ -67,6 +71,10 @@ class Program:
         assert self._process.stdin and self._process.stdout
         self._input, self._output = self._process.stdin.fileno(), self._process.stdout.fileno()
         os.set_blocking(self._input, False)
+        try:
+            fcntl.fcntl(self._output, _SET_PIPE_SIZE, _PIPE_BYTES)
+        except OSError:
+            pass  # it is only quicker: the two processes take turns less often
         self._unsent = bytearray(content + log)
         self.position = 0
         self._partial = b""
@@ -74,8 +82,8 @@ class Program:
         # How many reads of its input the program may have made at most: one for each write, and for each full piece.
         self.reads = reads_of(content + log)
 
-    def turn(self, commands: Sequence[str], stop: Stop) -> Iterator[list[str]]:
-        """The replies to commands, one by one. It ends early, in step, where it is to stop."""
+    def turn(self, commands: Sequence[str], stop: Stop, window: int = WINDOW) -> Iterator[list[str]]:
+        """The replies to commands, one by one, of which so many are under way. It ends early, in step, where it is to stop."""
         under_way: deque[str] = deque()
         sent = 0
         while sent < len(commands) or under_way:
@@ -85,7 +93,7 @@ class Program:
                 raise Ended("the program was ended")
             if wish and not under_way:
                 return
-            while not wish and sent < len(commands) and len(under_way) < WINDOW:
+            while not wish and sent < len(commands) and len(under_way) < window:
                 self._put(commands[sent])
                 under_way.append(commands[sent])
                 sent += 1
@@ -96,7 +104,20 @@ class Program:
                 under_way.popleft()
                 yield reply
             if under_way:
-                self._move()
+                self._divide(self._move())
+
+    def text(self, script: bytes, last: bytes, stop: Stop) -> bytes:
+        """The replies to a script, of which the last line is so and no line before it is, as one text that is not divided. All of the
+        script is under way together, and all of it is answered."""
+        self._unsent += script
+        self.reads += reads_of(script)
+        text = bytearray()
+        while not text.endswith(b"\n" + last):
+            if stop() > 1:
+                self.close()
+                raise Ended("the program was ended")
+            text += self._move()
+        return bytes(text)
 
     def _put(self, command: str) -> None:
         line = command.encode("utf-8", "surrogateescape") + b"\n"
@@ -115,17 +136,19 @@ class Program:
             return None
         return [self._lines.popleft() for _ in range(count)]
 
-    def _move(self) -> None:
-        """Waits a moment until something goes in or comes out."""
+    def _move(self) -> bytes:
+        """Waits a moment until something goes in or comes out, and gives what came out."""
         poll = select.poll()
         poll.register(self._output, select.POLLIN)
         if self._unsent:
             poll.register(self._input, select.POLLOUT)
+        found = b""
         for descriptor, _ in poll.poll(_GLANCE):
             if descriptor == self._output:
-                self._receive()
+                found = self._receive()
             else:
                 self._send()
+        return found
 
     def _send(self) -> None:
         try:
@@ -135,10 +158,14 @@ class Program:
         except BrokenPipeError:
             self._unsent.clear()
 
-    def _receive(self) -> None:
+    def _receive(self) -> bytes:
         content = os.read(self._output, 1 << 16)
         if not content:
             raise self._end()
+        return content
+
+    def _divide(self, content: bytes) -> None:
+        """Divides what came out into lines."""
         *whole, self._partial = (self._partial + content).split(b"\n")
         self._lines.extend(line.decode("ascii", "replace") for line in whole)
 

@@ -9,6 +9,8 @@ from typing import Optional, Sequence
 from .errors import Refused
 from .limits import COMMAND_BYTES
 
+WORD_LINE = 22  # bytes of a line of a reply to `mem`: `0x00001000 0x00000020` and a line end
+
 CONTROL_NAMES = ("index", "random", "entrylo", "context", "badvaddr", "entryhi", "status", "cause", "epc", "prid")
 
 
@@ -47,6 +49,7 @@ def words_of(command: str) -> tuple[str, ...]:
     return tuple(word for word in command.replace("\t", " ").split(" ") if word)
 
 
+@lru_cache(1 << 12)
 def number_of(word: str) -> Optional[int]:
     """The number that a word of a command is, decimal or hexadecimal after 0x, as the program reads it. No command has room for a word
     of more bytes than a line."""

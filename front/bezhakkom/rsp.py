@@ -9,8 +9,13 @@ from __future__ import annotations
 
 import os
 import select
+import time
 
 INTERRUPT = 0x03
+# gdb sends 0x03 only while it waits for a stop, so one that comes between two packets has crossed the report of a stop. Where that was
+# one of many steps that gdb makes for one line (`stepi 1000`), the next one follows within milliseconds, and ends at once. Where it was the
+# last of them the line is over, as the key wanted. What a person types next comes after this many seconds, and runs.
+SOON = 0.5
 PACKET_BYTES = 0x4000  # the longest payload that is taken
 READ_BYTES = 0x10000
 ESCAPED = b"#$}*"
@@ -57,6 +62,7 @@ class Link:
         self._sink = sink
         self._waiting = bytearray()  # what was read and not yet taken
         self._closed = False
+        self._crossed: float | None = None  # when 0x03 came between two packets
         self._last = b""  # what was sent last, in case the other side asks for it again
 
     def receive(self) -> bytes | None:
@@ -71,6 +77,8 @@ class Link:
                 raw = self._raw()
                 if raw is not None:
                     return unescape(raw)
+            elif byte == INTERRUPT:
+                self._crossed = time.monotonic()
 
     def send(self, payload: bytes) -> None:
         self._last = frame(payload)
@@ -78,6 +86,9 @@ class Link:
 
     def interrupted(self) -> bool:
         """Whether the other side wants the run to end: it has sent 0x03, or closed. Packets that wait are left alone."""
+        crossed, self._crossed = self._crossed, None
+        if crossed is not None and time.monotonic() < crossed + SOON:
+            return True
         if len(self._waiting) < READ_BYTES and select.select([self._source], [], [], 0)[0]:
             self._fill()
         while self._waiting and self._waiting[0] != ord("$"):

@@ -103,6 +103,11 @@ class Session:
         """`main+0x78`, or the address where it has no name."""
         return self.symbols.name(address) or f"{address:#010x}"
 
+    def code(self, address: int) -> str:
+        """`main+0x78 (login.c:44)`, as far as that is known."""
+        line = self.symbols.line(address)
+        return self.place(address) + (f" ({line})" if line else "")
+
     def instruction(self, address: int) -> str:
         """The text of the instruction at a virtual address, with the name of its target."""
         physical = self.driver.physical(address)
@@ -126,12 +131,12 @@ class Session:
             target = (target - physical + address) & 0xFFFF_FFFF
         return text[:found.start()] + self.address(target)
 
-    def step(self, step: int) -> str:
-        """`step 40,017, main+0x78, 1,001 steps ago: sw r2, 0(r3)`, as seen from the position."""
+    def step(self, step: int, with_line: bool = False) -> str:
+        """`step 40,017, main+0x78, 1,001 steps ago: sw r2, 0(r3)`, as seen from the position, or with the source line."""
         with self.at(step):
             pc = self.driver.registers().pc
             text = self.instruction(pc)
-        return f"step {step:,}, {self.place(pc)}, {distance(step, self.driver.position)}: {text}"
+        return f"step {step:,}, {self.code(pc) if with_line else self.place(pc)}, {distance(step, self.driver.position)}: {text}"
 
     @contextmanager
     def at(self, position: int) -> Iterator[None]:

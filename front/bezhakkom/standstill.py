@@ -9,7 +9,7 @@ interrupts, or that counts in memory, does not.
 """
 from __future__ import annotations
 
-from dataclasses import dataclass
+from dataclasses import dataclass, field
 from enum import Enum
 from typing import Optional
 
@@ -53,11 +53,13 @@ class Standstill(Enum):
 @dataclass(frozen=True)
 class Quiet:
     """That a run stands still up to a step, where something arrives, or for ever, and what it would then be said to do; and the
-    steps of a turn, where it does more than go round: it takes exceptions, or changes what it sets right again."""
+    steps of a turn, where it does more than go round: it takes exceptions, or changes what it sets right again. `addresses` are those
+    of all its instructions, where they are known."""
 
     end: int
     kind: Standstill
     turn: Optional[int] = None
+    addresses: Optional[frozenset[int]] = field(default=None, compare=False)
 
 
 def standstill(driver: Driver, turn: int = TURN) -> Optional[Quiet]:
@@ -105,7 +107,7 @@ class Loop:
             return None
         shown = turn if self._is_deep else None
         if not self._asks_serial and not self._listens:
-            return Quiet(GREATEST_POSITION, Standstill.STUCK, shown)
+            return Quiet(GREATEST_POSITION, Standstill.STUCK, shown, self._addresses())
         if (self._unready or self._listens) and not self._stays(turn, self._driver.boot().byte_time + 1):
             return None
         if self._hears_clock and not self._has_quiet_second():
@@ -116,7 +118,10 @@ class Loop:
         end = next(arrives, GREATEST_POSITION)
         # A step that meets an event says nothing of the steps before it.
         kind = (Standstill.ALARM if self._hears_clock else Standstill.WAITING if self._asks_serial else Standstill.LISTENING)
-        return Quiet(end, kind, shown) if self._here <= end else None
+        return Quiet(end, kind, shown, self._addresses()) if self._here <= end else None
+
+    def _addresses(self) -> Optional[frozenset[int]]:
+        return None if self._passed else frozenset(state.pc for state in self._states)
 
     @property
     def _here(self) -> int:

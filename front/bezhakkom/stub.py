@@ -11,6 +11,7 @@ from typing import Callable, Optional, Sequence
 from . import elf, gdb_stops, listening, loading, memory, monitor, places, saved, target
 from .arguments import Parser
 from .errors import Interrupted, Problem, Unexpected
+from .gdb_stops import MOST_WATCHED
 from .installed import NAME
 from .limits import RAM, ROM
 from .motion import TRAP, Motion
@@ -36,8 +37,6 @@ OK, FAILED, NOT_KNOWN, GONE = b"OK", b"E01", b"", b"W00"
 CODE, CODE_IN_HARDWARE, WRITE = range(3)  # of the kinds of breakpoints and watches; the others watch reads
 
 NEXT_RUN = "next-run "  # of `monitor`: the next continue runs the line after it, so that it is shown and ended as a run is
-
-WATCHED = 256  # bytes of a watch at most
 
 NOT_WRITTEN = ("registers can't be written: they follow from the image and the log, which can be edited. "
                "To run other code, patch it; to call a function, let the program call it")
@@ -225,8 +224,8 @@ class Stub:
             raise Problem(f"it can't be watched yet: {places.why_nowhere(self._driver, address)}")
         if not (place + size - 1 in RAM or place + size - 1 in ROM):
             raise Problem(f"no memory stands at {address + size - 1:#010x}")
-        if size > WATCHED or address % memory.PAGE + size > memory.PAGE:
-            raise Problem(f"a watch has at most {WATCHED:,} bytes, all in one page: watch a part of it")
+        if size > MOST_WATCHED or address % memory.PAGE + size > memory.PAGE:
+            raise Problem(f"a watch has at most {MOST_WATCHED:,} bytes, all in one page: watch a part of it")
         self._places[address] = place
         return Watch(address, size, place)
 
@@ -377,7 +376,8 @@ def open_session(session: Session, commands: Sequence[str]) -> None:
         why = monitor.refusal(session, command, tell=lambda shown: None, of_gdb=True)
         if why:
             loading.say(f"the session's line `{command}` fails: {why}")
-    session.stops_of_gdb[:0] = [gdb_stops.line(it.address, it.watch.size if it.watch else None) for it in session.marks]
+    session.stops_of_gdb[:0] = [line for it in session.marks
+                                for line in gdb_stops.lines(it.address, it.watch.size if it.watch else None)]
     session.marks.clear()
     session.saved_log, session.saved_patches = list(session.driver.log), list(session.driver.patches)
 

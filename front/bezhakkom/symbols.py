@@ -1,4 +1,4 @@
-"""Names of addresses, and back. kseg0 and kseg1 addresses of one physical word have the same names."""
+"""Names of addresses, and back, and their source lines. kseg0 and kseg1 addresses of one physical word have the same names."""
 from __future__ import annotations
 
 from bisect import bisect_right
@@ -9,6 +9,7 @@ from .initial import Source
 from .elf import Symbol, physical_of
 from .image import Image
 from .limits import ROM
+from .lines import Lines
 
 # Of several names of one address the first of these kinds is shown.
 _ORDER = {"func": 0, "object": 1, "other": 2}
@@ -17,7 +18,8 @@ _ORDER = {"func": 0, "object": 1, "other": 2}
 class Symbols:
     """The symbols of a program."""
 
-    def __init__(self, symbols: Iterable[Symbol] = ()) -> None:
+    def __init__(self, symbols: Iterable[Symbol] = (), lines: Lines = Lines()) -> None:
+        self.lines = lines
         self._by_name: dict[str, Symbol] = {}
         at: dict[int, Symbol] = {}
         for symbol in sorted(symbols, key=lambda it: (_ORDER[it.kind], not it.size, it.name)):
@@ -48,6 +50,11 @@ class Symbols:
         symbol, distance = found
         return f"{symbol.name}+{distance:#x}" if distance else symbol.name
 
+    def line(self, address: int) -> str:
+        """`login.c:44`, or the empty text where no source line is known."""
+        found = self.lines.at(address)
+        return str(found) if found else ""
+
     def names(self) -> list[str]:
         """All names, in order."""
         return sorted(self._by_name)
@@ -62,7 +69,7 @@ def symbols_of(image: Image) -> Symbols:
     found = [symbol for file in image.elves for symbol in elf.symbols(file)]
     if image.kind == "source":
         found += (Symbol(name, _virtual(place), 0, "other") for name, place in Source(image.content).labels.items())
-    return Symbols(found)
+    return Symbols(found, Lines(image.elves))
 
 
 def _virtual(place: int) -> int:

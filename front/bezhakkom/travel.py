@@ -11,7 +11,7 @@ from .conditions import Conditions
 from .driver import Driver
 from .errors import Interrupted
 from .idle import IDLE_STEPS, Idleness
-from .limits import GREATEST_POSITION
+from .limits import GREATEST_POSITION, VISIT_STEPS
 from .standstill import TURN, Quiet, Standstill, quiet, standstill
 from .states import registers_at
 
@@ -23,6 +23,7 @@ IDLE_STORES = 64  # stores that change nothing are passed over, this many in a p
 # After this many of them it is checked whether the run stands still. If so, all of them can be passed over at once.
 QUIET_AFTER = (1, 4, 16, 64)
 QUIET_TURN = 128
+FAR = 16 * VISIT_STEPS  # steps that a search back looks at together
 BATCH = 64  # single steps that are asked for together
 STEPS_A_STATE = 4096  # looking at the states of a loop costs more than running it: this many steps are run for each state
 
@@ -194,10 +195,36 @@ def _backward(driver: Driver, stops: Stops, pause: Pause, otherwise: Stop) -> St
             stop, lowest = Stop(Reason.WATCH, step, watch), step + 1
     driver.goto(start)
     if stops.breakpoints:
-        found = conditions.last_hit(driver, stops.breakpoints, stops.conditions, lowest)
+        found = _last_hit(driver, stops, lowest)
         if found is not None:
             stop = Stop(Reason.BREAKPOINT, found)
     return stop
+
+
+def _last_hit(driver: Driver, stops: Stops, lowest: int) -> Optional[int]:
+    """The last breakpoint below the position, and not below `lowest`. Looking for one runs all steps again, so those of a loop that stands
+    still and has none are passed over, and with them what is known."""
+    with driver.long_run(driver.position, lowest):
+        while True:
+            far = driver.position - FAR
+            known = far if stops.conditions else max(driver.visits.since(it, far) for it in stops.breakpoints)
+            begin = max(lowest, known)
+            found = conditions.last_hit(driver, stops.breakpoints, stops.conditions, begin)
+            if found is not None or begin == lowest:
+                return found
+            driver.goto(begin)
+            if known == far:
+                _pass_over(driver, stops.breakpoints, lowest)
+
+
+def _pass_over(driver: Driver, addresses: set[int], lowest: int) -> None:
+    """Goes back to the begin of a loop that stands still and has none of the addresses, if the run is in one."""
+    here, still = driver.position, quiet(driver, QUIET_TURN)
+    # An alarm leaves its loop and comes back to it.
+    if still and not still.turn and still.kind is not Standstill.ALARM and still.addresses and not still.addresses & addresses:
+        driver.goto(_begin(driver, lowest, still, QUIET_TURN))
+        for it in addresses:
+            driver.visits.note(it, driver.position, here, None)
 
 
 def _first(driver: Driver, stops: Stops, start: int, end: int) -> tuple[Optional[Stop], int]:

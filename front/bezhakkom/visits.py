@@ -35,6 +35,10 @@ class Visits:
                 return None, min(it.high, high)
         return None, low
 
+    def since(self, address: int, high: int) -> int:
+        """The position above which all visits up to `high` are known."""
+        return min((it.low for it in self._stretches.get(address, ()) if it.low <= high <= it.high), default=high)
+
     def note(self, address: int, low: int, high: int, found: Optional[int]) -> None:
         """Notes that `found` is the least visit above `low`, or that there is none up to `high`."""
         if self._count >= _MOST:

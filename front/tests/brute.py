@@ -85,6 +85,11 @@ def register(driver: Driver, position: int, number: int) -> int:
     return driver.registers().general[number]
 
 
+def register_pc(driver: Driver, position: int) -> int:
+    driver.goto(position)
+    return driver.registers().pc
+
+
 def word(driver: Driver, position: int, physical: int) -> int:
     driver.goto(position)
     return driver.words(physical, 1)[0]

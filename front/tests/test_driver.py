@@ -16,7 +16,7 @@ from bezhakkom.driver import Driver
 from bezhakkom.errors import Ended, Interrupted, Refused
 from bezhakkom.image import Image
 from bezhakkom.log import Event, Kind
-from bezhakkom.replies import Where, Writer
+from bezhakkom.replies import WORD_LINE, Where, Writer
 from front.tests.support import ROOT, needs_erase, needs_kinds, random_rom, rom, start
 
 ECHO = ROOT / "examples/echo"
@@ -80,6 +80,29 @@ class Values(unittest.TestCase):
             self.driver.goto(1 << 40)
         self.assertEqual(self.driver.ask("back 1"), ["error 7 TooFar"])
         self.assertEqual((self.driver.ask("#"), self.driver.ask("?")), ([], ["error 2 Syntax"]))
+
+    def test_memory_as_it_is_shown(self) -> None:
+        """As one text, of any number of words; also where the reads of a program are used up, and after a wish to stop."""
+        driver = self.driver
+        driver.goto(78)
+        wanted = "".join(f"{it}\n" for first in range(0xC0, 0x200, 128) for it in driver.value(f"mem {first} 32"))[:70 * WORD_LINE]
+        self.assertIn("0x00000100 0x00008041\n", wanted)
+        self.assertEqual(driver.shown(0xC0, 70).decode(), wanted)
+        self.assertEqual((driver.shown(0xC0, 0), driver.position), (b"", 78))
+        driver.wants_stop = lambda: True
+        with self.assertRaises(Interrupted):
+            driver.shown(0xC0, 70)
+        driver.wants_stop = lambda: False
+        self.assertEqual(driver.words(0x100, 1), [0x8041])
+        driver.goto(77)
+        self.assertNotIn(b"8041", driver.shown(0x100, 1))
+        with self.assertRaises(Refused) as caught:
+            driver.shown(0x7F_FFF8, 3)
+        self.assertEqual((caught.exception.number, caught.exception.name, driver.ask("pos")), (6, "NotMemory", ["pos 77"]))
+        few = start(driver.image, driver.log, most_reads=9)
+        self.addCleanup(few.close)
+        few.goto(78)
+        self.assertEqual([few.shown(0xC0, 70).decode() for _ in range(9)], [wanted] * 9)
 
     def test_edits(self) -> None:
         driver = self.driver

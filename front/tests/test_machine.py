@@ -113,6 +113,7 @@ class Holds(unittest.TestCase):
             step = machine.writer("session+0x20")
             assert step
             self.assertEqual(step.place.partition("+")[0], "read_line")
+            self.assertRegex(step.source, r"^login\.c:\d+$")
             machine.goto(step.number)
             self.assertEqual(machine.next_step(), step)
             before = memory["session+0x20"]
@@ -281,6 +282,18 @@ class WhatIf(unittest.TestCase):
         place = next(at for at, (one, two) in enumerate(zip(here, there)) if one != two)
         self.assertEqual((sent.line, sent.place, sent.here[0], sent.there[0]), (0, place, ord(here[place]), ord(there[place])))
 
+    def test_fuzz(self) -> None:
+        """Without its backspaces the log does not make the length -1. Others do, and the log that is found does it at its position."""
+        with self.machine.what_if(without=[0, 1, 2]):
+            found = self.machine.fuzz(15_000, "word session+0x20 == 0xffffffff", seed=6, tries=300)
+            self.assertEqual(self.machine.fuzz(15_000, "word session+0x20 == 0xffffffff", seed=6, tries=300), found)
+            self.assertIsNone(self.machine.fuzz(15_000, "word session+0x20 == 0xffffffff", at=15_500, tries=70).log)
+        assert found.shrunk
+        self.assertTrue(any(it.byte == 8 for it in found.shrunk.log))
+        with self.machine.what_if(log=found.shrunk.log) as machine:
+            machine.goto(0)
+            self.assertEqual(machine.until(word="session+0x20", value=0xFFFF_FFFF), found.shrunk.position)
+
     def test_when(self) -> None:
         found = self.machine.when("session+0x20 == 3").position
         with self.machine.edits():
@@ -291,6 +304,8 @@ class WhatIf(unittest.TestCase):
         for wrong, why in ((lambda: self.machine.causes("nothing"), "there is no symbol and no register nothing"),
                            (lambda: self.machine.futures(10), "there is no event 10: the log has 10 events"),
                            (lambda: self.machine.shrink("pc"), "`pc` is no condition"),
+                           (lambda: self.machine.fuzz(5, "pc main", at=5), "nothing is run from step 5 to step 5: "),
+                           (lambda: self.machine.fuzz(120_000, "pc main"), "the log has no event from step 120,000 on"),
                            (lambda: self.machine.when("session"), "a word is compared by")):
             with self.assertRaises(Problem) as caught:
                 wrong()

@@ -71,7 +71,8 @@ class Package(unittest.TestCase):
             names = {it for it in packed.namelist() if ".dist-info/" not in it}
             mode = packed.getinfo("bezhakkom/r3kwb").external_attr >> 16
         modules = {f"bezhakkom/{it.relative_to(ROOT / 'front/bezhakkom')}" for it in (ROOT / "front/bezhakkom").rglob("*.py")}
-        self.assertEqual(names, modules | {"bezhakkom/py.typed", "bezhakkom/r3kwb", "bezhakkom/r3kwb.txt"})
+        page = {f"bezhakkom/view/page/{it.name}" for it in (ROOT / "front/bezhakkom/view/page").iterdir()}
+        self.assertEqual(names, modules | page | {"bezhakkom/py.typed", "bezhakkom/r3kwb", "bezhakkom/r3kwb.txt"})
         self.assertEqual(mode & 0o777, 0o755)
 
     def test_tests_of_firmware(self) -> None:

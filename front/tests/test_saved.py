@@ -220,9 +220,24 @@ class Saved(unittest.TestCase):
         for address, size, line in ((0xBFC00200, None, "break *0xbfc00200"), (0x80001009, 1, "watch *(char *) 0x80001009"),
                                     (0x500, 2, "watch *(short *) 0x00000500"), (0x80001020, 4, "watch *(int *) 0x80001020"),
                                     (0x80001000, 33, "watch *(char (*)[33]) 0x80001000")):
-            self.assertEqual((gdb_stops.line(address, size), gdb_stops.parts(line)), (line, (address, size)))
+            self.assertEqual((list(gdb_stops.lines(address, size)), gdb_stops.parts(line)), ([line], (address, size)))
+        # A watch of the shell's goes over pages, and has up to 1,024 bytes.
+        self.assertEqual(list(gdb_stops.lines(0x8000_1F00, 1021)), [
+            "watch *(char (*)[256]) 0x80001f00", "watch *(char (*)[256]) 0x80002000", "watch *(char (*)[256]) 0x80002100",
+            "watch *(char (*)[253]) 0x80002200"])
         for line in "break main", "break *0xbfc00200 if c == 3", "tbreak *0xbfc00200", "watch *(long *) 0x500", "watch session":
             self.assertIsNone(gdb_stops.parts(line))
+
+    def test_a_long_watch_of_the_shell_is_several_of_gdb(self) -> None:
+        """They stop where it does."""
+        debugger.needed()
+        lines = ("watch session+8-244 300", f"save {self.file}", *["continue"] * 3)
+        said = shell("--log", "examples/login/log", LOGIN, lines=lines).stdout
+        steps = [it.replace(",", "") for it in re.findall(r"in step ([\d,]+), ", said)]
+        self.assertEqual(len(steps), 3)
+        shown = self.gdb(self.file, commands=("starti", "info breakpoints", *['continue', 'printf "at %d\\n", $position'] * 3))
+        self.assertEqual(sum("hw watchpoint" in it for it in shown), 2)
+        self.assertEqual([it[3:] for it in shown if it.startswith("at ")], [str(int(it) + 1) for it in steps])
 
     def test_the_page(self) -> None:
         """The session on the page is what its walk saves."""

@@ -262,6 +262,21 @@ class Runs(StubTest):
         self.assertEqual(position % 65536, 0)
         self.stops(wire, ("s", "T05", position + 1))
 
+    def test_ctrl_c_between_two_steps_ends_the_next_one(self) -> None:
+        """Also where registers are read before it. One that came long before it, or before a run that was ended, does nothing."""
+        wire = self.wire(COUNTER)
+        for soon, reply, position in ((3600, "T02", 1), (-1, "T05", 3)):
+            with unittest.mock.patch("bezhakkom.rsp.SOON", soon):
+                wire.command("goto 0" if soon > 0 else "goto 1")
+                self.stops(wire, ("s", "T05", 1 if soon > 0 else 2))
+                wire.put(b"\x03")
+                self.dialog(wire, ("p25", wire.ask("p25")))
+                self.stops(wire, ("s", reply, position), ("?", "T05", position))
+        for packet in "vCont;s:1;c", "bs", "c", "bc":
+            with unittest.mock.patch("bezhakkom.rsp.SOON", 3600):
+                wire.put(b"\x03")
+                self.stops(wire, (packet, "T02", 3))
+        self.stops(wire, ("s", "T05", 4))
 
     def test_the_debugger_ends_a_long_search_back(self) -> None:
         wire = self.wire(COUNTER)

@@ -26,6 +26,8 @@ LINES = 36  # random ones
 TIMEOUT = 300
 STATUSES = {0, 1, 2, 3, 5}  # those of docs/USING.md but for what is wrong with the program or with bin/wb itself
 
+FRONT_ENDS = ("", *(it for it in cli.COMMANDS if it != "view"))  # that one serves a page until it is left
+
 OPTIONS = ["--log", "--kind", "--strict", "--echo", "--json", "--to", "--words", "--edits", "--background", "--line", "--speed",
            "--through", "--force", "--unit", "--byte-time", "--clock", "--symbols", "--version", "--what", "--", "-x", "-"]
 VALUES = ["rom", "elf", "image", "source", "5", "0", "-1", "9,000", "0x", "1" * 5000, "light", "loop+4", "del 0; add 1 1 1", "",
@@ -104,7 +106,7 @@ class Top(unittest.TestCase):
             shutil.copytree(ROOT / "examples", folder / "examples")  # some lines write there
             for at in range(LINES):
                 words = [source.choice(OPTIONS + 2 * VALUES) for _ in range(source.randrange(6))]
-                front_end = ("", *cli.COMMANDS)[at % (1 + len(cli.COMMANDS))]
+                front_end = FRONT_ENDS[at % len(FRONT_ENDS)]
                 if source.randrange(2):
                     words.append("examples/login/login.elf")
                 lines.append([front_end, *words] if front_end else words)

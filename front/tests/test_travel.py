@@ -3,6 +3,7 @@ from __future__ import annotations
 
 import random
 import unittest
+import unittest.mock
 from typing import Optional
 
 from bezhakkom import loading, travel
@@ -108,6 +109,37 @@ class Travel(unittest.TestCase):
         driver.goto(2000)
         self.assertEqual(travel.forward(driver, stops, lambda: False).position, 1_000_010)
         self.assertEqual(travel.backward(driver, stops, lambda: False).position, 1023)
+
+    def test_loops_that_stand_still_are_passed_over(self) -> None:
+        """On the way back, against all states of the echo, which waits for each byte in a loop of 11 steps; with and without what was
+        found before."""
+        log = [Event(70, 0, 0x41), Event(600, 0, 0x42), Event(1300, 0, 0x43)]
+        driver = start(loading.image("examples/echo/boot.s"), log)
+        self.addCleanup(driver.close)
+        counters = [registers(reply).pc for reply in driver.values([it for at in range(1800) for it in (f"goto {at}", "regs")])[1::2]]
+        source = random.Random(5)
+        for _ in range(40):
+            here, far = source.randrange(1800), source.choice((20, 100, 1000))
+            breakpoints = set(source.sample(sorted(set(counters)), source.randrange(1, 3))) | {0x8000_0000}
+            wanted = next((it for it in range(here - 1, -1, -1) if counters[it] in breakpoints), None)
+            driver.goto(here)
+            with unittest.mock.patch.object(travel, "FAR", far):
+                stop = travel.backward(driver, Stops(set(breakpoints)), lambda: False)
+            self.assertEqual(stop, Stop(Reason.BEGIN, 0) if wanted is None else Stop(Reason.BREAKPOINT, wanted), (here, far, breakpoints))
+            if source.randrange(3):
+                driver.visits.forget()
+
+    def test_steps_that_are_passed_over_are_not_run_again(self) -> None:
+        """The login program waits for its first byte for ever, from step 355 or so on: of 100 million steps few are looked at."""
+        driver = start(loading.image("examples/login/login.elf"))
+        self.addCleanup(driver.close)
+        driver.goto(100_000_000)
+        asked: list[str] = []
+        ask = driver.ask
+        with unittest.mock.patch.object(driver, "ask", side_effect=lambda it: asked.append(it) or ask(it)):
+            stop = travel.backward(driver, Stops({0xBFC0_0000}), lambda: False)
+        self.assertEqual(stop, Stop(Reason.BREAKPOINT, 0))
+        self.assertLess(sum(it.startswith("visit") for it in asked), 40)
 
     def test_a_run_is_ended_between_its_pieces(self) -> None:
         # addiu r2, r2, 1; beq r0, r0, back; nop

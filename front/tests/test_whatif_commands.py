@@ -1,19 +1,15 @@
-"""The commands that ask what if, as they are typed: in the shell, in gdb and on a terminal."""
+"""The commands that ask what if, in scripts of the shell."""
 from __future__ import annotations
 
 import json
-import re
-import time
 import unittest
 from typing import Any
 
 from bezhakkom.whatif.futures import OUT, STEP, VALUE
 from bezhakkom.whatif.shown import runs, spelled
 from bezhakkom.log import Event, Kind
-from front.tests import debugger
 from front.tests.outside import InFolder
 from front.tests.scripts import shell
-from front.tests.terminal import Terminal
 
 LOADER = ("--log", "examples/loader/log", "examples/loader/loader.elf")
 LOGIN = ("--log", "examples/login/log", "examples/login/login.elf")
@@ -55,7 +51,7 @@ class Said(unittest.TestCase):
     def test_causes_as_a_value(self) -> None:
         event = {"time": 200, "line": 0, "byte": 0x42, "kind": "byte"}
         self.assertEqual(value("goto 256", "causes sent 0 1 by set"), {
-            "position": 256, "answer": 0x42, "events": 2, "tried": 2, "by_value": [{"event": 1, **event}]})
+            "position": 256, "answer": 0x42, "place": None, "source": None, "events": 2, "tried": 2, "by_value": [{"event": 1, **event}]})
 
     def test_try(self) -> None:
         self.assertEqual(said("goto 230", "try 1 'A'..'C' 0x42 del"), [
@@ -77,12 +73,27 @@ class Said(unittest.TestCase):
         self.assertEqual(said("goto 256", "when 0xa0000100 == 0x8041"), [
             "0xa0000100 == 0x8041 holds first at step 78, after step 77, loop+0x8, 179 steps ago: sw r6, 256(r8)"])
         self.assertEqual(said("goto 256", "when 0xa0000100==0x1234"), ["up to step 256 it does not hold that 0xa0000100==0x1234"])
-        self.assertEqual(value("goto 256", "when 0xa0000100 > 0x8042 at 250"), {"position": None, "reached": 250, "stopped": False})
+        self.assertEqual(value("goto 256", "when 0xa0000100 > 0x8042 at 250"), {"position": None, "after": None, "reached": 250, "stopped": False})
+
+    def test_source_lines(self) -> None:
+        """Those of login.c, as gdb shows them in docs/DEBUGGING.md: the length is changed in line 44, and a byte read in line 33."""
+        self.assertEqual(said("goto 50,000", "when session+0x20 == 0xffffffff", guest=LOGIN), [
+            "session+0x20 == 0xffffffff holds first at step 40,025, after step 40,024, read_line+0x30 (login.c:44), "
+            "9,976 steps ago: sw r3, 32(r2)"])
+        after = {"step": 40_024, "pc": 0xBFC0_0258, "place": "read_line+0x30", "source": "login.c:44"}
+        self.assertEqual(value("goto 50,000", "when session+0x20 == 0xffffffff", guest=LOGIN)["after"], after)
+        self.assertEqual(said("goto 40,024", "causes pc by del", guest=LOGIN)[0], "pc at step 40,024: 0xbfc00258 <read_line+0x30> (login.c:44)")
+        found = value("goto 40,024", "causes pc by set", guest=LOGIN)
+        self.assertEqual((found["answer"], found["place"], found["source"]), (0xBFC0_0258, "read_line+0x30", "login.c:44"))
+        lines = ("goto 50,000", "set 2 'a'", "compare")
+        self.assertRegex(said(*lines, guest=LOGIN)[1], r"^registers differ from step 40,0\d\d on, after receive\+0x4 \(login\.c:33\): ")
+        after = value(*lines, guest=LOGIN)["registers"]["after"]
+        self.assertEqual((after["pc"], after["source"]), (0xBFC0_0204, "login.c:33"))
 
     def test_compare(self) -> None:
         shown = said("goto 256", "set 1 'C'", "compare")
         self.assertEqual(shown[0], "the events differ from step 200 on")
-        self.assertRegex(shown[1], r"^registers differ from step 2\d\d on: load 0x8043 on its way to a2 here, "
+        self.assertRegex(shown[1], r"^registers differ from step 208 on, after loop: load 0x8043 on its way to a2 here, "
                                    r"0x8042 on its way to a2 before$")
         self.assertEqual(shown[2], "line 0: byte 1 is 'C' in step 215 here, 'B' in step 215 before")
         self.assertEqual(shown[-1], "`undo` goes back to before `set 1 'C'`")
@@ -119,36 +130,6 @@ class Said(unittest.TestCase):
         self.assertEqual(said(*lines, "log")[1:], ["     0: step 70, line 0, 0x41 'A', 180 steps ago",
                                                    "     1: step 200, line 0, 0x42 'B', 50 steps ago"])
 
-    def test_wrong_words(self) -> None:
-        for line, why in (
-                ("causes", "usage: causes WHAT .."),
-                ("causes nowhere", "there is no symbol and no register nowhere"),
-                ("causes sp by luck", "`by` is followed by set, del, both. usage: causes"),
-                ("causes sp values 0", "1 to 255 other values can be tried, and not 0"),
-                ("causes sp more", "more means nothing here. usage: causes"),
-                ("causes sp --jobs", "a word is missing after `--jobs`. usage: causes"),
-                ("causes sp --jobs 0", "1 to 64 processes can be used, and not 0"),
-                ("causes sent 0", "a line and a place stand after `sent`. usage: causes"),
-                ("causes console 7", "there is no line 7; they are 0 to 3"),
-                ("try 9", "there is no event 9: they are 0 to 1"),
-                ("try 0 300", "a byte is 0 to 255, and the level of an external line 0 or 1"),
-                ("try 0 9..8", "9..8 has nothing in it. usage: try"),
-                ("try 1", "a change in step 200 does not show at position 150: go to one after it, or name it by `at N`"),
-                ("try 0 moved 0..9999999", "at most 1,048,576 pasts are tried together"),
-                ("try 0 until sp", "`sp` is no condition; there are pc ADDRESS, "),
-                ("shrink until console 'x'", "that does not come true up to step 150; "),
-                ("shrink sp 5", "sp means nothing here. usage: shrink"),
-                ("shrink until", "a word is missing after `until`. usage: shrink"),
-                ("shrink until pc 3", "3 is no address of an instruction"),
-                ("when 0xa0000100 5 5", "a word is compared by ==, !=, <, <=, > or >=. usage: when"),
-                ("compare nowhere", "there is no file nowhere"),
-                ("fuzz 300 until pc 0 steps 9", "the log has no event from step 300 on that could be changed"),
-                ("fuzz 200 until pc 0", "nothing is run from step 200 to step 150: "),
-        ):
-            shown = said("goto 150", line)
-            self.assertEqual(len(shown), 1, shown)
-            self.assertTrue(shown[0].startswith(why), shown)
-
     def test_ranges_and_runs(self) -> None:
         event = Event(5, 0, 65)
         labels = [(VALUE, it) for it in (3, 4, 48, 49, 50, 255)] + [(OUT, 0)] + [(STEP, it) for it in (10, 12, 14, 20)]
@@ -178,66 +159,6 @@ class Saved(InFolder):
         self.assertEqual(json.loads(shown), {**found, "file": None})
         self.assertEqual(why, f"{file} is there and is no session. `fuzz .. save {file} force` overwrites it")
         self.assertEqual(file.read_text(), "no session")
-
-
-class OnATerminal(unittest.TestCase):
-    def test_ctrl_c(self) -> None:
-        """One stops it, shows what was found, and all is as before. The guest takes long for each past: each value of the last byte
-        has its own way through 100 million steps."""
-        terminal = Terminal("shell", *LOADER)
-        terminal.until(b"wb 0> ")
-        terminal.type(b"goto 100,000,000\n")
-        terminal.until(b"wb 100,000,000> ")
-        for line, shows in (("try 178", rb"interrupted: [\d,]+ of 256 were tried, and what follows"),
-                            ("try 178 --jobs 2", rb"interrupted: [\d,]+ of 256 were tried"),
-                            ("causes v0 values 255", rb"interrupted: [\d,]+ of 181 were tried.*from the last event"),
-                            ("shrink until pc fatal at 100,000,000", rb"interrupted after [\d,]+ past|left, and")):
-            terminal.type(line.encode() + b"\n")
-            terminal.until(b" a second")
-            terminal.type(b"\x03")
-            shown = terminal.until(b"wb 100,000,000> ")
-            self.assertRegex(re.sub(rb"\s+", b" ", shown), shows)
-        terminal.type(b"undo\n")
-        terminal.until(b"wb 100,000,000> ")
-        terminal.type(b"log 177 2\n")
-        shown = terminal.until(b"wb 100,000,000> ")
-        self.assertIn(b"181 events, 181 before this position", shown)
-        terminal.type(b"quit\nquit\n")
-        terminal.end()
-
-
-class InGdb(unittest.TestCase):
-    def setUp(self) -> None:
-        debugger.needed()
-
-    def test_ctrl_c(self) -> None:
-        """What was found is shown before gdb has the key."""
-        terminal = Terminal("gdb", *LOADER, *debugger.PLAIN)
-        terminal.until(b"(0) ")
-        terminal.type(b"wb goto 100000000\n")
-        terminal.until(b"(100,000,000) ")
-        shown = b""
-        for pause in 0.3, 1, 3, 9:
-            # A key that comes before anything was tried ends it with nothing to show.
-            if b"of 256 were tried, and what follows is what these show" not in shown:
-                terminal.type(b"wb try 178\n")
-                terminal.until(b"wb try 178\r\n")
-                time.sleep(pause)
-                terminal.type(b"\x03")
-                shown = terminal.until(b"(100,000,000) ")
-        self.assertIn(b"of 256 were tried, and what follows is what these show", shown)
-        terminal.press(b"wb log 178 2\n", b"181 events, 181 before this position")
-        terminal.leave(b"quit\n")
-
-    def test_they_answer(self) -> None:
-        shown = debugger.batch("login/login.elf", "wb goto 130000", "wb causes session+0x20 by del", "wb when session+0x20 == 0xffffffff",
-                               "wb try 2 'a' del", "wb causes sp --json", log="login/log")
-        text = "\n".join(shown)
-        self.assertIn("of 10 events decide it by being there:", text)
-        self.assertIn("session+0x20 == 0xffffffff holds first at step 40,025, after step 40,024, read_line+0x30", text)
-        self.assertIn("event 2, line 0, 0x08 in step 40,000: 2 pasts, ", text)
-        found = json.loads(next(it for it in shown if it.startswith("{")))
-        self.assertEqual((found["position"], found["events"]), (130_000, 10))
 
 
 if __name__ == "__main__":

@@ -2,6 +2,8 @@
 from __future__ import annotations
 
 import os
+import subprocess
+import sys
 import threading
 import unittest
 import warnings
@@ -86,12 +88,24 @@ class Jobs(unittest.TestCase):
                 warnings.simplefilter("ignore")
                 from distributed import Client
         except ImportError:
-            self.skipTest("python3-distributed is not installed")
+            self.by_the_system()
+            return
         path = os.pathsep.join([str(ROOT / "front"), str(ROOT), os.environ.get("PYTHONPATH", "")])
         with warnings.catch_warnings(), mock.patch.dict(os.environ, PYTHONPATH=path):
             warnings.simplefilter("ignore")
             with Client(n_workers=2, threads_per_worker=1, processes=True, dashboard_address=None, host="127.0.0.1") as client:
                 self.check(client.get_executor())
+
+
+    def by_the_system(self) -> None:
+        """The same by the system's Python, where that has Dask."""
+        python = "/usr/bin/python3"
+        if sys.executable == python or subprocess.run([python, "-c", "import distributed"], capture_output=True).returncode:
+            self.skipTest("python3-distributed is not installed")
+        done = subprocess.run([python, "-m", "unittest", "front.tests.test_whatif_jobs.Jobs.test_dask"], cwd=ROOT,
+                              env={**os.environ, "PYTHONDONTWRITEBYTECODE": "1"}, stdin=subprocess.DEVNULL, stdout=subprocess.PIPE,
+                              stderr=subprocess.STDOUT, text=True)
+        self.assertEqual(done.returncode, 0, done.stdout)
 
 
 class Fuzz(unittest.TestCase):

@@ -9,7 +9,6 @@ from .. import log as logs
 from .. import loading, saved
 from ..commands import WHAT_IF, command
 from ..errors import Problem
-from ..limits import GREATEST_POSITION
 from ..log import Event, changes
 from ..saving import FORCE_WORD, save
 from ..session import Session
@@ -47,7 +46,7 @@ def causes(session: Session, words: list[str]) -> None:
     line.end()
     with pool(line.jobs) as executor:
         found = causes_of(session.driver, question, session.driver.position, _WAYS[by], values, executor)
-    _tell(session, line, shown.causes(session, name, question, _WAYS[by], values, found), shown.causes_value(found, _WAYS[by]))
+    _tell(session, line, shown.causes(session, name, question, _WAYS[by], values, found), shown.causes_value(session, found, _WAYS[by]))
 
 
 _TRY = "try I [all] [A..B] [del] [moved A..B [by K]] [show WHAT ..] [until CONDITION] [at N] [--jobs N] [--json]"
@@ -62,7 +61,7 @@ def try_(session: Session, words: list[str]) -> None:
     while asked:
         names.append(line.question(asked))
     condition = line.condition(until)[1] if until else None
-    if not line.rest:
+    if not line.rest or line.rest[0] in ("all", "del", "moved"):
         raise line.problem("which event? `log` lists them")
     log = session.driver.log
     index = session.number(line.rest.pop(0))
@@ -139,7 +138,7 @@ def compare(session: Session, words: list[str]) -> None:
     found = comparing.compare(driver, log, patches)
     text = shown.comparison(session, found, other)
     _tell(session, line, text if line.is_json or other == "there" else [*text, f"`undo` goes back to before `{edit.line}`"],
-          shown.comparison_value(found))
+          shown.comparison_value(session, found))
 
 
 def _log(session: Session, name: str) -> List[Event]:
@@ -157,7 +156,7 @@ def when(session: Session, words: list[str]) -> None:
     condition = line.comparison(line.rest)
     text = " ".join(line.rest)
     found = first_time.when(session.driver, condition, end)
-    _tell(session, line, shown.when(session, text, found), shown.when_value(found))
+    _tell(session, line, shown.when(session, text, found), shown.when_value(session, found))
 
 
 _FUZZ = f"fuzz FROM until CONDITION [seed S] [steps N] [tries N] [save FILE [force]] [--jobs N] [--json]; a condition is {CONDITION}"
@@ -176,8 +175,6 @@ def fuzz(session: Session, words: list[str]) -> None:
     if session.origin is None:
         raise Problem("a session is saved by what has opened an image")
     end = begin + steps if steps else session.driver.position
-    if not begin < end <= GREATEST_POSITION:
-        raise Problem(f"nothing is run from step {begin:,} to step {end:,}: `steps N` says how many steps, or `goto` goes to the end")
     text, condition = line.condition(until)
     with pool(line.jobs) as executor:
         found = fuzzing.fuzz(session.driver, condition, begin, end, seed, tries, executor)

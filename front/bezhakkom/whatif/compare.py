@@ -13,12 +13,13 @@ from .. import replies
 from ..driver import Driver
 from ..limits import LINES, RAM, WORDS
 from ..log import Event
-from ..replies import Registers
+from ..replies import WORD_LINE, Registers
 from . import pasts, questions
 from .pasts import PRESENT, STOPPED, Past, kept
 
 _POSITIONS = (64, 256, 1024, 4096)  # that are compared together, at first and later on
-_WORDS = 4096 * WORDS  # that are compared together
+_WORDS = 4096 * WORDS  # that are shown together
+_BLOCK = 1024 * WORD_LINE  # bytes of what is shown that are compared together
 
 
 @dataclass(frozen=True)
@@ -135,12 +136,23 @@ def _registers(driver: Driver, other: Past, found: Comparison, begin: int) -> No
 
 
 def _words(driver: Driver, other: Past, found: Comparison) -> None:
+    driver.goto(found.position)
     for first in range(RAM.start, RAM.stop, 4 * _WORDS):
-        commands = [f"mem {it} {WORDS}" for it in range(first, first + 4 * _WORDS, 4 * WORDS)]
-        driver.goto(found.position)
-        for one, two in _both(driver, other, commands):
-            if one != two:
-                pairs = zip(one, replies.memory(one), replies.memory(two))
-                found.words += [OtherWord(int(line.split()[0], 16), here, there) for line, here, there in pairs if here != there]
-        found.words_to = first + 4 * _WORDS
+        count = min(_WORDS, (RAM.stop - first) // 4)
+        one = driver.shown(first, count)
+        driver.values(other.there)
+        two = driver.shown(first, count)
+        driver.values(other.back)
+        for at in _other_lines(one, two):
+            here, there = replies.memory([text[at:at + WORD_LINE].decode() for text in (one, two)])
+            found.words.append(OtherWord(first + 4 * (at // WORD_LINE), here, there))
+        found.words_to = first + 4 * count
         driver.tell(found.position, (0, found.position))
+
+
+def _other_lines(one: bytes, two: bytes) -> Iterator[int]:
+    """Where lines begin in which two shown pieces of memory differ."""
+    for block in range(0, len(one), _BLOCK):
+        end = min(block + _BLOCK, len(one))
+        if one[block:end] != two[block:end]:
+            yield from (at for at in range(block, end, WORD_LINE) if one[at:at + WORD_LINE] != two[at:at + WORD_LINE])

@@ -47,6 +47,8 @@ class Fuzzed:
 def fuzz(driver: Driver, condition: Condition, begin: int, end: int, seed: int = 1, tries: int = 100_000,
          executor: Optional[Executor] = None) -> Fuzzed:
     """Tries other inputs from a position on, each up to an end."""
+    if not begin < end <= GREATEST_POSITION:
+        raise Problem(f"nothing is run from step {begin:,} to step {end:,}: go to the end first, or say where it is")
     before = [it for it in driver.log if it.time < begin]
     first = _input(driver.log[len(before):], begin)
     if not first:

@@ -35,8 +35,8 @@ def value_of(session: Session, question: Question, answer: Any) -> str:
         return text_of(answer)
     if isinstance(question, Sent):
         return "nothing" if answer is None else byte(answer)
-    name = session.symbols.name(answer)
-    return f"{answer:#010x}" + (f" <{name}>" if name else "")
+    line = session.symbols.line(answer)
+    return session.address(answer) + (f" ({line})" if line else "")
 
 
 def text_of(content: bytes) -> str:
@@ -74,6 +74,18 @@ def runs(log: Sequence[Event], indices: Sequence[int]) -> Iterator[str]:
         at = end
 
 
+def _named(session: Session, address: object) -> Value:
+    """The name and the source line of an address, where there are some."""
+    names = (session.symbols.name(address), session.symbols.line(address)) if isinstance(address, int) else ("", "")
+    return {"place": names[0] or None, "source": names[1] or None}
+
+
+def _step_value(session: Session, step: int) -> Value:
+    with session.at(step):
+        pc = session.driver.registers().pc
+    return {"step": step, "pc": pc, **_named(session, pc)}
+
+
 def event_value(event: Event) -> Value:
     return {"time": event.time, "line": event.line, "byte": event.byte, "kind": event.kind.name.lower()}
 
@@ -93,10 +105,10 @@ def causes(session: Session, name: str, question: Question, ways: Sequence[str],
             yield f"  {run}"
 
 
-def causes_value(found: Causes, ways: Sequence[str]) -> Value:
+def causes_value(session: Session, found: Causes, ways: Sequence[str]) -> Value:
     answer = list(found.answer) if isinstance(found.answer, bytes) else found.answer
     lists = {SET: ("by_value", found.by_value), DEL: ("by_being_there", found.by_being_there)}
-    return {"position": found.position, "answer": answer, "events": found.events, "tried": found.asked,
+    return {"position": found.position, "answer": answer, **_named(session, answer), "events": found.events, "tried": found.asked,
             **{lists[way][0]: [{"event": it, **event_value(found.log[it])} for it in lists[way][1]] for way in ways}}
 
 
@@ -186,7 +198,9 @@ def comparison(session: Session, found: Comparison, other: str) -> Iterator[str]
         yield "interrupted: what follows is what was found up to then"
     if found.registers:
         position, here, there = found.registers
-        yield f"registers differ from step {position:,} on: {', '.join(_registers(session, here, there, other))}"
+        with session.at(position - 1):
+            place = session.code(session.driver.registers().pc)
+        yield f"registers differ from step {position:,} on, after {place}: {', '.join(_registers(session, here, there, other))}"
     else:
         yield f"registers don't differ up to step {found.compared:,}"
     for it in found.sent:
@@ -208,7 +222,7 @@ def _registers(session: Session, here: Registers, there: Registers, other: str) 
     pairs += [(name, one, two) for name, one, two in zip(expressions.REGISTERS, here.general, there.general)]
     for name, one, two in pairs:
         if one != two:
-            first, second = (session.place(it) if name == "pc" else f"{it:#x}" if type(it) is int else _loaded(it) for it in (one, two))
+            first, second = (session.code(it) if name == "pc" else f"{it:#x}" if type(it) is int else _loaded(it) for it in (one, two))
             yield f"{name} {first} here, {second} {other}"
 
 
@@ -218,11 +232,11 @@ def _loaded(it: object) -> str:
     return "nothing" if it is None else "yes" if it else "no"
 
 
-def comparison_value(found: Comparison) -> Value:
+def comparison_value(session: Session, found: Comparison) -> Value:
     registers = None
     if found.registers:
         position, here, there = found.registers
-        registers = {"position": position, "here": asdict(here), "there": asdict(there)}
+        registers = {"position": position, "after": _step_value(session, position - 1), "here": asdict(here), "there": asdict(there)}
     return {"position": found.position, "first_event": found.first_event, "compared": found.compared, "registers": registers,
             "sent": [asdict(it) for it in found.sent], "words": [asdict(it) for it in found.words], "words_to": found.words_to,
             "stopped": found.is_stopped}
@@ -238,11 +252,12 @@ def when(session: Session, text: str, found: When) -> Iterator[str]:
     elif not found.position:
         yield f"{text} holds at step 0: the image sets it so, or memory begins so"
     else:
-        yield f"{text} holds first at step {found.position:,}, after {session.step(found.position - 1)}"
+        yield f"{text} holds first at step {found.position:,}, after {session.step(found.position - 1, with_line=True)}"
 
 
-def when_value(found: When) -> Value:
-    return {"position": found.position, "reached": found.reached, "stopped": found.is_stopped}
+def when_value(session: Session, found: When) -> Value:
+    after = _step_value(session, found.position - 1) if found.position else None
+    return {"position": found.position, "after": after, "reached": found.reached, "stopped": found.is_stopped}
 
 
 # fuzz
