@@ -11,7 +11,7 @@ import gdb
 
 # Their words are no numbers.
 AS_THEY_ARE = ("arrive", "assert", "assert-console", "causes", "compare", "expect", "fuzz", "help", "load", "save", "save-image",
-               "save-log", "shrink", "symbols", "try", "type", "until", "wb", "when")
+               "save-log", "shrink", "symbols", "trace", "try", "type", "until", "wb", "when")
 RUNS = ("expect", "until")  # they go on, and are run as `continue` is
 MOVES = [begin + move for move in ("continue", "step", "next", "stepi", "nexti", "finish") for begin in ("", "reverse-")]
 MOVES += ["until", "advance"]
@@ -21,7 +21,7 @@ QUOTES = frozenset("'\"")
 NUMBER = re.compile(r"\d[\w,]*")
 IN_GROUPS = re.compile(r"(?<![\w.,])\d{1,3}(?:,\d{3})+(?![\w,])")
 WITHOUT_NUMBER = (gdb.TYPE_CODE_ARRAY, gdb.TYPE_CODE_STRUCT, gdb.TYPE_CODE_UNION, gdb.TYPE_CODE_FUNC)
-OF_WORDS = ("dis", "mem", "patch", "visit", "where", "writer")  # their numbers have 32 bits, also those that gdb shows below 0
+OF_WORDS = ("dis", "mem", "patch", "stores", "visit", "where", "writer")  # their numbers have 32 bits, also those that gdb shows below 0
 
 
 def flush() -> None:

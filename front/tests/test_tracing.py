@@ -9,7 +9,7 @@ import bezhakkom
 from bezhakkom import tracing
 from bezhakkom.driver import Driver
 from bezhakkom.limits import GREATEST_POSITION, RAM
-from front.tests import brute, scripts
+from front.tests import brute, debugger, scripts
 from front.tests.support import ROOT
 
 STEPS = 150
@@ -105,6 +105,16 @@ class InTheShell(unittest.TestCase):
             lines = name.read_text().splitlines()
         self.assertEqual((lines[0], len(lines)), ("# what steps 40,000 to 40,099 do", 101))
         self.assertTrue(lines[25].startswith("40,024 read_line"))
+
+    def test_in_gdb(self) -> None:
+        debugger.needed()
+        with TemporaryDirectory() as folder:
+            name = Path(folder, "steps")
+            shown = "\n".join(debugger.batch("login/login.elf", "wb goto 40,023", "wb trace 2", f"wb trace 5 to {name}", "wb goto 40,025",
+                                             "wb stores &session.length 1", log="login/log"))
+            self.assertEqual(len(name.read_text().splitlines()), 6)
+        self.assertIn("40,024 read_line+0x30: sw r3, 32(r2)   stores 0xffffffff into 0x80001020 <session+0x20>", shown)
+        self.assertIn("0xffffffff by step 40,024, read_line+0x30, 1 step ago", shown)
 
     def test_io(self) -> None:
         shown = self.shown("goto 6684", "io 3").splitlines()
