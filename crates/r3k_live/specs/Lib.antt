@@ -3,7 +3,9 @@ pub use Rattle.r3k_machine.specs.Traced
 pub use Rattle.r3k_machine.specs.Reports
 pub use Rattle.r3k_machine.specs.Locality
 pub use Rattle.r3k_pages.specs.Pages
+pub mod Kept
 pub mod Record
+pub mod Marks
 pub mod Recording
 pub mod Visits
 pub mod Standing

@@ -2,25 +2,23 @@
 use Rattle.std.specs.Prelude.{◌≡◌, ℕ, ◌+◌, ◌*◌, ◌/◌, ◌<◌, ◌≤◌, List, length, Option, Some, None, slice_index, slice_set}
 use Rattle.r3k_word.specs.declared.layout.TheConstants.{MAX_RAM_PAGES, PAGE_BYTES, PAGE_WORDS}
 use Rattle.r3k_machine.specs.declared.step.Done.{Done}
+use Rattle.r3k_machine.specs.declared.target.Target.TheVariants.{Memory}
 use Rattle.r3k_machine.specs.Run.{last_writer}
 use Rattle.r3k_machine.specs.Reports.{IsRamWord}
 use Rattle.r3k_pages.specs.Pages.{holds}
 use Rattle.r3k_machine.specs.Locality.{is_touched}
-use Rattle.r3k_live.specs.Record.{is_dirty, sent_from}
+use Rattle.r3k_live.specs.Kept.{kept_step}
+use Rattle.r3k_live.specs.Record.{AreDestinations, is_dirty, sent_from}
 use Rattle.r3k_live.specs.declared.recorder.SentAt.{SentAt}
 
 pub record Recording : Type 0 where
   pub steps : ℕ
   pub last : List ℕ
   pub dirty : List ℕ
+  pub destinations : List ℕ
   pub touched : List ℕ
   pub sent : List SentAt
   pub stood : List ℕ
-
--- a step as it is kept with a word: one more than its number, and 0 where there is none
-abbrev pub kept_step : Option ℕ → ℕ
-kept_step None = 0
-kept_step (Some step) = step + 1
 
 -- these steps after one more, which stored into a word or did not
 abbrev pub with_writer : List ℕ → (step : ℕ) → Option ℕ → List ℕ
@@ -43,8 +41,9 @@ pub record IsRecording (pages span sent_room : ℕ) (r : Recording) : Type 0 whe
 -- a recorder holds what these steps reported
 pub record Records (pages : ℕ) (steps : List Done) (r : Recording) : Type 0 where
   pub count : r.steps ≡ length steps
-  pub last : (place : ℕ) → place < pages * PAGE_WORDS → slice_index r.last place ≡ kept_step (last_writer (4 * place) steps)
-  pub ram : (address : ℕ) → ¬ IsRamWord pages address → last_writer address steps ≡ None
+  pub last : (place : ℕ) → place < pages * PAGE_WORDS → slice_index r.last place ≡ kept_step (last_writer (Memory (4 * place)) steps)
+  pub ram : (address : ℕ) → ¬ IsRamWord pages address → last_writer (Memory address) steps ≡ None
   pub dirty : (page : ℕ) → holds r.dirty page ≡ is_dirty steps page
+  pub destinations : AreDestinations steps r.destinations
   pub touched : (page : ℕ) → holds r.touched page ≡ is_touched steps page
   pub sent : r.sent ≡ sent_from 0 steps

@@ -2,6 +2,7 @@
 #![tactic(auto)]
 
 mod boundary;
+mod destinations;
 mod flat;
 mod laws;
 mod live;
@@ -11,6 +12,7 @@ mod stretch;
 mod virtual_pages;
 
 pub use boundary::Boundary;
+pub use destinations::{Destinations, mark};
 pub use flat::FlatMemory;
 pub use laws::run_locality;
 pub use live::{Live, counted};

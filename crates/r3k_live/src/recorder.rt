@@ -1,19 +1,22 @@
-//! A record of what steps reported: bytes sent, words stored into, and pages touched.
+//! A record of what steps reported: bytes sent, words stored into, registers written, and pages touched.
 
 ghost use Rattle.std.specs.Prelude.{◌≡◌, ◌+◌, ◌^◌, ◌<◌, ◌≤◌, [], ◌∷◌, ◌++◌, All, ◌||◌, IfOk, IfSome, IsTrue, List, length, nat_eq, vec_capacity, vec_len, ℕ};
 ghost use Rattle.r3k_word.specs.declared.layout.TheConstants.{MAX_RAM_PAGES};
 ghost use Rattle.r3k_pages.specs.Pages.{IsPageSet, holds, page_count_of};
 ghost use Rattle.r3k_machine.specs.declared.step.Done.{Done};
+ghost use Rattle.r3k_machine.specs.declared.target.Target.TheVariants.{Memory};
 ghost use Rattle.r3k_machine.specs.Locality.{fetched_page, is_page};
 ghost use Rattle.r3k_machine.specs.Run.{last_writer};
 ghost use Rattle.r3k_machine.specs.Reports.{IsPage, IsRamWord};
-ghost use Rattle.r3k_live.specs.Record.{AreWriters, dirty_pages, sent_from, touched_pages, with_sent};
+ghost use Rattle.r3k_live.specs.Marks.{marks_of};
+ghost use Rattle.r3k_live.specs.Record.{AreDestinations, AreWriters, dirty_pages, sent_from, touched_pages, with_sent};
 ghost use Rattle.r3k_live.specs.Recording.{Records};
 
+use crate::destinations::Destinations;
 use crate::stores::Stores;
 use crate::virtual_pages::VirtualPages;
 use dz_serial::{Sent, SerialLine};
-use r3k_machine::Done;
+use r3k_machine::{Done, Target};
 use r3k_pages::PageMarks;
 use r3k_word::layout::PAGE_BYTES;
 use std::alloc::{AllocError, Global};
@@ -40,6 +43,7 @@ pub struct Written {
 pub struct Recorder<const PAGES: u32, const SPAN: u32> {
     steps: u32,
     stores: Stores<PAGES>,
+    destinations: Destinations,
     touched: PageMarks<PAGES>,
     sent: Vec<SentAt>,
     // The virtual pages in which the PC stood.
@@ -56,6 +60,7 @@ impl<const PAGES: u32, const SPAN: u32> Model for Recorder<PAGES, SPAN> {
       steps = r.steps;
       last = r.stores.last;
       dirty = r.stores.dirty;
+      destinations = r.destinations;
       touched = r.touched;
       sent = r.sent.items;
       stood = r.stood;
@@ -65,6 +70,7 @@ impl<const PAGES: u32, const SPAN: u32> Model for Recorder<PAGES, SPAN> {
       steps = r.steps;
       last = r.stores.last;
       dirty = r.stores.dirty;
+      destinations = r.destinations;
       touched = r.touched;
       sent = r.sent.items;
       stood = r.stood;
@@ -80,6 +86,7 @@ impl<const PAGES: u32, const SPAN: u32> Recorder<PAGES, SPAN> {
         Ok(Recorder {
             steps: 0,
             stores: Stores::new(alloc)?,
+            destinations: Destinations::none(),
             touched: PageMarks::new(alloc)?,
             sent: Vec::with_capacity(alloc, SPAN as usize)?,
             stood: VirtualPages::new(alloc)?,
@@ -92,6 +99,7 @@ impl<const PAGES: u32, const SPAN: u32> Recorder<PAGES, SPAN> {
         ensures stood { self.new.stood ≡ [] }
     {
         self.stores.clear();
+        self.destinations = Destinations::none();
         self.touched.clear();
         self.sent.clear();
         self.stood.clear();
@@ -107,9 +115,19 @@ impl<const PAGES: u32, const SPAN: u32> Recorder<PAGES, SPAN> {
         self.steps
     }
 
-    /// The last step that stored into the word at a physical address, if one did.
-    pub fn writer(&self, address: u32) -> Option<u32>
-        ensures { (steps : List Done) → Records PAGES steps self.now → result ≡ last_writer address steps }
+    /// The last step that wrote a word of RAM or a register, if one did.
+    pub fn writer(&self, target: Target) -> Option<u32>
+        ensures { (steps : List Done) → Records PAGES steps self.now → result ≡ last_writer target steps }
+    {
+        match target {
+            Target::Memory(address) => self.word_writer(address),
+            Target::Register(register) => self.destinations.writer(register),
+        }
+    }
+
+    // The last step that stored into the word at a physical address, if one did.
+    fn word_writer(&self, address: u32) -> Option<u32>
+        ensures { (steps : List Done) → Records PAGES steps self.now → result ≡ last_writer (Memory address) steps }
     {
         if address % 4 != 0 || address / PAGE_BYTES >= PAGES {
             return None;
@@ -122,6 +140,22 @@ impl<const PAGES: u32, const SPAN: u32> Recorder<PAGES, SPAN> {
         ensures { (steps : List Done) → Records PAGES steps self.now → IfOk result (λ writers. AreWriters PAGES steps writers.items) }
     {
         self.stores.written(alloc)
+    }
+
+    /// The registers that were written, each with its last step.
+    pub fn destinations(&self) -> Destinations
+        ensures { (steps : List Done) → Records PAGES steps self.now → AreDestinations steps result }
+    {
+        self.destinations
+    }
+
+    /// The marks of all that was written, in ascending order: of words and then of registers.
+    pub fn marks(&self, alloc: Global) -> Result<Vec<u32>, AllocError>
+        ensures marks { (steps : List Done) → Records PAGES steps self.now → IfOk result (λ marks. marks.items ≡ marks_of PAGES steps) }
+    {
+        let mut marks = self.dirty(alloc)?;
+        self.destinations.add_marks(&mut marks)?;
+        Vec::from_slice(alloc, &marks)
     }
 
     /// The bytes that were sent, in order.
@@ -195,6 +229,7 @@ impl<const PAGES: u32, const SPAN: u32> Recorder<PAGES, SPAN> {
     {
         note_sent(&mut self.sent, done.sent, self.steps);
         self.stores.note(done.stored, self.steps);
+        self.destinations.note(done.wrote, self.steps);
         mark(&mut self.touched, done.touched[1]);
         self.steps += 1;
     }
@@ -211,6 +246,7 @@ impl<const PAGES: u32, const SPAN: u32> Recorder<PAGES, SPAN> {
     {
         note_sent(&mut self.sent, done.sent, self.steps);
         self.stores.note(done.stored, self.steps);
+        self.destinations.note(done.wrote, self.steps);
         mark(&mut self.touched, done.touched[0]);
         mark(&mut self.touched, done.touched[1]);
         self.steps += 1;

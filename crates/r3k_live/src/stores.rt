@@ -6,7 +6,8 @@ ghost use Rattle.r3k_word.specs.declared.layout.TheConstants.{MAX_RAM_PAGES, PAG
 ghost use Rattle.r3k_pages.specs.Pages.{holds};
 ghost use Rattle.r3k_machine.specs.Locality.{is_page};
 ghost use Rattle.r3k_machine.specs.Reports.{IsRamWord};
-ghost use Rattle.r3k_live.specs.Recording.{kept_step, page_of_store, with_writer};
+ghost use Rattle.r3k_live.specs.Kept.{kept_step};
+ghost use Rattle.r3k_live.specs.Recording.{page_of_store, with_writer};
 ghost use Rattle.r3k_live.specs.Stores.{AreInBlocks, AreInPages, writers_in};
 ghost use Rattle.r3k_live.specs.declared.stores.TheConstants.{BLOCK_WORDS, PAGE_BLOCKS};
 

@@ -1,5 +1,5 @@
 -- A run and its trace split at any point.
-use Rattle.std.proofs.Common.{◌≡◌, ℕ, zero, suc, ◌+◌, ◌≤◌, ◌<◌, List, [], ◌∷◌, ◌++◌, length, Option, Some, None, refl, sym, ap, ◌∙◌, append_assoc, add-zero, add-one, arith, length-append}
+use Rattle.std.proofs.Common.{◌≡◌, ℕ, zero, suc, ◌+◌, ◌≤◌, ◌<◌, Bool, if◌then◌else◌, List, [], ◌∷◌, ◌++◌, length, Option, Some, None, refl, sym, ap, ◌∙◌, append_assoc, add-zero, add-one, arith, length-append}
 use Rattle.std.proofs.Math.Path.{ap₂}
 use Rattle.std.proofs.lemmas.List.{append-nil}
 use Rattle.std.specs.List.{cons_option}
@@ -8,9 +8,10 @@ use Rattle.input_log.specs.Event.{LogEvent}
 use Rattle.input_log.specs.Log.{window_of}
 use Rattle.input_log.proofs.Window.{narrowed}
 use Rattle.r3k_machine.specs.declared.step.Done.{Done}
+use Rattle.r3k_machine.specs.declared.target.Target.{Target}
 use Rattle.r3k_machine.specs.State.{State}
 use Rattle.r3k_machine.specs.Step.{next, report}
-use Rattle.r3k_machine.specs.Run.{run, trace, arriving, console_of, byte_on, senders_of, with_sender, last_writer, later, stores_into}
+use Rattle.r3k_machine.specs.Run.{run, trace, arriving, console_of, byte_on, senders_of, with_sender, last_where, last_writer, later, writes}
 
 pub run_split : (pages : ℕ) (log : List LogEvent) (time : ℕ) (s : State) (m n : ℕ) → run pages log time s (m + n) ≡ run pages log (time + m) (run pages log time s m) n
 unfolding run
@@ -63,20 +64,24 @@ senders_count line time [] = refl
 senders_count line time (done ∷ steps) =
     as_many time (byte_on line done.sent) (senders_of line (suc time) steps) (console_of line steps) (senders_count line (suc time) steps)
 
--- the last writer of two parts
+-- the last step of two parts that passes a test
 joined : (count : ℕ) (rest first here : Option ℕ) → later 1 (later count rest first) here ≡ later (suc count) rest (later 1 first here)
 joined count None first here = refl
 joined count (Some k) first here = ap Some (omega arith)
 
-pub writer_split : (address : ℕ) (first rest : List Done) → last_writer address (first ++ rest) ≡ later (length first) (last_writer address rest) (last_writer address first)
-writer_split address [] rest = none_first (last_writer address rest)
+pub where_split : (test : Done → Bool) (first rest : List Done) → last_where test (first ++ rest) ≡ later (length first) (last_where test rest) (last_where test first)
+where_split test [] rest = none_first (last_where test rest)
   where
     none_first : (o : Option ℕ) → o ≡ later 0 o None
     none_first None = refl
     none_first (Some k) = ap Some (omega arith)
-writer_split address (done ∷ steps) rest =
-    ap (λ (o : Option ℕ). later 1 o (stores_into address done.stored)) (writer_split address steps rest)
-    ∙ joined (length steps) (last_writer address rest) (last_writer address steps) (stores_into address done.stored)
+where_split test (done ∷ steps) rest =
+    let here = if test done then Some 0 else None in
+    ap (λ (o : Option ℕ). later 1 o here) (where_split test steps rest)
+    ∙ joined (length steps) (last_where test rest) (last_where test steps) here
+
+pub writer_split : (target : Target) (first rest : List Done) → last_writer target (first ++ rest) ≡ later (length first) (last_writer target rest) (last_writer target first)
+writer_split target first rest = where_split (writes target) first rest
 
 -- the events of a step within a window are those of the log
 pub arriving_own : (from to time : ℕ) (log : List LogEvent) → from ≤ time → time < to → arriving (window_of from to log) time ≡ arriving log time

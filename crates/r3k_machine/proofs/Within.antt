@@ -31,7 +31,7 @@ use Rattle.r3k_machine.specs.Devices.{word_of_device}
 use Rattle.r3k_machine.specs.Isolated.{is_isolated}
 use Rattle.r3k_machine.specs.Locality.{touches}
 use Rattle.r3k_machine.specs.LoadStore.{loaded_at, loaded_elsewhere, loaded_over_bus, meaning_of_fetch, meaning_of_load, meaning_of_store, core_after_load, core_after_store, loaded_from, ram_word, stored_at, stored_over_bus, stored_to, word_of_place, word_or, word_read, words_after}
-use Rattle.r3k_machine.specs.Step.{Completion, Outcome, arrived, completion_of_effect, completion_of_load, completion_of_operation, completion_of_store, completion_of_word, fetching, operands_of, outcome_of_completion, outcome_of_fetch, outcome_of_interrupt_or_instruction, outcome_of_step, page_stored, sampled, ticked, report}
+use Rattle.r3k_machine.specs.Step.{Completion, Outcome, arrived, completion_of_effect, completion_of_load, completion_of_operation, completion_of_store, completion_of_word, completing, fetching, operands_of, outcome_of_completion, outcome_of_fetch, outcome_of_interrupt_or_instruction, outcome_of_step, page_stored, sampled, ticked, report}
 use Rattle.r3k_machine.specs.Reports.{IsPage}
 
 -- a page that is reported, or none
@@ -111,7 +111,7 @@ abbrev StoresInTouched : Done → Type 0
 StoresInTouched done = IfSome done.stored (λ address. IsTrue (touches (address / PAGE_BYTES) done))
 
 store_touches : (page : ℕ) (sent : Option Sent) (address : Option ℕ)
-    → StoresInTouched (record { sent = sent; stored = address; touched = Some page ∷ page_stored address ∷ [] })
+    → StoresInTouched (record { sent = sent; stored = address; touched = Some page ∷ page_stored address ∷ []; wrote = 0 })
 store_touches page sent None = tt
 store_touches page sent (Some address) =
     let here = address / PAGE_BYTES in or_right (nat_eq page here) (nat_eq here here) (eq-eqb here here refl)
@@ -125,6 +125,9 @@ record IsWithin (pages : ℕ) (done : Done) : Type 0 where
 -- where it was only fetched from one, if from any
 only_fetched : (pages : ℕ) (page : Option ℕ) → IsIn pages page → IsWithin pages (fetching page)
 only_fetched pages page here = record { touched = two pages page None here tt; stored = tt; among = tt }
+
+only_completed : (pages page : ℕ) {wrote : ℕ} → IsPage pages page → IsWithin pages (completing page wrote)
+only_completed pages page here = record { touched = two pages (Some page) None here tt; stored = tt; among = tt }
 
 -- what an instruction reports, where it completes
 abbrev CompletesIn : ℕ → Completion → Type 0
@@ -141,12 +144,12 @@ store_completes pages s page words (Err e) here there = tt
 store_completes pages s page words (Ok a) here there = record { touched = two pages (Some page) (page_stored a.address) here there; stored = there; among = store_touches page a.sent a.address }
 
 effect_completes : (pages : ℕ) (s : State) (page : ℕ) (effect : Effect) → IsPage pages page → CompletesIn pages (completion_of_effect pages s page effect)
-effect_completes pages s page (Write number value) here = only_fetched pages (Some page) here
-effect_completes pages s page (WriteHi value) here = only_fetched pages (Some page) here
-effect_completes pages s page (WriteLo value) here = only_fetched pages (Some page) here
-effect_completes pages s page (WriteHiLo hi lo) here = only_fetched pages (Some page) here
-effect_completes pages s page (Jump target) here = only_fetched pages (Some page) here
-effect_completes pages s page (JumpAndLink target number value) here = only_fetched pages (Some page) here
+effect_completes pages s page (Write number value) here = only_completed pages page here
+effect_completes pages s page (WriteHi value) here = only_completed pages page here
+effect_completes pages s page (WriteLo value) here = only_completed pages page here
+effect_completes pages s page (WriteHiLo hi lo) here = only_completed pages page here
+effect_completes pages s page (Jump target) here = only_completed pages page here
+effect_completes pages s page (JumpAndLink target number value) here = only_completed pages page here
 effect_completes pages s page (Trap trap) here = tt
 effect_completes pages s page (Load kind number address) here =
     let m = meaning_of_load s.core kind address in
@@ -157,13 +160,13 @@ effect_completes pages s page (Store kind address value) here =
     store_completes pages (record { core = core_after_store pages s.core kind address value; words = s.words }) page
     (words_after s.words (stored_to pages s.core kind address value) (stored kind (address % 4) value)) (stored_to pages s.core kind address value) here
     (store_in pages (met s.core m) (stored kind (address % 4) value) m.answer)
-effect_completes pages s page (MoveFromControl number control) here = only_fetched pages (Some page) here
-effect_completes pages s page (MoveToControl control value) here = only_fetched pages (Some page) here
-effect_completes pages s page ReturnFromException here = only_fetched pages (Some page) here
-effect_completes pages s page ReadEntry here = only_fetched pages (Some page) here
-effect_completes pages s page WriteIndexedEntry here = only_fetched pages (Some page) here
-effect_completes pages s page WriteRandomEntry here = only_fetched pages (Some page) here
-effect_completes pages s page ProbeEntry here = only_fetched pages (Some page) here
+effect_completes pages s page (MoveFromControl number control) here = only_completed pages page here
+effect_completes pages s page (MoveToControl control value) here = only_completed pages page here
+effect_completes pages s page ReturnFromException here = only_completed pages page here
+effect_completes pages s page ReadEntry here = only_completed pages page here
+effect_completes pages s page WriteIndexedEntry here = only_completed pages page here
+effect_completes pages s page WriteRandomEntry here = only_completed pages page here
+effect_completes pages s page ProbeEntry here = only_completed pages page here
 
 operation_completes : (pages : ℕ) (s : State) (i : Word) (operation : Option Operation) → IsPage pages i.page → CompletesIn pages (completion_of_operation pages s i operation)
 operation_completes pages s i None here = tt

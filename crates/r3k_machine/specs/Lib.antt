@@ -29,6 +29,7 @@ pub mod Exceptions
 pub mod Devices
 pub mod LoadStore
 pub mod Reset
+pub mod Destination
 pub mod Step
 pub mod Reports
 pub mod Run

@@ -1,10 +1,12 @@
 -- The run (Kane and Heinrich for a step; that steps are counted, and when an event takes effect, is own).
-use Rattle.std.specs.Prelude.{ℕ, zero, suc, ◌+◌, List, [], ◌∷◌, ◌++◌, Option, Some, None, ◌==◌, if◌then◌else◌}
+use Rattle.std.specs.Prelude.{ℕ, zero, suc, ◌+◌, Bool, false, ◌&&◌, ◌||◌, List, [], ◌∷◌, ◌++◌, Option, Some, None, ◌==◌, nat_le, if◌then◌else◌}
 use Rattle.std.specs.List.{filter_map}
 use Rattle.input_log.specs.Event.{LogEvent}
 use Rattle.input_log.specs.Log.{window_of}
 use Rattle.r3k_image.specs.Boot.{Boot}
 use Rattle.r3k_machine.specs.declared.step.Done.{Done}
+use Rattle.r3k_machine.specs.declared.target.Target.{Target}
+use Rattle.r3k_machine.specs.declared.target.Target.TheVariants.{Memory, Register}
 use Rattle.dz_serial.specs.declared.write.Sent.{Sent}
 use Rattle.r3k_machine.specs.State.{State}
 use Rattle.r3k_machine.specs.Reset.{reset}
@@ -51,20 +53,31 @@ abbrev pub senders_of : (line first : ℕ) → List Done → List ℕ
 senders_of line first [] = []
 senders_of line first (done ∷ steps) = with_sender first (byte_on line done.sent) (senders_of line (suc first) steps)
 
--- whether a step stored into a word, as its place in a list of one
-abbrev pub stores_into : ℕ → Option ℕ → Option ℕ
-stores_into address None = None
-stores_into address (Some stored) = if stored == address then Some 0 else None
+-- whether a step stored into a word, and whether it wrote a register: HI and LO also where it wrote both, and r0 never
+abbrev pub is_stored : (address : ℕ) → Option ℕ → Bool
+is_stored address None = false
+is_stored address (Some stored) = stored == address
+
+abbrev pub is_written : (number wrote : ℕ) → Bool
+is_written number wrote = (nat_le 1 number && nat_le number 33) && (wrote == number || (wrote == 34 && nat_le 32 number))
+
+abbrev pub writes : Target → Done → Bool
+writes (Memory address) done = is_stored address done.stored
+writes (Register number) done = is_written number done.wrote
 
 -- a place in the second of two lists of steps, after those of the first, or else the one in the first
 abbrev pub later : ℕ → Option ℕ → Option ℕ → Option ℕ
 later count None earlier = earlier
 later count (Some place) earlier = Some (count + place)
 
--- the place of the last step that stored into a word, with a change or without
-abbrev pub last_writer : ℕ → List Done → Option ℕ
-last_writer address [] = None
-last_writer address (done ∷ steps) = later 1 (last_writer address steps) (stores_into address done.stored)
+-- the place of the last step of which a test holds
+abbrev pub last_where : (Done → Bool) → List Done → Option ℕ
+last_where test [] = None
+last_where test (done ∷ steps) = later 1 (last_where test steps) (if test done then Some 0 else None)
+
+-- that of the last step that wrote a word or a register, with a change or without
+abbrev pub last_writer : Target → List Done → Option ℕ
+last_writer target steps = last_where (writes target) steps
 
 -- the least position after one, at most this many steps after it, at which the PC holds an address
 unfoldable pub next_visit : ℕ → Boot → List LogEvent → (address position limit : ℕ) → Option ℕ

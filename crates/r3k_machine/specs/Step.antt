@@ -27,6 +27,7 @@ use Rattle.kn02_bus.specs.State.{BusState}
 use Rattle.kn02_bus.specs.Lines.{lines_of}
 use Rattle.r3k_machine.specs.Core.{Core}
 use Rattle.r3k_machine.specs.declared.step.Done.{Done}
+use Rattle.r3k_machine.specs.Destination.{destination_of}
 use Rattle.r3k_machine.specs.LoadSlot.{slot_after_load}
 use Rattle.r3k_machine.specs.State.{State, register, with_register, landed}
 use Rattle.r3k_machine.specs.LoadStore.{meaning_of_fetch, fetched, loaded_from, core_after_load, stored_to, core_after_store, words_after}
@@ -40,20 +41,23 @@ pub record Outcome : Type 0 where
   pub state : State
   pub done : Done
 
--- what it reports: it at most fetched, or it loaded too, from a page or from none, or stored, into a word of RAM or into none, and
--- perhaps sent a byte
+-- What it reports: it at most fetched, or its instruction completed. That touched no memory but the page that it was fetched from, or
+-- loaded, from a page or from none, or stored, into a word of RAM or into none, and perhaps sent a byte.
 abbrev pub fetching : Option ℕ → Done
-fetching page = record { sent = None; stored = None; touched = page ∷ None ∷ [] }
+fetching page = record { sent = None; stored = None; touched = page ∷ None ∷ []; wrote = 0 }
 
-abbrev pub loading : ℕ → Option ℕ → Done
-loading page from = record { sent = None; stored = None; touched = Some page ∷ from ∷ [] }
+abbrev pub completing : (page wrote : ℕ) → Done
+completing page wrote = record { sent = None; stored = None; touched = Some page ∷ None ∷ []; wrote = wrote }
+
+abbrev pub loading : ℕ → Option ℕ → (number : ℕ) → Done
+loading page from number = record { sent = None; stored = None; touched = Some page ∷ from ∷ []; wrote = number }
 
 abbrev pub page_stored : Option ℕ → Option ℕ
 page_stored None = None
 page_stored (Some address) = Some (address / PAGE_BYTES)
 
 abbrev pub storing : ℕ → Stored → Done
-storing page stored = record { sent = stored.sent; stored = stored.address; touched = Some page ∷ page_stored stored.address ∷ [] }
+storing page stored = record { sent = stored.sent; stored = stored.address; touched = Some page ∷ page_stored stored.address ∷ []; wrote = 0 }
 
 -- 1. The log's events take effect, in the order of the log.
 abbrev pub received_as : Kind → BusState → (line byte : ℕ) → BusState
@@ -124,8 +128,8 @@ abbrev pub Completion : Type 0
 Completion = Result Outcome Raised
 
 -- an instruction that touches no memory but the page that it was fetched from
-abbrev pub completion_without_access : State → ℕ → Core → Completion
-completion_without_access s page core = Ok (record { state = record s { core = core }; done = fetching (Some page) })
+abbrev pub completion_without_access : State → (page : ℕ) → Effect → Core → Completion
+completion_without_access s page effect core = Ok (record { state = record s { core = core }; done = completing page (destination_of effect) })
 
 -- A load, by the processor as its access left it. One that merges keeps bytes of the register once the pending load has landed.
 abbrev pub core_after_loading : Core → LoadKind → (number address : ℕ) → Result Loaded Exception → Core
@@ -137,7 +141,7 @@ abbrev pub completion_of_load : State → ℕ → LoadKind → (number address :
 completion_of_load s page kind number address (Err exception) = Err (raised s.core exception)
 completion_of_load s page kind number address (Ok w) = Ok (record {
   state = record s { core = core_after_loading s.core kind number address (Ok w) };
-  done = loading page w.page;
+  done = loading page w.page number;
 })
 
 -- a store, into a word of RAM or into none
@@ -150,28 +154,28 @@ completion_of_store s page words (Ok stored) = Ok (record {
 
 -- an instruction by its effect
 abbrev pub completion_of_effect : ℕ → State → ℕ → Effect → Completion
-completion_of_effect pages s page (Write number value) = completion_without_access s page (with_write (passed s.core) number value)
-completion_of_effect pages s page (WriteHi value) = completion_without_access s page (record (passed s.core) { hi = value })
-completion_of_effect pages s page (WriteLo value) = completion_without_access s page (record (passed s.core) { lo = value })
-completion_of_effect pages s page (WriteHiLo hi lo) = completion_without_access s page (record (passed s.core) { hi = hi; lo = lo })
-completion_of_effect pages s page (Jump target) = completion_without_access s page (branched (passed s.core) target)
+completion_of_effect pages s page (Write number value) = completion_without_access s page (Write number value) (with_write (passed s.core) number value)
+completion_of_effect pages s page (WriteHi value) = completion_without_access s page (WriteHi value) (record (passed s.core) { hi = value })
+completion_of_effect pages s page (WriteLo value) = completion_without_access s page (WriteLo value) (record (passed s.core) { lo = value })
+completion_of_effect pages s page (WriteHiLo hi lo) = completion_without_access s page (WriteHiLo hi lo) (record (passed s.core) { hi = hi; lo = lo })
+completion_of_effect pages s page (Jump target) = completion_without_access s page (Jump target) (branched (passed s.core) target)
 completion_of_effect pages s page (JumpAndLink target number value) =
-    completion_without_access s page (with_write (branched (passed s.core) target) number value)
+    completion_without_access s page (JumpAndLink target number value) (with_write (branched (passed s.core) target) number value)
 completion_of_effect pages s page (Trap trap) = Err (raised s.core (exception_of trap))
 completion_of_effect pages s page (Load kind number address) =
     completion_of_load (record s { core = core_after_load pages s.core kind address }) page kind number address (loaded_from pages s.words s.core kind address)
 completion_of_effect pages s page (Store kind address value) =
     completion_of_store (record s { core = core_after_store pages s.core kind address value }) page (words_after s.words (stored_to pages s.core kind address value) (stored kind (address % 4) value)) (stored_to pages s.core kind address value)
 completion_of_effect pages s page (MoveFromControl number control) =
-    completion_without_access s page (with_slot (passed s.core) number (register_of s.core.cop0 control))
+    completion_without_access s page (MoveFromControl number control) (with_slot (passed s.core) number (register_of s.core.cop0 control))
 completion_of_effect pages s page (MoveToControl control value) =
-    completion_without_access s page (record (passed s.core) { cop0 = written s.core.cop0 control value })
+    completion_without_access s page (MoveToControl control value) (record (passed s.core) { cop0 = written s.core.cop0 control value })
 completion_of_effect pages s page ReturnFromException =
-    completion_without_access s page (record (passed s.core) { cop0 = control.returned s.core.cop0 })
-completion_of_effect pages s page ReadEntry = completion_without_access s page (with_entry_read (passed s.core))
-completion_of_effect pages s page WriteIndexedEntry = completion_without_access s page (with_entry_written (passed s.core) INDEX)
-completion_of_effect pages s page WriteRandomEntry = completion_without_access s page (with_entry_written (passed s.core) RANDOM)
-completion_of_effect pages s page ProbeEntry = completion_without_access s page (with_probe (passed s.core))
+    completion_without_access s page ReturnFromException (record (passed s.core) { cop0 = control.returned s.core.cop0 })
+completion_of_effect pages s page ReadEntry = completion_without_access s page ReadEntry (with_entry_read (passed s.core))
+completion_of_effect pages s page WriteIndexedEntry = completion_without_access s page WriteIndexedEntry (with_entry_written (passed s.core) INDEX)
+completion_of_effect pages s page WriteRandomEntry = completion_without_access s page WriteRandomEntry (with_entry_written (passed s.core) RANDOM)
+completion_of_effect pages s page ProbeEntry = completion_without_access s page ProbeEntry (with_probe (passed s.core))
 
 -- the instruction of a word
 abbrev pub completion_of_operation : ℕ → State → Word → Option Operation → Completion

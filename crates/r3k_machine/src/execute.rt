@@ -17,6 +17,7 @@ use crate::load_store::{Loaded, Word, load, store};
 use crate::memory::Mem;
 use crate::state::Core;
 use crate::step::Done;
+use crate::target::Destination;
 use cop0::Coprocessor;
 use cop0::number::{INDEX, RANDOM};
 use r3k_decode::{Insn, Register, decode};
@@ -119,7 +120,7 @@ impl Core {
 }
 
 /// Loads into a register: the value waits in the slot. An exception leaves the processor as the access left it.
-#[inline]
+#[inline(always)]
 pub(crate) fn perform_load<M: Mem>(
     core: &mut Core,
     memory: &M,
@@ -140,7 +141,7 @@ pub(crate) fn perform_load<M: Mem>(
 
 /// Performs the effect of the instruction at the PC, which was fetched from a page. An exception leaves the words as they were, and the
 /// processor as the access left it.
-#[inline]
+#[inline(always)]
 pub(crate) fn perform_effect<M: Mem>(
     core: &mut Core,
     memory: &mut M,
@@ -191,7 +192,7 @@ pub(crate) fn perform_effect<M: Mem>(
             address,
         } => {
             let loaded = perform_load(core, memory, kind, register, address)?;
-            return Ok(Done::loading(page, loaded.page));
+            return Ok(Done::loading(page, loaded.page, register));
         }
         Effect::Store {
             kind,
@@ -232,11 +233,11 @@ pub(crate) fn perform_effect<M: Mem>(
             core.probe_entry();
         }
     }
-    Ok(Done::fetching(Some(page)))
+    Ok(Done::completing(page, Destination::of_effect(effect)))
 }
 
 /// Runs the instruction that was fetched. An exception leaves the words as they were, and the processor as the access left it.
-#[inline]
+#[inline(always)]
 pub(crate) fn execute_word<M: Mem>(
     core: &mut Core,
     memory: &mut M,

@@ -5,6 +5,7 @@ ghost use Rattle.input_log.specs.Event.{LogEvent};
 ghost use Rattle.input_log.specs.Log.{window_of};
 ghost use Rattle.r3k_word.specs.declared.layout.TheConstants.{PAGE_BYTES};
 ghost use Rattle.r3k_machine.specs.declared.step.Done.{Done};
+ghost use Rattle.r3k_machine.specs.declared.target.Target.{Target};
 ghost use Rattle.r3k_machine.specs.Core.{Core};
 ghost use Rattle.r3k_machine.specs.State.{State};
 ghost use Rattle.r3k_machine.specs.Run.{run, trace, console_of, senders_of, last_writer, later};
@@ -28,8 +29,8 @@ pub fn run_laws()
     ensures senders { (line time : ℕ) (first rest : List Done) →
         senders_of line time (first ++ rest) ≡ senders_of line time first ++ senders_of line (time + length first) rest }
     ensures sent { (line time : ℕ) (steps : List Done) → length (senders_of line time steps) ≡ length (console_of line steps) }
-    ensures writer { (address : ℕ) (first rest : List Done) →
-        last_writer address (first ++ rest) ≡ later (length first) (last_writer address rest) (last_writer address first) }
+    ensures writer { (target : Target) (first rest : List Done) →
+        last_writer target (first ++ rest) ≡ later (length first) (last_writer target rest) (last_writer target first) }
     ensures own_times { (pages : ℕ) (log : List LogEvent) (time : ℕ) (s : State) (n : ℕ) →
         run pages (window_of time (time + n) log) time s n ≡ run pages log time s n }
     ensures own_times_of_trace { (pages : ℕ) (log : List LogEvent) (time : ℕ) (s : State) (n : ℕ) →

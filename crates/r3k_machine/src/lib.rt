@@ -16,6 +16,7 @@ mod memory;
 mod quick;
 mod state;
 pub mod step;
+mod target;
 mod traced;
 mod translation;
 
@@ -28,4 +29,5 @@ pub use memory::Mem;
 pub use quick::{CodePage, code_page, learn, quick_step, quiet_step};
 pub use state::Core;
 pub use step::Done;
+pub use target::{Destination, Target};
 pub use traced::{Access, AccessKind, RegisterWrite, Traced, follow};

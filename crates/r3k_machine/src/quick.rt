@@ -22,6 +22,7 @@ use crate::load_store::{Loaded, Stored, Word, put};
 use crate::memory::Mem;
 use crate::state::Core;
 use crate::step::{Done, run_fetched};
+use crate::target::Destination;
 use cop0::number::{ENTRY_LO, RANDOM, STATUS};
 use r3k_decode::Register;
 use r3k_exec::{Effect, LoadKind, StoreKind, effect};
@@ -225,7 +226,7 @@ fn load_quick<M: Mem>(
     core.complete_in(flow);
     let kept = core.registers()[register.index()];
     flow.set_slot(register, kind.loaded(address, loaded.word, kept));
-    Some(Done::loading(page, loaded.page))
+    Some(Done::loading(page, loaded.page, register))
 }
 
 // The same. Whole words have code of their own.
@@ -454,7 +455,7 @@ fn perform_quick<M: Mem>(
         }
         _ => return None,
     }
-    Some(Done::fetching(Some(page)))
+    Some(Done::completing(page, Destination::of_effect(effect)))
 }
 
 /// Runs the instruction at the PC, which is a word of this open page, if it is known and quick. Else it changes nothing. The core

@@ -1,7 +1,7 @@
 //! One step, in its written order.
 
 ghost use Rattle.std.specs.Prelude.{◌≡◌, None};
-ghost use Rattle.r3k_machine.specs.Step.{arrived, fallen, fetching, outcome_of_instruction, outcome_of_word, interrupted, outcome_of_interrupt_or_instruction, loading, next, received, received_as, sampled, storing, ticked, report};
+ghost use Rattle.r3k_machine.specs.Step.{arrived, completing, fallen, fetching, outcome_of_instruction, outcome_of_word, interrupted, outcome_of_interrupt_or_instruction, loading, next, received, received_as, sampled, storing, ticked, report};
 ghost use Rattle.r3k_machine.specs.Reports.{IsPage, IsReport};
 
 use crate::exception::Exception;
@@ -9,23 +9,26 @@ use crate::execute::execute_word;
 use crate::load_store::{Stored, Word, fetch};
 use crate::memory::Mem;
 use crate::state::Core;
+use crate::target::Destination;
 use dz_serial::{Sent, SerialLine};
 use input_log::{Event, Kind};
 use kn02_bus::Bus;
+use r3k_decode::Register;
 use r3k_word::layout::PAGE_BYTES;
 
 /// What a step reports: the byte that it sent, the physical address of the word of RAM that it stored into, and the pages
-/// that it fetched from and loaded from or stored into, of RAM first and then of ROM.
+/// that it fetched from and loaded from or stored into, of RAM first and then of ROM, and the registers that it wrote.
 #[derive(Clone, Copy, Debug, PartialEq, Eq)]
 pub struct Done {
     pub sent: Option<Sent>,
     pub stored: Option<u32>,
     pub touched: [Option<u32>; 2],
+    pub wrote: Destination,
 }
 
 impl Done {
     // A step that at most fetched.
-    #[inline]
+    #[inline(always)]
     pub(crate) fn fetching(page: Option<u32>) -> Done
         ensures { result ≡ fetching page }
     {
@@ -33,23 +36,38 @@ impl Done {
             sent: None,
             stored: None,
             touched: [page, None],
+            wrote: Destination::none(),
+        }
+    }
+
+    // A step whose instruction touched no memory but the page that it was fetched from.
+    #[inline(always)]
+    pub(crate) fn completing(page: u32, wrote: Destination) -> Done
+        ensures { result ≡ completing page wrote }
+    {
+        Done {
+            sent: None,
+            stored: None,
+            touched: [Some(page), None],
+            wrote,
         }
     }
 
     // A step that fetched and loaded, from a page or from the isolated cache.
-    #[inline]
-    pub(crate) fn loading(page: u32, loaded: Option<u32>) -> Done
-        ensures { result ≡ loading page loaded }
+    #[inline(always)]
+    pub(crate) fn loading(page: u32, loaded: Option<u32>, register: Register) -> Done
+        ensures { result ≡ loading page loaded register }
     {
         Done {
             sent: None,
             stored: None,
             touched: [Some(page), loaded],
+            wrote: Destination::register(register),
         }
     }
 
     // A step that fetched and stored.
-    #[inline]
+    #[inline(always)]
     pub(crate) fn storing(page: u32, stored: Stored) -> Done
         ensures { result ≡ storing page stored }
     {
@@ -60,6 +78,7 @@ impl Done {
                 Some(page),
                 stored.address.map(|address| address / PAGE_BYTES),
             ],
+            wrote: Destination::none(),
         }
     }
 }
@@ -87,7 +106,7 @@ fn receive_one(bus: &mut Bus, event: Event)
 
 impl Core {
     // The log's events take effect.
-    #[inline]
+    #[inline(always)]
     #[tactic(auto, unfolding(crate::specs::Step::arrived))]
     pub(crate) fn arrive(&mut self, events: &[Event])
         ensures { self.new ≡ arrived events.now self.old }
@@ -98,7 +117,7 @@ impl Core {
     }
 
     // Clock and serial part advance.
-    #[inline]
+    #[inline(always)]
     #[tactic(auto, unfolding(crate::specs::Step::ticked))]
     pub(crate) fn tick(&mut self)
         ensures { self.new ≡ ticked self.old }
@@ -107,7 +126,7 @@ impl Core {
     }
 
     // Cause takes the interrupt lines.
-    #[inline]
+    #[inline(always)]
     #[tactic(auto, unfolding(crate::specs::Step::sampled))]
     pub(crate) fn sample(&mut self)
         ensures { self.new ≡ sampled self.old }
@@ -117,7 +136,7 @@ impl Core {
     }
 
     // Takes the interrupt in place of the instruction at the PC.
-    #[inline]
+    #[inline(always)]
     fn interrupt(&mut self) -> Done
         ensures state { self.new ≡ interrupted self.old }
         ensures report { result ≡ fetching None }
@@ -127,7 +146,7 @@ impl Core {
     }
 
     // Random falls.
-    #[inline]
+    #[inline(always)]
     pub(crate) fn fall(&mut self)
         ensures { self.new ≡ fallen self.old }
     {
@@ -136,7 +155,7 @@ impl Core {
 }
 
 // Runs the instruction that was fetched, or takes its exception.
-#[inline]
+#[inline(always)]
 pub(crate) fn run_fetched<M: Mem>(core: &mut Core, memory: &mut M, fetched: Word) -> Done
     requires { IsPage M.ram fetched.page }
     ensures state { record { core = core.new; words = M.words memory.new }
@@ -154,7 +173,7 @@ pub(crate) fn run_fetched<M: Mem>(core: &mut Core, memory: &mut M, fetched: Word
 }
 
 // Runs the instruction at the PC, or takes its exception.
-#[inline]
+#[inline(always)]
 fn run_instruction<M: Mem>(core: &mut Core, memory: &mut M) -> Done
     ensures state { record { core = core.new; words = M.words memory.new }
         ≡ (outcome_of_instruction M.ram (record { core = core.old; words = M.words memory.old })).state }
@@ -171,7 +190,7 @@ fn run_instruction<M: Mem>(core: &mut Core, memory: &mut M) -> Done
 }
 
 // Takes an interrupt where one is wanted, else runs the instruction at the PC.
-#[inline]
+#[inline(always)]
 fn interrupt_or_run<M: Mem>(core: &mut Core, memory: &mut M) -> Done
     ensures state { record { core = core.new; words = M.words memory.new }
         ≡ (outcome_of_interrupt_or_instruction M.ram (record { core = core.old; words = M.words memory.old })).state }
@@ -189,7 +208,7 @@ fn interrupt_or_run<M: Mem>(core: &mut Core, memory: &mut M) -> Done
 /// One step: the bytes of its time arrive, clock and serial part advance, the interrupt lines are sampled, an interrupt is
 /// taken or the instruction at the PC is run, and Random falls.
 #[tactic(auto, unfolding(crate::specs::Step::outcome_of_step))]
-#[inline]
+#[inline(always)]
 pub fn step<M: Mem>(core: &mut Core, memory: &mut M, events: &[Event]) -> Done
     ensures state { record { core = core.new; words = M.words memory.new }
         ≡ next M.ram events.now (record { core = core.old; words = M.words memory.old }) }

@@ -205,7 +205,7 @@ fn follow_effect<M: Mem>(
             let place = core.where_is(address);
             let loaded = perform_load(core, memory, kind, register, address)?;
             (
-                Done::loading(fetched.page, loaded.page),
+                Done::loading(fetched.page, loaded.page, register),
                 access_at(AccessKind::Load, place, loaded.word),
             )
         }

@@ -23,27 +23,34 @@ returns-in-Store-clause-completes g c = rw (
 pub returns-clause-completes : goal.returns-clause-completes
 returns-clause-completes g c =
     elim c.match-effect.branch [
-      | in-Write w ↦ rw (w.in-Write.is, w.core-is, w.set_register.ensures, w.complete.ensures, c.fetching.ensures) refl
-      | in-WriteHi w ↦ rw (w.in-WriteHi.is, w.core-is, w.set_hi.ensures, w.complete-in-WriteHi.ensures, c.fetching.ensures) refl
-      | in-WriteLo w ↦ rw (w.in-WriteLo.is, w.core-is, w.set_lo.ensures, w.complete-in-WriteLo.ensures, c.fetching.ensures) refl
+      | in-Write w ↦ rw (c.completing.ensures, c.of_effect.ensures, w.effect-is, w.in-Write.is, w.core-is, w.set_register.ensures, w.complete.ensures) refl
+      | in-WriteHi w ↦ rw (c.completing.ensures, c.of_effect.ensures, w.effect-is, w.in-WriteHi.is, w.core-is, w.set_hi.ensures, w.complete-in-WriteHi.ensures) refl
+      | in-WriteLo w ↦ rw (c.completing.ensures, c.of_effect.ensures, w.effect-is, w.in-WriteLo.is, w.core-is, w.set_lo.ensures, w.complete-in-WriteLo.ensures) refl
       | in-WriteHiLo w ↦ rw (
+        c.completing.ensures,
+        c.of_effect.ensures,
+        w.effect-is,
         w.in-WriteHiLo.is,
         w.core-is,
         w.set_lo-in-WriteHiLo.ensures,
         w.set_hi-in-WriteHiLo.ensures,
         w.complete-in-WriteHiLo.ensures,
-        c.fetching.ensures,
       ) refl
-      | in-Jump w ↦ rw (w.in-Jump.is, w.core-is, w.branch-core.ensures, w.complete-in-Jump.ensures, c.fetching.ensures) refl
+      | in-Jump w ↦ rw (c.completing.ensures, c.of_effect.ensures, w.effect-is, w.in-Jump.is, w.core-is, w.branch-core.ensures, w.complete-in-Jump.ensures) refl
       | in-JumpAndLink w ↦ rw (
+        c.completing.ensures,
+        c.of_effect.ensures,
+        w.effect-is,
         w.in-JumpAndLink.is,
         w.core-is,
         w.set_register-in-JumpAndLink.ensures,
         w.branch-core-in-JumpAndLink.ensures,
         w.complete-in-JumpAndLink.ensures,
-        c.fetching.ensures,
       ) refl
       | in-MoveFromControl w ↦ rw (
+        c.completing.ensures,
+        c.of_effect.ensures,
+        w.effect-is,
         w.in-MoveFromControl.is,
         w.core-is,
         w.set_slot.ensures,
@@ -51,48 +58,59 @@ returns-clause-completes g c =
         w.read-value.ensures,
         w.number.ensures.value,
         w.cop0.ensures,
-        c.fetching.ensures,
       ) refl
       | in-MoveToControl w ↦ rw (
+        c.completing.ensures,
+        c.of_effect.ensures,
+        w.effect-is,
         w.in-MoveToControl.is,
         w.core-is,
         w.write_control.ensures,
         w.complete-in-MoveToControl.ensures,
-        c.fetching.ensures,
       ) refl
       | in-ReturnFromException w ↦ rw (
+        c.completing.ensures,
+        c.of_effect.ensures,
+        w.effect-is,
         w.in-ReturnFromException.is,
         w.core-is,
         w.return_from_exception.ensures,
         w.complete-in-ReturnFromException.ensures,
-        c.fetching.ensures,
       ) refl
       | in-ReadEntry w ↦ rw (
+        c.completing.ensures,
+        c.of_effect.ensures,
+        w.effect-is,
         w.in-ReadEntry.is,
         w.core-is,
         w.read_entry.ensures,
         w.complete-in-ReadEntry.ensures,
-        c.fetching.ensures,
       ) refl
       | in-WriteIndexedEntry w ↦ rw (
+        c.completing.ensures,
+        c.of_effect.ensures,
+        w.effect-is,
         w.in-WriteIndexedEntry.is,
         w.core-is,
         w.write_entry.ensures,
         w.complete-in-WriteIndexedEntry.ensures,
-        c.fetching.ensures,
       ) refl
       | in-WriteRandomEntry w ↦ rw (
+        c.completing.ensures,
+        c.of_effect.ensures,
+        w.effect-is,
         w.in-WriteRandomEntry.is,
         w.core-is,
         w.write_entry-in-WriteRandomEntry.ensures,
         w.complete-in-WriteRandomEntry.ensures,
-        c.fetching.ensures,
       ) refl
       | in-ProbeEntry w ↦ rw (
+        c.completing.ensures,
+        c.of_effect.ensures,
+        w.effect-is,
         w.in-ProbeEntry.is,
         w.core-is,
         w.probe_entry.ensures,
         w.complete-in-ProbeEntry.ensures,
-        c.fetching.ensures,
       ) refl
     ]

@@ -6,9 +6,10 @@ use Rattle.r3k_machine.proofs.step.Done.storing.Goals as goal
 pub returns : goal.returns
 returns c =
     let page : c.map.result ≡ page_stored c.args.stored.address = search rules in
-    ap {B = Done} (λ (p : Option ℕ). record {
+    rw c.none.ensures (ap {B = Done} (λ (p : Option ℕ). record {
       sent = c.args.stored.sent;
       stored = c.args.stored.address;
       touched =
           Some c.args.page ∷ p ∷ [];
-    }) page
+      wrote = 0;
+    }) page)

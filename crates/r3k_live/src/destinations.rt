@@ -1,0 +1,88 @@
+//! The registers that steps wrote, each with its last step.
+
+ghost use Rattle.std.specs.Prelude.{◌≡◌, ◌+◌, ◌-◌, ◌^◌, ◌<◌, ◌≤◌, ◌++◌, ℕ, All, IfOk, List, slice_index, slice_set};
+ghost use Rattle.std.specs.List.Sorted.{IsStrictlyIncreasing};
+ghost use Rattle.r3k_machine.specs.declared.step.Done.{Done};
+ghost use Rattle.r3k_machine.specs.declared.target.Target.TheVariants.{Register};
+ghost use Rattle.r3k_machine.specs.Run.{last_writer};
+ghost use Rattle.r3k_live.specs.Marks.{mark_of, registers_below};
+ghost use Rattle.r3k_live.specs.Record.{AreDestinations};
+
+use r3k_machine::{Destination, Target};
+use r3k_word::layout::PAGE_BYTES;
+use std::alloc::AllocError;
+use std::marker::Model;
+
+/// For each destination, by its number, one more than the last step that had it, or 0.
+#[derive(Clone, Copy)]
+pub struct Destinations {
+    last: [u32; 35],
+}
+
+impl Model for Destinations {
+    ghost use Rattle.std.specs.Prelude.{◌≡◌, ℕ, List, length};
+
+    ghost Value = { List ℕ };
+
+    ghost view = { λ destinations. destinations.last };
+
+    ghost invariant = { λ destinations. length destinations.last ≡ 35 };
+
+    ghost inverse = { λ last. record { last = last } };
+}
+
+impl Destinations {
+    /// None.
+    pub(crate) fn none() -> Destinations
+        ensures { (number : ℕ) → slice_index result number ≡ 0 }
+    {
+        Destinations { last: [0; 35] }
+    }
+
+    /// Notes that a step was the last one with its destination.
+    #[inline(always)]
+    pub(crate) fn note(&mut self, wrote: Destination, step: u32)
+        requires { step < 2 ^ 32 - 1 }
+        ensures last { self.new ≡ slice_set self.old wrote (step + 1) }
+        ensures within { wrote ≤ 34 }
+    {
+        self.last[wrote.index()] = step + 1;
+    }
+
+    /// The last step that wrote a register, if one did: 1 to 31, 32 for HI, 33 for LO.
+    pub fn writer(&self, register: u8) -> Option<u32>
+        ensures { (steps : List Done) → AreDestinations steps self.now → result ≡ last_writer (Register register) steps }
+    {
+        if register == 0 || register > 33 {
+            return None;
+        }
+        let own = self.last[register as usize];
+        if register < 32 {
+            return own.checked_sub(1);
+        }
+        own.max(self.last[34]).checked_sub(1)
+    }
+
+    /// Adds the marks of the registers that were written.
+    pub(crate) fn add_marks(&self, marks: &mut Vec<u32>) -> Result<(), AllocError>
+        ensures { (steps : List Done) → AreDestinations steps self.now →
+            IfOk result (λ _. marks.new.items ≡ marks.old.items ++ registers_below steps 34) }
+    {
+        for register in 0..34 {
+            if self.writer(register).is_some() {
+                marks.push(mark(Target::Register(register)))?;
+            }
+        }
+        Ok(())
+    }
+}
+
+/// The mark of what a step may write: the page of a word, or a number above those of all pages for a register.
+pub fn mark(target: Target) -> u32
+    ensures { result ≡ mark_of target }
+{
+    match target {
+        Target::Memory(address) => address / PAGE_BYTES,
+        Target::Register(register) => (1 << 20) + register as u32,
+    }
+}
