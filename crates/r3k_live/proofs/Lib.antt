@@ -1,4 +1,5 @@
 pub mod Recorded
+mod Wrote
 pub mod Going
 pub mod Writers
 pub mod Apart

@@ -1,5 +1,5 @@
 -- What is recorded of a run, after one more step.
-use Rattle.std.proofs.Common.{◌≡◌, ℕ, zero, suc, ◌+◌, ◌*◌, ◌/◌, ◌%◌, ◌<◌, Bool, true, false, ◌||◌, List, [], ◌∷◌, ◌++◌, length, Option, Some, None, IfSome, IsFalse, IsTrue, nat_eq, slice_index, slice_index_or, slice_set, refl, sym, ap, subst, ◌∙◌, arith, inl, inr, get_or}
+use Rattle.std.proofs.Common.{◌≡◌, ℕ, zero, suc, ◌+◌, ◌*◌, ◌/◌, ◌%◌, ◌<◌, Bool, true, false, ◌||◌, ◌==◌, if◌then◌else◌, List, [], ◌∷◌, ◌++◌, length, Option, Some, None, IfSome, IsFalse, IsTrue, nat_eq, slice_index, slice_index_or, slice_set, refl, sym, ap, subst, ◌∙◌, arith, inl, inr, get_or}
 use Rattle.std.specs.List.{list_any}
 use Rattle.std.proofs.lemmas.Bool.{cases_Bool, eq-eqb, eqb-true, true≢false}
 use Rattle.std.proofs.lemmas.List.{get_or-set_same, get_or-set_other}
@@ -7,14 +7,16 @@ use Rattle.dz_serial.specs.declared.write.Sent.{Sent}
 use Rattle.r3k_word.specs.Layout.{page_of_place}
 use Rattle.r3k_word.specs.declared.layout.TheConstants.{PAGE_WORDS}
 use Rattle.r3k_machine.specs.declared.step.Done.{Done}
-use Rattle.r3k_machine.specs.Run.{last_writer, later, stores_into}
+use Rattle.r3k_machine.specs.declared.target.Target.TheVariants.{Memory}
+use Rattle.r3k_machine.specs.Run.{is_stored, last_where, last_writer, later}
 use Rattle.r3k_machine.specs.Reports.{DifferAt, IsRamWord}
-use Rattle.r3k_machine.proofs.Splits.{writer_split}
+use Rattle.r3k_machine.proofs.Splits.{where_split, writer_split}
 use Rattle.r3k_machine.specs.Locality.{is_page}
 use Rattle.r3k_pages.specs.Pages.{SameOutside, holds}
 use Rattle.r3k_pages.proofs.Ascending.{none_where}
 use Rattle.r3k_live.specs.Record.{dirty_pages, is_dirty, sent_from, stores_in, with_sent}
-use Rattle.r3k_live.specs.Recording.{Recording, Records, kept_step, page_of_store, with_writer}
+use Rattle.r3k_live.specs.Kept.{kept_step}
+use Rattle.r3k_live.specs.Recording.{Recording, Records, page_of_store, with_writer}
 use Rattle.r3k_live.specs.declared.recorder.SentAt.{SentAt}
 
 -- a test of one more element
@@ -56,14 +58,14 @@ sent_more first (other ∷ steps) done =
 
 -- the last writers
 pub last_more : (pages place : ℕ) (last : List ℕ) (steps : List Done) (done : Done) → length last ≡ pages * PAGE_WORDS → place < pages * PAGE_WORDS
-    → IfSome done.stored (IsRamWord pages) → slice_index last place ≡ kept_step (last_writer (4 * place) steps)
-    → slice_index (with_writer last (length steps) done.stored) place ≡ kept_step (last_writer (4 * place) (steps ++ done ∷ []))
+    → IfSome done.stored (IsRamWord pages) → slice_index last place ≡ kept_step (last_writer (Memory (4 * place)) steps)
+    → slice_index (with_writer last (length steps) done.stored) place ≡ kept_step (last_writer (Memory (4 * place)) (steps ++ done ∷ []))
 last_more pages place last steps done long within ram so_far =
     at_store done.stored ram
-    ∙ sym (ap kept_step (writer_split (4 * place) steps (done ∷ [])))
+    ∙ sym (ap kept_step (writer_split (Memory (4 * place)) steps (done ∷ [])))
   where
     at_store : (stored : Option ℕ) → IfSome stored (IsRamWord pages)
-        → slice_index (with_writer last (length steps) stored) place ≡ kept_step (later (length steps) (later 1 None (stores_into (4 * place) stored)) (last_writer (4 * place) steps))
+        → slice_index (with_writer last (length steps) stored) place ≡ kept_step (later (length steps) (later 1 None (if is_stored (4 * place) stored then Some 0 else None)) (last_writer (Memory (4 * place)) steps))
     at_store None ram = so_far
     at_store (Some address) ram =
         elim (cases_Bool (nat_eq address (4 * place))) [
@@ -77,6 +79,23 @@ last_more pages place last steps done long within ram so_far =
               (λ same. true≢false (sym (eq-eqb address (4 * place) (omega (arith, same, ram.0))) ∙ apart))
               ∙ (so_far ∙ rw apart refl)
         ]
+
+-- the last steps with a destination
+pub destination_more : (number : ℕ) (last : List ℕ) (steps : List Done) (done : Done) → number < length last
+    → slice_index last number ≡ kept_step (last_where (λ done. done.wrote == number) steps)
+    → slice_index (slice_set last done.wrote (length steps + 1)) number ≡ kept_step (last_where (λ done. done.wrote == number) (steps ++ done ∷ []))
+destination_more number last steps done within so_far =
+    let split = ap kept_step (where_split (λ done. done.wrote == number) steps (done ∷ [])) in
+    elim (cases_Bool (nat_eq done.wrote number)) [
+      | inl here ↦
+          ap (λ (n : ℕ). slice_index (slice_set last n (length steps + 1)) number) (eqb-true done.wrote number here)
+          ∙ (get_or-set_same last number (length steps + 1) 0 within
+          ∙ (ap (λ (n : ℕ). n + 1) (let e : length steps ≡ length steps + 0 = omega arith in e)
+          ∙ sym (split ∙ rw here refl)))
+      | inr apart ↦
+          get_or-set_other last done.wrote number (length steps + 1) 0 (λ same. true≢false (sym (eq-eqb done.wrote number (sym same)) ∙ apart))
+          ∙ (so_far ∙ sym (split ∙ rw apart refl))
+    ]
 
 -- a page of a word is dirty where it was, or where the word is one of it
 pub page_stored : (page : ℕ) (stored : Option ℕ) → is_page page (page_of_store stored) ≡ stores_in page stored
@@ -115,15 +134,15 @@ widened pages steps r before dirty after base old new recorded same wider so_far
 
 -- no step stores into what is no word of RAM
 pub ram_more : (pages address : ℕ) (steps : List Done) (done : Done) → IfSome done.stored (IsRamWord pages) → ¬ IsRamWord pages address
-    → last_writer address steps ≡ None → last_writer address (steps ++ done ∷ []) ≡ None
+    → last_writer (Memory address) steps ≡ None → last_writer (Memory address) (steps ++ done ∷ []) ≡ None
 ram_more pages address steps done ram other so_far =
-    writer_split address steps (done ∷ [])
-    ∙ (ap (λ (o : Option ℕ). later (length steps) (later 1 None o) (last_writer address steps)) (not_here done.stored ram) ∙ so_far)
+    writer_split (Memory address) steps (done ∷ [])
+    ∙ (ap (λ (b : Bool). later (length steps) (later 1 None (if b then Some 0 else None)) (last_writer (Memory address) steps)) (not_here done.stored ram) ∙ so_far)
   where
-    not_here : (stored : Option ℕ) → IfSome stored (IsRamWord pages) → stores_into address stored ≡ None
+    not_here : (stored : Option ℕ) → IfSome stored (IsRamWord pages) → is_stored address stored ≡ false
     not_here None ram = refl
     not_here (Some there) ram =
         elim (cases_Bool (nat_eq there address)) [
           | inl here ↦ absurd (other (Rattle.std.proofs.Common.subst (IsRamWord pages) (eqb-true there address here) ram))
-          | inr apart ↦ rw apart refl
+          | inr apart ↦ apart
         ]

@@ -11,12 +11,13 @@ use Rattle.std.proofs.lemmas.List.{get_or_past, take_more, append-nil, length-ap
 use Rattle.std.proofs.lemmas.List.Elements.{All-append, All-map, All-nil, Contains-append_left, Contains-append_right, Contains-push}
 use Rattle.r3k_word.specs.declared.layout.TheConstants.{PAGE_WORDS}
 use Rattle.r3k_machine.specs.declared.step.Done.{Done}
+use Rattle.r3k_machine.specs.declared.target.Target.TheVariants.{Memory}
 use Rattle.r3k_machine.specs.Run.{last_writer}
 use Rattle.r3k_machine.specs.Reports.{IsRamWord}
 use Rattle.r3k_pages.specs.Pages.{holds, page_count_of, pages_where}
 use Rattle.r3k_pages.proofs.Ascending.{kept_more}
 use Rattle.r3k_live.specs.Record.{AreWriters}
-use Rattle.r3k_live.specs.Recording.{kept_step}
+use Rattle.r3k_live.specs.Kept.{kept_step}
 use Rattle.r3k_live.specs.Stores.{AreInBlocks, AreInPages, writers_in, written_at}
 use Rattle.r3k_live.specs.declared.recorder.Written.{Written}
 use Rattle.r3k_live.specs.declared.stores.TheConstants.{BLOCK_WORDS}
@@ -220,16 +221,16 @@ kept_some None some = absurd (true≢false (sym some))
 kept_some (Some step) some = omega arith
 
 pub writers_are : (pages : ℕ) (steps : List Done) (last : List ℕ)
-    → ((place : ℕ) → place < pages * PAGE_WORDS → slice_index last place ≡ kept_step (last_writer (4 * place) steps))
-    → ((address : ℕ) → ¬ IsRamWord pages address → last_writer address steps ≡ None)
+    → ((place : ℕ) → place < pages * PAGE_WORDS → slice_index last place ≡ kept_step (last_writer (Memory (4 * place)) steps))
+    → ((address : ℕ) → ¬ IsRamWord pages address → last_writer (Memory address) steps ≡ None)
     → AreWriters pages steps (writers_in 0 (pages * PAGE_WORDS) last)
 writers_are pages steps last is ram = record {
   each = λ k d within.
       let writer = slice_index_or (writers_in 0 (pages * PAGE_WORDS) last) k d in
       let here = each 0 (pages * PAGE_WORDS) last k d within in
-      kept_is (last_writer (4 * writer.place) steps) writer.step (sym (is writer.place (omega (arith, here.0))) ∙ here.1);
+      kept_is (last_writer (Memory (4 * writer.place)) steps) writer.step (sym (is writer.place (omega (arith, here.0))) ∙ here.1);
   all = λ place within some.
-      all_there 0 (pages * PAGE_WORDS) place last (omega arith) (omega (arith, within)) (subst (λ (n : ℕ). 0 < n) (sym (is place within)) (kept_some (last_writer (4 * place) steps) some));
+      all_there 0 (pages * PAGE_WORDS) place last (omega arith) (omega (arith, within)) (subst (λ (n : ℕ). 0 < n) (sym (is place within)) (kept_some (last_writer (Memory (4 * place)) steps) some));
   ram = ram;
   ascending = ascending 0 (pages * PAGE_WORDS) last;
 }

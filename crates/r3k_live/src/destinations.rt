@@ -1,10 +1,11 @@
 //! The registers that steps wrote, each with its last step.
 
-ghost use Rattle.std.specs.Prelude.{◌≡◌, ◌+◌, ◌-◌, ◌^◌, ◌<◌, ◌≤◌, ◌++◌, ℕ, All, IfOk, List, slice_index, slice_set};
+ghost use Rattle.std.specs.Prelude.{◌≡◌, ◌+◌, ◌-◌, ◌^◌, ◌<◌, ◌≤◌, ◌++◌, ℕ, All, IfOk, List, length, slice_index, slice_set};
 ghost use Rattle.std.specs.List.Sorted.{IsStrictlyIncreasing};
 ghost use Rattle.r3k_machine.specs.declared.step.Done.{Done};
 ghost use Rattle.r3k_machine.specs.declared.target.Target.TheVariants.{Register};
 ghost use Rattle.r3k_machine.specs.Run.{last_writer};
+ghost use Rattle.r3k_live.specs.Kept.{kept_step};
 ghost use Rattle.r3k_live.specs.Marks.{mark_of, registers_below};
 ghost use Rattle.r3k_live.specs.Record.{AreDestinations};
 
@@ -44,7 +45,7 @@ impl Destinations {
     pub(crate) fn note(&mut self, wrote: Destination, step: u32)
         requires { step < 2 ^ 32 - 1 }
         ensures last { self.new ≡ slice_set self.old wrote (step + 1) }
-        ensures within { wrote ≤ 34 }
+        ensures long { length self.old ≡ 35 }
     {
         self.last[wrote.index()] = step + 1;
     }
@@ -58,9 +59,9 @@ impl Destinations {
         }
         let own = self.last[register as usize];
         if register < 32 {
-            return own.checked_sub(1);
+            return step_of(own);
         }
-        own.max(self.last[34]).checked_sub(1)
+        step_of(own.max(self.last[34]))
     }
 
     /// Adds the marks of the registers that were written.
@@ -75,6 +76,13 @@ impl Destinations {
         }
         Ok(())
     }
+}
+
+/// The step that is kept so.
+pub(crate) fn step_of(kept: u32) -> Option<u32>
+    ensures { kept_step result ≡ kept }
+{
+    kept.checked_sub(1)
 }
 
 /// The mark of what a step may write: the page of a word, or a number above those of all pages for a register.

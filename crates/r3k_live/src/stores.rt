@@ -11,6 +11,7 @@ ghost use Rattle.r3k_live.specs.Recording.{page_of_store, with_writer};
 ghost use Rattle.r3k_live.specs.Stores.{AreInBlocks, AreInPages, writers_in};
 ghost use Rattle.r3k_live.specs.declared.stores.TheConstants.{BLOCK_WORDS, PAGE_BLOCKS};
 
+use crate::destinations::step_of;
 use crate::recorder::Written;
 use r3k_pages::PageMarks;
 use r3k_word::layout::{PAGE_BYTES, PAGE_WORDS};
@@ -90,7 +91,7 @@ impl<const PAGES: u32> Stores<PAGES> {
         requires { place < PAGES * PAGE_WORDS }
         ensures { kept_step result ≡ slice_index self.now.last place }
     {
-        self.last[place as usize].checked_sub(1)
+        step_of(self.last[place as usize])
     }
 
     /// The words that were stored into, in ascending order, each with its last step.

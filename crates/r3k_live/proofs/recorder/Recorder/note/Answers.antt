@@ -1,11 +1,11 @@
-use Rattle.std.proofs.Common.{◌≡◌, ℕ, ◌+◌, ◌++◌, ◌∷◌, [], Bool, None, ◌||◌, List, sym, ap, ◌∙◌, length, slice_index, slice_index_or, length-append, zero-add}
+use Rattle.std.proofs.Common.{◌≡◌, arith, ◌<◌, ℕ, ◌+◌, ◌++◌, ◌∷◌, [], Bool, None, ◌||◌, List, sym, ap, ◌∙◌, length, slice_index, slice_index_or, slice_set, length-append, zero-add}
 use Rattle.std.proofs.Math.Path.{ap₂}
 use Rattle.r3k_pages.specs.Pages.{holds}
 use Rattle.r3k_machine.specs.Locality.{is_page, is_touched, touches}
 use Rattle.r3k_live.specs.Record.{stores_in, with_sent}
 use Rattle.r3k_live.specs.Recording.{Recording, with_writer}
 use Rattle.r3k_live.specs.declared.recorder.SentAt.{SentAt}
-use Rattle.r3k_live.proofs.Recorded.{any_more, last_more, or-assoc, page_stored, ram_more, sent_more}
+use Rattle.r3k_live.proofs.Recorded.{any_more, destination_more, last_more, or-assoc, page_stored, ram_more, sent_more}
 use Rattle.r3k_live.proofs.recorder.Recorder.note.Goals as goal
 
 pub returns-clause-records : goal.returns-clause-records
@@ -30,6 +30,10 @@ returns-clause-records g c =
           ∙ (ap₂ (λ (a b : Bool). a || b) (ap (λ (set : List ℕ). holds set page) dirty_is ∙ so_far.dirty page)
           (page_stored page done.stored)
           ∙ sym (any_more (λ done. stores_in page done.stored) steps done));
+      destinations = λ number within.
+          ap (λ (xs : List ℕ). slice_index xs number) (c.note-2.ensures.last ∙ ap (λ (n : ℕ). slice_set inside.destinations done.wrote (n + 1)) steps_are)
+          ∙ destination_more number inside.destinations steps done (let e : number < length inside.destinations = omega (arith, within, c.note-2.ensures.long) in e)
+          (ap (λ (r : Recording). slice_index r.destinations number) c.self.view_is ∙ so_far.destinations number within);
       touched = λ page.
           c.mark-2.ensures page
           ∙ (ap (λ (b : Bool). b || is_page page second)
