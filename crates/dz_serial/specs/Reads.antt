@@ -11,12 +11,15 @@ abbrev pub csr_of : Serial → ℕ
 csr_of s = flag_of TRDY s.trdy + flag_of TIE s.tie + s.tline * TLINE + flag_of RDONE (rdone s)
     + flag_of RIE s.rie + flag_of MSE s.mse + flag_of MAINT s.maint
 
+-- the word of a character in RBUF
+abbrev pub character_word : Character → ℕ
+character_word c = DVAL + flag_of OERR c.overrun + flag_of FERR c.framing + c.line * RX_LINE + c.byte
+
 -- RBUF: the oldest character, with DVAL, OERR, FERR, its line and its byte 7..0, or 0 where there is
 -- none. PERR, 12, is 0.
 abbrev pub rbuf_of : List Character → ℕ
 rbuf_of [] = 0
-rbuf_of (oldest ∷ later) = DVAL + flag_of OERR oldest.overrun + flag_of FERR oldest.framing
-    + oldest.line * RX_LINE + oldest.byte
+rbuf_of (oldest ∷ later) = character_word oldest
 
 -- TCR: the line enables
 abbrev pub tcr_of : Serial → ℕ

@@ -15,5 +15,5 @@ mod write;
 pub use dz::Dz;
 pub use line::SerialLine;
 pub use quiet::quiet_laws;
-pub use registers::CSR;
+pub use registers::{CSR, MSR, RBUF, TCR};
 pub use write::Sent;

@@ -7,13 +7,16 @@ ghost use Rattle.dz_serial.specs.Bits.{flag_of};
 pub const CSR: u32 = 0;
 
 /// Offset of the receiver buffer, which is read.
-pub(crate) const RBUF: u32 = 8;
+pub const RBUF: u32 = 8;
 
 /// Offset of the line parameters, which are written.
 pub(crate) const LPR: u32 = 8;
 
 /// Offset of the transmitter control register.
-pub(crate) const TCR: u32 = 16;
+pub const TCR: u32 = 16;
+
+/// Offset of the modem status, which is read as 0.
+pub const MSR: u32 = 24;
 
 /// Offset of the transmitter data, which is written.
 pub(crate) const TDR: u32 = 24;

@@ -8,7 +8,7 @@ use std::fmt::{self, Debug};
 
 impl Bus {
     // The parts as they are now.
-    fn now(&self) -> Parts
+    pub(crate) fn now(&self) -> Parts
         ensures { result ≡ self.now }
     {
         let mut parts = self.parts.copy();

@@ -13,7 +13,8 @@ use crate::laws::quiet_laws;
 use crate::parts::Parts;
 use crate::region::{ClockRegister, Device};
 use crate::schedule::Schedule;
-use dz_serial::CSR;
+use dz_serial::{CSR, Dz};
+use mc146818::Clock;
 
 impl Bus {
     /// Loads a word of a device, with the effect of that read.
@@ -24,7 +25,7 @@ impl Bus {
         match device {
             Device::Serial(offset) => self.load_serial(offset),
             Device::Clock(register) => self.load_clock(register),
-            Device::Csr => self.load_csr(),
+            Device::Csr => self.csr(),
         }
     }
 
@@ -35,7 +36,7 @@ impl Bus {
     {
         match device {
             Device::Serial(CSR) => Some(self.serial_csr()),
-            Device::Csr => Some(self.load_csr()),
+            Device::Csr => Some(self.csr()),
             _ => None,
         }
     }
@@ -72,8 +73,22 @@ impl Bus {
         word
     }
 
-    // CSR stays as it is over quiet ticks.
-    fn load_csr(&self) -> u32
+    /// The serial part as it stands.
+    pub fn serial(&self) -> Dz
+        ensures { result ≡ self.now.serial }
+    {
+        self.now().serial
+    }
+
+    /// The clock as it stands.
+    pub fn clock(&self) -> Clock
+        ensures { result ≡ self.now.clock }
+    {
+        self.now().clock
+    }
+
+    /// The word of CSR, which stays as it is over quiet ticks.
+    pub fn csr(&self) -> u32
         ensures { result ≡ csr_of self.now }
     {
         quiet_laws();

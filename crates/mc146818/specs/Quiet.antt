@@ -19,6 +19,17 @@ abbrev pub quiet_period : Option ℕ → (count : ℕ) → ℕ
 quiet_period None count = FOREVER
 quiet_period (Some period) count = period - 1 - count % period
 
+-- how many ticks there are up to the one that ends the second, and up to the one that ends a period, each with it
+abbrev pub left_of : (count : ℕ) → Option ℕ → Option ℕ
+left_of count None = None
+left_of count (Some period) = Some (period - count % period)
+
+abbrev pub next_second : ClockState → Option ℕ
+next_second clock = if runs clock then Some (second_of clock.unit - clock.divider) else None
+
+abbrev pub next_period : ClockState → Option ℕ
+next_period clock = if runs clock then left_of clock.divider (period_of clock.unit (rate clock)) else None
+
 -- how many ticks pass before the one that sets PF: never, where it is set already
 abbrev pub quiet_flag : ClockState → ℕ
 quiet_flag clock =

@@ -23,7 +23,7 @@ pub struct Clock {
 }
 
 impl Model for Clock {
-    ghost use Rattle.std.specs.Prelude.{◌≡◌, ◌<◌, ◌%◌};
+    ghost use Rattle.std.specs.Prelude.{◌≡◌, ◌<◌, ◌%◌, length};
     ghost use Rattle.mc146818.specs.Clock.{ClockState};
 
     ghost Value = { ClockState };
@@ -39,7 +39,7 @@ impl Model for Clock {
       unit = c.divider.unit;
     } };
 
-    ghost invariant = { λ c. (c.a < 128) × (c.b % 2 ≡ 0) };
+    ghost invariant = { λ c. (c.a < 128) × (c.b % 2 ≡ 0) × (length c.ram ≡ 50) };
 
     ghost inverse = { λ s. record {
       time = s.time;
@@ -191,6 +191,19 @@ impl Clock {
             REGISTER_D => VRT,
             _ => self.ram[(register - RAM) as usize],
         }
+    }
+
+    /// What the 64 registers read, without the effect of a read.
+    pub fn values(&self) -> [u8; 64]
+        ensures { result ≡ registers self.now }
+    {
+        // It is read, so that the number of registers is known here.
+        let _ram = &self.ram;
+        let mut values = [0; 64];
+        for register in 0..64u8 {
+            values[register as usize] = self.value(register);
+        }
+        values
     }
 
     /// Reads a register, at most 63. Reading C clears its flags.

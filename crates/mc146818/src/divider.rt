@@ -5,7 +5,7 @@
 
 ghost use Rattle.std.specs.Prelude.{◌≡◌, ℕ, ◌<◌, ◌≤◌, ◌==◌, ◌↔◌, IsTrue, ◌+◌, ◌-◌, ◌*◌, ◌%◌, ◌^◌};
 ghost use Rattle.mc146818.specs.Divider.{second_of, next_count, period_of, ends_at, is_near_end};
-ghost use Rattle.mc146818.specs.Quiet.{quiet_second, quiet_period};
+ghost use Rattle.mc146818.specs.Quiet.{left_of, quiet_second, quiet_period};
 
 use crate::quiet::FOREVER;
 use std::marker::Model;
@@ -145,6 +145,35 @@ impl Divider {
         ensures { result ≡ quiet_second self.now.unit self.now.count }
     {
         u32::from(UNITS) * u32::from(self.unit) - 1 - self.count()
+    }
+
+    /// How many ticks there are up to the one that ends the second, with it.
+    pub fn left_in_second(&self) -> u32
+        ensures { result ≡ second_of self.now.unit - self.now.count }
+    {
+        u32::from(UNITS) * u32::from(self.unit) - self.count()
+    }
+
+    /// How many ticks there are up to the one that ends a period of this rate, with it.
+    pub fn left_in_period(&self, rate: u32) -> Option<u32>
+        requires { rate < 16 }
+        ensures { result ≡ left_of self.now.count (period_of self.now.unit rate) }
+    {
+        match rate {
+            0 => None,
+            1 => Some(self.left_in_multiple(5)),
+            2 => Some(self.left_in_multiple(6)),
+            _ => Some(self.left_in_multiple(rate - 3)),
+        }
+    }
+
+    // How many ticks there are up to the one that makes the count a multiple of 2^power units, with it.
+    fn left_in_multiple(&self, power: u32) -> u32
+        requires { power < 13 }
+        ensures { let period = self.now.unit * 2 ^ power in result ≡ period - self.now.count % period }
+    {
+        let period = u32::from(self.unit) << power;
+        period - self.count() % period
     }
 
     /// How many ticks pass before the one that ends a period of this rate.

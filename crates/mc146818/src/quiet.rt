@@ -5,7 +5,7 @@ ghost use Rattle.mc146818.specs.Clock.{ClockState, requests_interrupt};
 ghost use Rattle.mc146818.specs.Divider.{second_of};
 ghost use Rattle.mc146818.specs.Second.{after};
 ghost use Rattle.mc146818.specs.Tick.{ticked};
-ghost use Rattle.mc146818.specs.Quiet.{passed, quiet_flag, quiet_of};
+ghost use Rattle.mc146818.specs.Quiet.{next_period, next_second, passed, quiet_flag, quiet_of};
 
 use crate::clock::Clock;
 use crate::registers::PF;
@@ -37,6 +37,29 @@ impl Clock {
             FOREVER
         } else {
             self.divider.quiet_period(self.rate())
+        }
+    }
+
+    /// How many ticks there are up to the one that ends the second, with it. There is none where the divider does not run.
+    pub fn next_second(&self) -> Option<u32>
+        ensures { result ≡ next_second self.now }
+    {
+        if self.runs() {
+            Some(self.divider.left_in_second())
+        } else {
+            None
+        }
+    }
+
+    /// How many ticks there are up to the one that ends a period, with it. There is none where the divider does not run, or has no
+    /// period.
+    pub fn next_period(&self) -> Option<u32>
+        ensures { result ≡ next_period self.now }
+    {
+        if self.runs() {
+            self.divider.left_in_period(self.rate())
+        } else {
+            None
         }
     }
 

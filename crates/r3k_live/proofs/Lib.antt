@@ -1,5 +1,6 @@
 pub mod Recorded
 mod Wrote
+mod Marking
 pub mod Going
 pub mod Writers
 pub mod Apart

@@ -44,7 +44,7 @@ abbrev places : List Written → List ℕ
 places written = map (λ w. w.place) written
 
 -- a list that ascends, with one more number
-one_more : (xs : List ℕ) (x : ℕ) → IsStrictlyIncreasing xs → All (λ y. y < x) xs → IsStrictlyIncreasing (xs ++ x ∷ [])
+pub one_more : (xs : List ℕ) (x : ℕ) → IsStrictlyIncreasing xs → All (λ y. y < x) xs → IsStrictlyIncreasing (xs ++ x ∷ [])
 one_more xs x up below k within =
     elim (cases_lt (k + 1) (length xs)) [
       | inl front ↦ omega (arith, up k front, get_or-append xs (x ∷ []) 0 k (omega (arith, front)), get_or-append xs (x ∷ []) 0 (k + 1) front)

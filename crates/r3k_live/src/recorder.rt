@@ -1,6 +1,7 @@
 //! A record of what steps reported: bytes sent, words stored into, registers written, and pages touched.
 
 ghost use Rattle.std.specs.Prelude.{◌≡◌, ◌+◌, ◌^◌, ◌<◌, ◌≤◌, [], ◌∷◌, ◌++◌, All, ◌||◌, IfOk, IfSome, IsTrue, List, length, nat_eq, vec_capacity, vec_len, ℕ};
+ghost use Rattle.std.specs.List.Sorted.{IsStrictlyIncreasing};
 ghost use Rattle.r3k_word.specs.declared.layout.TheConstants.{MAX_RAM_PAGES};
 ghost use Rattle.r3k_pages.specs.Pages.{IsPageSet, holds, page_count_of};
 ghost use Rattle.r3k_machine.specs.declared.step.Done.{Done};
@@ -152,6 +153,7 @@ impl<const PAGES: u32, const SPAN: u32> Recorder<PAGES, SPAN> {
     /// The marks of all that was written, in ascending order: of words and then of registers.
     pub fn marks(&self, alloc: Global) -> Result<Vec<u32>, AllocError>
         ensures marks { (steps : List Done) → Records PAGES steps self.now → IfOk result (λ marks. marks.items ≡ marks_of PAGES steps) }
+        ensures ascending { (steps : List Done) → Records PAGES steps self.now → IfOk result (λ marks. IsStrictlyIncreasing marks.items) }
     {
         let mut marks = self.dirty(alloc)?;
         self.destinations.add_marks(&mut marks)?;

@@ -192,6 +192,13 @@ impl Core {
         self.processor.flow = flow;
     }
 
+    /// The devices on the bus.
+    pub fn bus(&self) -> &Bus
+        ensures { result.now ≡ self.now.bus }
+    {
+        &self.bus
+    }
+
     /// The control registers.
     pub fn cop0(&self) -> &Cop0
         ensures { result.now ≡ self.now.cop0 }

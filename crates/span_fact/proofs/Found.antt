@@ -6,6 +6,7 @@ use Rattle.std.proofs.lemmas.List.{get_or-map, length-map}
 use Rattle.std.proofs.lemmas.Map.Keys.{non_decreasing_from_sorted, sorted_from_strictly_increasing}
 use Rattle.r3k_word.specs.declared.layout.TheConstants.{PAGE_WORDS}
 use Rattle.r3k_machine.specs.declared.step.Done.{Done}
+use Rattle.r3k_machine.specs.declared.target.Target.TheVariants.{Memory}
 use Rattle.r3k_machine.specs.Run.{last_writer}
 use Rattle.r3k_live.specs.Record.{AreWriters}
 use Rattle.r3k_live.specs.declared.recorder.Written.{Written}
@@ -14,8 +15,8 @@ use Rattle.r3k_live.specs.declared.recorder.Written.{Written}
 pub not_found : (pages : ℕ) (steps : List Done) (writers : List Written) (place at : ℕ) → AreWriters pages steps writers → place < pages * PAGE_WORDS
     → ((k : ℕ) (d : Written) → k < at → (slice_index_or writers k d).place < place)
     → ((k : ℕ) (d : Written) → at ≤ k → k < length writers → ¬ ((slice_index_or writers k d).place ≡ place))
-    → None ≡ last_writer (4 * place) steps
-not_found pages steps writers place at written within below other = none (last_writer (4 * place) steps) (written.all place within)
+    → None ≡ last_writer (Memory (4 * place)) steps
+not_found pages steps writers place at written within below other = none (last_writer (Memory (4 * place)) steps) (written.all place within)
   where
     none : (o : Option ℕ) → (IsSome o → Contains (map (λ w. w.place) writers) place) → None ≡ o
     none None has = refl

@@ -1,2 +1,3 @@
+pub use Rattle.r3k_live.specs.Marks
 pub use Rattle.r3k_live.specs.Record
 pub mod Span

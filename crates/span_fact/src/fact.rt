@@ -7,14 +7,17 @@ ghost use Rattle.r3k_word.specs.declared.layout.TheConstants.{PAGE_WORDS};
 ghost use Rattle.input_log.specs.Log.{AreInOrder, AreWithin};
 ghost use Rattle.r3k_pages.specs.Pages.{IsPageSet, SameOutside};
 ghost use Rattle.r3k_machine.specs.declared.step.Done.{Done};
+ghost use Rattle.r3k_machine.specs.declared.target.Target.TheVariants.{Memory};
 ghost use Rattle.r3k_machine.specs.Run.{last_writer};
 ghost use Rattle.r3k_live.specs.Living.{counted};
+ghost use Rattle.r3k_live.specs.Marks.{marks_of};
 ghost use Rattle.r3k_live.specs.Record.{AreWriters, dirty_pages, sent_from, touched_pages};
 ghost use Rattle.r3k_live.specs.declared.recorder.Written.{Written};
 ghost use Rattle.span_fact.specs.Span.{StoodIn, end_of, steps_of};
 
 use input_log::Event;
-use r3k_live::{Boundary, Live, Recorder, SentAt, Written};
+use r3k_live::{Boundary, Destinations, Live, Recorder, SentAt, Written};
+use r3k_machine::Target;
 use r3k_word::layout::PAGE_BYTES;
 use std::alloc::{AllocError, Global};
 use std::marker::Model;
@@ -28,8 +31,10 @@ pub struct Fact<const PAGES: u32, const SPAN: u32> {
     end: Rc<Boundary<PAGES>>,
     events: Vec<Event>,
     writers: Vec<Written>,
+    destinations: Destinations,
     sent: Vec<SentAt>,
     dirty: Vec<u32>,
+    marks: Vec<u32>,
     touched: Vec<u32>,
     stood: Vec<u32>,
 }
@@ -42,7 +47,7 @@ impl<const PAGES: u32, const SPAN: u32> Model for Fact<PAGES, SPAN> {
     ghost view = { λ f. record { index = f.index; start = f.start.value; events = f.events.items } };
 
     ghost invariant = { λ f. Holds PAGES SPAN (record { index = f.index; start = f.start.value; events = f.events.items })
-        f.end.value f.writers.items f.sent.items f.dirty.items f.touched.items f.stood.items };
+        f.end.value f.writers.items f.destinations f.sent.items f.dirty.items f.marks.items f.touched.items f.stood.items };
 }
 
 impl<const PAGES: u32, const SPAN: u32> Fact<PAGES, SPAN> {
@@ -74,8 +79,10 @@ impl<const PAGES: u32, const SPAN: u32> Fact<PAGES, SPAN> {
             end: live.keep(alloc)?,
             events: Vec::from_slice(alloc, events)?,
             writers: recorder.writers(alloc)?,
+            destinations: recorder.destinations(),
             sent: Vec::from_slice(alloc, recorder.sent())?,
             dirty: recorder.dirty(alloc)?,
+            marks: recorder.marks(alloc)?,
             touched: recorder.touched(alloc)?,
             stood: Vec::from_slice(alloc, recorder.stood())?,
         })
@@ -114,11 +121,14 @@ impl<const PAGES: u32, const SPAN: u32> Fact<PAGES, SPAN> {
         &self.events
     }
 
-    /// The last of its steps, counted from its start, that stored into the word at a physical address, if one did.
-    pub fn writer(&self, address: u32) -> Option<u32>
-        ensures { result ≡ last_writer address (steps_of PAGES SPAN self.now) }
+    /// The last of its steps, counted from its start, that wrote a word of RAM or a register, if one did.
+    pub fn writer(&self, target: Target) -> Option<u32>
+        ensures { result ≡ last_writer target (steps_of PAGES SPAN self.now) }
     {
-        writer_in::<PAGES>(&self.writers, address)
+        match target {
+            Target::Memory(address) => writer_in::<PAGES>(&self.writers, address),
+            Target::Register(register) => self.destinations.writer(register),
+        }
     }
 
     /// The bytes that its steps sent, in order, each with its line and its step, counted from its start.
@@ -135,6 +145,14 @@ impl<const PAGES: u32, const SPAN: u32> Fact<PAGES, SPAN> {
         ensures stayed { SameOutside result.now self.now.start.words (end_of PAGES SPAN self.now).words }
     {
         &self.dirty
+    }
+
+    /// The marks of all that its steps wrote, in ascending order: of words and then of registers.
+    pub fn marks(&self) -> &[u32]
+        ensures marks { result.now ≡ marks_of PAGES (steps_of PAGES SPAN self.now) }
+        ensures ascending { IsStrictlyIncreasing result.now }
+    {
+        &self.marks
     }
 
     /// The pages that its steps touched, in ascending order: fetched from, loaded from or stored into.
@@ -156,7 +174,7 @@ impl<const PAGES: u32, const SPAN: u32> Fact<PAGES, SPAN> {
 // The last step that stored into the word at an address, from the list of all words of RAM that were stored into.
 fn writer_in<const PAGES: u32>(writers: &[Written], address: u32) -> Option<u32>
     requires { IsStrictlyIncreasing (map (λ writer. writer.place) writers.now) }
-    ensures { (steps : List Done) → AreWriters PAGES steps writers.now → result ≡ last_writer address steps }
+    ensures { (steps : List Done) → AreWriters PAGES steps writers.now → result ≡ last_writer (Memory address) steps }
 {
     if address % 4 != 0 {
         return None;

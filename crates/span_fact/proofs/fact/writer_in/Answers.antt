@@ -1,6 +1,7 @@
 use Rattle.std.proofs.Common.{◌≡◌, ℕ, ◌*◌, ◌/◌, ◌<◌, length, slice_index_or, List, sym, ap, ◌∙◌, arith, inl, inr}
 use Rattle.std.proofs.lemmas.Bool.{cases_lt}
 use Rattle.std.proofs.lemmas.List.{get_or_default}
+use Rattle.r3k_machine.specs.declared.target.Target.TheVariants.{Memory}
 use Rattle.r3k_machine.specs.Run.{last_writer}
 use Rattle.r3k_live.specs.declared.recorder.Written.{Written}
 use Rattle.span_fact.proofs.Found.{not_found, rising}
@@ -21,7 +22,7 @@ returns-then-at-writers g c =
     let place = c.args.address / 4 in
     not_found g.row.PAGES steps c.args.writers.now place c.first_from-at.result written (omega (arith, c.if-address.false)) c.first_from-at.ensures.below
     (λ k d low inside same. absurd (let e : ⊥ = omega (arith, low, inside, c.if-at-writers.true) in e))
-    ∙ ap (λ (a : ℕ). last_writer a steps) (let e : 4 * place ≡ c.args.address = omega (arith, c.if-address-ne0.false) in e)
+    ∙ ap (λ (a : ℕ). last_writer (Memory a) steps) (let e : 4 * place ≡ c.args.address = omega (arith, c.if-address-ne0.false) in e)
 
 -- the place of a word, whatever follows the last one
 at_any : (writers : List Written) (k : ℕ) (d e : Written) {place : ℕ} → k < length writers → (slice_index_or writers k e).place ≡ place → (slice_index_or writers k d).place ≡ place
@@ -39,7 +40,7 @@ returns-then-writer-place g c =
     let high_is = rising writers written.ascending c.first_from-at.result k d low inside in
     let here : (slice_index_or writers c.first_from-at.result d).place ≡ place = omega (arith, low_is, high_is, same) in
     c.if-writer-place.true (at_any writers c.first_from-at.result none d (omega (arith, low, inside)) here))
-    ∙ ap (λ (a : ℕ). last_writer a steps) (let e : 4 * place ≡ c.args.address = omega (arith, c.if-address-ne0.false) in e)
+    ∙ ap (λ (a : ℕ). last_writer (Memory a) steps) (let e : 4 * place ≡ c.args.address = omega (arith, c.if-address-ne0.false) in e)
 
 pub returns : goal.returns
 returns g c =
@@ -48,6 +49,6 @@ returns g c =
     let none : Written = record { place = 0; step = 0 } in
     let place = c.args.address / 4 in
     let bound : c.first_from-at.result < length writers = elim (cases_lt c.first_from-at.result (length writers)) [ inl below ↦ below | inr above ↦ absurd (c.if-at-writers.false (omega (arith, above, c.first_from-at.ensures.bound))) ] in
-    sym (ap (λ (a : ℕ). last_writer a steps) (let e : c.args.address ≡ 4 * place = omega (arith, c.if-address-ne0.false) in e)
-    ∙ (ap (λ (p : ℕ). last_writer (4 * p) steps) (sym c.if-writer-place.false)
+    sym (ap (λ (a : ℕ). last_writer (Memory a) steps) (let e : c.args.address ≡ 4 * place = omega (arith, c.if-address-ne0.false) in e)
+    ∙ (ap (λ (p : ℕ). last_writer (Memory (4 * p)) steps) (sym c.if-writer-place.false)
     ∙ written.each c.first_from-at.result none bound))
