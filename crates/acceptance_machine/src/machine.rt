@@ -5,7 +5,7 @@ use input_log::{Event, Log};
 use r3k_asm::assemble;
 use r3k_live::FlatMemory;
 use r3k_machine::step::step;
-use r3k_machine::{Core, Done, Where};
+use r3k_machine::{Core, Done, Traced, Where};
 use samples::{DOLLARS, filled, program};
 use std::alloc::Global;
 use std::process::Abort;
@@ -91,11 +91,7 @@ impl Machine {
         Ok(Machine {
             core: Core::reset(alloc, &image)?,
             memory: FlatMemory::boot(alloc, &image)?,
-            done: Done {
-                sent: None,
-                stored: None,
-                touched: [None; 2],
-            },
+            done: Traced::default().done,
         })
     }
 
@@ -129,6 +125,7 @@ impl Machine {
             ["run", steps] => self.run(number(steps)?),
             ["receive", events @ ..] => self.receive(events_of(alloc, events)?.events()),
             ["sends", wants @ ..] => return self.each("sent", 0, wants),
+            ["writes", wants @ ..] => return self.each("wrote", 0, wants),
             ["gives", register, wants @ ..] => return self.each("landed", number(register)?, wants),
             _ => return self.asks(words),
         }
@@ -210,6 +207,7 @@ impl Machine {
                 None => return Ok(None),
             },
             "stored" => return Ok(self.done.stored),
+            "wrote" => self.done.wrote.index() as u32,
             "register" => return Ok(register),
             "load" => return Ok(loaded),
             "landed" => return Ok(loaded.or(register)),

@@ -59,6 +59,12 @@ lui r8, 0x40; ori r8, r8, 0x101; mtc0 r8, c12; addiu r9, r0, 256; mtc0 r9, c13; 
 -- run 6, pc 0xbfc00180, register 10 0, status 0x00400104, epc 0xbfc00014
 run 5, pc 0xbfc00014, status 0x00400101, cause 0, run 1, register 10 7
 
+$ The registers that instructions write: 34 is HI and LO, 32 HI, 33 LO. A load counts at its own step, also where the next instruction
+# writes its register too. A store, a move to coprocessor 0, writes of r0, a nop and an overflow write none
+lui r2, 0x8000; mult r2, r2; mthi r2; mtlo r2; mfhi r3; mflo r3; lw r4, 0(r2); addiu r4, r0, 1; mfc0 r5, c12; sw r4, 0(r2); mtc0 r0, c13
+sll r0, r0, 0; addiu r0, r0, 5; jal 0x1fc0003c; sll r0, r0, 0; addi r6, r2, -1
+-- writes 2 34 32 33 3 3 4 4 5 0 0 0 0 31 0 0, pc 0xbfc00180
+
 $ A pending load, and then an exception of each part of the step: the value lands
 | syscall 0
 | .word 0xffffffff

@@ -9,6 +9,7 @@ use cop0::number::{RANDOM, STATUS};
 use input_log::Log;
 use r3k_image::Image;
 use r3k_live::{Boundary, Live, Recorder, SentAt, counted};
+use r3k_machine::Target;
 use r3k_pages::PageMarks;
 use r3k_word::layout::{PAGE_WORDS, ROM_PAGES, address_of, word_count};
 use samples::{NONE, number, shown};
@@ -175,7 +176,7 @@ impl<const PAGES: u32, const SPAN: u32> Running<PAGES, SPAN> {
                 let fact = self.fact()?;
                 let mut steps = Vec::new(alloc);
                 for address in addresses {
-                    let step = fact.writer(u32::try_from(*address)?);
+                    let step = fact.writer(Target::Memory(u32::try_from(*address)?));
                     steps.push(step.map_or(NONE, |step| step as u64))?;
                 }
                 shown(alloc, &steps)?
@@ -243,7 +244,7 @@ impl<const PAGES: u32, const SPAN: u32> Running<PAGES, SPAN> {
     {
         let mut found = Vec::new(alloc);
         for place in 0..PAGES * PAGE_WORDS {
-            if let Some(step) = self.recorder.writer(4 * place) {
+            if let Some(step) = self.recorder.writer(Target::Memory(4 * place)) {
                 found.push((place, step))?;
             }
         }

@@ -7,6 +7,7 @@ use Rattle.std.specs.List.{cons_option}
 use Rattle.input_log.specs.Event.{LogEvent}
 use Rattle.r3k_image.specs.Boot.{Boot}
 use Rattle.r3k_machine.specs.declared.step.Done.{Done}
+use Rattle.r3k_machine.specs.declared.target.Target.{Target}
 use Rattle.r3k_machine.specs.Run.{byte_on, console_of, last_writer, later, senders_of, trace_at}
 use Rattle.r3k_machine.proofs.Splits.{senders_count}
 use Rattle.r3k_live.specs.Record.{sent_from}
@@ -35,15 +36,15 @@ steps_joined pages span image log i None joined = absurd joined.near
 steps_joined pages span image log i (Some r) joined =
     same_steps pages span i (Some r) r (span_of pages span image log i) refl refl joined ∙ span_steps pages span image log i
 
-pub writer_is : (pages span : ℕ) (image : Boot) (log : List LogEvent) (spans : List (List Span)) (count address : ℕ) (found : Option (ℕ × ℕ))
-    → AreJoined pages span image log spans count → IsLastWriter pages span spans count address found
-    → last_writer address (trace_at pages image log (count * span)) ≡ step_of span found
-writer_is pages span image log spans count address found joined last =
-    writer_joined pages span spans count address (λ i. last_writer address (trace_at pages image log (i * span)))
-    (ap (last_writer address) (trace_none pages span image log 0 refl))
+pub writer_is : (pages span : ℕ) (image : Boot) (log : List LogEvent) (spans : List (List Span)) (count : ℕ) (target : Target) (found : Option (ℕ × ℕ))
+    → AreJoined pages span image log spans count → IsLastWriter pages span spans count target found
+    → last_writer target (trace_at pages image log (count * span)) ≡ step_of span found
+writer_is pages span image log spans count target found joined last =
+    writer_joined pages span spans count target (λ i. last_writer target (trace_at pages image log (i * span)))
+    (ap (last_writer target) (trace_none pages span image log 0 refl))
     (λ i within.
-    writer_span pages span image log address i (i + 1) refl
-    ∙ ap (λ (steps : List Done). later (i * span) (last_writer address steps) (last_writer address (trace_at pages image log (i * span))))
+    writer_span pages span image log target i (i + 1) refl
+    ∙ ap (λ (steps : List Done). later (i * span) (last_writer target steps) (last_writer target (trace_at pages image log (i * span))))
     (sym (steps_joined pages span image log i (first_at spans i) (joined i within))))
     found last
 

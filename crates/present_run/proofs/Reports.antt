@@ -8,7 +8,8 @@ use Rattle.input_log.specs.Log.{window_of}
 use Rattle.r3k_image.specs.Boot.{Boot}
 use Rattle.r3k_machine.specs.declared.step.Done.{Done}
 use Rattle.r3k_machine.specs.State.{State}
-use Rattle.r3k_machine.specs.Run.{console_of, last_writer, later, senders_of, state_at, stores_into, trace, trace_at}
+use Rattle.r3k_machine.specs.declared.target.Target.{Target}
+use Rattle.r3k_machine.specs.Run.{console_of, last_writer, later, senders_of, state_at, trace, trace_at, writes}
 use Rattle.r3k_machine.proofs.Splits.{console_split, senders_split, trace_count, trace_own, writer_split}
 use Rattle.r3k_live.specs.Record.{sent_from}
 use Rattle.span_fact.specs.Span.{steps_of}
@@ -40,13 +41,13 @@ own_steps pages image log events s from position before events_are stands =
 pub between_count : (pages : ℕ) (image : Boot) (log : List LogEvent) (from to : ℕ) → length (steps_between pages image log from to) ≡ to - from
 between_count pages image log from to = trace_count pages log from (state_at pages image log from) (to - from)
 
-pub writer_front : (pages : ℕ) (image : Boot) (log : List LogEvent) (address from position : ℕ) → from ≤ position
-    → last_writer address (trace_at pages image log position)
-    ≡ later from (last_writer address (steps_between pages image log from position)) (last_writer address (trace_at pages image log from))
-writer_front pages image log address from position before =
-    ap (last_writer address) (trace_front pages image log from position before)
-    ∙ (writer_split address (trace_at pages image log from) (steps_between pages image log from position)
-    ∙ ap (λ (n : ℕ). later n (last_writer address (steps_between pages image log from position)) (last_writer address (trace_at pages image log from)))
+pub writer_front : (pages : ℕ) (image : Boot) (log : List LogEvent) (target : Target) (from position : ℕ) → from ≤ position
+    → last_writer target (trace_at pages image log position)
+    ≡ later from (last_writer target (steps_between pages image log from position)) (last_writer target (trace_at pages image log from))
+writer_front pages image log target from position before =
+    ap (last_writer target) (trace_front pages image log from position before)
+    ∙ (writer_split target (trace_at pages image log from) (steps_between pages image log from position)
+    ∙ ap (λ (n : ℕ). later n (last_writer target (steps_between pages image log from position)) (last_writer target (trace_at pages image log from)))
     (trace_long pages image log from))
 
 pub console_front : (pages : ℕ) (image : Boot) (log : List LogEvent) (line from position : ℕ) → from ≤ position
@@ -74,12 +75,12 @@ senders_front pages image log line from position before =
 pub up_to_next : (index span : ℕ) → index * span ≤ (index + 1) * span
 up_to_next index span = omega (arith, next_start index span)
 
-pub writer_span : (pages span : ℕ) (image : Boot) (log : List LogEvent) (address index next : ℕ) → next ≡ index + 1
-    → last_writer address (trace_at pages image log (next * span))
-    ≡ later (index * span) (last_writer address (steps_between pages image log (index * span) ((index + 1) * span))) (last_writer address (trace_at pages image log (index * span)))
-writer_span pages span image log address index next is =
-    ap (λ (n : ℕ). last_writer address (trace_at pages image log (n * span))) is
-    ∙ writer_front pages image log address (index * span) ((index + 1) * span) (up_to_next index span)
+pub writer_span : (pages span : ℕ) (image : Boot) (log : List LogEvent) (target : Target) (index next : ℕ) → next ≡ index + 1
+    → last_writer target (trace_at pages image log (next * span))
+    ≡ later (index * span) (last_writer target (steps_between pages image log (index * span) ((index + 1) * span))) (last_writer target (trace_at pages image log (index * span)))
+writer_span pages span image log target index next is =
+    ap (λ (n : ℕ). last_writer target (trace_at pages image log (n * span))) is
+    ∙ writer_front pages image log target (index * span) ((index + 1) * span) (up_to_next index span)
 
 pub trace_none : (pages span : ℕ) (image : Boot) (log : List LogEvent) (index : ℕ) → index ≡ 0 → trace_at pages image log (index * span) ≡ []
 unfolding trace
@@ -90,14 +91,10 @@ here_within : (here : Bool) (k n : ℕ) → (if here then Some 0 else None) ≡ 
 here_within true k n is = (let zero_is : 0 ≡ k = some_is 0 k is in omega (arith, zero_is))
 here_within false k n is = absurd (true≢false (ap (λ (o : Option ℕ). is_some o) (sym is)))
 
-first_within : (address : ℕ) (stored : Option ℕ) (k n : ℕ) → stores_into address stored ≡ Some k → k < suc n
-first_within address None k n is = absurd (true≢false (ap (λ (o : Option ℕ). is_some o) (sym is)))
-first_within address (Some stored) k n is = here_within (stored == address) k n is
-
-pub writer_within : (address : ℕ) (steps : List Done) (k : ℕ) → last_writer address steps ≡ Some k → k < length steps
-writer_within address [] k is = absurd (true≢false (ap (λ (o : Option ℕ). is_some o) (sym is)))
-writer_within address (done ∷ steps) k is = by_rest (last_writer address steps) (λ p. writer_within address steps p) is
+pub writer_within : (target : Target) (steps : List Done) (k : ℕ) → last_writer target steps ≡ Some k → k < length steps
+writer_within target [] k is = absurd (true≢false (ap (λ (o : Option ℕ). is_some o) (sym is)))
+writer_within target (done ∷ steps) k is = by_rest (last_writer target steps) (λ p. writer_within target steps p) is
   where
-    by_rest : (rest : Option ℕ) → ((p : ℕ) → rest ≡ Some p → p < length steps) → later 1 rest (stores_into address done.stored) ≡ Some k → k < suc (length steps)
-    by_rest None before is = first_within address done.stored k (length steps) is
+    by_rest : (rest : Option ℕ) → ((p : ℕ) → rest ≡ Some p → p < length steps) → later 1 rest (if writes target done then Some 0 else None) ≡ Some k → k < suc (length steps)
+    by_rest None before is = here_within (writes target done) k (length steps) is
     by_rest (Some p) before is = omega (arith, before p refl, some_is (1 + p) k is)

@@ -1,9 +1,10 @@
--- An index of the records that are kept of spans (own): which pages each of them stored into, and how many bytes of each line it
--- sent.
+-- An index of the records that are kept of spans (own): the marks of what each of them wrote, and how many bytes of each line it sent.
 use Rattle.std.specs.Prelude.{◌≡◌, ℕ, zero, suc, ◌+◌, ◌<◌, ◌≤◌, List, [], length, Option, Some, None}
 use Rattle.r3k_machine.specs.declared.step.Done.{Done}
+use Rattle.r3k_machine.specs.declared.target.Target.{Target}
 use Rattle.r3k_machine.specs.Run.{last_writer}
-use Rattle.r3k_live.specs.Record.{dirty_pages, sent_from}
+use Rattle.r3k_live.specs.Marks.{marks_of}
+use Rattle.r3k_live.specs.Record.{sent_from}
 use Rattle.span_fact.specs.Span.{Span, steps_of}
 use Rattle.checkpoints.specs.Kept.{first_at}
 use Rattle.write_index.specs.declared.tree.TheConstants.{MAX_SPANS}
@@ -15,7 +16,7 @@ use Rattle.present_run.specs.Sent.{bytes_on}
 abbrev pub max_spans : ℕ
 max_spans = MAX_SPANS
 
--- the pages and the counts by span
+-- the marks and the counts by span
 pub record Index : Type 0 where
   pub writes : List (List ℕ)
   pub consoles : List (List ℕ)
@@ -32,21 +33,21 @@ steps_at pages span spans i = steps_in pages span (first_at spans i)
 abbrev pub bytes_at : (pages span : ℕ) → List (List Span) → (line i : ℕ) → List ℕ
 bytes_at pages span spans line i = bytes_on line (sent_from 0 (steps_at pages span spans i))
 
--- an index has of a record the pages that its steps stored into, and how many bytes of each line they sent
+-- an index has of a record the marks of what its steps wrote, and how many bytes of each line they sent
 pub record Has (pages span : ℕ) (index : Index) (i : ℕ) (s : Option Span) : Type 0 where
-  pub stored : pages_at index.writes i ≡ dirty_pages pages (steps_in pages span s)
+  pub wrote : pages_at index.writes i ≡ marks_of pages (steps_in pages span s)
   pub sent : (line : ℕ) → line ≤ 3 → count_at index.consoles line i ≡ length (bytes_on line (sent_from 0 (steps_in pages span s)))
 
 -- an index agrees with records: it has what each of them reports
 abbrev pub Agrees : (pages span : ℕ) → Index → List (List Span) → Type 0
 Agrees pages span index spans = (i : ℕ) → Has pages span index i (first_at spans i)
 
--- the last of the first `count` records that stored into the word at an address, with its last step that did, or none
-abbrev pub IsLastWriter : (pages span : ℕ) → List (List Span) → (count address : ℕ) → Option (ℕ × ℕ) → Type 0
-IsLastWriter pages span spans count address None = (i : ℕ) → i < count → last_writer address (steps_at pages span spans i) ≡ None
-IsLastWriter pages span spans count address (Some found) =
-    (found.0 < count) × (last_writer address (steps_at pages span spans (found.0)) ≡ Some (found.1))
-    × ((i : ℕ) → found.0 < i → i < count → last_writer address (steps_at pages span spans i) ≡ None)
+-- the last of the first `count` records that wrote a word or a register, with its last step that did, or none
+abbrev pub IsLastWriter : (pages span : ℕ) → List (List Span) → (count : ℕ) → Target → Option (ℕ × ℕ) → Type 0
+IsLastWriter pages span spans count target None = (i : ℕ) → i < count → last_writer target (steps_at pages span spans i) ≡ None
+IsLastWriter pages span spans count target (Some found) =
+    (found.0 < count) × (last_writer target (steps_at pages span spans (found.0)) ≡ Some (found.1))
+    × ((i : ℕ) → found.0 < i → i < count → last_writer target (steps_at pages span spans i) ≡ None)
 
 -- how many bytes of a line the first `count` records sent together
 unfoldable pub sent_below : (pages span : ℕ) → List (List Span) → (line count : ℕ) → ℕ

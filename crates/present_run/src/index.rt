@@ -12,14 +12,14 @@ ghost use Rattle.present_run.specs.Index.{Agrees, Has, IsLastWriter, IsSender, m
 use checkpoints::Kept;
 use console_index::ConsoleIndex;
 use dz_serial::SerialLine;
-use r3k_live::SentAt;
-use r3k_word::layout::PAGE_BYTES;
+use r3k_live::{SentAt, mark};
+use r3k_machine::Target;
 use span_fact::Fact;
 use std::alloc::{AllocError, Global};
 use std::marker::Model;
 use write_index::{Asked, WriteIndex};
 
-/// Which pages each kept record of a span stored into, and how many bytes of each line it sent.
+/// The marks of what each kept record of a span wrote, and how many bytes of each line it sent.
 #[derive(Drop)]
 pub(crate) struct SpanIndex {
     writes: WriteIndex,
@@ -57,44 +57,44 @@ impl SpanIndex {
         ensures others { IfOk result (λ _. (i : ℕ) (s : Option Span) → i ≢ fact.now.index → Has PAGES SPAN self.old i s → Has PAGES SPAN self.new i s) }
         ensures same { OnErr result ((i : ℕ) (s : Option Span) → Has PAGES SPAN self.old i s → Has PAGES SPAN self.new i s) }
     {
-        self.replace(fact.index(), fact.dirty(), counts_of(fact.sent()))
+        self.replace(fact.index(), fact.marks(), counts_of(fact.sent()))
     }
 
-    // Puts the pages and the counts of a number into both trees. Room is reserved first, so where memory is refused, both have what
+    // Puts the marks and the counts of a number into both trees. Room is reserved first, so where memory is refused, both have what
     // they had.
-    fn replace(&mut self, index: u64, pages: &[u32], counts: [u32; 4]) -> Result<(), AllocError>
+    fn replace(&mut self, index: u64, marks: &[u32], counts: [u32; 4]) -> Result<(), AllocError>
         requires index { index < max_spans }
-        requires pages { IsStrictlyIncreasing pages.now }
+        requires marks { IsStrictlyIncreasing marks.now }
         requires counts { All (λ count. count ≤ 1048576) counts }
-        ensures pages { IfOk result (λ _. pages_at self.new.writes index ≡ pages.now) }
+        ensures marks { IfOk result (λ _. pages_at self.new.writes index ≡ marks.now) }
         ensures counts { IfOk result (λ _. slice_index_or self.new.consoles index [] ≡ counts) }
-        ensures other_pages { (i : ℕ) → i ≢ index → pages_at self.new.writes i ≡ pages_at self.old.writes i }
+        ensures other_marks { (i : ℕ) → i ≢ index → pages_at self.new.writes i ≡ pages_at self.old.writes i }
         ensures other_counts { (i : ℕ) → i ≢ index → (line : ℕ) → count_at self.new.consoles line i ≡ count_at self.old.consoles line i }
-        ensures same_pages { OnErr result (self.new.writes ≡ self.old.writes) }
+        ensures same_marks { OnErr result (self.new.writes ≡ self.old.writes) }
         ensures same_counts { OnErr result ((i line : ℕ) → count_at self.new.consoles line i ≡ count_at self.old.consoles line i) }
     {
         self.consoles.reserve(index)?;
-        self.writes.replace(index, pages)?;
+        self.writes.replace(index, marks)?;
         self.consoles.replace(index, counts)?;
         Ok(())
     }
 
-    /// The last of the first `count` records of which a step stored into the word at a physical address, and its last step that
-    /// did, counted from its start.
+    /// The last of the first `count` records of which a step wrote a word or a register, and its last step that did, counted from
+    /// its start.
     pub(crate) fn last_writer<const PAGES: u32, const SPAN: u32>(
         &self,
         kept: &Kept<PAGES, SPAN>,
         count: u64,
-        address: u32,
+        target: Target,
     ) -> Option<(u64, u32)>
         requires { Agrees PAGES SPAN self.now kept.now.rows }
-        ensures { IsLastWriter PAGES SPAN kept.now.rows count address result }
+        ensures { IsLastWriter PAGES SPAN kept.now.rows count target result }
     {
-        let page = address / PAGE_BYTES;
+        let mark = mark(target);
         let mut asked = Asked { nodes: 0 };
         let mut before = count;
-        while let Some(index) = self.writes.last_span(page, before, &mut asked) {
-            if let Some(step) = writer_in(kept, index, address) {
+        while let Some(index) = self.writes.last_span(mark, before, &mut asked) {
+            if let Some(step) = writer_in(kept, index, target) {
                 return Some((index, step));
             }
             before = index;
@@ -132,15 +132,15 @@ impl SpanIndex {
     }
 }
 
-// The last step of a record that stored into the word at an address, counted from its start.
+// The last step of a record that wrote a word or a register, counted from its start.
 fn writer_in<const PAGES: u32, const SPAN: u32>(
     kept: &Kept<PAGES, SPAN>,
     index: u64,
-    address: u32,
+    target: Target,
 ) -> Option<u32>
-    ensures { result ≡ last_writer address (steps_at PAGES SPAN kept.now.rows index) }
+    ensures { result ≡ last_writer target (steps_at PAGES SPAN kept.now.rows index) }
 {
-    kept.first(index)?.writer(address)
+    kept.first(index)?.writer(target)
 }
 
 // How many of the bytes that were sent are those of each line.

@@ -19,24 +19,25 @@ use crate::sent::{Shown, seek};
 use arrayvec::ArrayVec;
 use dz_serial::SerialLine;
 use r3k_live::SentAt;
+use r3k_machine::Target;
 use std::alloc::AllocError;
 
 impl<const PAGES: u32, const SPAN: u32> Present<PAGES, SPAN> {
-    /// The last step before a position that stored into the word at an address.
-    pub fn last_writer(&mut self, position: u64, address: u32) -> Result<Option<u64>, AllocError>
+    /// The last step before a position that wrote a word of RAM or a register.
+    pub fn last_writer(&mut self, position: u64, target: Target) -> Result<Option<u64>, AllocError>
         requires position { position ≤ max_position }
         ensures stays { Stays self.old self.new }
-        ensures writer { IfOk result (λ step. step ≡ last_writer address (trace_at PAGES self.new.inputs.image self.new.inputs.log position)) }
+        ensures writer { IfOk result (λ step. step ≡ last_writer target (trace_at PAGES self.new.inputs.image self.new.inputs.log position)) }
         ensures spends { Spends PAGES SPAN (position / SPAN) (position % SPAN)
             (holding_of self.old) (holding_of self.new) }
         ensures reaches { IfOk result (λ _. Reaches PAGES SPAN (position / SPAN)
             (holding_of self.old) (holding_of self.new)) }
     {
         let index = self.record(position)?;
-        if let Some(step) = self.runs.recorder.writer(address) {
+        if let Some(step) = self.runs.recorder.writer(target) {
             return Ok(Some(index * SPAN as u64 + step as u64));
         }
-        Ok(self.writer_before(index, address))
+        Ok(self.writer_before(index, target))
     }
 
     /// What is shown of the console of a line before a position: how many bytes it has, and those from a place on, at most
@@ -91,16 +92,16 @@ impl<const PAGES: u32, const SPAN: u32> Present<PAGES, SPAN> {
 }
 
 impl<const PAGES: u32, const SPAN: u32> Present<PAGES, SPAN> {
-    // The last step of the first `count` spans that stored into a word.
-    fn writer_before(&self, count: u64, address: u32) -> Option<u64>
+    // The last step of the first `count` spans that wrote a word or a register.
+    fn writer_before(&self, count: u64, target: Target) -> Option<u64>
         requires joined { count ≤ self.now.runs.kept.valid }
         requires near { count * SPAN ≤ max_position }
-        ensures { result ≡ last_writer address (trace_at PAGES self.now.inputs.image self.now.inputs.log (count * SPAN)) }
+        ensures { result ≡ last_writer target (trace_at PAGES self.now.inputs.image self.now.inputs.log (count * SPAN)) }
     {
         let (index, step) = self
             .runs
             .reports
-            .last_writer(&self.runs.kept, count, address)?;
+            .last_writer(&self.runs.kept, count, target)?;
         Some(index * SPAN as u64 + step as u64)
     }
 

@@ -1,5 +1,5 @@
 pub mod Recorded
-mod Wrote
+pub mod Wrote
 mod Marking
 pub mod Going
 pub mod Writers

@@ -1,7 +1,7 @@
 -- The last step that wrote a register, from the last steps with each destination.
-use Rattle.std.proofs.Common.{◌≡◌, ℕ, zero, suc, ◌+◌, ◌<◌, ◌≤◌, ◌==◌, ◌&&◌, ◌||◌, Bool, true, false, List, [], ◌∷◌, Option, Some, None, if◌then◌else◌, nat_le, refl, sym, ap, ◌∙◌, arith, max, inl, inr}
+use Rattle.std.proofs.Common.{◌≡◌, ℕ, zero, suc, ◌+◌, ◌<◌, ◌≤◌, ◌==◌, ◌&&◌, ◌||◌, ◌⊎◌, Bool, true, false, List, [], ◌∷◌, Option, Some, None, if◌then◌else◌, nat_le, refl, sym, ap, ◌∙◌, arith, max, inl, inr}
 use Rattle.std.proofs.Math.Path.{ap₂}
-use Rattle.std.proofs.lemmas.Bool.{cases_Bool}
+use Rattle.std.proofs.lemmas.Bool.{and_parts, cases_Bool, leb-true}
 use Rattle.r3k_machine.specs.declared.step.Done.{Done}
 use Rattle.r3k_machine.specs.declared.target.Target.TheVariants.{Register}
 use Rattle.r3k_machine.specs.Run.{is_written, last_where, last_writer, later, writes}
@@ -18,9 +18,21 @@ none_passes : (steps : List Done) → last_where (λ _. false) steps ≡ None
 none_passes [] = refl
 none_passes (done ∷ steps) = ap (λ (o : Option ℕ). later 1 o None) (none_passes steps)
 
-pub no_register : (number : ℕ) (steps : List Done) → (nat_le 1 number && nat_le number 33) ≡ false → last_writer (Register number) steps ≡ None
-no_register number steps outside =
-    same_test (writes (Register number)) (λ _. false) steps (λ done. ap (λ (b : Bool). b && (done.wrote == number || (done.wrote == 34 && nat_le 32 number))) outside)
+outside : (number : ℕ) → (number ≡ 0) ⊎ (33 < number) → (nat_le 1 number && nat_le number 33) ≡ false
+outside number other =
+    elim (cases_Bool (nat_le 1 number && nat_le number 33)) [
+      | inl inside ↦
+          let parts = and_parts (nat_le 1 number) (nat_le number 33) inside in
+          elim other [
+            | inl none ↦ absurd (let e : ⊥ = omega (arith, none, leb-true 1 number parts.0) in e)
+            | inr past ↦ absurd (let e : ⊥ = omega (arith, past, leb-true number 33 parts.1) in e)
+          ]
+      | inr free ↦ free
+    ]
+
+pub no_register : (number : ℕ) (steps : List Done) → (number ≡ 0) ⊎ (33 < number) → last_writer (Register number) steps ≡ None
+no_register number steps other =
+    same_test (writes (Register number)) (λ _. false) steps (λ done. ap (λ (b : Bool). b && (done.wrote == number || (done.wrote == 34 && nat_le 32 number))) (outside number other))
     ∙ none_passes steps
 
 -- how a step is kept, in front of one more

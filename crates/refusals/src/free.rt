@@ -11,7 +11,7 @@ use input_log::Log;
 use r3k_asm::assemble;
 use r3k_decode::{decode, encode};
 use r3k_disasm::text;
-use r3k_machine::{Core, Where};
+use r3k_machine::{Core, Target, Where};
 use samples::ECHO;
 use std::alloc::{AllocError, Global};
 use wb_text::Command;
@@ -212,7 +212,7 @@ fn show_run<const PAGES: u32, const SPAN: u32, W: Sink>(
     let events = log.window(0, SPAN as u64);
     machine.live.run(0, events, SPAN, &mut machine.recorder);
     for address in [0x100, 0x104] {
-        let step = machine.recorder.writer(address);
+        let step = machine.recorder.writer(Target::Memory(address));
         show.number(b"writer", step.unwrap_or(0) as u64);
     }
     for sent in machine.recorder.sent() {

@@ -6,6 +6,7 @@ use crate::show::Show;
 use checkpoints::Kept;
 use r3k_image::Image;
 use r3k_live::{Boundary, Live, Recorder};
+use r3k_machine::Target;
 use span_fact::Fact;
 use std::alloc::{AllocError, Global};
 use std::rc::Rc;
@@ -83,7 +84,7 @@ fn show_fact<const PAGES: u32, const SPAN: u32, W: Sink>(
     show: &mut Show<W>,
 ) {
     show.text(name);
-    show.number(b" writer", fact.writer(0x100).unwrap_or(0) as u64);
+    show.number(b" writer", fact.writer(Target::Memory(0x100)).unwrap_or(0) as u64);
     show.text(name);
     show.number(b" sent", fact.sent().len() as u64);
     for page in fact.touched() {

@@ -4,6 +4,7 @@ use Rattle.std.proofs.lemmas.Bool.{eq-eqb, false≢true, le-leb}
 use Rattle.std.specs.FinMap as map
 use Rattle.std.specs.Option.{is_some}
 use Rattle.r3k_word.specs.Layout.{place_of_word}
+use Rattle.r3k_machine.specs.declared.target.Target.TheVariants.{Memory}
 use Rattle.r3k_machine.specs.Run.{console_of, last_writer, state_at, trace_at}
 use Rattle.refusal.specs.declared.fault.Fault.{Fault}
 use Rattle.refusal.specs.declared.fault.Fault.TheVariants.{Range, TooFar, Unaligned}
@@ -46,8 +47,8 @@ of_any (Some place) answer there = refl
 
 -- who wrote a word last
 pub writer_given : (pages : ℕ) (h : History) (position address : ℕ) → position ≤ max_position → address % 4 ≡ 0 → is_some (place_of_word pages address) ≡ true
-    → writer_at pages h position address ≡ Ok (writer_of (last_writer address (trace_at pages h.image h.log position)) (map.get h.image.words address))
+    → writer_at pages h position address ≡ Ok (writer_of (last_writer (Memory address) (trace_at pages h.image h.log position)) (map.get h.image.words address))
 writer_given pages h position address near even there =
-    let writer : Result Writer Fault = Ok (writer_of (last_writer address (trace_at pages h.image h.log position)) (map.get h.image.words address)) in
+    let writer : Result Writer Fault = Ok (writer_of (last_writer (Memory address) (trace_at pages h.image h.log position)) (map.get h.image.words address)) in
     ap (λ (even : Bool). if even then of_place (place_of_word pages address) (λ _. up_to_max position writer) else Err Unaligned) (eq-eqb (address % 4) 0 even)
     ∙ (of_any (place_of_word pages address) (up_to_max position writer) there ∙ near_given position writer near)

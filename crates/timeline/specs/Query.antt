@@ -4,6 +4,7 @@ use Rattle.std.specs.Prelude.{ℕ, ◌+◌, ◌%◌, ◌==◌, ◌&&◌, List, s
 use Rattle.std.specs.Option.{ok_or}
 use Rattle.std.specs.FinMap as map
 use Rattle.r3k_machine.specs.Core.{Core}
+use Rattle.r3k_machine.specs.declared.target.Target.TheVariants.{Memory, Register}
 use Rattle.r3k_machine.specs.Run.{console_of, last_writer, next_visit, senders_of, state_at, trace_at}
 use Rattle.r3k_machine.specs.Traced.{traces_at}
 use Rattle.r3k_machine.specs.declared.traced.Traced.{Traced}
@@ -61,7 +62,14 @@ writer_of None None = Never
 abbrev pub writer_at : ℕ → History → (position address : ℕ) → Result Writer Fault
 writer_at pages h position address =
     of_word pages address (λ _. up_to_max position
-    (Ok (writer_of (last_writer address (trace_at pages h.image h.log position)) (map.get h.image.words address))))
+    (Ok (writer_of (last_writer (Memory address) (trace_at pages h.image h.log position)) (map.get h.image.words address))))
+
+-- The last step before a position that wrote a register: 1 to 31, 32 for HI, 33 for LO. No step writes r0.
+abbrev pub register_writer_at : ℕ → History → (position register : ℕ) → Result ℕ Fault
+register_writer_at pages h position register =
+    if nat_le register 33
+    then up_to_max position (ok_or (last_writer (Register register) (trace_at pages h.image h.log position)) NotFound)
+    else Err Range
 
 -- what each of a number of steps from a position on does
 abbrev pub followed : ℕ → History → (position count : ℕ) → Result (List Traced) Fault

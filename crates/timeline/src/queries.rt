@@ -10,7 +10,7 @@
 ghost use Rattle.std.specs.Prelude.{◌≡◌, ◌≤◌, IfOk, MatchResult, Ok};
 ghost use Rattle.refusal.specs.Given.{Gives, GivesFault};
 ghost use Rattle.input_log.specs.Limits.{max_position};
-ghost use Rattle.timeline.specs.Query.{console_at, core_at, followed, next_pc, sent_at, word_at, writer_at, writer_of};
+ghost use Rattle.timeline.specs.Query.{console_at, core_at, followed, next_pc, register_writer_at, sent_at, word_at, writer_at, writer_of};
 ghost use Rattle.present_run.specs.Landed.{Asks, Lands};
 
 use crate::timeline::Timeline;
@@ -18,7 +18,7 @@ use crate::writer::Writer;
 use arrayvec::ArrayVec;
 use dz_serial::SerialLine;
 use input_log::MAX_POSITION;
-use r3k_machine::{Core, Traced};
+use r3k_machine::{Core, Target, Traced};
 use r3k_word::layout::place_of;
 use refusal::Fault;
 
@@ -107,8 +107,30 @@ impl<const PAGES: u32, const SPAN: u32> Timeline<PAGES, SPAN> {
             return Err(Fault::TooFar);
         }
         let set = self.present.image().word(address);
-        let step = self.present.last_writer(position, address)?;
+        let step = self
+            .present
+            .last_writer(position, Target::Memory(address))?;
         Ok(writer_of(step, set))
+    }
+
+    /// The last step before a position that wrote a register: 1 to 31, 32 for HI, 33 for LO. A load counts at its own step. `NotFound`
+    /// where no step did, as none writes r0. `Range` for a register above 33.
+    pub fn register_writer_at(&mut self, position: u64, register: u8) -> Result<u64, Fault>
+        ensures step { Gives (register_writer_at PAGES self.old.history position register) result }
+        ensures asks { Asks PAGES SPAN position 0 self.old self.new result }
+        ensures landings { self.new.landings ≡ self.old.landings }
+        ensures same { self.new.history ≡ self.old.history }
+    {
+        if register > 33 {
+            return Err(Fault::Range);
+        }
+        if position > MAX_POSITION {
+            return Err(Fault::TooFar);
+        }
+        let writer = self
+            .present
+            .last_writer(position, Target::Register(register))?;
+        writer.ok_or(Fault::NotFound)
     }
 
     /// The step that sent a byte of a line, by its place among the line's bytes, if that was before a position. `Range` for a line

@@ -16,8 +16,8 @@ returns-in-Some-clause-writer g c =
     let from = c.in_ok-index.index * span in
     let steps = steps_between pages image log from position in
     let before : from ≤ position = omega (arith, div-mul-le_self position span, ap (λ (n : ℕ). n * span) recorded.index) in
-    sym (writer_front pages image log c.args.address from position before
-    ∙ ap (λ (o : Option ℕ). later from o (last_writer c.args.address (trace_at pages image log from)))
+    sym (writer_front pages image log c.args.target from position before
+    ∙ ap (λ (o : Option ℕ). later from o (last_writer c.args.target (trace_at pages image log from)))
     (sym (c.writer.ensures steps recorded.recorded) ∙ c.in-Some.is))
 
 pub returns-clause-writer : goal.returns-clause-writer
@@ -32,6 +32,6 @@ returns-clause-writer g c =
     let steps = steps_between pages image log from position in
     let before : from ≤ position = omega (arith, div-mul-le_self position span, ap (λ (n : ℕ). n * span) recorded.index) in
     c.writer_before.ensures
-    ∙ sym (writer_front pages image log c.args.address from position before
-    ∙ ap (λ (o : Option ℕ). later from o (last_writer c.args.address (trace_at pages image log from)))
+    ∙ sym (writer_front pages image log c.args.target from position before
+    ∙ ap (λ (o : Option ℕ). later from o (last_writer c.args.target (trace_at pages image log from)))
     (sym (c.writer.ensures steps recorded.recorded) ∙ c.in_default.is))

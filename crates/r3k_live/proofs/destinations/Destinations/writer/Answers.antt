@@ -8,18 +8,6 @@ use Rattle.r3k_live.proofs.destinations.Destinations.writer.Goals as goal
 within : (number : ℕ) → 1 ≤ number → number ≤ 33 → (nat_le 1 number && nat_le number 33) ≡ true
 within number least most = rw (le-leb 1 number least, le-leb number 33 most) refl
 
-outside : (number : ℕ) → (number ≡ 0) ⊎ (33 < number) → (nat_le 1 number && nat_le number 33) ≡ false
-outside number other =
-    elim (cases_Bool (nat_le 1 number && nat_le number 33)) [
-      | inl inside ↦
-          let parts = and_parts (nat_le 1 number) (nat_le number 33) inside in
-          elim other [
-            | inl none ↦ absurd (let e : ⊥ = omega (arith, none, leb-true 1 number parts.0) in e)
-            | inr past ↦ absurd (let e : ⊥ = omega (arith, past, leb-true number 33 parts.1) in e)
-          ]
-      | inr free ↦ free
-    ]
-
 low : (number : ℕ) → number < 32 → nat_le 32 number ≡ false
 low number below =
     elim (cases_Bool (nat_le 32 number)) [
@@ -29,7 +17,7 @@ low number below =
 
 pub returns-then-register-eq0 : goal.returns-then-register-eq0
 returns-then-register-eq0 c = λ steps are.
-    sym (no_register c.args.register steps (outside c.args.register (elim c.then-register-eq0.either [ inl none ↦ inl none | inr past ↦ inr past.1 ])))
+    sym (no_register c.args.register steps (elim c.then-register-eq0.either [ inl none ↦ inl none | inr past ↦ inr past.1 ]))
 
 pub returns-then-register-lt32 : goal.returns-then-register-lt32
 returns-then-register-lt32 c = λ steps are.

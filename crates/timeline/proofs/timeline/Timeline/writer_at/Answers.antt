@@ -2,6 +2,7 @@ use Rattle.std.proofs.Common.{Result, Ok, not, sym, ap, ◌∙◌, arith}
 use Rattle.std.proofs.Math.Path.{ap₂}
 use Rattle.std.specs.FinMap as map
 use Rattle.std.specs.Option.{is_some}
+use Rattle.r3k_machine.specs.declared.target.Target.TheVariants.{Memory}
 use Rattle.r3k_machine.specs.Run.{last_writer, trace_at}
 use Rattle.refusal.specs.declared.fault.Fault.{Fault}
 use Rattle.r3k_image.specs.Boot.{Boot}
@@ -22,6 +23,6 @@ returns-clause-writer g c =
     ∙ ap (λ (writer : Writer). let r : Result Writer Fault = Ok writer in r) (sym (c.writer_of.ensures
     ∙ ap₂ writer_of
     ((c.in_ok-step.ensures {u = tt}).writer
-    ∙ ap (λ (h : History). last_writer address (trace_at pages h.image h.log position)) (c.last_writer.ensures.spends.history ∙ ap (λ (h : Landed). h.history) c.self.view_is))
+    ∙ ap (λ (h : History). last_writer (Memory address) (trace_at pages h.image h.log position)) (c.last_writer.ensures.spends.history ∙ ap (λ (h : Landed). h.history) c.self.view_is))
     (c.word-set.ensures
     ∙ ap (λ (b : Boot). map.get b.words address) (c.image.ensures ∙ ap (λ (h : Landed). h.history.image) c.self.view_is))))
