@@ -107,9 +107,7 @@ impl<const PAGES: u32, const SPAN: u32> Timeline<PAGES, SPAN> {
             return Err(Fault::TooFar);
         }
         let set = self.present.image().word(address);
-        let step = self
-            .present
-            .last_writer(position, Target::Memory(address))?;
+        let step = self.present.last_writer(position, Target::Memory(address))?;
         Ok(writer_of(step, set))
     }
 
