@@ -12,11 +12,12 @@ from typing import Any, Iterator, Optional, Sequence
 
 from bezhakkom import loading
 from bezhakkom import log as logs
-from bezhakkom import program
+from bezhakkom import program, replies
 from bezhakkom.driver import Driver
 from bezhakkom.image import Image
 from bezhakkom.limits import LINES
 from bezhakkom.log import Event, Kind
+from bezhakkom.states import registers_at, replies_at
 from front.tests.support import ROOT, start
 
 @lru_cache(None)
@@ -95,6 +96,11 @@ def word(driver: Driver, position: int, physical: int) -> int:
     return driver.words(physical, 1)[0]
 
 
+def words(driver: Driver, end: int, physical: int) -> list[int]:
+    """A word at each position before an end."""
+    return [replies.memory(it)[0] for it in replies_at(driver, range(end), f"mem {physical} 1")]
+
+
 def sent(driver: Driver, position: int) -> tuple[bytes, ...]:
     driver.goto(position)
     return tuple(driver.console(line) for line in range(LINES))
@@ -102,11 +108,8 @@ def sent(driver: Driver, position: int) -> tuple[bytes, ...]:
 
 def comes(driver: Driver, address: int, begin: int, end: int) -> Optional[int]:
     """The first position at which an instruction comes next: each is looked at."""
-    for position in range(begin, end + 1):
-        driver.goto(position)
-        if driver.registers().pc == address:
-            return position
-    return None
+    states = registers_at(driver, range(begin, end + 1))
+    return next((begin + at for at, it in enumerate(states) if it.pc == address), None)
 
 
 def kept(test: unittest.TestCase, driver: Driver, before: Any) -> None:

@@ -8,6 +8,7 @@ import threading
 import unittest
 import warnings
 from concurrent.futures import Executor, ThreadPoolExecutor
+from functools import lru_cache
 from typing import Any, Iterator, Optional, Tuple
 from unittest import mock
 
@@ -40,14 +41,22 @@ def found(driver: Driver, executor: Optional[Executor]) -> Iterator[Any]:
     yield fuzz(driver, Holds(0x1020, "==", 0xFFFF_FFFE), 15_000, 250_000, tries=400, executor=executor)
 
 
+@lru_cache(None)
+def alone(patch: Tuple[int, int]) -> list[Any]:
+    """The same by one process, with a patch."""
+    with brute.fresh(brute.image(LOGIN), brute.log_of("login")) as driver:
+        driver.patch(*patch)
+        return list(found(driver, None))
+
+
 class Jobs(unittest.TestCase):
     def check(self, executor: Executor, patch: Tuple[int, int] = (0x3000, 5)) -> None:
         driver = start(brute.image(LOGIN), brute.log_of("login"))
         self.addCleanup(driver.close)
         driver.patch(*patch)  # which the processes have too
-        alone = list(found(driver, None))
+        driver.goto(END)
         before = brute.of(driver)
-        self.assertEqual(list(found(driver, executor)), alone)
+        self.assertEqual(list(found(driver, executor)), alone(patch))
         brute.kept(self, driver, before)
         asked = At(END, (Word(patch[0]), Console(0)))
         cases = [(past, asked) for past in (pasts.PRESENT, pasts.without(driver.log, 2, 3), pasts.PRESENT)]
