@@ -41,13 +41,18 @@ def fresh(guest: Image, log: Sequence[Event]) -> Iterator[Driver]:
         driver.close()
 
 
+@lru_cache(None)
+def _plain() -> str:
+    """Where the plain workbench is."""
+    return subprocess.run([ROOT / "bench/plain/build"], capture_output=True, text=True, check=True).stdout.strip()
+
+
 def plain(test: unittest.TestCase, guest: Image, log: Sequence[Event], commands: Sequence[str]) -> list[str]:
     """What the plain workbench shows for a script: another machine, which was written apart from the program."""
     if not shutil.which("rustc"):
         test.skipTest("rustc is not on the PATH")
-    path = subprocess.run([ROOT / "bench/plain/build"], capture_output=True, text=True, check=True).stdout.strip()
     content = logs.write(log) if log else b""
-    words = [path, *program.words(guest.kind, len(guest.content), len(content))[1:]]
+    words = [_plain(), *program.words(guest.kind, len(guest.content), len(content))[1:]]
     script = "".join(f"{it}\n" for it in commands).encode()
     done = subprocess.run(words, input=guest.content + content + script, capture_output=True, check=True)
     return done.stdout.decode().splitlines()
