@@ -88,19 +88,14 @@ class Browser:
         """What a script returns."""
         return self._send("POST", f"{self._session}/execute/sync", {"script": script, "args": arguments})
 
-    def later(self, script: str) -> Any:
+    def later(self, script: str, *arguments: Any) -> Any:
         """What a script hands to its last argument."""
-        return self._send("POST", f"{self._session}/execute/async", {"script": script, "args": []})
+        return self._send("POST", f"{self._session}/execute/async", {"script": script, "args": arguments})
 
     def waits(self, script: str, *arguments: Any) -> Any:
-        """The value of an expression, as soon as it is there."""
-        end = time.monotonic() + PATIENCE
-        while True:
-            found = self.run(f"return ({script})", *arguments)
-            if found:
-                return found
-            assert time.monotonic() < end, f"{script} did not come"
-            time.sleep(0.03)
+        """The value of an expression, as soon as it is there: the page looks for it."""
+        look = f"const look = () => {{ const it = ({script}); it ? done(it) : setTimeout(look, 15); }}"
+        return self.later(f"const done = arguments[arguments.length - 1]; {look}; look();", *arguments)
 
     def errors(self) -> list[str]:
         """What the browser has logged since it was asked last: scripts that fail, and what a policy refused."""

@@ -12,11 +12,12 @@ from typing import Any, Iterator, Optional, Sequence
 
 from bezhakkom import loading
 from bezhakkom import log as logs
-from bezhakkom import program
+from bezhakkom import program, replies
 from bezhakkom.driver import Driver
 from bezhakkom.image import Image
 from bezhakkom.limits import LINES
 from bezhakkom.log import Event, Kind
+from bezhakkom.states import registers_at, replies_at
 from front.tests.support import ROOT, start
 
 @lru_cache(None)
@@ -40,13 +41,18 @@ def fresh(guest: Image, log: Sequence[Event]) -> Iterator[Driver]:
         driver.close()
 
 
+@lru_cache(None)
+def _plain() -> str:
+    """Where the plain workbench is."""
+    return subprocess.run([ROOT / "bench/plain/build"], capture_output=True, text=True, check=True).stdout.strip()
+
+
 def plain(test: unittest.TestCase, guest: Image, log: Sequence[Event], commands: Sequence[str]) -> list[str]:
     """What the plain workbench shows for a script: another machine, which was written apart from the program."""
     if not shutil.which("rustc"):
         test.skipTest("rustc is not on the PATH")
-    path = subprocess.run([ROOT / "bench/plain/build"], capture_output=True, text=True, check=True).stdout.strip()
     content = logs.write(log) if log else b""
-    words = [path, *program.words(guest.kind, len(guest.content), len(content))[1:]]
+    words = [_plain(), *program.words(guest.kind, len(guest.content), len(content))[1:]]
     script = "".join(f"{it}\n" for it in commands).encode()
     done = subprocess.run(words, input=guest.content + content + script, capture_output=True, check=True)
     return done.stdout.decode().splitlines()
@@ -95,6 +101,11 @@ def word(driver: Driver, position: int, physical: int) -> int:
     return driver.words(physical, 1)[0]
 
 
+def words(driver: Driver, end: int, physical: int) -> list[int]:
+    """A word at each position before an end."""
+    return [replies.memory(it)[0] for it in replies_at(driver, range(end), f"mem {physical} 1")]
+
+
 def sent(driver: Driver, position: int) -> tuple[bytes, ...]:
     driver.goto(position)
     return tuple(driver.console(line) for line in range(LINES))
@@ -102,11 +113,8 @@ def sent(driver: Driver, position: int) -> tuple[bytes, ...]:
 
 def comes(driver: Driver, address: int, begin: int, end: int) -> Optional[int]:
     """The first position at which an instruction comes next: each is looked at."""
-    for position in range(begin, end + 1):
-        driver.goto(position)
-        if driver.registers().pc == address:
-            return position
-    return None
+    states = registers_at(driver, range(begin, end + 1))
+    return next((begin + at for at, it in enumerate(states) if it.pc == address), None)
 
 
 def kept(test: unittest.TestCase, driver: Driver, before: Any) -> None:

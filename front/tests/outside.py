@@ -1,19 +1,48 @@
 """`bin/wb` from outside, for tests: what it writes, and how it ends."""
 from __future__ import annotations
 
+import os
+import signal
 import subprocess
+import sys
 import tempfile
 import unittest
 from pathlib import Path
 from typing import Sequence
 
+from bezhakkom import cli
 from front.tests.support import ROOT
 
 WB = str(ROOT / "bin/wb")
+TIMEOUT = 300  # seconds
 
 
-def run(arguments: Sequence[str], content: bytes = b"", folder: Path = ROOT) -> subprocess.CompletedProcess[bytes]:
-    return subprocess.run([WB, *arguments], input=content, capture_output=True, cwd=folder)
+def run(arguments: Sequence[str], content: bytes = b"", folder: Path = ROOT, *, is_one_text: bool = False,
+        **environment: str) -> subprocess.CompletedProcess[bytes]:
+    """Runs it in a copy of this process, which has its modules already: to start Python and load them takes longer than most runs.
+    `is_one_text` says that what it writes to both of its streams is one text."""
+    with tempfile.TemporaryFile() as given, tempfile.TemporaryFile() as out, tempfile.TemporaryFile() as errors:
+        given.write(content)
+        given.seek(0)
+        child = os.fork()
+        if not child:
+            signal.alarm(TIMEOUT)
+            try:
+                for number, file in enumerate((given, out, out if is_one_text else errors)):
+                    os.dup2(file.fileno(), number)
+                sys.stdin, sys.stdout = open(0, closefd=False), open(1, "w", closefd=False)
+                sys.stderr = open(2, "w", errors="backslashreplace", closefd=False)  # as Python has it
+                os.chdir(folder)
+                os.environ.update(environment)
+                status = cli.main(arguments)
+                sys.stderr.flush()
+                os._exit(status)
+            finally:
+                os._exit(70)
+        status = os.waitstatus_to_exitcode(os.waitpid(child, 0)[1])
+        out.seek(0)
+        errors.seek(0)
+        return subprocess.CompletedProcess(arguments, status, out.read(), errors.read())
 
 
 class InFolder(unittest.TestCase):

@@ -12,12 +12,7 @@ LAST = "<no more>"  # after the last prompt
 
 def transcript(page: str, section: str) -> list[str]:
     """The lines of the indented blocks of a page's section, which are one session."""
-    return indented(page.split(f"## {section}\n")[1].split("\n## ")[0])
-
-
-def indented(text: str) -> list[str]:
-    """The lines of the indented blocks of a text."""
-    return seen("\n".join(re.findall(r"(?m)^    (.*)$", text)))
+    return seen("\n".join(re.findall(r"(?m)^    (.*)$", page.split(f"## {section}\n")[1].split("\n## ")[0])))
 
 
 def seen(text: str) -> list[str]:

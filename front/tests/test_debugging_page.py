@@ -6,7 +6,7 @@ import tempfile
 import unittest
 
 from front.tests import debugger
-from front.tests.pages import commands_of, indented, seen, transcript, with_commands
+from front.tests.pages import commands_of, seen, transcript, with_commands
 
 PAGE = (debugger.ROOT / "docs/DEBUGGING.md").read_text()
 
@@ -22,24 +22,13 @@ class Page(unittest.TestCase):
         shown = debugger.run(words, "".join(f"{command}\n" for command in commands))
         self.assertEqual(with_commands(shown, commands), lines)
 
-    def test_the_walks_in_the_shell(self) -> None:
-        for heading in "The same in the shell", "Step by step":
-            with self.subTest(heading=heading):
-                self.check(heading)
-
-    def check(self, heading: str) -> None:
-        start, *lines = transcript(PAGE, heading)
+    def test_step_by_step_in_the_shell(self) -> None:
+        start, *lines = transcript(PAGE, "Step by step")
         with tempfile.NamedTemporaryFile("w") as script:
             script.write("".join(line[2:] + "\n" for line in lines if line.startswith("> ")))
             script.flush()
             shown = debugger.run([debugger.WB, *shlex.split(start)[2:], "--echo", script.name])
         self.assertEqual(seen(shown), lines)
-
-    def test_the_lines_at_the_head_are_of_the_walk(self) -> None:
-        head = indented(PAGE.split("\n## ")[0])
-        walk = iter(transcript(PAGE, "A walk in gdb"))
-        for line in head:
-            self.assertIn(line, walk)
 
 
 if __name__ == "__main__":

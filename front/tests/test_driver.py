@@ -29,12 +29,12 @@ def echo() -> Driver:
     return loading.start(loading.image(str(ECHO / "boot.s")), str(ECHO / "log"))
 
 
-def random_command(source: random.Random, events: int, kinds: bool = False, erase: bool = False) -> str:
+def random_command(source: random.Random, events: int) -> str:
     """A command that moves, edits or asks, mostly one that is not refused."""
     step = source.randrange(600)
-    if erase and source.randrange(10) == 0:
+    if source.randrange(10) == 0:
         return f"erase {step} {step + source.randrange(-20, 200)}"
-    if kinds and source.randrange(5) == 0:
+    if source.randrange(5) == 0:
         return source.choice((
             f"ferr {step} {source.randrange(5)} {source.randrange(256)}", f"wire {step} {source.randrange(4)} {source.randrange(3)}",
             f"set {source.randrange(events + 1)} {source.randrange(3)}"))
@@ -191,22 +191,11 @@ class Values(unittest.TestCase):
 class Mirrors(unittest.TestCase):
     def test_random_commands(self) -> None:
         """Each reply is the program's own, with as few reads as a program may have that is started anew again and again."""
-        self.mirrors()
-
-    def test_random_commands_of_all_kinds(self) -> None:
-        needs_kinds(self)
-        self.mirrors(kinds=True)
-
-    def test_random_commands_that_erase(self) -> None:
-        needs_erase(self)
-        self.mirrors(kinds=True, erase=True)
-
-    def mirrors(self, kinds: bool = False, erase: bool = False) -> None:
-        for seed in range(6):
+        for seed in range(9):
             source = random.Random(seed)
             image = rom(random_rom(source))
             log = sorted((Event(source.randrange(400), 0, source.randrange(256)) for _ in range(3)), key=lambda it: it.time)
-            commands = [random_command(source, 6, kinds, erase) for _ in range(150)]
+            commands = [random_command(source, 6) for _ in range(150)]
             plain, anew = start(image, log), start(image, log, most_reads=12)
             with self.subTest(seed=seed):
                 self.assertEqual(anew.ask_all(commands), plain.ask_all(commands))

@@ -8,16 +8,22 @@ import unittest
 from pathlib import Path
 from xml.etree import ElementTree
 
-from front.tests import debugger
-from front.tests.support import needs_erase, needs_kinds
+from front.tests import outside
+from front.tests.support import ROOT, needs_erase, needs_kinds
 
 SVG = "{http://www.w3.org/2000/svg}"
 LOGIN = ["--to", "130000", "--log", "examples/login/log", "examples/login/login.elf"]
 
 
+def drawn(*words: str) -> str:
+    """What `bin/wb plot` shows."""
+    done = outside.run(["plot", *words])
+    return (done.stdout + done.stderr).decode("latin-1")
+
+
 class Plot(unittest.TestCase):
     def plot(self, *words: str) -> ElementTree.Element:
-        shown = debugger.run([debugger.WB, "plot", *words])
+        shown = drawn(*words)
         self.assertTrue(shown.startswith("<svg"), shown)
         return ElementTree.fromstring(shown)
 
@@ -68,7 +74,7 @@ class Plot(unittest.TestCase):
         for name in "0x00500000", "p:0x11000":
             texts = self.texts(self.plot("--to", "100", "--words", name, "examples/user-mode/boot.s"))
             self.holds(texts, name, "0x0000002a")
-        shown = debugger.run([debugger.WB, "plot", "--to", "20", "--words", "0x500000", "examples/user-mode/boot.s"])
+        shown = drawn("--to", "20", "--words", "0x500000", "examples/user-mode/boot.s")
         self.assertIn("0x00500000 is mapped at none of 20 positions of the run. At the end 0x00500000 leads nowhere", shown)
 
     def test_framing_errors_and_external_lines(self) -> None:
@@ -85,11 +91,11 @@ class Plot(unittest.TestCase):
         self.holds(texts, "loop", "53.5 %", "none", "25.8 %", "next", "17.2 %", "0xbfc00000", "3.5 %")
 
     def test_the_picture_of_the_page(self) -> None:
-        page = (debugger.ROOT / "docs/DEBUGGING.md").read_text()
+        page = (ROOT / "docs/DEBUGGING.md").read_text()
         found = re.search(r"(?m)^    bin/wb plot (.*) (docs/\S+)$", page)
         assert found
-        shown = debugger.run([debugger.WB, "plot", *found[1].split()])
-        self.assertEqual(shown, (debugger.ROOT / found[2]).read_text("latin-1"))
+        shown = drawn(*found[1].split())
+        self.assertEqual(shown, (ROOT / found[2]).read_text("latin-1"))
 
     def test_backgrounds(self) -> None:
         choices: list[list[str]] = [[], ["--background", "light"], ["--background=dark"]]
@@ -102,15 +108,15 @@ class Plot(unittest.TestCase):
         with tempfile.TemporaryDirectory() as folder:
             out, kernel = Path(folder) / "run.svg", Path(folder) / "kernel.elf"
             for _ in range(2):
-                self.assertEqual(debugger.run([debugger.WB, "plot", *LOGIN, str(out)]), "")
+                self.assertEqual(drawn(*LOGIN, str(out)), "")
                 ElementTree.parse(out)
             kernel.write_bytes(b"\x7fELF")
-            self.assertEqual(debugger.run([debugger.WB, "plot", *LOGIN, str(kernel)]),
+            self.assertEqual(drawn(*LOGIN, str(kernel)),
                              f"bin/wb: {kernel} is there and is no picture of a run. `--force` overwrites it\n")
             self.assertEqual(kernel.read_bytes(), b"\x7fELF")
-            self.assertEqual(debugger.run([debugger.WB, "plot", "--force", *LOGIN, str(kernel)]), "")
+            self.assertEqual(drawn("--force", *LOGIN, str(kernel)), "")
             ElementTree.parse(kernel)
-            self.assertIn("can't be written", debugger.run([debugger.WB, "plot", *LOGIN, f"{folder}/none/run.svg"]))
+            self.assertIn("can't be written", drawn(*LOGIN, f"{folder}/none/run.svg"))
 
     def test_what_is_wrong_is_told(self) -> None:
         for words, reason in (
@@ -123,7 +129,7 @@ class Plot(unittest.TestCase):
                 (["--words", "0x1000", *LOGIN], "0x00001000 is mapped at none of "),
                 (["--edits", "goto 5", *LOGIN], "goto 5 is no edit"),
                 (["--edits", "del 99", *LOGIN], "there is no event 99: they are 0 to ")):
-            self.assertIn(reason, debugger.run([debugger.WB, "plot", *words]))
+            self.assertIn(reason, drawn(*words))
 
 
 if __name__ == "__main__":

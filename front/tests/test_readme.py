@@ -49,19 +49,11 @@ class Readme(unittest.TestCase):
                 for line in lines:
                     self.assertIn(line, shown)
 
-    def test_the_walk_is_that_of_the_page_of_debugging(self) -> None:
-        page = (ROOT / "docs/DEBUGGING.md").read_text()
-        typed = re.findall(r"(?m)^    > (.*)$", page.split("## The same in the shell\n")[1].split("\n## ")[0])
-        walk = [it for it in (ROOT / "examples/login/walk").read_text().splitlines() if not it.startswith("#")]
-        self.assertEqual(walk, typed)
-
     def test_its_lines_of_linux_are_of_that_page(self) -> None:
-        """As are those at the head of the page. examples/linux/check compares the page with Linux."""
-        page = (ROOT / "docs/LINUX.md").read_text()
-        for lines in (pages.transcript(PAGE, "Linux"), pages.indented(page.split("\n## ")[0])):
-            walk = iter(pages.transcript(page, "A walk in gdb"))
-            for line in lines:
-                self.assertIn(line, walk)
+        """examples/linux/check compares that page with Linux."""
+        walk = iter(pages.transcript((ROOT / "docs/LINUX.md").read_text(), "A walk in gdb"))
+        for line in pages.transcript(PAGE, "Linux"):
+            self.assertIn(line, walk)
 
     def test_what_it_names_is_there(self) -> None:
         for name in set(re.findall(r"`((?:bin|bench|docs|front|examples|\.ci)/[\w./-]*)", PAGE)):

@@ -89,7 +89,7 @@ class Kept(unittest.TestCase):
             elif edit == 4 and source.random() < 0.2:
                 # The branch over the echo is taken always, or never.
                 driver.patch(0x1FC0_1010, source.choice((0x10E00007, 0x04E10007, 0)))
-            pcs = [it.pc for it in states(driver, STEPS)]
+            pcs = [it.pc for it in driver.traced(0, STEPS)]
             for _ in range(4):
                 here, limit = source.randrange(STEPS // 2), source.randrange(1, STEPS // 2)
                 wanted = set(source.sample(places, 2))

@@ -7,7 +7,6 @@ from __future__ import annotations
 import os
 import random
 import signal
-import time
 import unittest
 import unittest.mock
 
@@ -18,7 +17,7 @@ from bezhakkom.stub import ANSWERS
 from front.tests.support import needs_erase, rom, start
 from front.tests.wire import COUNTER, ECHO, TYPED, StubTest
 
-FUZZED = 3  # seconds
+GARBAGE = 4000  # packets
 PC, STATUS = 37, 32  # the numbers that gdb gives registers of a MIPS processor
 
 
@@ -323,18 +322,18 @@ class Hostile(StubTest):
             self.assertEqual(wire.ask(packet), "E01", packet)
         self.assertEqual(wire.position(), 0)
 
+    @unittest.mock.patch("bezhakkom.whatif.compare.RAM", range(0x2000))  # that is all that this program could use
     def test_garbage(self) -> None:
         # The program stands still, so that each run ends at once.
         wire = self.wire([0x1000FFFF, 0])
         source = random.Random(1)
         begins = [begin.decode() for begin in ANSWERS if begin not in (b"D", b"k")]
-        # Without those that write files, and moves to steps as far away as an address is.
-        names = [it for it in COMMANDS if not it.startswith(("save", "load", "goto", "step", "back", "visit", "wb"))]
+        # Without those that write files, and those of as many steps as an address is.
+        names = [it for it in COMMANDS if not it.startswith(("save", "load", "goto", "step", "back", "visit", "wb", "io", "trace"))]
         numbers = ("0 1 7 0xbfc00000 p:0x0 p:0x1fc00004 -1 1, 1,000 99999999999999999999 pc pos $sp 'a' 'b\\r' ' \" \n \0 \xff ;")
-        words = [*names, "goto 1,000", "step 1", "back 1,", "visit 0xbfc00000 9", "wb pos", *numbers.split(" ")]
+        words = [*names, "goto 1,000", "step 1", "back 1,", "visit 0xbfc00000 9", "wb pos", "io 9", "trace 9", *numbers.split(" ")]
         wire.command("patch p:0x100 7")
-        end = time.monotonic() + FUZZED
-        while time.monotonic() < end:
+        for _ in range(GARBAGE):
             if source.random() < 0.5:
                 characters = source.choices("0123456789abcdef,;:=.cs+ \n\x00\x7f", k=source.randrange(12))
                 wire.ask(source.choice(begins) + "".join(characters))

@@ -3,14 +3,12 @@ from __future__ import annotations
 
 import contextlib
 import io
-import os
 import random
 import re
 import shutil
 import subprocess
 import tempfile
 import unittest
-from concurrent.futures import ThreadPoolExecutor
 from pathlib import Path
 from typing import Sequence
 from unittest import mock
@@ -18,12 +16,11 @@ from unittest import mock
 from bezhakkom import cli, image_command
 from bezhakkom.driver import Driver
 from bezhakkom.errors import Problem
-from front.tests.outside import WB
+from front.tests.outside import TIMEOUT, WB, run
 from front.tests.support import ROOT, rom
 
 SEED = 55
 LINES = 36  # random ones
-TIMEOUT = 300
 STATUSES = {0, 1, 2, 3, 5}  # those of docs/USING.md but for what is wrong with the program or with bin/wb itself
 
 FRONT_ENDS = ("", *(it for it in cli.COMMANDS if it != "view"))  # that one serves a page until it is left
@@ -37,12 +34,10 @@ SHELL_LINES = ["goto {}", "mem {}", "break {}", "continue 9", "patch {} {}", "ty
                "save-log {}", "print {}", "x {}", "{}", "del {}", "watch {} {}", "dis {}", "writer {}", "reverse-continue", "help {}"]
 
 
-def run(arguments: Sequence[str], content: bytes = b"", folder: Path = ROOT, after: str = "") -> subprocess.CompletedProcess[bytes]:
-    """What the front ends say of an argument line. `after` is what the system's shell has after it."""
-    words = [WB, *arguments]
-    if after:
-        words = ["sh", "-c", f'exec "$@" {after}', "sh", *words]
-    return subprocess.run([os.fsencode(it) for it in words], input=content, capture_output=True, cwd=folder, timeout=TIMEOUT)
+def typed(arguments: Sequence[str], content: bytes, after: str) -> subprocess.CompletedProcess[bytes]:
+    """What `bin/wb` says of an argument line, and of what the system's shell has after it."""
+    words = ["sh", "-c", f'exec "$@" {after}', "sh", WB, *arguments]
+    return subprocess.run(words, input=content, capture_output=True, cwd=ROOT, timeout=TIMEOUT)
 
 
 class Top(unittest.TestCase):
@@ -94,7 +89,7 @@ class Top(unittest.TestCase):
                 (["log", "show", "examples/echo/log"], "<&-", 0, b""), (["log", "show", "examples/echo/log"], ">&-", 3, bad),
                 (["plot", "--to", "9", "examples/echo/boot.s"], ">&-", 3, bad), (["shell", "examples/echo/boot.s"], ">&-", 3, bad),
                 (["none"], "2>&-", 2, b""), (["shell", "examples/echo/boot.s", "examples/echo/script"], "<&- 2>&-", 0, b"")):
-            done = run(arguments, b"pos\n", after=after)
+            done = typed(arguments, b"pos\n", after)
             self.assertEqual((done.stderr, done.returncode), (said, status), (arguments, after))
 
     def test_random_argument_lines(self) -> None:
@@ -110,12 +105,12 @@ class Top(unittest.TestCase):
                 if source.randrange(2):
                     words.append("examples/login/login.elf")
                 lines.append([front_end, *words] if front_end else words)
-            with ThreadPoolExecutor(os.cpu_count()) as pool:
-                for done in pool.map(lambda line: run(line, b"quit\n", folder), lines):
-                    self.assertIn(done.returncode, STATUSES, (done.args, done.stderr))
-                    if b"gdb" not in done.args:
-                        self.lines_for_users(done)
-                    self.assertNotIn(b"Traceback", done.stderr, done.args)
+            for line in lines:
+                done = run(line, b"quit\n", folder)
+                self.assertIn(done.returncode, STATUSES, (line, done.stderr))
+                if "gdb" not in line:
+                    self.lines_for_users(done)
+                self.assertNotIn(b"Traceback", done.stderr, line)
 
     def test_random_files(self) -> None:
         """Each front end that takes files, on files that are damaged or are something else."""
@@ -135,10 +130,10 @@ class Top(unittest.TestCase):
                     (["shell", one, other], ["shell", "--log", other, one], ["stub", "--log", other, one]),
                     (["log", "show", one], ["log", "make", one, f"{at}.out"], ["image", one, f"{at}.img.out"],
                      ["plot", "--to", "99", "--log", other, one]))]
-            with ThreadPoolExecutor(os.cpu_count()) as pool:
-                for done in pool.map(lambda line: run(line, b"pos\n", folder), lines):
-                    self.assertIn(done.returncode, STATUSES, (done.args, done.stderr))
-                    self.lines_for_users(done)
+            for line in lines:
+                done = run(line, b"pos\n", folder)
+                self.assertIn(done.returncode, STATUSES, (line, done.stderr))
+                self.lines_for_users(done)
 
     def test_random_lines_for_the_shell(self) -> None:
         """Whatever is typed, the shell answers in lines, and has the event that it had."""

@@ -130,10 +130,10 @@ class Travel(unittest.TestCase):
                 driver.visits.forget()
 
     def test_steps_that_are_passed_over_are_not_run_again(self) -> None:
-        """The login program waits for its first byte for ever, from step 355 or so on: of 100 million steps few are looked at."""
+        """The login program waits for its first byte for ever, from step 355 or so on: of 20 million steps few are looked at."""
         driver = start(loading.image("examples/login/login.elf"))
         self.addCleanup(driver.close)
-        driver.goto(100_000_000)
+        driver.goto(20_000_000)
         asked: list[str] = []
         ask = driver.ask
         with unittest.mock.patch.object(driver, "ask", side_effect=lambda it: asked.append(it) or ask(it)):

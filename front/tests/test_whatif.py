@@ -72,36 +72,39 @@ class Pasts(unittest.TestCase):
 class Causes_(unittest.TestCase):
     """`causes` on the guests of the repository."""
 
-    def check(self, guest: str, log: list[Event], question: Question, position: int, ask: Callable[[Driver], Any],
-              count: int = 1, every: int = 1) -> Causes:
-        """Against a new program for each past; of a long log, of each so many events."""
+    def check(self, guest: str, log: list[Event], questions: dict[Question, Callable[[Driver], Any]], position: int, count: int = 1,
+              every: int = 1) -> Causes:
+        """Against a new program for each past, which is asked all questions; of a long log, of each so many events. Gives what is found
+        for the last question."""
         driver = start(brute.image(guest), log)
         self.addCleanup(driver.close)
         driver.goto(position + 3)
         before = brute.of(driver)
-        found = causes(driver, question, position, values=count)
-        brute.kept(self, driver, before)
-
-        def other(log: list[Event]) -> bool:
-            with brute.fresh(brute.image(guest), log) as alone:
-                return bool(ask(alone) != found.answer)
-
-        with brute.fresh(brute.image(guest), log) as alone:
-            self.assertEqual(found.answer, ask(alone))
         events = [it for it, event in enumerate(log) if event.time < position]
         looked = events[::every]
-        by_value = [it for it in looked if any(other(brute.with_byte(log, it, byte)) for byte in other_values(log[it])[:count])]
-        self.assertEqual([it for it in found.by_value if it in looked], by_value)
-        gone = [it for it in looked if other(brute.without(log, it))]
-        self.assertEqual([it for it in found.by_being_there if it in looked], gone)
-        self.assertEqual((found.events, found.asked, found.is_stopped), (len(events), len(events), False))
+
+        def answers(log: list[Event]) -> list[Any]:
+            with brute.fresh(brute.image(guest), log) as alone:
+                return [ask(alone) for ask in questions.values()]
+
+        as_it_is = answers(log)
+        of_values = {it: [answers(brute.with_byte(log, it, byte)) for byte in other_values(log[it])[:count]] for it in looked}
+        of_none = {it: answers(brute.without(log, it)) for it in looked}
+        for at, question in enumerate(questions):
+            found = causes(driver, question, position, values=count)
+            brute.kept(self, driver, before)
+            self.assertEqual(found.answer, as_it_is[at])
+            by_value = [it for it in looked if any(other[at] != found.answer for other in of_values[it])]
+            self.assertEqual([it for it in found.by_value if it in looked], by_value)
+            gone = [it for it in looked if of_none[it][at] != found.answer]
+            self.assertEqual([it for it in found.by_being_there if it in looked], gone)
+            self.assertEqual((found.events, found.asked, found.is_stopped), (len(events), len(events), False))
         driver.close()
         return found
 
     def test_echo(self) -> None:
-        log = brute.log_of("echo")
-        self.check("echo/boot.s", log, Console(0), 256, lambda it: brute.sent(it, 256)[0])
-        self.check("echo/boot.s", log, Word(0x104), 256, lambda it: brute.word(it, 256, 0x104), 3)
+        self.check("echo/boot.s", brute.log_of("echo"), {
+            Console(0): lambda it: brute.sent(it, 256)[0], Word(0x104): lambda it: brute.word(it, 256, 0x104)}, 256, 3)
 
     def test_echo_with_random_logs(self) -> None:
         source = random.Random(3)
@@ -115,8 +118,7 @@ class Causes_(unittest.TestCase):
             def register(driver: Driver, position: int = position) -> int:
                 return brute.register(driver, position, 8)
 
-            self.check("echo/boot.s", log, Word(0x100), position, word)
-            self.check("echo/boot.s", log, Register("t0", 8), position, register)
+            self.check("echo/boot.s", log, {Word(0x100): word, Register("t0", 8): register}, position)
 
     def test_echo_on_the_plain_workbench(self) -> None:
         """The other machine agrees about each event."""
@@ -137,23 +139,23 @@ class Causes_(unittest.TestCase):
     def test_login(self) -> None:
         # An `x` and two backspaces make the length -1; without one of them it is -2 or 0.
         log = brute.log_of("login")
-        found = self.check("login/login.elf", log, Word(0x1020), 41_000, lambda it: brute.word(it, 41_000, 0x1020), 2)
+        found = self.check("login/login.elf", log, {Word(0x1020): lambda it: brute.word(it, 41_000, 0x1020)}, 41_000, 2)
         self.assertEqual((found.answer, found.by_being_there), (0xFFFF_FFFF, [0, 1, 2]))
 
         def sent(driver: Driver) -> Optional[int]:
             text = brute.sent(driver, 130_000)[0]
             return text[30] if len(text) > 30 else None
 
-        self.check("login/login.elf", log, Sent(0, 30), 130_000, sent)
+        self.check("login/login.elf", log, {Sent(0, 30): sent}, 130_000)
 
     def test_driver(self) -> None:
         log = brute.log_of("driver")
-        self.check("driver/boot.s", log, Console(2), 9000, lambda it: brute.sent(it, 9000)[2])
+        self.check("driver/boot.s", log, {Console(2): lambda it: brute.sent(it, 9000)[2]}, 9000)
 
     def test_loader(self) -> None:
         """The pointer that is called in the end."""
         log = brute.log_of("loader")
-        found = self.check("loader/loader.elf", log, Word(0x141C), 237_000, lambda it: brute.word(it, 237_000, 0x141C), every=6)
+        found = self.check("loader/loader.elf", log, {Word(0x141C): lambda it: brute.word(it, 237_000, 0x141C)}, 237_000, every=6)
         # The damaged record is events 59 to 117, after the return that is event 58. Its checksum, C4, is stored over the low byte.
         self.assertEqual(found.answer & 0xFF, 0xC4)
         self.assertTrue({115, 116} <= set(found.by_value))

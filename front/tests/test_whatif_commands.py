@@ -4,6 +4,7 @@ from __future__ import annotations
 import json
 import unittest
 from typing import Any
+from unittest import mock
 
 from bezhakkom.whatif.futures import OUT, STEP, VALUE
 from bezhakkom.whatif.shown import runs, spelled
@@ -16,18 +17,26 @@ LOGIN = ("--log", "examples/login/log", "examples/login/login.elf")
 ECHO = ("--log", "examples/echo/log", "examples/echo/boot.s")
 
 
+def answers(*lines: str, guest: tuple[str, ...] = ECHO) -> list[list[str]]:
+    """What the shell says to each of some lines."""
+    rest, found = shell("--echo", *guest, lines=lines).stdout, []
+    for line in reversed(lines):
+        rest, _, answer = rest.rpartition(f"> {line}\n")
+        found.append(answer.splitlines())
+    return found[::-1]
+
+
 def said(*lines: str, guest: tuple[str, ...] = ECHO) -> list[str]:
-    """What the shell says to the last of some lines."""
-    done = shell("--echo", *guest, lines=lines)
-    return done.stdout.rpartition(f"> {lines[-1]}\n")[2].splitlines()
+    """What it says to the last of them."""
+    return answers(*lines, guest=guest)[-1]
 
 
 def value(*lines: str, guest: tuple[str, ...] = ECHO) -> Any:
-    """What it says to it with --json."""
-    one, = said(*lines[:-1], f"{lines[-1]} --json", guest=guest)
-    return json.loads(one)
+    """The same with --json."""
+    return json.loads(*said(*lines[:-1], f"{lines[-1]} --json", guest=guest))
 
 
+@mock.patch("bezhakkom.whatif.compare.RAM", range(0x20000))  # that is all that these guests use
 class Said(unittest.TestCase):
     maxDiff = None
 
@@ -77,40 +86,43 @@ class Said(unittest.TestCase):
 
     def test_source_lines(self) -> None:
         """Those of login.c, as gdb shows them in docs/DEBUGGING.md: the length is changed in line 44, and a byte read in line 33."""
-        self.assertEqual(said("goto 50,000", "when session+0x20 == 0xffffffff", guest=LOGIN), [
-            "session+0x20 == 0xffffffff holds first at step 40,025, after step 40,024, read_line+0x30 (login.c:44), "
-            "9,976 steps ago: sw r3, 32(r2)"])
+        _, when, when_as_value, _, by_del, by_set, _, _, compare, compare_as_value = answers(
+            "goto 50,000", "when session+0x20 == 0xffffffff", "when session+0x20 == 0xffffffff --json",
+            "goto 40,024", "causes pc by del", "causes pc by set --json",
+            "goto 50,000", "set 2 'a'", "compare", "compare --json", guest=LOGIN)
+        self.assertEqual(when, ["session+0x20 == 0xffffffff holds first at step 40,025, after step 40,024, read_line+0x30 (login.c:44), "
+                                "9,976 steps ago: sw r3, 32(r2)"])
         after = {"step": 40_024, "pc": 0xBFC0_0258, "place": "read_line+0x30", "source": "login.c:44"}
-        self.assertEqual(value("goto 50,000", "when session+0x20 == 0xffffffff", guest=LOGIN)["after"], after)
-        self.assertEqual(said("goto 40,024", "causes pc by del", guest=LOGIN)[0], "pc at step 40,024: 0xbfc00258 <read_line+0x30> (login.c:44)")
-        found = value("goto 40,024", "causes pc by set", guest=LOGIN)
+        self.assertEqual(json.loads(*when_as_value)["after"], after)
+        self.assertEqual(by_del[0], "pc at step 40,024: 0xbfc00258 <read_line+0x30> (login.c:44)")
+        found = json.loads(*by_set)
         self.assertEqual((found["answer"], found["place"], found["source"]), (0xBFC0_0258, "read_line+0x30", "login.c:44"))
-        lines = ("goto 50,000", "set 2 'a'", "compare")
-        self.assertRegex(said(*lines, guest=LOGIN)[1], r"^registers differ from step 40,0\d\d on, after receive\+0x4 \(login\.c:33\): ")
-        after = value(*lines, guest=LOGIN)["registers"]["after"]
+        self.assertRegex(compare[1], r"^registers differ from step 40,0\d\d on, after receive\+0x4 \(login\.c:33\): ")
+        after = json.loads(*compare_as_value)["registers"]["after"]
         self.assertEqual((after["pc"], after["source"]), (0xBFC0_0204, "login.c:33"))
 
     def test_compare(self) -> None:
-        shown = said("goto 256", "set 1 'C'", "compare")
+        _, of_none, _, shown, as_value, _, _, of_a_log = answers("goto 256", "compare", "set 1 'C'", "compare", "compare --json", "undo", "del 0",
+                                                                 "compare examples/echo/log")
         self.assertEqual(shown[0], "the events differ from step 200 on")
         self.assertRegex(shown[1], r"^registers differ from step 208 on, after loop: load 0x8043 on its way to a2 here, "
                                    r"0x8042 on its way to a2 before$")
         self.assertEqual(shown[2], "line 0: byte 1 is 'C' in step 215 here, 'B' in step 215 before")
         self.assertEqual(shown[-1], "`undo` goes back to before `set 1 'C'`")
-        self.assertEqual(said("goto 256", "compare"), ["there is no edit to compare with; `compare LOG` compares with a log"])
-        self.assertEqual(said("goto 256", "del 0", "compare examples/echo/log")[2],
-                         "line 0: byte 0 is 'B' in step 215 here, 'A' in step 83 there")
-        self.assertEqual(value("goto 256", "set 1 'C'", "compare")["sent"],
-                         [{"line": 0, "place": 1, "here": [0x43, 215], "there": [0x42, 215]}])
+        self.assertEqual(of_none, ["there is no edit to compare with; `compare LOG` compares with a log"])
+        self.assertEqual(of_a_log[2], "line 0: byte 0 is 'B' in step 215 here, 'A' in step 83 there")
+        self.assertEqual(json.loads(*as_value)["sent"], [{"line": 0, "place": 1, "here": [0x43, 215], "there": [0x42, 215]}])
 
     def test_shrink_is_an_edit(self) -> None:
-        lines = ("goto 256", "shrink until console 'B' as all-of-it")
-        self.assertEqual(said(*lines), ["1 of 2 events are left, and `console 'B'` comes true at step 216:", "  200 0 'B'",
-                                        "the log as it was is kept as all-of-it; `undo` brings it back"])
-        self.assertEqual(said(*lines, "log")[0], "1 event, 1 before this position")
-        self.assertEqual(said(*lines, "compare all-of-it")[0], "the events differ from step 70 on")
-        self.assertEqual(said(*lines, "undo", "log")[0], "2 events, 2 before this position")
-        found = value("goto 256", "shrink until word 0xa0000100 == 0x8042")
+        _, shrunk, log, compare, _, log_before, as_value = answers(
+            "goto 256", "shrink until console 'B' as all-of-it", "log 0 1", "compare all-of-it", "undo", "log",
+            "shrink until word 0xa0000100 == 0x8042 --json")
+        self.assertEqual(shrunk, ["1 of 2 events are left, and `console 'B'` comes true at step 216:", "  200 0 'B'",
+                                  "the log as it was is kept as all-of-it; `undo` brings it back"])
+        self.assertEqual(log[0], "1 event, 1 before this position")
+        self.assertEqual(compare[0], "the events differ from step 70 on")
+        self.assertEqual(log_before[0], "2 events, 2 before this position")
+        found = json.loads(*as_value)
         self.assertEqual((found["before"], found["events"], found["stopped"]),
                          (2, [{"time": 200, "line": 0, "byte": 66, "kind": "byte"}], False))
 
@@ -121,14 +133,15 @@ class Said(unittest.TestCase):
 
     def test_jobs(self) -> None:
         for line in ("causes session+0x20 values 3", "try 2 all"):
-            self.assertEqual(said("goto 130,000", f"{line} --jobs 2", guest=LOGIN), said("goto 130,000", line, guest=LOGIN))
+            _, by_two, alone = answers("goto 130,000", f"{line} --jobs 2", line, guest=LOGIN)
+            self.assertEqual(by_two, alone)
 
     def test_all_is_as_before(self) -> None:
-        lines = ("goto 250", "patch 0xa0000200 7", "causes console", "try 0 all", "when 0xa0000100 == 5", "compare", "unsaved")
-        self.assertEqual(said(*lines), ["not saved: the image (save-image FILE)"])
-        self.assertEqual(said(*lines, "pos")[0].partition(",")[0], "step 250")
-        self.assertEqual(said(*lines, "log")[1:], ["     0: step 70, line 0, 0x41 'A', 180 steps ago",
-                                                   "     1: step 200, line 0, 0x42 'B', 50 steps ago"])
+        *_, unsaved, position, log = answers("goto 250", "patch 0xa0000200 7", "causes console", "try 0 all", "when 0xa0000100 == 5", "compare",
+                                             "unsaved", "pos", "log")
+        self.assertEqual(unsaved, ["not saved: the image (save-image FILE)"])
+        self.assertEqual(position[0].partition(",")[0], "step 250")
+        self.assertEqual(log[1:], ["     0: step 70, line 0, 0x41 'A', 180 steps ago", "     1: step 200, line 0, 0x42 'B', 50 steps ago"])
 
     def test_ranges_and_runs(self) -> None:
         event = Event(5, 0, 65)

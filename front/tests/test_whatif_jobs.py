@@ -8,6 +8,8 @@ import threading
 import unittest
 import warnings
 from concurrent.futures import Executor, ThreadPoolExecutor
+from functools import lru_cache
+from itertools import islice
 from typing import Any, Iterator, Optional, Tuple
 from unittest import mock
 
@@ -40,14 +42,23 @@ def found(driver: Driver, executor: Optional[Executor]) -> Iterator[Any]:
     yield fuzz(driver, Holds(0x1020, "==", 0xFFFF_FFFE), 15_000, 250_000, tries=400, executor=executor)
 
 
+@lru_cache(None)
+def alone(patch: Tuple[int, int], most: Optional[int]) -> list[Any]:
+    """The same by one process, with a patch."""
+    with brute.fresh(brute.image(LOGIN), brute.log_of("login")) as driver:
+        driver.patch(*patch)
+        return list(islice(found(driver, None), most))
+
+
 class Jobs(unittest.TestCase):
-    def check(self, executor: Executor, patch: Tuple[int, int] = (0x3000, 5)) -> None:
+    def check(self, executor: Executor, patch: Tuple[int, int] = (0x3000, 5), most: Optional[int] = None) -> None:
+        """With a patch, all of them or only the first ones."""
         driver = start(brute.image(LOGIN), brute.log_of("login"))
         self.addCleanup(driver.close)
         driver.patch(*patch)  # which the processes have too
-        alone = list(found(driver, None))
+        driver.goto(END)
         before = brute.of(driver)
-        self.assertEqual(list(found(driver, executor)), alone)
+        self.assertEqual(list(islice(found(driver, executor), most)), alone(patch, most))
         brute.kept(self, driver, before)
         asked = At(END, (Word(patch[0]), Console(0)))
         cases = [(past, asked) for past in (pasts.PRESENT, pasts.without(driver.log, 2, 3), pasts.PRESENT)]
@@ -60,7 +71,7 @@ class Jobs(unittest.TestCase):
             assert executor
             self.check(executor)
             # The same processes, with another image.
-            self.check(executor, (0x3004, 6))
+            self.check(executor, (0x3004, 6), 1)
 
     def test_threads(self) -> None:
         with ThreadPoolExecutor(2) as executor:
@@ -119,7 +130,7 @@ class Fuzz(unittest.TestCase):
         driver.goto(150_000)
         self.assertEqual(driver.console(0), b"loader\r\nok\r\nok\r\n")
         before = brute.of(driver)
-        for begin, kept, tries in ((15_000, 0, 1500), (23_500, 4, 300)):
+        for begin, kept, tries in ((15_000, 0, 1500), (23_500, 4, 100)):
             one = fuzz(driver, Comes(FATAL), begin, 200_000, seed=3, tries=tries)
             brute.kept(self, driver, before)
             self.assertEqual(fuzz(driver, Comes(FATAL), begin, 200_000, seed=3, tries=tries), one)

@@ -54,12 +54,16 @@ class Shrink_(unittest.TestCase):
     def test_loader(self) -> None:
         """What crashes it: the end of the run stands where exceptions end."""
         def holds(driver: Driver) -> Optional[int]:
-            low, high = 0, 300_001  # it stays there, in a branch and its delay slot
+            def is_there(position: int) -> bool:
+                return brute.register_pc(driver, position) in (FATAL, FATAL + 4)
+
+            if not is_there(300_000):
+                return None
+            low, high = 0, 300_000  # it stays there, in a branch and its delay slot
             while low < high:
                 middle = (low + high) // 2
-                driver.goto(middle)
-                low, high = (low, middle) if driver.registers().pc in (FATAL, FATAL + 4) else (middle + 1, high)
-            return low if low <= 300_000 else None
+                low, high = (low, middle) if is_there(middle) else (middle + 1, high)
+            return low
 
         log = self.check("loader/loader.elf", brute.log_of("loader"), Comes(FATAL), 300_000, holds)
         self.assertEqual(bytes(it.byte for it in log).count(b"\r"), 2)
@@ -69,11 +73,11 @@ class Shrink_(unittest.TestCase):
         for _ in range(12):
             log = brute.random_log(source, 8, 300)
             with brute.fresh(brute.image("echo/boot.s"), log) as alone:
-                found = [brute.word(alone, it, 0x100) for it in range(500)]
+                found = brute.words(alone, 500, 0x100)
             value = source.choice([it for it in found if it] or [0])
             if value:
                 def holds(driver: Driver, value: int = value) -> Optional[int]:
-                    return next((it for it in range(500) if brute.word(driver, it, 0x100) == value), None)
+                    return next((at for at, it in enumerate(brute.words(driver, 500, 0x100)) if it == value), None)
 
                 self.check("echo/boot.s", log, Holds(0x100, "==", value), 499, holds)
 
@@ -172,7 +176,7 @@ class Conditions_(unittest.TestCase):
             words = random_rom(source)
             end = 300
             driver = start(rom(words))
-            run = [brute.word(driver, it, DATA) for it in range(end + 1)]
+            run = brute.words(driver, end + 1, DATA)
             few = source.choice((2, 1024))
             small = {"SPAN": 16, "_FEW": few, "_SPANS": (1, 2, 4)} if seed % 3 else {"_FEW": few}
             with self.subTest(seed=seed), mock.patch.multiple(conditions, **small):
