@@ -138,21 +138,25 @@ class Driver:
     def shown(self, physical: int, count: int) -> bytes:
         """Words of memory as the program shows them: a line of WORD_LINE bytes for each. Texts are compared in far less time than
         words."""
-        commands = [f"goto {self.position}", *(f"mem {at} {size}" for at, size in _pieces(physical, count, WORDS, 4)), "pos"]
-        script, told = "".join(f"{it}\n" for it in commands).encode(), f"pos {self.position}\n".encode()
+        return self.text(self.position, [f"mem {at} {size}" for at, size in _pieces(physical, count, WORDS, 4)])
+
+    def text(self, position: int, commands: Sequence[str]) -> bytes:
+        """The replies to questions at a position, or from there on, as one text. The position stays."""
+        script = "".join(f"{it}\n" for it in (f"goto {position}", *commands, f"goto {position}")).encode()
+        told = f"pos {position}\n".encode()
         with self.long_run():
-            self._run_ahead(self.position)
+            self._run_ahead(position)
             if self._started().reads + reads_of(script) > self._most_reads:
                 self.close()
             program = self._started()
             with self._in_step() as stop:
                 text = program.text(script, told, stop)
-            program.position = self.position
+            program.position = position
             if stop():
                 raise Interrupted()
         refused = text.find(b"error ")
         if refused >= 0:
-            refusal = replies.refusal_of(commands[1], text[refused:].decode().splitlines())
+            refusal = replies.refusal_of(commands[0], text[refused:].decode().splitlines())
             assert refusal
             raise explained(refusal)
         return text[len(told):-len(told)]

@@ -11,7 +11,8 @@ import gdb
 
 # Their words are no numbers.
 AS_THEY_ARE = ("arrive", "assert", "assert-console", "causes", "compare", "expect", "fuzz", "help", "load", "save", "save-image",
-               "save-log", "shrink", "symbols", "trace", "try", "type", "until", "wb", "when")
+               "save-log", "shrink", "symbols", "trace", "try", "type", "until", "wb", "when",
+               "why")
 RUNS = ("expect", "until")  # they go on, and are run as `continue` is
 MOVES = [begin + move for move in ("continue", "step", "next", "stepi", "nexti", "finish") for begin in ("", "reverse-")]
 MOVES += ["until", "advance"]
@@ -154,6 +155,8 @@ Numbers may be expressions without blanks: wb writer &session.length, wb goto $p
         name = whole(name)
         if name not in AS_THEY_ARE and not QUOTES.intersection(line):
             line = " ".join([name, *(as_number(word, name in OF_WORDS) for word in words)])
+        elif name == "why" and words and words[0].startswith("&"):
+            line = " ".join([name, as_number(words[0], True), *words[1:]])
         if name in RUNS:
             asked(f"next-run {line}")
             gdb.execute("continue")

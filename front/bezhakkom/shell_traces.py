@@ -5,13 +5,11 @@ from typing import Iterator
 
 from .commands import STEPS, command
 from .errors import Problem
-from .expressions import REGISTERS
 from .limits import GREATEST_POSITION, RAM, ROM
-from .places import always_at
 from .saving import FORCE_WORD, Form, is_forced, save
 from .session import Session, counted
-from .shell_views import CODES
-from .tracing import Access, Traced
+from .step_lines import StepLines
+from .tracing import Traced
 
 # How many are shown where the line has no number.
 _STEPS = 8
@@ -22,61 +20,13 @@ _BEGIN = "# what steps "
 _FORM = Form("trace", (_BEGIN.encode(),))
 
 
-class _Texts:
-    """Instructions as text. Each is asked for once."""
-
-    def __init__(self, session: Session) -> None:
-        self._session = session
-        self._known: dict[tuple[int, int], str] = {}
-
-    def of(self, step: Traced) -> str:
-        if step.word is None:
-            return "an interrupt" if step.exception == 0 else "no instruction can be fetched here"
-        found = self._known.get((step.pc, step.word))
-        if found is None:
-            with self._session.at(step.step):
-                found = self._known[step.pc, step.word] = self._session.instruction(step.pc)
-        return found
-
-
-def _place(session: Session, access: Access) -> str:
-    """The place of an access: memory by its address in kseg0 or kseg1, which may have a name, and devices by their physical one."""
-    if access.address in RAM or access.address in ROM:
-        return session.address(always_at(access.address))
-    return f"p:{access.address:#010x}"
-
-
-def _parts(session: Session, step: Traced) -> Iterator[str]:
-    """What a step did, part by part."""
-    if step.write:
-        register, value = step.write
-        yield f"{REGISTERS[register]} = {session.address(value)}"
-    if step.hi_lo:
-        yield f"hi = {step.hi_lo[0]:#010x}, lo = {step.hi_lo[1]:#010x}"
-    if step.access:
-        how = "from" if step.access.kind == "load" else "into"
-        yield f"{step.access.kind}s {step.access.word:#010x} {how} {_place(session, step.access)}"
-    if step.sent:
-        yield f"sends {chr(step.sent[1])!r} on line {step.sent[0]}"
-    if step.shuts_down:
-        yield "sets TS: several entries match"
-    if step.exception is not None:
-        yield f"exception {step.exception}: {CODES[step.exception]}"
-
-
-def shown(session: Session, texts: _Texts, step: Traced) -> str:
-    """A step as a line: `368: read_line+0x4: sw r31, 28(r29)   stores 0xbfc00123 into 0x80001ffc`."""
-    parts = "; ".join(_parts(session, step))
-    return f"{step.step:,} {session.place(step.pc)}: {texts.of(step)}" + (f"   {parts}" if parts else "")
-
-
 @command("trace [C] [to] [FILE] [..]", "shows what the next C steps do, or writes it: trace 100000 to FILE", STEPS)
 def trace(session: Session, words: list[str]) -> None:
     numbers, to = (words[:words.index("to")], words[words.index("to") + 1:]) if "to" in words else (words, None)
     if len(numbers) > 1 or to == []:
         raise Problem("usage: trace [C], or trace [C] to FILE")
     count = _count(session, numbers, _STEPS)
-    lines = (shown(session, texts, step) for texts in (_Texts(session),) for step in _next(session, count))
+    lines = map(StepLines(session).of, _next(session, count))
     if to is None:
         for line in lines:
             session.tell(line)
@@ -89,10 +39,10 @@ def trace(session: Session, words: list[str]) -> None:
 
 @command("io [C]", f"shows which of the next C steps, or {_IO_STEPS:,}, load from devices or store into them", STEPS)
 def io(session: Session, words: list[str]) -> None:
-    count, texts, found = _count(session, words, _IO_STEPS), _Texts(session), False
+    count, lines, found = _count(session, words, _IO_STEPS), StepLines(session), False
     for step in _next(session, count):
         if step.access and step.access.address not in RAM and step.access.address not in ROM:
-            session.tell(shown(session, texts, step))
+            session.tell(lines.of(step))
             found = True
     if not found:
         session.tell(f"none of the next {counted(count, 'step')} does")

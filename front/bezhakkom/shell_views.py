@@ -9,11 +9,7 @@ from .limits import LINES, WORDS
 from .log import Event, Kind
 from .places import UNMAPPED
 from .session import Session, counted, distance
-
-CODES = {0: "interrupt", 1: "store to a page that is not dirty", 2: "no entry for a load or fetch", 3: "no entry for a store",
-          4: "address error of a load or fetch", 5: "address error of a store", 6: "bus error of a fetch",
-          7: "bus error of a load", 8: "system call", 9: "breakpoint", 10: "reserved instruction",
-          11: "coprocessor unusable", 12: "overflow"}
+from .step_lines import CODES
 
 # How many are shown where the line has no number.
 _INSTRUCTIONS = 8
