@@ -20,6 +20,8 @@ SPARE = 16  # a visit is looked for this many times as far on as visits were apa
 STEPS = VISIT_STEPS  # that a batch may run in vain
 FIRST_WINDOW = 1024  # steps that are looked at first; then twice as many, and so on
 
+_ALWAYS = b"\x22\x01\x27"  # an expression that is 1
+
 # The expressions of addresses; a breakpoint without one is a plain one. One that holds is enough.
 Conditions = Mapping[int, Sequence[bytes]]
 
@@ -64,6 +66,15 @@ def last_hit(driver: Driver, breakpoints: Collection[int], conditions: Condition
                 return found
             driver.tell(low)
     return None
+
+
+def all_hits(driver: Driver, breakpoints: Collection[int], conditions: Conditions, begin: int, end: int) -> Iterator[int]:
+    """All positions from one up to another where a breakpoint stops, in order."""
+    places = [_Condition(it, conditions.get(it, (_ALWAYS,))) for it in breakpoints]
+    with _in_place(driver, end), driver.long_run(begin, end):
+        for low, high in _windows(begin - 1, end, len(places) == 1):
+            yield from sorted(position for it in places for position in it.hits(driver, low, high))
+            driver.tell(high)
 
 
 def _divided(breakpoints: Collection[int], conditions: Conditions) -> tuple[list[int], list[_Condition]]:
@@ -159,16 +170,19 @@ class _Condition:
         hits: list[int] = []
         waiting = list(visits)
         while waiting:
-            missing: list[tuple[Known, str]] = []
+            missing: list[tuple[Known, Unknown]] = []
             for known in waiting:
                 try:
                     if self._holds(known):
                         hits.append(known.position)
                 except Unknown as unknown:
-                    missing.append((known, unknown.command))
-            lines = [line for known, command in missing for line in (f"goto {known.position}", command)]
-            for (known, command), reply in zip(missing, driver.values(lines)[1::2]):
-                known.replies[command] = reply
+                    missing.append((known, unknown))
+            lines = [line for known, it in missing for line in (f"goto {known.position - it.is_before}", it.command)]
+            for (known, it), reply in zip(missing, driver.values(lines)[1::2]):
+                if it.is_before:
+                    known.before = reply[0]
+                else:
+                    known.replies[it.command] = reply
             waiting = [known for known, _ in missing]
         self.usual = list(visits[-1].used)
         yield from sorted(hits)

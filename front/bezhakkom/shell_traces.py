@@ -1,15 +1,18 @@
 """Commands of the shell that follow the run step by step, and list what it did."""
 from __future__ import annotations
 
-from typing import Iterator
+from typing import Iterator, Optional, Union
 
 from .commands import STEPS, command
-from .errors import Problem
-from .limits import GREATEST_POSITION, RAM, ROM
+from .conditions import Conditions, all_hits, last_hit
+from .driver import Driver
+from .errors import STOPPED, Problem
+from .exceptions import NAMES, TEXTS, Catch
+from .limits import GREATEST_POSITION, RAM, ROM, TRACED
 from .saving import FORCE_WORD, Form, is_forced, save
 from .session import Session, counted
 from .step_lines import StepLines
-from .tracing import Traced
+from .tracing import Traced, read
 
 # How many are shown where the line has no number.
 _STEPS = 8
@@ -68,6 +71,75 @@ def stores(session: Session, words: list[str]) -> None:
         session.tell(f"{word:#010x} by {session.step(step)}")
     if not found:
         session.tell(f"no step before this position stored at {session.address(address)}")
+
+
+_HITS = "hits A [last C], where A is an address, the number of a breakpoint or a catch, or `exception [KIND]`"
+
+
+@command("hits A ..", "lists all positions up to here at which breakpoint A stops: its number, an address, or `exception [KIND]`", STEPS, more=_HITS)
+def hits(session: Session, words: list[str]) -> None:
+    most = None
+    if words[-2:-1] == ["last"]:
+        most = _count(session, words[-1:], 0)
+        words = words[:-2]
+    if not words or len(words) > 1 and words[0] != "exception" or len(words) > 2:
+        raise Problem(f"usage: {_HITS}")
+    stop = Catch(*words[1:]) if words[0] == "exception" else _stop(session, words[0])
+    conditions = {it: [condition] for it, condition in stop.conditions().items()} if isinstance(stop, Catch) else {}
+    places = list(conditions) if isinstance(stop, Catch) else [stop]
+    name = stop.text if isinstance(stop, Catch) else f"visits of {session.code(stop)}"
+    driver, found, is_ended = session.driver, [], False
+    try:
+        for position in _hits(driver, places, conditions, most):
+            found.append(position)
+    except STOPPED:
+        is_ended = True
+    found.sort()
+    session.tell(f"{name}, up to step {driver.position:,}: {len(found):,}" + (", and Ctrl-C came before all were found" if is_ended else ""))
+    for line in _exceptions(session, found) if isinstance(stop, Catch) else (f"step {it:,}" for it in found):
+        session.tell(f"  {line}")
+
+
+def _hits(driver: Driver, places: list[int], conditions: Conditions, most: Optional[int]) -> Iterator[int]:
+    """The positions up to this one where a breakpoint stops, or the last ones of so many."""
+    here = driver.position
+    if most is None:
+        yield from all_hits(driver, places, conditions, 0, here)
+        return
+    try:
+        driver.goto(min(here + 1, GREATEST_POSITION))
+        for _ in range(most):
+            found = last_hit(driver, places, conditions, 0)
+            if found is None:
+                return
+            yield found
+            driver.goto(found)
+    finally:
+        driver.goto(here)
+
+
+def _stop(session: Session, text: str) -> Union[int, Catch]:
+    """The address of a breakpoint, or a catch."""
+    mark = next((it for it in session.marks if str(it.number) == text), None)
+    if mark and mark.watch:
+        raise Problem(f"{mark.number} is a watch; `stores` lists the stores into a word")
+    if mark:
+        return mark.catch or mark.address
+    address = session.number(text)
+    if address % 4 or not 0 <= address < 1 << 32:
+        raise Problem(f"{text} is no stop, and no address of an instruction: these are multiples of 4, below 0x100000000")
+    return address
+
+
+def _exceptions(session: Session, positions: list[int]) -> Iterator[str]:
+    """The exceptions that were taken right before some positions."""
+    for first in range(0, len(positions), TRACED):
+        steps = [it - 1 for it in positions[first:first + TRACED]]
+        with session.at(session.driver.position):
+            answers = session.driver.values([line for it in steps for line in (f"goto {it}", "trace 1")])[1::2]
+        for step in map(read, (lines[0] for lines in answers)):
+            assert step.exception is not None
+            yield f"step {step.step:,}, {session.code(step.pc)}: {NAMES[step.exception]}, {TEXTS[step.exception]}"
 
 
 def _count(session: Session, words: list[str], usual: int) -> int:

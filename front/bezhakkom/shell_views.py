@@ -4,12 +4,12 @@ from __future__ import annotations
 from . import expressions, memory
 from .commands import BEFORE, HOLDS, SERIAL, command
 from .errors import Problem
+from .exceptions import TEXTS
 from .expressions import REGISTERS, register_number
 from .limits import LINES, WORDS
 from .log import Event, Kind
 from .places import UNMAPPED
 from .session import Session, counted, distance
-from .step_lines import CODES
 
 # How many are shown where the line has no number.
 _INSTRUCTIONS = 8
@@ -61,7 +61,7 @@ def cp0(session: Session, words: list[str]) -> None:
     status, cause = control["status"], control["cause"]
     session.tell(f"{'user' if status & 2 else 'kernel'} mode, interrupts {'on' if status & 1 else 'off'}")
     if control["epc"]:
-        session.tell(f"the last exception: {CODES.get(cause >> 2 & 31, 'unknown')}, at {session.address(control['epc'])}"
+        session.tell(f"the last exception: {dict(enumerate(TEXTS)).get(cause >> 2 & 31, 'unknown')}, at {session.address(control['epc'])}"
                      f"{' in its delay slot' if cause >> 31 else ''}")
 
 

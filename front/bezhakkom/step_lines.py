@@ -3,16 +3,12 @@ from __future__ import annotations
 
 from typing import Dict, Iterator, Tuple
 
+from .exceptions import TEXTS
 from .expressions import REGISTERS
 from .limits import RAM, ROM
 from .places import PHYSICAL, always_at
 from .session import Session
 from .tracing import Traced
-
-CODES = {0: "interrupt", 1: "store to a page that is not dirty", 2: "no entry for a load or fetch", 3: "no entry for a store",
-         4: "address error of a load or fetch", 5: "address error of a store", 6: "bus error of a fetch",
-         7: "bus error of a load", 8: "system call", 9: "breakpoint", 10: "reserved instruction",
-         11: "coprocessor unusable", 12: "overflow"}
 
 
 class StepLines:
@@ -52,7 +48,7 @@ class StepLines:
         if step.shuts_down:
             yield "sets TS: several entries match"
         if step.exception is not None:
-            yield f"exception {step.exception}: {CODES[step.exception]}"
+            yield f"exception {step.exception}: {TEXTS[step.exception]}"
 
 
 def place(session: Session, physical: int) -> str:

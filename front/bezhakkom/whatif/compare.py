@@ -11,11 +11,12 @@ from typing import Iterator, List, Optional, Sequence, Tuple
 
 from .. import replies
 from ..driver import Driver
+from ..errors import STOPPED
 from ..limits import LINES, RAM, WORDS
 from ..log import Event
 from ..replies import WORD_LINE, Registers
 from . import pasts, questions
-from .pasts import PRESENT, STOPPED, Past, kept
+from .pasts import PRESENT, Past, kept
 
 _POSITIONS = (64, 256, 1024, 4096)  # that are compared together, at first and later on
 _WORDS = 4096 * WORDS  # that are shown together

@@ -12,7 +12,7 @@ from typing import Dict, List, Optional, Sequence, Tuple, Union
 
 from .. import replies, tracing
 from ..driver import Driver
-from ..errors import Problem
+from ..errors import STOPPED, Problem
 from ..limits import RAM, ROM, WORDS
 from ..log import Event, Kind
 from ..replies import Writer
@@ -22,7 +22,7 @@ from . import needs
 from .blocks import SIZE, Blocks
 from .branches import Branches
 from .needs import ALL, HI, LO, Turn
-from .pasts import STOPPED, Question, kept
+from .pasts import Question, kept
 from .questions import Register, Sent, Word
 
 _RBUF = 0x1FE0_0008
