@@ -30,6 +30,8 @@ from .visits import Visits
 # A run to a far position is made in pieces of this many steps, between which it is shown, or ended.
 PIECE = 64 * SPAN
 
+_MOST_TRACED = 64 * TRACED  # steps that are asked for together
+
 # Where a long run begins, and where it ends if that is known.
 Way = Tuple[int, Optional[int]]
 
@@ -187,14 +189,17 @@ class Driver:
 
     def traced(self, first: int, end: int) -> Iterator[Traced]:
         """What each step from one on and before another one does. The position stays."""
-        while first < min(end, GREATEST_POSITION):
-            here, count = self.position, min(TRACED, end - first, GREATEST_POSITION - first)
-            try:
-                lines = self.values([f"goto {first}", f"trace {count}"])[1]
-            finally:
-                self.goto(here)
-            yield from map(tracing.read, lines)
-            first += count
+        begin, size = first, TRACED
+        with self.long_run(begin, end):
+            while first < min(end, GREATEST_POSITION):
+                counts = [count for _, count in _pieces(first, min(size, end - first, GREATEST_POSITION - first), TRACED, 1)]
+                lines = self.text(first, [it for count in counts for it in (f"trace {count}", f"step {count}")]).decode().split("\n")
+                for count in counts:
+                    yield from map(tracing.read, lines[:count])
+                    lines = lines[count + 1:]
+                first += sum(counts)
+                size = min(2 * size, _MOST_TRACED)
+                self.tell(first)
 
     def find(self, line: int, place: int) -> int:
         """The step that sent the byte at a place of a line's console."""

@@ -21,8 +21,10 @@ from weakref import finalize
 from . import arriving, expecting, joining, loading, memory, places, saved, travel
 from . import log as logs
 from .commands import words_of
+from .conditions import all_hits
 from .driver import Driver
 from .errors import Problem
+from .exceptions import Catch
 from .expressions import REGISTERS, register_number
 from .limits import GREATEST_POSITION
 from .loading import Opening
@@ -38,6 +40,7 @@ from .whatif import futures as _futures
 from .whatif import fuzz as _fuzz
 from .whatif import shrink as _shrink
 from .whatif import when as _when
+from .whatif import why as _why_of
 from .whatif.causes import Causes
 from .whatif.compare import Comparison
 from .whatif.conditions import Condition
@@ -46,6 +49,7 @@ from .whatif.fuzz import Fuzzed
 from .whatif.pasts import Question
 from .whatif.shrink import Shrunk
 from .whatif.when import When
+from .whatif.why import Why
 from .whatif.words import Words
 
 Path = Union[str, "os.PathLike[str]"]
@@ -272,6 +276,15 @@ class Machine:
             raise Problem(f"{steps:,} steps can't be followed: a position is 0 to {GREATEST_POSITION:,}")
         return list(self.driver.traced(self.position, self.position + steps))
 
+    def hits(self, place: Place) -> list[int]:
+        """All positions up to this one at which the instruction at a place comes next."""
+        return list(all_hits(self.driver, [self.address(place)], {}, 0, self.position))
+
+    def exceptions(self, kind: str = "") -> list[int]:
+        """The steps before this position that took an exception, of a kind as the shell's `catch exception` names it, or of any."""
+        conditions = {handler: [it] for handler, it in Catch(kind).conditions().items()}
+        return [it - 1 for it in all_hits(self.driver, list(conditions), conditions, 0, self.position)]
+
     # The past
 
     @property
@@ -392,6 +405,11 @@ class Machine:
     def when(self, condition: str, *, at: Optional[int] = None) -> When:
         """The first position, up to here or another one, at which a word has such a value, as in `count == 3`."""
         return _when.when(self.driver, self._condition(f"word {condition}"), self.position if at is None else at)
+
+    def why(self, what: str, *, control: bool = False, address: bool = False) -> Why:
+        """The steps that something here comes from, back to what arrived: a register, a place of a word, or `sent LINE PLACE`, as the
+        shell's `why` takes it. With `control` also those that decided that a step was run, with `address` those that addresses come from."""
+        return _why_of.why(self.driver, self.session.symbols, self._question(what), self.position, control=control, address=address)
 
     def _question(self, what: str) -> Question:
         line = Words(self.session, words_of(what), "WHAT, as the shell's `causes` takes it")

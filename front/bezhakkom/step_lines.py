@@ -1,7 +1,7 @@
 """What steps did, as lines for people."""
 from __future__ import annotations
 
-from typing import Dict, Iterator, Tuple
+from typing import Dict, Iterator, Optional, Tuple
 
 from .exceptions import TEXTS
 from .expressions import REGISTERS
@@ -17,19 +17,21 @@ class StepLines:
 
     def __init__(self, session: Session) -> None:
         self._session = session
-        self._texts: Dict[Tuple[int, int], str] = {}
+        self._heads: Dict[Tuple[int, Optional[int]], str] = {}  # by PCs and words
 
     def of(self, step: Traced) -> str:
         parts = "; ".join(self._parts(step))
-        return f"{step.step:,} {self._session.code(step.pc)}: {self._text(step)}" + (f"   {parts}" if parts else "")
+        return f"{step.step:,} {self._head(step)}" + (f"   {parts}" if parts else "")
 
-    def _text(self, step: Traced) -> str:
+    def _head(self, step: Traced) -> str:
+        """The place of a step, and its instruction."""
         if step.word is None:
-            return "an interrupt" if step.exception == 0 else "no instruction can be fetched here"
-        found = self._texts.get((step.pc, step.word))
+            why = "an interrupt" if step.exception == 0 else "no instruction can be fetched here"
+            return f"{self._session.code(step.pc)}: {why}"
+        found = self._heads.get((step.pc, step.word))
         if found is None:
             with self._session.at(step.step):
-                found = self._texts[step.pc, step.word] = self._session.instruction(step.pc)
+                found = self._heads[step.pc, step.word] = f"{self._session.code(step.pc)}: {self._session.instruction(step.pc)}"
         return found
 
     def _parts(self, step: Traced) -> Iterator[str]:

@@ -24,7 +24,6 @@ from .causes import causes as causes_of
 from .futures import Label
 from .jobs import pool
 from .pasts import Past, answer, undisturbed
-from .questions import Console
 from .words import CONDITION, WHAT, Words
 
 _WAYS = {"set": (SET,), "del": (DEL,), "both": (SET, DEL)}
@@ -171,11 +170,9 @@ def why(session: Session, words: list[str]) -> None:
     line = Words(session, words, _WHY, "at", "steps")
     position, most = line.position(), line.number_after("steps", _STEPS)
     if not line.rest:
-        raise line.problem("why what?")
+        raise line.problem("what is asked for is missing")
     with session.at(position):
         name, question = line.question(line.rest)
-    if isinstance(question, Console):
-        raise line.problem("of what a line sent, one byte is followed")
     control, address = line.has("control"), line.has("address")
     target = line.after("to")
     if target not in (None, "input"):

@@ -8,7 +8,7 @@ from __future__ import annotations
 from dataclasses import dataclass, field
 from enum import Enum
 from heapq import heappop, heappush
-from typing import Dict, List, Optional, Sequence, Tuple, Union
+from typing import Dict, List, Optional, Tuple, Union
 
 from .. import replies, tracing
 from ..driver import Driver
@@ -169,6 +169,8 @@ class _Slice:
     def _want(self, what: Question) -> None:
         links, position = self._found.links, self._found.position
         register = _number_of(what) if isinstance(what, Register) and what.name != "pc" else None
+        if not isinstance(what, (Register, Word, Sent)):
+            raise Problem("`why` takes a register, a word, or one byte that a line sent")
         if isinstance(what, Sent):
             self._driver.goto(position)
             self._want_step(self._driver.find(what.line, what.place), _Wish(links, Role.VALUE, _BYTE))
@@ -373,8 +375,9 @@ class _Slice:
             self._driver.goto(self._fetched_at)
             first = address & -4 * WORDS
             physical = self._driver.physical(first)
-            known = physical is not None and (physical in RAM or physical in ROM)
-            words: Sequence[Optional[int]] = self._driver.words(physical, WORDS) if known and physical is not None else [None] * WORDS
+            words: List[Optional[int]] = [None] * WORDS
+            if physical is not None and (physical in RAM or physical in ROM):
+                words[:] = self._driver.words(physical, WORDS)
             self._words.update(zip(range(first, first + 4 * WORDS, 4), words))
         return self._words[address]
 
