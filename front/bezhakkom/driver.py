@@ -17,7 +17,7 @@ from .errors import Ended, Interrupted, Problem, Refused
 from .explain import explained
 from .image import Image
 from .initial import Boot, boot_of
-from .limits import CONSOLE_BYTES, GREATEST_POSITION, READS, SPAN, TRACED, WORDS
+from .limits import CONSOLE_BYTES, GREATEST_POSITION, READS, SPAN, STORES, TRACED, WORDS
 from .log import ADDS, Event, Kind, changes
 from .log import write as write_log
 from .progress import TerminalProgress
@@ -175,6 +175,43 @@ class Driver:
 
     def writer(self, physical: int) -> Writer:
         return replies.writer(self.value(f"writer {physical}"))
+
+    def register_writer(self, number: int) -> Optional[int]:
+        """The last step before the position whose instruction wrote a register, HI or LO, by its number. A load counts at its own step."""
+        return replies.writer(self.value(f"regwriter {number}")).step
+
+    def stores(self, physical: int, most: int) -> Iterator[tuple[int, int]]:
+        """The last stores into a word before the position, from the last one back: their steps, with the word after each."""
+        here = position = self.position
+        while most:
+            count = min(most, STORES)
+            try:
+                self.goto(position)
+                found = self._stores(physical, count)
+            finally:
+                self.goto(here)
+            yield from found
+            if len(found) < count:
+                return
+            position, most = found[-1][0], most - count
+
+    def _stores(self, physical: int, count: int) -> list[tuple[int, int]]:
+        try:
+            return replies.timed(self.value(f"stores {physical} {count}"))
+        except Refused as refused:
+            if refused.name != "Syntax":
+                raise
+        # A program without `stores`.
+        found: list[tuple[int, int]] = []
+        while len(found) < count and (step := self.writer(physical).step) is not None:
+            self.goto(step + 1)
+            found.append((step, self.words(physical, 1)[0]))
+            self.goto(step)
+        return found
+
+    def devices(self) -> dict[str, Any]:
+        """What the devices hold, as reads would give it, but nothing is read."""
+        return replies.devices(self.value("devices"))
 
     def sent(self, line: int) -> int:
         """How many bytes a line sent before the position."""

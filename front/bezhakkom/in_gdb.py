@@ -10,7 +10,7 @@ from typing import Callable, Optional
 import gdb
 
 # Their words are no numbers.
-AS_THEY_ARE = ("arrive", "assert", "assert-console", "catch", "causes", "compare", "expect", "fuzz", "help", "hits", "load", "save",
+AS_THEY_ARE = ("arrive", "assert", "assert-console", "catch", "causes", "compare", "devices", "expect", "fuzz", "help", "hits", "load", "save",
                "save-image", "save-log", "shrink", "symbols", "trace", "try", "type", "until", "wb", "when", "why")
 RUNS = ("expect", "until")  # they go on, and are run as `continue` is
 MOVES = [begin + move for move in ("continue", "step", "next", "stepi", "nexti", "finish") for begin in ("", "reverse-")]
@@ -21,6 +21,7 @@ QUOTES = frozenset("'\"")
 NUMBER = re.compile(r"\d[\w,]*")
 IN_GROUPS = re.compile(r"(?<![\w.,])\d{1,3}(?:,\d{3})+(?![\w,])")
 WITHOUT_NUMBER = (gdb.TYPE_CODE_ARRAY, gdb.TYPE_CODE_STRUCT, gdb.TYPE_CODE_UNION, gdb.TYPE_CODE_FUNC)
+REGISTER = re.compile(r"\$[a-z]\w*")  # of `writer`, which then means the register and not the word that it points to
 OF_PLACES = ("hits", "why")  # the first of their words is mostly a place
 OF_WORDS = ("dis", "mem", "patch", "stores", "visit", "where", "writer")  # their numbers have 32 bits, also those that gdb shows below 0
 
@@ -176,7 +177,7 @@ Numbers may be expressions without blanks: wb writer &session.length, wb goto $p
         name = whole(name)
         if name in OF_PLACES and words:
             line = " ".join([name, as_place(words[0], name == "hits"), *words[1:]])
-        elif name not in AS_THEY_ARE and not QUOTES.intersection(line):
+        elif name not in AS_THEY_ARE and not QUOTES.intersection(line) and not (name == "writer" and REGISTER.fullmatch(" ".join(words))):
             line = " ".join([name, *(as_number(word, name in OF_WORDS) for word in words)])
         if name in RUNS:
             asked(f"next-run {line}")

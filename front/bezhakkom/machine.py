@@ -15,7 +15,7 @@ import os
 from concurrent.futures import Executor
 from contextlib import contextmanager
 from dataclasses import dataclass
-from typing import Callable, Iterable, Iterator, Mapping, Optional, Sequence, Union, overload
+from typing import Any, Callable, Iterable, Iterator, Mapping, Optional, Sequence, Union, overload
 from weakref import finalize
 
 from . import arriving, expecting, joining, loading, memory, places, saved, travel
@@ -25,7 +25,7 @@ from .conditions import all_hits
 from .driver import Driver
 from .errors import Problem
 from .exceptions import Catch
-from .expressions import REGISTERS, register_number
+from .expressions import REGISTERS, register_number, written
 from .limits import GREATEST_POSITION
 from .loading import Opening
 from .log import Event, Kind
@@ -266,9 +266,22 @@ class Machine:
         return self.driver.console(line).decode("latin-1")
 
     def writer(self, place: Place) -> Optional[Step]:
-        """The step before this position that stored into the word at a place last, or None where no step did."""
-        step = self.driver.writer(self.session.word_at(str(place))[1]).step
+        """The step before this position that stored into the word at a place last, or wrote a register, as in `writer("$a0")`; or None
+        where no step did."""
+        if isinstance(place, str) and place.startswith("$"):
+            step = self.driver.register_writer(written(place))
+        else:
+            step = self.driver.writer(self.session.word_at(str(place))[1]).step
         return None if step is None else self._step(step)
+
+    def stores(self, place: Place, most: int = 16) -> list[tuple[Step, int]]:
+        """The last stores before this position into the word at a place, from the last one back, each with the word after it."""
+        return [(self._step(step), word) for step, word in self.driver.stores(self.session.word_at(str(place))[1], most)]
+
+    @property
+    def devices(self) -> Mapping[str, Any]:
+        """What the devices hold here, as `devices --json` of the shell says it. Nothing is read."""
+        return self.driver.devices()
 
     def trace(self, steps: int = 1) -> list[Traced]:
         """What the next steps do. The position stays."""

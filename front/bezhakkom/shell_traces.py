@@ -54,21 +54,10 @@ def io(session: Session, words: list[str]) -> None:
 @command("stores A [C]", f"lists the last C stores, or {_STORES}, into the word at virtual address A before the position", STEPS)
 def stores(session: Session, words: list[str]) -> None:
     address, physical = session.word_at(words[0])
-    most = _count(session, words[1:], _STORES)
-    driver, here = session.driver, session.driver.position
-    found: list[tuple[int, int]] = []
-    try:
-        while len(found) < most:
-            step = driver.writer(physical).step
-            if step is None:
-                break
-            driver.goto(step + 1)
-            found.append((step, driver.words(physical, 1)[0]))
-            driver.goto(step)
-    finally:
-        driver.goto(here)
-    for step, word in found:
-        session.tell(f"{word:#010x} by {session.step(step)}")
+    found = False
+    for step, word in session.driver.stores(physical, _count(session, words[1:], _STORES)):
+        session.tell(f"{word:#010x} by {session.step(step, with_line=True)}")
+        found = True
     if not found:
         session.tell(f"no step before this position stored at {session.address(address)}")
 

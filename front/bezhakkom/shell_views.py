@@ -1,7 +1,9 @@
 """Commands of the shell that show what the machine holds, and what happened before."""
 from __future__ import annotations
 
-from . import expressions, memory
+import json
+
+from . import devices, expressions, memory
 from .commands import BEFORE, HOLDS, SERIAL, command
 from .errors import Problem
 from .exceptions import TEXTS
@@ -65,6 +67,15 @@ def cp0(session: Session, words: list[str]) -> None:
                      f"{' in its delay slot' if cause >> 31 else ''}")
 
 
+@command("devices [--json]", "shows what the serial part, the clock and the board hold, without reading them", HOLDS)
+def devices_(session: Session, words: list[str]) -> None:
+    if words not in ([], ["--json"]):
+        raise Problem("usage: devices [--json]")
+    found = session.driver.devices()
+    for line in [json.dumps(found)] if words else devices.text(found):
+        session.tell(line)
+
+
 @command("tlb [I]", "shows translation entry I, or those that are valid", HOLDS)
 def tlb(session: Session, words: list[str]) -> None:
     if words:
@@ -125,12 +136,16 @@ def symbols(session: Session, words: list[str]) -> None:
 
 # What happened before
 
-@command("writer A", "shows what wrote the word at virtual address A last", BEFORE)
+@command("writer A", "shows what wrote the word at virtual address A last, or, as in `writer $a0`, a register", BEFORE)
 def writer(session: Session, words: list[str]) -> None:
+    if words[0].startswith("$"):
+        step = session.driver.register_writer(expressions.written(words[0]))
+        session.tell(f"no step before this position wrote {words[0]}" if step is None else session.step(step, with_line=True))
+        return
     address, physical = session.word_at(words[0])
     found = session.driver.writer(physical)
     if found.step is not None:
-        session.tell(session.step(found.step))
+        session.tell(session.step(found.step, with_line=True))
     elif found.kind == "image":
         session.tell(f"{session.address(address)} holds what the image sets; no step before this position stored there")
     else:

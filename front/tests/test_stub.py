@@ -328,8 +328,8 @@ class Hostile(StubTest):
         wire = self.wire([0x1000FFFF, 0])
         source = random.Random(1)
         begins = [begin.decode() for begin in ANSWERS if begin not in (b"D", b"k")]
-        # Without those that write files, and moves to steps as far away as an address is.
-        names = [it for it in COMMANDS if not it.startswith(("save", "load", "goto", "step", "back", "visit", "wb"))]
+        # Without those that write files, and moves to steps as far away as an address is, or that look at all steps up to there.
+        names = [it for it in COMMANDS if not it.startswith(("save", "load", "goto", "step", "back", "visit", "wb", "trace", "io"))]
         numbers = ("0 1 7 0xbfc00000 p:0x0 p:0x1fc00004 -1 1, 1,000 99999999999999999999 pc pos $sp 'a' 'b\\r' ' \" \n \0 \xff ;")
         words = [*names, "goto 1,000", "step 1", "back 1,", "visit 0xbfc00000 9", "wb pos", *numbers.split(" ")]
         wire.command("patch p:0x100 7")

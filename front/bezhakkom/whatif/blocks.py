@@ -7,10 +7,10 @@ from typing import Dict, List, Optional, Tuple
 
 from .. import replies, tracing
 from ..driver import Driver
-from ..limits import GREATEST_POSITION, TRACED
+from ..limits import GREATEST_POSITION, HI, TRACED
 from ..replies import Registers
 from ..tracing import Traced
-from .needs import HI, LO, Turn, is_late, turn_of, written
+from .needs import Turn, is_late, turn_of, written
 
 SIZE = TRACED
 _MOST = 16  # blocks that are asked for together, where those after them were asked for
@@ -87,22 +87,16 @@ class Block:
         return steps[at - 1] if at else None
 
     def value(self, register: int, position: int) -> int:
-        """What a register holds at a position of these steps."""
+        """What a general register holds at a position of these steps."""
         step = self.writer(register, position, position)
         if step is not None:
-            return _written(self.step(step), register)
+            write = self.step(step).write
+            assert write
+            return write[1]
         load = self.registers.load
         if position > self.first and load and load[0] == register:
             return load[1]
-        return {HI: self.registers.hi, LO: self.registers.lo}[register] if register >= HI else self.registers.general[register]
-
-
-def _written(step: Traced, register: int) -> int:
-    if register >= HI:
-        assert step.hi_lo
-        return step.hi_lo[register - HI]
-    assert step.write
-    return step.write[1]
+        return self.registers.general[register]
 
 
 _read = lru_cache(1 << 14)(tracing.read)

@@ -6,7 +6,8 @@ from enum import Enum
 from functools import lru_cache
 from typing import Callable, Dict, Iterator, Optional, Tuple
 
-HI, LO = 32, 33  # beside the numbers of the other registers
+from ..limits import HI, LO
+
 RA = 31
 ALL = 0xFFFF_FFFF
 _SIGN = 0x8000_0000

@@ -10,10 +10,10 @@ from enum import Enum
 from heapq import heappop, heappush
 from typing import Dict, List, Optional, Tuple, Union
 
-from .. import replies, tracing
+from .. import expressions, replies, tracing
 from ..driver import Driver
 from ..errors import STOPPED, Problem
-from ..limits import RAM, ROM, WORDS
+from ..limits import HI, LO, RAM, ROM, WORDS
 from ..log import Event, Kind
 from ..replies import Writer
 from ..symbols import Symbols
@@ -21,7 +21,7 @@ from ..tracing import Traced
 from . import needs
 from .blocks import SIZE, Blocks
 from .branches import Branches
-from .needs import ALL, HI, LO, Turn
+from .needs import ALL, Turn
 from .pasts import Question, kept
 from .questions import Register, Sent, Word
 
@@ -425,10 +425,7 @@ class _Slice:
 
 def _number_of(register: Register) -> int:
     """The number of a register that instructions write."""
-    number = register.number if register.number is not None else {"hi": HI, "lo": LO}.get(register.name)
-    if number is None:
-        raise Problem(f"what {register.name} comes from can't be followed: `why` takes the general registers, hi, lo and pc")
-    return number
+    return register.number if register.number is not None else expressions.written(register.name)
 
 
 def _end_of_word(found: Writer, physical: int) -> End:
