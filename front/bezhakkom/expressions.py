@@ -46,7 +46,7 @@ def written(word: str) -> int:
     """The number of the register that instructions write, of a word such as $a0."""
     found = {"hi": HI, "lo": LO}.get(word.lstrip("$"), register_number(word))
     if found is None:
-        raise Problem(f"who wrote {shortened(word)} is not known, but of {' '.join(REGISTERS)}, hi and lo")
+        raise Problem(f"who wrote {shortened(word.lstrip('$'))} is not noted: that is known of r0 to r31, hi and lo")
     return found
 
 

@@ -1,9 +1,9 @@
-"""Commands of the shell that follow the run step by step, and list what it did."""
+"""Commands of the shell that follow the run step by step, and list what it did before."""
 from __future__ import annotations
 
 from typing import Iterator, Optional, Union
 
-from .commands import STEPS, command
+from .commands import BEFORE, STEPS, command
 from .conditions import Conditions, all_hits, last_hit
 from .driver import Driver
 from .errors import STOPPED, Problem
@@ -51,7 +51,7 @@ def io(session: Session, words: list[str]) -> None:
         session.tell(f"none of the next {counted(count, 'step')} does")
 
 
-@command("stores A [C]", f"lists the last C stores, or {_STORES}, into the word at virtual address A before the position", STEPS)
+@command("stores A [C]", f"lists the last C stores, or {_STORES}, into the word at virtual address A before the position", BEFORE)
 def stores(session: Session, words: list[str]) -> None:
     address, physical = session.word_at(words[0])
     found = False
@@ -65,7 +65,7 @@ def stores(session: Session, words: list[str]) -> None:
 _HITS = "hits A [last C], where A is an address, the number of a breakpoint or a catch, or `exception [KIND]`"
 
 
-@command("hits A ..", "lists all positions up to here at which breakpoint A stops: its number, an address, or `exception [KIND]`", STEPS, more=_HITS)
+@command("hits A ..", "lists all positions up to here at which breakpoint A stops: its number, an address, or `exception [KIND]`", BEFORE, more=_HITS)
 def hits(session: Session, words: list[str]) -> None:
     most = None
     if words[-2:-1] == ["last"]:

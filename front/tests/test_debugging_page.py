@@ -23,7 +23,7 @@ class Page(unittest.TestCase):
         self.assertEqual(with_commands(shown, commands), lines)
 
     def test_the_walks_in_the_shell(self) -> None:
-        for heading in "The same in the shell", "Step by step":
+        for heading in "The same in the shell", "Step by step", "Exceptions", "Where a value comes from":
             with self.subTest(heading=heading):
                 self.check(heading)
 

@@ -330,7 +330,7 @@ class Said(unittest.TestCase):
                 ("why at 5", f"what is asked for is missing. {usage}"),
                 ("why console", "`why` takes a register, a word, or one byte that a line sent"),
                 ("why nothing", "there is no symbol and no register nothing"),
-                ("why epc", "what epc comes from can't be followed: `why` takes the general registers, hi, lo and pc"),
+                ("why epc", "who wrote epc is not noted: that is known of r0 to r31, hi and lo"),
                 ("why session+1", "0x80001001 is no multiple of 4; the word that it is in is at 0x80001000"),
                 ("why v0 blah", f"blah means nothing here. {usage}"),
                 ("why v0 to", f"a word is missing after `to`. {usage}"),

@@ -1,4 +1,4 @@
-"""The commands of the shell and of gdb that ask what if."""
+"""The commands of the shell and of gdb that ask what if, and why."""
 from __future__ import annotations
 
 import json
@@ -7,7 +7,7 @@ from typing import Iterable, List, Optional, Tuple
 
 from .. import log as logs
 from .. import loading, saved
-from ..commands import WHAT_IF, command
+from ..commands import BEFORE, WHAT_IF, command
 from ..errors import Problem
 from ..log import Event, changes
 from ..saving import FORCE_WORD, save
@@ -165,7 +165,7 @@ _STEPS = 40  # that are shown, where the line has no number
 
 
 @command("why WHAT ..", "shows the steps that WHAT comes from here, back to what arrived: a register, an address of a word, `sent L K`",
-         WHAT_IF, more=_WHY)
+         BEFORE, more=_WHY)
 def why(session: Session, words: list[str]) -> None:
     line = Words(session, words, _WHY, "at", "steps")
     position, most = line.position(), line.number_after("steps", _STEPS)
