@@ -20,8 +20,6 @@ SPARE = 16  # a visit is looked for this many times as far on as visits were apa
 STEPS = VISIT_STEPS  # that a batch may run in vain
 FIRST_WINDOW = 1024  # steps that are looked at first; then twice as many, and so on
 
-_ALWAYS = b"\x22\x01\x27"  # an expression that is 1
-
 # The expressions of addresses; a breakpoint without one is a plain one. One that holds is enough.
 Conditions = Mapping[int, Sequence[bytes]]
 
@@ -70,7 +68,7 @@ def last_hit(driver: Driver, breakpoints: Collection[int], conditions: Condition
 
 def all_hits(driver: Driver, breakpoints: Collection[int], conditions: Conditions, begin: int, end: int) -> Iterator[int]:
     """All positions from one up to another where a breakpoint stops, in order."""
-    places = [_Condition(it, conditions.get(it, (_ALWAYS,))) for it in breakpoints]
+    places = [_Condition(it, conditions.get(it, ())) for it in breakpoints]
     with _in_place(driver, end), driver.long_run(begin, end):
         for low, high in _windows(begin - 1, end, len(places) == 1):
             yield from sorted(position for it in places for position in it.hits(driver, low, high))
@@ -112,7 +110,7 @@ def _in_place(driver: Driver, end: int) -> Iterator[None]:
 
 @dataclass
 class _Condition:
-    """The expressions of one address, and the commands whose replies they read last."""
+    """The expressions of one address, if it has some, and the commands whose replies they read last."""
 
     address: int
     expressions: Sequence[bytes]
@@ -189,6 +187,6 @@ class _Condition:
 
     def _holds(self, known: Known) -> bool:
         try:
-            return any(agent.value(it, known) for it in self.expressions)
+            return not self.expressions or any(agent.value(it, known) for it in self.expressions)
         except Failed:
             return True
