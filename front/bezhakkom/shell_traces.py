@@ -56,7 +56,7 @@ def stores(session: Session, words: list[str]) -> None:
     address, physical = session.word_at(words[0])
     found = False
     for step, word in session.driver.stores(physical, _count(session, words[1:], _STORES)):
-        session.tell(f"{word:#010x} by {session.step(step, with_line=True)}")
+        session.tell(f"{word:#010x} by {session.step(step)}")
         found = True
     if not found:
         session.tell(f"no step before this position stored at {session.address(address)}")

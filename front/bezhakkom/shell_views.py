@@ -140,12 +140,12 @@ def symbols(session: Session, words: list[str]) -> None:
 def writer(session: Session, words: list[str]) -> None:
     if words[0].startswith("$"):
         step = session.driver.register_writer(expressions.written(words[0]))
-        session.tell(f"no step before this position wrote {words[0]}" if step is None else session.step(step, with_line=True))
+        session.tell(f"no step before this position wrote {words[0]}" if step is None else session.step(step))
         return
     address, physical = session.word_at(words[0])
     found = session.driver.writer(physical)
     if found.step is not None:
-        session.tell(session.step(found.step, with_line=True))
+        session.tell(session.step(found.step))
     elif found.kind == "image":
         session.tell(f"{session.address(address)} holds what the image sets; no step before this position stored there")
     else:
