@@ -308,6 +308,12 @@ class Said(unittest.TestCase):
         self.assertEqual(self.said("why hi at 1000"), ["hi at step 1,000: 0x00000000   from reset", "0 steps, no event"])
         self.assertEqual(self.said("why start at 0"), ["start at step 0: 0x3c1d8001   from the image at 0xbfc00000 <start>", "0 steps, no event"])
 
+    def test_turns_of_a_loop(self) -> None:
+        # 22 instructions with a loop of four turns, and 10 more, stand before the loop that counts, whose turns take 3 steps.
+        self.assertEqual(self.said("why r16 at 95", guest=("--log", "examples/driver/log", "examples/driver/boot.s")), [
+            "r16 at step 95: 0x00000015   from 92", "  92 loop: addiu r16, r16, 1   s0 = 0x00000015   from 89",
+            "  the same instruction 20 times more, back to step 32", "21 steps, no event"])
+
     def test_a_long_chain(self) -> None:
         shown = self.said("why session+0x20 control to input steps 2", "goto 40,025")
         self.assertRegex(shown[3], r"^  and [\d,]+ earlier steps: `steps N` shows more, and --json has all$")

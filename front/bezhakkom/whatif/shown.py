@@ -285,22 +285,41 @@ def fuzzed_value(found: Fuzzed, file: Optional[str]) -> Value:
 
 # why
 
+_FOLDED = 4  # turns of a loop are shown as one
+_LONGEST_TURN = 16  # steps
 _ROLES = {Role.VALUE: "from", Role.ADDRESS: "address from", Role.CONTROL: "decided by"}
 
 
 def why(session: Session, name: str, value: str, found: Why, most: int) -> Iterator[str]:
     yield f"{name} at step {found.position:,}: {value}{_sources(session, found, found.links)}"
-    lines, steps = StepLines(session), sorted(found.nodes, reverse=True)
-    for number in steps[:most]:
-        node = found.nodes[number]
-        yield f"  {lines.of(node.step)}{_sources(session, found, node.links)}"
-    if len(steps) > most:
-        yield f"  and {counted(len(steps) - most, 'earlier step')}: `steps N` shows more, and --json has all"
+    lines, steps, at, shown = StepLines(session), sorted(found.nodes, reverse=True), 0, 0
+    counters = [found.nodes[it].step.pc for it in steps]
+    while at < len(steps) and shown < most:
+        size, times = _turns(counters, at)
+        for number in steps[at:at + size]:
+            yield f"  {lines.of(found.nodes[number].step)}{_sources(session, found, found.nodes[number].links)}"
+        at, shown = at + size * times, shown + size
+        if times > 1:
+            what_is = "the same instruction" if size == 1 else f"the same {size} instructions"
+            yield f"  {what_is} {times - 1:,} times more, back to step {steps[at - 1]:,}"
+    if at < len(steps):
+        yield f"  and {counted(len(steps) - at, 'earlier step')}: `steps N` shows more, and --json has all"
     if found.is_stopped:
         yield f"steps before {steps[-1]:,} were not looked at" if steps else "interrupted"
     events = found.events()
     yield f"{counted(len(steps), 'step')}, " + (f"{counted(len(events), 'event')}:" if events else "no event")
     yield from (f"  {it}" for it in runs(found.log, events))
+
+
+def _turns(counters: Sequence[int], at: int) -> Tuple[int, int]:
+    """How many steps from a place on are a turn of a loop, and how many such turns follow one another there; or one step."""
+    for size in range(1, _LONGEST_TURN + 1):
+        turn, times = counters[at:at + size], 1
+        while counters[at + times * size:at + (times + 1) * size] == turn:
+            times += 1
+        if times >= _FOLDED:
+            return size, times
+    return 1, 1
 
 
 def _sources(session: Session, found: Why, links: Sequence[Link]) -> str:
