@@ -19,11 +19,12 @@ _WORD = (1 << 64) - 1
 
 
 class Unknown(Exception):
-    """A command of the workbench, whose reply has to be known first."""
+    """A command of the workbench, whose reply has to be known first, at the position or at the one before it."""
 
-    def __init__(self, command: str) -> None:
+    def __init__(self, command: str, is_before: bool = False) -> None:
         super().__init__(command)
         self.command = command
+        self.is_before = is_before
 
 
 class Failed(Exception):
@@ -32,11 +33,13 @@ class Failed(Exception):
 
 @dataclass
 class Known:
-    """What is known of a position: replies of the workbench by their commands, and which of them were used."""
+    """What is known of a position: replies of the workbench by their commands, and which of them were used; and what the step before it
+    did, as `trace` says that."""
 
     position: int
     replies: dict[str, list[str]] = field(default_factory=dict)
     used: set[str] = field(default_factory=set)
+    before: Optional[str] = None
 
     def ask(self, command: str) -> list[str]:
         self.used.add(command)
@@ -52,11 +55,20 @@ class Known:
         name = target.NAMES[number]
         if name == "position":
             return self.position
+        if name == target.EXCEPTION:
+            return self._exception()
         if name in target.GENERAL:
             return int(self.ask(f"reg {number}")[0].split()[1], 16)
         if name in replies.CONTROL_NAMES:
             return replies.control(self.ask("cp0"))[name]
         return target.processor(replies.registers(self.ask("regs"))).get(name, 0)
+
+    def _exception(self) -> int:
+        if not self.position:
+            return target.NO_EXCEPTION
+        if self.before is None:
+            raise Unknown("trace 1", is_before=True)
+        return target.exception(self.before)
 
     def memory(self, address: int, size: int) -> int:
         """Bytes at a virtual address as a number, low byte first."""
@@ -114,13 +126,27 @@ _TWO: dict[int, Callable[[int, int], int]] = {
     0x0F: operator.and_, 0x10: operator.or_, 0x11: operator.xor,
     0x13: operator.eq, 0x14: _as_signed(operator.lt), 0x15: operator.lt,
 }
+_SHIFTED, _AND, _EQUAL, _LESS = 0x0B, 0x0F, 0x13, 0x14
 _LOG_NOT, _BIT_NOT = 0x0E, 0x12
 _EXTEND, _ZERO_EXTEND = 0x16, 0x2A
 _MEMORY = {0x17: 1, 0x18: 2, 0x19: 4, 0x1A: 8}  # bytes
 _IF_GOTO, _GOTO = 0x20, 0x21
 _CONSTANTS = {0x22: 1, 0x23: 2, 0x24: 4, 0x25: 8}
+_BYTE = 0x22
 _REGISTER, _END = 0x26, 0x27
 _DUP, _POP, _SWAP, _PICK, _ROTATE = 0x28, 0x29, 0x2B, 0x32, 0x33
+
+
+def taken(code: Optional[int]) -> bytes:
+    """The expression that an exception was just taken, of a code or of any. What Cause says is looked at first, which is known in less
+    time."""
+    exception, cause = (bytes([_REGISTER, *target.NUMBERS[name].to_bytes(2, "big")]) for name in (target.EXCEPTION, "cause"))
+    if code is None:
+        return exception + bytes([_BYTE, 0, _LESS, _LOG_NOT, _END])
+    first = cause + bytes([_BYTE, 2, _SHIFTED, _BYTE, 31, _AND, _BYTE, code, _EQUAL])
+    end = len(first) + 3 + 3
+    return (first + bytes([_IF_GOTO, *end.to_bytes(2, "big"), _BYTE, 0, _END])
+            + exception + bytes([_BYTE, code, _EQUAL, _END]))
 
 
 class _Machine:

@@ -66,6 +66,15 @@ def last_hit(driver: Driver, breakpoints: Collection[int], conditions: Condition
     return None
 
 
+def all_hits(driver: Driver, breakpoints: Collection[int], conditions: Conditions, begin: int, end: int) -> Iterator[int]:
+    """All positions from one up to another where a breakpoint stops, in order."""
+    places = [_Condition(it, conditions.get(it, ())) for it in breakpoints]
+    with _in_place(driver, end), driver.long_run(begin, end):
+        for low, high in _windows(begin - 1, end, len(places) == 1):
+            yield from sorted(position for it in places for position in it.hits(driver, low, high))
+            driver.tell(high)
+
+
 def _divided(breakpoints: Collection[int], conditions: Conditions) -> tuple[list[int], list[_Condition]]:
     """The addresses of plain breakpoints, and those with conditions."""
     plain = [address for address in breakpoints if not conditions.get(address)]
@@ -101,7 +110,7 @@ def _in_place(driver: Driver, end: int) -> Iterator[None]:
 
 @dataclass
 class _Condition:
-    """The expressions of one address, and the commands whose replies they read last."""
+    """The expressions of one address, if it has some, and the commands whose replies they read last."""
 
     address: int
     expressions: Sequence[bytes]
@@ -159,22 +168,25 @@ class _Condition:
         hits: list[int] = []
         waiting = list(visits)
         while waiting:
-            missing: list[tuple[Known, str]] = []
+            missing: list[tuple[Known, Unknown]] = []
             for known in waiting:
                 try:
                     if self._holds(known):
                         hits.append(known.position)
                 except Unknown as unknown:
-                    missing.append((known, unknown.command))
-            lines = [line for known, command in missing for line in (f"goto {known.position}", command)]
-            for (known, command), reply in zip(missing, driver.values(lines)[1::2]):
-                known.replies[command] = reply
+                    missing.append((known, unknown))
+            lines = [line for known, it in missing for line in (f"goto {known.position - it.is_before}", it.command)]
+            for (known, it), reply in zip(missing, driver.values(lines)[1::2]):
+                if it.is_before:
+                    known.before = reply[0]
+                else:
+                    known.replies[it.command] = reply
             waiting = [known for known, _ in missing]
         self.usual = list(visits[-1].used)
         yield from sorted(hits)
 
     def _holds(self, known: Known) -> bool:
         try:
-            return any(agent.value(it, known) for it in self.expressions)
+            return not self.expressions or any(agent.value(it, known) for it in self.expressions)
         except Failed:
             return True

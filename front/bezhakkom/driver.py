@@ -17,7 +17,7 @@ from .errors import Ended, Interrupted, Problem, Refused
 from .explain import explained
 from .image import Image
 from .initial import Boot, boot_of
-from .limits import CONSOLE_BYTES, GREATEST_POSITION, READS, SPAN, TRACED, WORDS
+from .limits import CONSOLE_BYTES, GREATEST_POSITION, READS, SPAN, STORES, TRACED, WORDS
 from .log import ADDS, Event, Kind, changes
 from .log import write as write_log
 from .progress import TerminalProgress
@@ -29,6 +29,8 @@ from .visits import Visits
 
 # A run to a far position is made in pieces of this many steps, between which it is shown, or ended.
 PIECE = 64 * SPAN
+
+_MOST_TRACED = 64 * TRACED  # steps that are asked for together
 
 # Where a long run begins, and where it ends if that is known.
 Way = Tuple[int, Optional[int]]
@@ -138,21 +140,25 @@ class Driver:
     def shown(self, physical: int, count: int) -> bytes:
         """Words of memory as the program shows them: a line of WORD_LINE bytes for each. Texts are compared in far less time than
         words."""
-        commands = [f"goto {self.position}", *(f"mem {at} {size}" for at, size in _pieces(physical, count, WORDS, 4)), "pos"]
-        script, told = "".join(f"{it}\n" for it in commands).encode(), f"pos {self.position}\n".encode()
+        return self.text(self.position, [f"mem {at} {size}" for at, size in _pieces(physical, count, WORDS, 4)])
+
+    def text(self, position: int, commands: Sequence[str]) -> bytes:
+        """The replies to questions at a position, or from there on, as one text. The position stays."""
+        script = "".join(f"{it}\n" for it in (f"goto {position}", *commands, f"goto {position}")).encode()
+        told = f"pos {position}\n".encode()
         with self.long_run():
-            self._run_ahead(self.position)
+            self._run_ahead(position)
             if self._started().reads + reads_of(script) > self._most_reads:
                 self.close()
             program = self._started()
             with self._in_step() as stop:
                 text = program.text(script, told, stop)
-            program.position = self.position
+            program.position = position
             if stop():
                 raise Interrupted()
         refused = text.find(b"error ")
         if refused >= 0:
-            refusal = replies.refusal_of(commands[1], text[refused:].decode().splitlines())
+            refusal = replies.refusal_of(commands[0], text[refused:].decode().splitlines())
             assert refusal
             raise explained(refusal)
         return text[len(told):-len(told)]
@@ -170,6 +176,43 @@ class Driver:
     def writer(self, physical: int) -> Writer:
         return replies.writer(self.value(f"writer {physical}"))
 
+    def register_writer(self, number: int) -> Optional[int]:
+        """The last step before the position whose instruction wrote a register, HI or LO, by its number. A load counts at its own step."""
+        return replies.writer(self.value(f"regwriter {number}")).step
+
+    def stores(self, physical: int, most: int) -> Iterator[tuple[int, int]]:
+        """The last stores into a word before the position, from the last one back: their steps, with the word after each."""
+        here = position = self.position
+        while most:
+            count = min(most, STORES)
+            try:
+                self.goto(position)
+                found = self._stores(physical, count)
+            finally:
+                self.goto(here)
+            yield from found
+            if len(found) < count:
+                return
+            position, most = found[-1][0], most - count
+
+    def _stores(self, physical: int, count: int) -> list[tuple[int, int]]:
+        try:
+            return replies.timed(self.value(f"stores {physical} {count}"))
+        except Refused as refused:
+            if refused.name != "Syntax":
+                raise
+        # A program without `stores`.
+        found: list[tuple[int, int]] = []
+        while len(found) < count and (step := self.writer(physical).step) is not None:
+            self.goto(step + 1)
+            found.append((step, self.words(physical, 1)[0]))
+            self.goto(step)
+        return found
+
+    def devices(self) -> dict[str, Any]:
+        """What the devices hold, as reads would give it, but nothing is read."""
+        return replies.devices(self.value("devices"))
+
     def sent(self, line: int) -> int:
         """How many bytes a line sent before the position."""
         return replies.console(self.value(f"console {line} 0 1"))[0]
@@ -183,14 +226,17 @@ class Driver:
 
     def traced(self, first: int, end: int) -> Iterator[Traced]:
         """What each step from one on and before another one does. The position stays."""
-        while first < min(end, GREATEST_POSITION):
-            here, count = self.position, min(TRACED, end - first, GREATEST_POSITION - first)
-            try:
-                lines = self.values([f"goto {first}", f"trace {count}"])[1]
-            finally:
-                self.goto(here)
-            yield from map(tracing.read, lines)
-            first += count
+        begin, size = first, TRACED
+        with self.long_run(begin, end):
+            while first < min(end, GREATEST_POSITION):
+                counts = [count for _, count in _pieces(first, min(size, end - first, GREATEST_POSITION - first), TRACED, 1)]
+                lines = self.text(first, [it for count in counts for it in (f"trace {count}", f"step {count}")]).decode().split("\n")
+                for count in counts:
+                    yield from map(tracing.read, lines[:count])
+                    lines = lines[count + 1:]
+                first += sum(counts)
+                size = min(2 * size, _MOST_TRACED)
+                self.tell(first)
 
     def find(self, line: int, place: int) -> int:
         """The step that sent the byte at a place of a line's console."""

@@ -42,3 +42,6 @@ class Unexpected(Problem):
 
 class Interrupted(KeyboardInterrupt):
     """A turn was ended by Ctrl-C, between two commands. The driver is in step."""
+
+
+STOPPED = (Interrupted, KeyboardInterrupt)  # Ctrl-C, in a turn and between two

@@ -10,6 +10,7 @@ from typing import Callable, Iterable, Optional, Sequence
 from . import memory, places
 from .driver import Driver
 from .errors import Problem
+from .limits import HI, LO
 from .log import unquoted
 from .replies import CONTROL_NAMES
 from .symbols import Symbols
@@ -39,6 +40,14 @@ A name is a symbol if there is one, or else a register; $NAME is always the regi
 def register_number(word: str) -> Optional[int]:
     """The number of a register of the processor, by one of its names."""
     return _NUMBERS.get(word.lstrip("$"))
+
+
+def written(word: str) -> int:
+    """The number of the register that instructions write, of a word such as $a0."""
+    found = {"hi": HI, "lo": LO}.get(word.lstrip("$"), register_number(word))
+    if found is None:
+        raise Problem(f"who wrote {shortened(word.lstrip('$'))} is not noted: that is known of r0 to r31, hi and lo")
+    return found
 
 
 def names() -> Iterable[str]:

@@ -25,7 +25,7 @@ _INSTEAD = {
     **dict.fromkeys(("backtrace", "bt", "up", "down", "frame", "f"), _STACK),
     **dict.fromkeys(("list", "l", "ptype", "whatis", "display"), _SOURCE),
     **dict.fromkeys(("run", "start", "starti", "kill"), _START),
-    **dict.fromkeys(("commands", "condition", "ignore", "tbreak", "rwatch", "awatch", "catch", "disable", "enable"), _GDB),
+    **dict.fromkeys(("commands", "condition", "ignore", "tbreak", "rwatch", "awatch", "disable", "enable"), _GDB),
     **dict.fromkeys(("call", "jump", "j", "return"), _FIXED),
 }
 

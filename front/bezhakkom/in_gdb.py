@@ -10,8 +10,8 @@ from typing import Callable, Optional
 import gdb
 
 # Their words are no numbers.
-AS_THEY_ARE = ("arrive", "assert", "assert-console", "causes", "compare", "expect", "fuzz", "help", "load", "save", "save-image",
-               "save-log", "shrink", "symbols", "trace", "try", "type", "until", "wb", "when")
+AS_THEY_ARE = ("arrive", "assert", "assert-console", "catch", "causes", "compare", "devices", "expect", "fuzz", "help", "hits", "load", "save",
+               "save-image", "save-log", "shrink", "symbols", "trace", "try", "type", "until", "wb", "when", "why")
 RUNS = ("expect", "until")  # they go on, and are run as `continue` is
 MOVES = [begin + move for move in ("continue", "step", "next", "stepi", "nexti", "finish") for begin in ("", "reverse-")]
 MOVES += ["until", "advance"]
@@ -21,6 +21,8 @@ QUOTES = frozenset("'\"")
 NUMBER = re.compile(r"\d[\w,]*")
 IN_GROUPS = re.compile(r"(?<![\w.,])\d{1,3}(?:,\d{3})+(?![\w,])")
 WITHOUT_NUMBER = (gdb.TYPE_CODE_ARRAY, gdb.TYPE_CODE_STRUCT, gdb.TYPE_CODE_UNION, gdb.TYPE_CODE_FUNC)
+REGISTER = re.compile(r"\$[a-z]\w*")  # of `writer`, which then means the register and not the word that it points to
+OF_PLACES = ("hits", "why")  # the first of their words is mostly a place
 OF_WORDS = ("dis", "mem", "patch", "stores", "visit", "where", "writer")  # their numbers have 32 bits, also those that gdb shows below 0
 
 
@@ -126,6 +128,27 @@ def as_number(word: str, of_words: bool) -> str:
         raise gdb.GdbError(f"{word}: {error}") from None
 
 
+def as_place(word: str, of_code: bool) -> str:
+    """A word that may be the stub's: an expression that begins with & is gdb's, and of code a line and the number of a breakpoint."""
+    if word.startswith("&"):
+        return as_number(word, True)
+    stop = next((it for it in gdb.breakpoints() if of_code and str(it.number) == word), None)
+    where = stop.location if stop else word if of_code and ":" in word and not word.startswith("p:") else None
+    if stop and stop.condition:
+        raise gdb.GdbError(f"breakpoint {word} has a condition: `hits` lists all visits of an address, or `hits exception [KIND]` exceptions")
+    if stop and stop.type not in (gdb.BP_BREAKPOINT, gdb.BP_HARDWARE_BREAKPOINT):
+        raise gdb.GdbError(f"stop {word} is no breakpoint; `wb stores` lists the stores into a word")
+    if where is None:
+        return word
+    try:
+        places = gdb.decode_line(where)[1] or ()
+    except gdb.error as error:
+        raise gdb.GdbError(str(error)) from None
+    if len(places) != 1:
+        raise gdb.GdbError(f"{where} is {len(places)} places: `hits` takes the address of one")
+    return f"{places[0].pc & 0xFFFF_FFFF:#x}"
+
+
 def whole(name: str) -> str:
     """The name that a beginning is of, where its words are no numbers; the stub knows the others."""
     found = [it for it in AS_THEY_ARE if len(name) > 2 and it.startswith(name)]
@@ -152,7 +175,9 @@ Numbers may be expressions without blanks: wb writer &session.length, wb goto $p
         line = line or "help"
         name, *words = line.split()
         name = whole(name)
-        if name not in AS_THEY_ARE and not QUOTES.intersection(line):
+        if name in OF_PLACES and words:
+            line = " ".join([name, as_place(words[0], name == "hits"), *words[1:]])
+        elif name not in AS_THEY_ARE and not QUOTES.intersection(line) and not (name == "writer" and REGISTER.fullmatch(" ".join(words))):
             line = " ".join([name, *(as_number(word, name in OF_WORDS) for word in words)])
         if name in RUNS:
             asked(f"next-run {line}")
@@ -167,6 +192,28 @@ Numbers may be expressions without blanks: wb writer &session.length, wb goto $p
             flush()
         if here() != before:
             gdb.execute("frame")
+
+
+class CatchException(gdb.Command):
+    """Stops where an exception was taken, of a kind or of any: catch exception [KIND].
+KIND is int, mod, tlbl, tlbs, adel, ades, ibe, dbe, sys, bp, ri, cpu or ov. It makes a breakpoint at each handler that may be entered so.
+$exception is the code of the exception that the last step took, or -1."""
+
+    KINDS = "int mod tlbl tlbs adel ades ibe dbe sys bp ri cpu ov".split()
+    HANDLERS = 0x8000_0080, 0xBFC0_0180
+    OF_REFILLS = 0x8000_0000, 0xBFC0_0100
+
+    def __init__(self) -> None:
+        super().__init__("catch exception", gdb.COMMAND_BREAKPOINTS)
+
+    def invoke(self, line: str, from_terminal: bool) -> None:
+        kind = line.strip()
+        if kind and kind not in self.KINDS:
+            raise gdb.GdbError(f"there is no kind {kind} of exceptions: they are {', '.join(self.KINDS)}, and without one all are caught")
+        code = self.KINDS.index(kind) if kind else None
+        condition = "$exception >= 0" if code is None else f"($cause >> 2 & 31) == {code} && $exception == {code}"
+        for handler in (*self.HANDLERS, *(self.OF_REFILLS if kind in ("", "tlbl", "tlbs") else ())):
+            gdb.execute(f"break *{handler:#010x} if {condition}")
 
 
 class Stops:
@@ -290,6 +337,7 @@ def hook(command: str, line: str) -> None:
 
 
 Workbench()
+CatchException()
 Load()
 BeforeRun()
 BeforeQuit()

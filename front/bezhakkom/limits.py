@@ -9,6 +9,8 @@ EXTERNAL_LINES = 3
 RAM = range(0, 0x0080_0000)
 ROM = range(0x1FC0_0000, 0x1FC4_0000)
 
+HI, LO = 32, 33  # after the numbers of the general registers
+
 RESET_PC = 0xBFC0_0000
 
 # The steps of a span: at their multiples the program looks up what happened and runs nothing.
@@ -17,6 +19,9 @@ SPAN = 65_536
 # The most that one command asks for.
 VISIT_STEPS = 1_048_576
 TRACED = 64  # steps
+STORES = 32
+FINDS = 64
+PCS = 64
 WORDS = 32
 CONSOLE_BYTES = 256
 

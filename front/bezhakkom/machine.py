@@ -15,15 +15,17 @@ import os
 from concurrent.futures import Executor
 from contextlib import contextmanager
 from dataclasses import dataclass
-from typing import Callable, Iterable, Iterator, Mapping, Optional, Sequence, Union, overload
+from typing import Any, Callable, Iterable, Iterator, Mapping, Optional, Sequence, Union, overload
 from weakref import finalize
 
 from . import arriving, expecting, joining, loading, memory, places, saved, travel
 from . import log as logs
 from .commands import words_of
+from .conditions import all_hits
 from .driver import Driver
 from .errors import Problem
-from .expressions import REGISTERS, register_number
+from .exceptions import Catch
+from .expressions import REGISTERS, register_number, written
 from .limits import GREATEST_POSITION
 from .loading import Opening
 from .log import Event, Kind
@@ -38,6 +40,7 @@ from .whatif import futures as _futures
 from .whatif import fuzz as _fuzz
 from .whatif import shrink as _shrink
 from .whatif import when as _when
+from .whatif import why as _why_of
 from .whatif.causes import Causes
 from .whatif.compare import Comparison
 from .whatif.conditions import Condition
@@ -46,6 +49,7 @@ from .whatif.fuzz import Fuzzed
 from .whatif.pasts import Question
 from .whatif.shrink import Shrunk
 from .whatif.when import When
+from .whatif.why import Why
 from .whatif.words import Words
 
 Path = Union[str, "os.PathLike[str]"]
@@ -262,15 +266,37 @@ class Machine:
         return self.driver.console(line).decode("latin-1")
 
     def writer(self, place: Place) -> Optional[Step]:
-        """The step before this position that stored into the word at a place last, or None where no step did."""
-        step = self.driver.writer(self.session.word_at(str(place))[1]).step
+        """The step before this position that stored into the word at a place last, or wrote a register, as in `writer("$a0")`; or None
+        where no step did."""
+        if isinstance(place, str) and place.startswith("$"):
+            step = self.driver.register_writer(written(place))
+        else:
+            step = self.driver.writer(self.session.word_at(str(place))[1]).step
         return None if step is None else self._step(step)
+
+    def stores(self, place: Place, most: int = 16) -> list[tuple[Step, int]]:
+        """The last stores before this position into the word at a place, from the last one back, each with the word after it."""
+        return [(self._step(step), word) for step, word in self.driver.stores(self.session.word_at(str(place))[1], most)]
+
+    @property
+    def devices(self) -> Mapping[str, Any]:
+        """What the devices hold here, as `devices --json` of the shell says it. Nothing is read."""
+        return self.driver.devices()
 
     def trace(self, steps: int = 1) -> list[Traced]:
         """What the next steps do. The position stays."""
         if steps < 0 or self.position + steps > GREATEST_POSITION:
             raise Problem(f"{steps:,} steps can't be followed: a position is 0 to {GREATEST_POSITION:,}")
         return list(self.driver.traced(self.position, self.position + steps))
+
+    def hits(self, place: Place) -> list[int]:
+        """All positions up to this one at which the instruction at a place comes next."""
+        return list(all_hits(self.driver, [self.address(place)], {}, 0, self.position))
+
+    def exceptions(self, kind: str = "") -> list[int]:
+        """The steps before this position that took an exception, of a kind as the shell's `catch exception` names it, or of any."""
+        conditions = {handler: [it] for handler, it in Catch(kind).conditions().items()}
+        return [it - 1 for it in all_hits(self.driver, list(conditions), conditions, 0, self.position)]
 
     # The past
 
@@ -392,6 +418,11 @@ class Machine:
     def when(self, condition: str, *, at: Optional[int] = None) -> When:
         """The first position, up to here or another one, at which a word has such a value, as in `count == 3`."""
         return _when.when(self.driver, self._condition(f"word {condition}"), self.position if at is None else at)
+
+    def why(self, what: str, *, control: bool = False, address: bool = False) -> Why:
+        """The steps that something here comes from, back to what arrived: a register, a place of a word, or `sent LINE PLACE`, as the
+        shell's `why` takes it. With `control` also those that decided that a step was run, with `address` those that addresses come from."""
+        return _why_of.why(self.driver, self.session.symbols, self._question(what), self.position, control=control, address=address)
 
     def _question(self, what: str) -> Question:
         line = Words(self.session, words_of(what), "WHAT, as the shell's `causes` takes it")

@@ -6,8 +6,8 @@ from typing import Any, Callable, Optional, Sequence, Union
 
 from . import replies, tracing
 from .limits import (
-    COMMAND_BYTES, CONSOLE_BYTES, EXTERNAL_LINES, GREATEST_POSITION, GREATEST_TIME, LINES, MOST_EVENTS, TRACED, VISIT_STEPS,
-    WORDS)
+    COMMAND_BYTES, CONSOLE_BYTES, EXTERNAL_LINES, FINDS, GREATEST_POSITION, GREATEST_TIME, LINES, MOST_EVENTS, PCS, STORES, TRACED,
+    VISIT_STEPS, WORDS)
 from .replies import is_refusal, number_of, words_of
 
 Value = Union[None, int, str, list, dict]
@@ -70,6 +70,17 @@ def _words_after(numbers: Sequence[int], first: str) -> int:
     return numbers[1] - 1
 
 
+def _counted(numbers: Sequence[int], first: str) -> int:
+    """How many lines follow the line that says so."""
+    return int(first.split()[1])
+
+
+def _timed(first: str, second: str) -> Callable[[Sequence[str]], Value]:
+    """The value of a list of pairs, by their names."""
+    return lambda lines: [{first: one, second: two} for one, two in replies.timed(lines)]
+
+
+_DEVICES_AFTER = 7  # lines: those of the serial part's lines, its silo, the clock and the board
 _LINE = f"a line is 0 to {LINES - 1}"
 _TIME = f"a step is 0 to {GREATEST_TIME:,}"
 _MOST = f"and a log has at most {MOST_EVENTS:,} events"
@@ -96,6 +107,11 @@ _ROWS = (
     Command("console", "L F C", f"{_LINE}, and 1 to {CONSOLE_BYTES} bytes are shown", _console, runs=True),
     Command("find", "L P", _LINE, runs=True),
     Command("writer", "A", _ADDRESS, lambda lines: dict(vars(replies.writer(lines))), runs=True),
+    Command("stores", "A C", f"an address is below 0x100000000, and 1 to {STORES} stores are shown", _timed("step", "word"), _counted, runs=True),
+    Command("finds", "L P C", f"{_LINE}, and 1 to {FINDS} bytes are shown", _timed("place", "step"), _counted, runs=True),
+    Command("regwriter", "K", "a register is 0 to 31, 32 for HI, or 33 for LO", lambda lines: replies.writer(lines).step, runs=True),
+    Command("pcs", "D C", f"1 to {PCS} positions are shown, 1 or more steps apart", _timed("position", "pc"), _counted, runs=True),
+    Command("devices", value=replies.devices, lines=lambda numbers, first: _DEVICES_AFTER, runs=True),
     Command("trace", "C", f"1 to {TRACED} steps are followed", lambda lines: [tracing.value(line) for line in lines],
             lambda numbers, first: numbers[0] - 1, runs=True),
     Command("log", "F C", "1 to 32 events are shown", _log, _events_after),

@@ -4,7 +4,7 @@ from __future__ import annotations
 import re
 from dataclasses import dataclass
 from functools import lru_cache
-from typing import Optional, Sequence
+from typing import Any, Optional, Sequence
 
 from .errors import Refused
 from .limits import COMMAND_BYTES
@@ -114,3 +114,26 @@ def console(lines: Sequence[str]) -> tuple[int, bytes]:
 def last_number(lines: Sequence[str]) -> int:
     """The number at the end of a reply of one line: of `pos`, `event`, `find` and `log`."""
     return int(lines[0].split()[-1], 0)
+
+
+def timed(lines: Sequence[str]) -> list[tuple[int, int]]:
+    """The lines after the first one of a reply to `stores`, `finds` or `pcs`: of each the two numbers."""
+    pairs = (line.split() for line in lines[1:])
+    return [(int(first), int(second, 0)) for first, second in pairs]
+
+
+def devices(lines: Sequence[str]) -> dict[str, Any]:
+    """What a reply to `devices` says. The registers are as reads would give them, and words of the silo as RBUF would."""
+    serial, *four, silo, clock, board = (it.split() for it in lines)
+    return {
+        "serial": {name: int(word, 0) for name, word in zip(serial[1::2], serial[2::2])},
+        "lines": [{"receiver": it[3] == "1", "lost": it[5] == "1", "busy": int(it[7])} for it in four],
+        "silo": [int(word, 16) for word in silo[2:]],
+        "clock": {"interrupt": clock[2] == "1", "second": _ticks(clock[4]), "period": _ticks(clock[6]),
+                  "registers": list(bytes.fromhex(clock[8]))},
+        "board": {"csr": int(board[2], 16), "interrupt": board[4] == "1"},
+    }
+
+
+def _ticks(word: str) -> Optional[int]:
+    return None if word == "none" else int(word)

@@ -30,7 +30,7 @@ BEGINNING = "bezhakkom session 1"
 FORM = Form("session", (SESSION_MAGIC,))
 _CONTENTS = "contents"  # the line before the files that are packed in
 _WIDTH = 120
-_LINES = (*LOG_EDITS, "arrive", "wb", "goto", "break", "watch", "gdb", "idle", "limit")
+_LINES = (*LOG_EDITS, "arrive", "wb", "goto", "break", "watch", "catch", "gdb", "idle", "limit")
 
 
 @dataclass(frozen=True)

@@ -9,6 +9,7 @@ from typing import Callable, Iterator, Optional
 from . import expressions, gdb_stops, places
 from .driver import Driver
 from .errors import Problem
+from .exceptions import Catch
 from .idle import IDLE_STEPS
 from .log import Event
 from .saved import Origin, lines_of_edit
@@ -22,12 +23,13 @@ _TARGET = re.compile(r"0x[0-9a-f]{8}$")
 
 @dataclass(frozen=True)
 class Mark:
-    """A breakpoint or a watch, with the number by which people know it."""
+    """A breakpoint, a watch or a catch, with the number by which people know it."""
 
     number: int
     text: str
-    address: int
+    address: int = 0  # of a breakpoint or a watch
     watch: Optional[Watch] = None
+    catch: Optional[Catch] = None
 
 
 @dataclass(frozen=True)
@@ -172,6 +174,9 @@ class Session:
         lines = [line for edit in self.edits for line in lines_of_edit(edit.line, edit.made)]
         lines.append(f"goto {self.driver.position:,}")
         for mark in self.marks:
+            if mark.catch:
+                lines.append(f"catch {mark.catch}")
+                continue
             at = mark.address
             if mark.watch and self.driver.physical(at) != mark.watch.place:
                 at = places.always_at(mark.watch.place)  # its page is mapped elsewhere here

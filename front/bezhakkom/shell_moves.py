@@ -7,6 +7,7 @@ from . import memory, travel
 from .commands import MOVES, STOPS, command
 from .driver import Driver
 from .errors import Problem
+from .exceptions import NAMES, TEXTS, Catch
 from .limits import GREATEST_POSITION
 from .log import quoted
 from .search import next_visit
@@ -87,6 +88,14 @@ def watch(session: Session, words: list[str]) -> None:
     _put(session, Mark(_free(session), text, address, Watch(address, size, place)))
 
 
+@command("catch exception [KIND]", f"stops where an exception was taken, of a kind or of any: {', '.join(NAMES)}", STOPS)
+def catch(session: Session, words: list[str]) -> None:
+    if words[0] != "exception":
+        raise Problem("the shell catches exceptions alone: catch exception [KIND]")
+    found = Catch(*words[1:])
+    _put(session, Mark(_free(session), found.text, catch=found))
+
+
 def _size(session: Session, address: int) -> int:
     found = session.symbols.at(address)
     return found[0].size if found and not found[1] and 0 < found[0].size <= _WATCHED else 4
@@ -106,21 +115,21 @@ def _put(session: Session, mark: Mark) -> None:
     session.tell(f"{mark.number}: {mark.text}")
 
 
-@command("stops", "lists breakpoints and watches", STOPS)
+@command("stops", "lists breakpoints, watches and catches", STOPS)
 def stops(session: Session, words: list[str]) -> None:
     for mark in session.marks:
         session.tell(f"{mark.number}: {mark.text}")
     for line in session.stops_of_gdb:
         session.tell(f"kept for gdb: {line}")
     if not session.marks and not session.stops_of_gdb:
-        session.tell("there are none; `break A` and `watch A` make one")
+        session.tell("there are none; `break A`, `watch A` and `catch exception` make one")
 
 
-@command("delete [N]", "takes breakpoint or watch N away, or all", STOPS)
+@command("delete [N]", "takes breakpoint, watch or catch N away, or all", STOPS)
 def delete(session: Session, words: list[str]) -> None:
     number = session.number(words[0]) if words else None
     if number is not None and all(it.number != number for it in session.marks):
-        raise Problem(f"there is no breakpoint or watch {number}; `stops` lists them")
+        raise Problem(f"there is no stop {number}; `stops` lists them")
     session.marks = [it for it in session.marks if number is not None and it.number != number]
     if number is None:
         session.stops_of_gdb.clear()
@@ -160,8 +169,17 @@ def reverse_continue(session: Session, words: list[str]) -> None:
 
 
 def _stops(session: Session, end: int = GREATEST_POSITION) -> Stops:
-    return Stops({it.address for it in session.marks if not it.watch}, {it.watch for it in session.marks if it.watch},
-                 end=end, idle=session.idle)
+    plain = {it.address for it in session.marks if _is_breakpoint(it)}
+    conditions: dict[int, list[bytes]] = {}
+    for mark in session.marks:
+        for handler, condition in mark.catch.conditions().items() if mark.catch else ():
+            if handler not in plain:
+                conditions.setdefault(handler, []).append(condition)
+    return Stops(plain | set(conditions), {it.watch for it in session.marks if it.watch}, conditions, end, session.idle)
+
+
+def _is_breakpoint(mark: Mark) -> bool:
+    return not mark.watch and not mark.catch
 
 
 def _travel(session: Session, go: Callable[[Driver, Stops, travel.Pause], Stop], stops: Stops) -> Stop:
@@ -190,11 +208,23 @@ def _show_stop(session: Session, stop: Stop, after: int) -> None:
         _show_change(session, stop.watch, stop.position)
     elif stop.reason is Reason.BREAKPOINT:
         pc = session.driver.registers().pc
-        mark = next(it for it in session.marks if not it.watch and it.address == pc)
-        session.tell(f"{mark.number}: {mark.text}")
+        mark = next((it for it in session.marks if _is_breakpoint(it) and it.address == pc), None)
+        if mark:
+            session.tell(f"{mark.number}: {mark.text}")
+        else:
+            _show_exception(session, stop.position - 1)
     else:
         session.tell(_idle(stop, "continue") if stop.reason is Reason.IDLE else stop.note())
     session.show_position()
+
+
+def _show_exception(session: Session, step: int) -> None:
+    """The exception that a step took, for which the run stopped."""
+    taken, = session.driver.traced(step, step + 1)
+    assert taken.exception is not None
+    wanted = ("", NAMES[taken.exception])
+    mark = next(it for it in session.marks if it.catch and it.catch.name in wanted)
+    session.tell(f"{mark.number}: exception {NAMES[taken.exception]}, {TEXTS[taken.exception]}, in step {step:,}, {session.code(taken.pc)}")
 
 
 def _idle(stop: Stop, command: str) -> str:

@@ -1,17 +1,18 @@
-"""Commands of the shell that follow the run step by step, and list what it did."""
+"""Commands of the shell that follow the run step by step, and list what it did before."""
 from __future__ import annotations
 
-from typing import Iterator
+from typing import Iterator, Optional, Union
 
-from .commands import STEPS, command
-from .errors import Problem
-from .expressions import REGISTERS
-from .limits import GREATEST_POSITION, RAM, ROM
-from .places import always_at
+from .commands import BEFORE, STEPS, command
+from .conditions import Conditions, all_hits, last_hit
+from .driver import Driver
+from .errors import STOPPED, Problem
+from .exceptions import NAMES, TEXTS, Catch
+from .limits import GREATEST_POSITION, RAM, ROM, TRACED
 from .saving import FORCE_WORD, Form, is_forced, save
 from .session import Session, counted
-from .shell_views import CODES
-from .tracing import Access, Traced
+from .step_lines import StepLines
+from .tracing import Traced, read
 
 # How many are shown where the line has no number.
 _STEPS = 8
@@ -22,61 +23,13 @@ _BEGIN = "# what steps "
 _FORM = Form("trace", (_BEGIN.encode(),))
 
 
-class _Texts:
-    """Instructions as text. Each is asked for once."""
-
-    def __init__(self, session: Session) -> None:
-        self._session = session
-        self._known: dict[tuple[int, int], str] = {}
-
-    def of(self, step: Traced) -> str:
-        if step.word is None:
-            return "an interrupt" if step.exception == 0 else "no instruction can be fetched here"
-        found = self._known.get((step.pc, step.word))
-        if found is None:
-            with self._session.at(step.step):
-                found = self._known[step.pc, step.word] = self._session.instruction(step.pc)
-        return found
-
-
-def _place(session: Session, access: Access) -> str:
-    """The place of an access: memory by its address in kseg0 or kseg1, which may have a name, and devices by their physical one."""
-    if access.address in RAM or access.address in ROM:
-        return session.address(always_at(access.address))
-    return f"p:{access.address:#010x}"
-
-
-def _parts(session: Session, step: Traced) -> Iterator[str]:
-    """What a step did, part by part."""
-    if step.write:
-        register, value = step.write
-        yield f"{REGISTERS[register]} = {session.address(value)}"
-    if step.hi_lo:
-        yield f"hi = {step.hi_lo[0]:#010x}, lo = {step.hi_lo[1]:#010x}"
-    if step.access:
-        how = "from" if step.access.kind == "load" else "into"
-        yield f"{step.access.kind}s {step.access.word:#010x} {how} {_place(session, step.access)}"
-    if step.sent:
-        yield f"sends {chr(step.sent[1])!r} on line {step.sent[0]}"
-    if step.shuts_down:
-        yield "sets TS: several entries match"
-    if step.exception is not None:
-        yield f"exception {step.exception}: {CODES[step.exception]}"
-
-
-def shown(session: Session, texts: _Texts, step: Traced) -> str:
-    """A step as a line: `368: read_line+0x4: sw r31, 28(r29)   stores 0xbfc00123 into 0x80001ffc`."""
-    parts = "; ".join(_parts(session, step))
-    return f"{step.step:,} {session.place(step.pc)}: {texts.of(step)}" + (f"   {parts}" if parts else "")
-
-
 @command("trace [C] [to] [FILE] [..]", "shows what the next C steps do, or writes it: trace 100000 to FILE", STEPS)
 def trace(session: Session, words: list[str]) -> None:
     numbers, to = (words[:words.index("to")], words[words.index("to") + 1:]) if "to" in words else (words, None)
     if len(numbers) > 1 or to == []:
         raise Problem("usage: trace [C], or trace [C] to FILE")
     count = _count(session, numbers, _STEPS)
-    lines = (shown(session, texts, step) for texts in (_Texts(session),) for step in _next(session, count))
+    lines = map(StepLines(session).of, _next(session, count))
     if to is None:
         for line in lines:
             session.tell(line)
@@ -89,35 +42,93 @@ def trace(session: Session, words: list[str]) -> None:
 
 @command("io [C]", f"shows which of the next C steps, or {_IO_STEPS:,}, load from devices or store into them", STEPS)
 def io(session: Session, words: list[str]) -> None:
-    count, texts, found = _count(session, words, _IO_STEPS), _Texts(session), False
+    count, lines, found = _count(session, words, _IO_STEPS), StepLines(session), False
     for step in _next(session, count):
         if step.access and step.access.address not in RAM and step.access.address not in ROM:
-            session.tell(shown(session, texts, step))
+            session.tell(lines.of(step))
             found = True
     if not found:
         session.tell(f"none of the next {counted(count, 'step')} does")
 
 
-@command("stores A [C]", f"lists the last C stores, or {_STORES}, into the word at virtual address A before the position", STEPS)
+@command("stores A [C]", f"lists the last C stores, or {_STORES}, into the word at virtual address A before the position", BEFORE)
 def stores(session: Session, words: list[str]) -> None:
     address, physical = session.word_at(words[0])
-    most = _count(session, words[1:], _STORES)
-    driver, here = session.driver, session.driver.position
-    found: list[tuple[int, int]] = []
-    try:
-        while len(found) < most:
-            step = driver.writer(physical).step
-            if step is None:
-                break
-            driver.goto(step + 1)
-            found.append((step, driver.words(physical, 1)[0]))
-            driver.goto(step)
-    finally:
-        driver.goto(here)
-    for step, word in found:
+    found = False
+    for step, word in session.driver.stores(physical, _count(session, words[1:], _STORES)):
         session.tell(f"{word:#010x} by {session.step(step)}")
+        found = True
     if not found:
         session.tell(f"no step before this position stored at {session.address(address)}")
+
+
+_HITS = "hits A [last C], where A is an address, the number of a breakpoint or a catch, or `exception [KIND]`"
+
+
+@command("hits A ..", "lists all positions up to here at which breakpoint A stops: its number, an address, or `exception [KIND]`", BEFORE, more=_HITS)
+def hits(session: Session, words: list[str]) -> None:
+    most = None
+    if words[-2:-1] == ["last"]:
+        most = _count(session, words[-1:], 0)
+        words = words[:-2]
+    if not words or len(words) > 1 and words[0] != "exception" or len(words) > 2:
+        raise Problem(f"usage: {_HITS}")
+    stop = Catch(*words[1:]) if words[0] == "exception" else _stop(session, words[0])
+    conditions = {it: [condition] for it, condition in stop.conditions().items()} if isinstance(stop, Catch) else {}
+    places = list(conditions) if isinstance(stop, Catch) else [stop]
+    name = stop.text if isinstance(stop, Catch) else f"visits of {session.code(stop)}"
+    driver, found, is_ended = session.driver, [], False
+    try:
+        for position in _hits(driver, places, conditions, most):
+            found.append(position)
+    except STOPPED:
+        is_ended = True
+    found.sort()
+    session.tell(f"{name}, up to step {driver.position:,}: {len(found):,}" + (", and Ctrl-C came before all were found" if is_ended else ""))
+    for line in _exceptions(session, found) if isinstance(stop, Catch) else (f"step {it:,}" for it in found):
+        session.tell(f"  {line}")
+
+
+def _hits(driver: Driver, places: list[int], conditions: Conditions, most: Optional[int]) -> Iterator[int]:
+    """The positions up to this one where a breakpoint stops, or the last ones of so many."""
+    here = driver.position
+    if most is None:
+        yield from all_hits(driver, places, conditions, 0, here)
+        return
+    try:
+        driver.goto(min(here + 1, GREATEST_POSITION))
+        for _ in range(most):
+            found = last_hit(driver, places, conditions, 0)
+            if found is None:
+                return
+            yield found
+            driver.goto(found)
+    finally:
+        driver.goto(here)
+
+
+def _stop(session: Session, text: str) -> Union[int, Catch]:
+    """The address of a breakpoint, or a catch."""
+    mark = next((it for it in session.marks if str(it.number) == text), None)
+    if mark and mark.watch:
+        raise Problem(f"{mark.number} is a watch; `stores` lists the stores into a word")
+    if mark:
+        return mark.catch or mark.address
+    address = session.number(text)
+    if address % 4 or not 0 <= address < 1 << 32:
+        raise Problem(f"{text} is no stop, and no address of an instruction: these are multiples of 4, below 0x100000000")
+    return address
+
+
+def _exceptions(session: Session, positions: list[int]) -> Iterator[str]:
+    """The exceptions that were taken right before some positions."""
+    for first in range(0, len(positions), TRACED):
+        steps = [it - 1 for it in positions[first:first + TRACED]]
+        with session.at(session.driver.position):
+            answers = session.driver.values([line for it in steps for line in (f"goto {it}", "trace 1")])[1::2]
+        for step in map(read, (lines[0] for lines in answers)):
+            assert step.exception is not None
+            yield f"step {step.step:,}, {session.code(step.pc)}: {NAMES[step.exception]}, {TEXTS[step.exception]}"
 
 
 def _count(session: Session, words: list[str], usual: int) -> int:

@@ -1,19 +1,17 @@
 """Commands of the shell that show what the machine holds, and what happened before."""
 from __future__ import annotations
 
-from . import expressions, memory
+import json
+
+from . import devices, expressions, memory
 from .commands import BEFORE, HOLDS, SERIAL, command
 from .errors import Problem
+from .exceptions import TEXTS
 from .expressions import REGISTERS, register_number
 from .limits import LINES, WORDS
 from .log import Event, Kind
 from .places import UNMAPPED
 from .session import Session, counted, distance
-
-CODES = {0: "interrupt", 1: "store to a page that is not dirty", 2: "no entry for a load or fetch", 3: "no entry for a store",
-          4: "address error of a load or fetch", 5: "address error of a store", 6: "bus error of a fetch",
-          7: "bus error of a load", 8: "system call", 9: "breakpoint", 10: "reserved instruction",
-          11: "coprocessor unusable", 12: "overflow"}
 
 # How many are shown where the line has no number.
 _INSTRUCTIONS = 8
@@ -65,8 +63,17 @@ def cp0(session: Session, words: list[str]) -> None:
     status, cause = control["status"], control["cause"]
     session.tell(f"{'user' if status & 2 else 'kernel'} mode, interrupts {'on' if status & 1 else 'off'}")
     if control["epc"]:
-        session.tell(f"the last exception: {CODES.get(cause >> 2 & 31, 'unknown')}, at {session.address(control['epc'])}"
+        session.tell(f"the last exception: {dict(enumerate(TEXTS)).get(cause >> 2 & 31, 'unknown')}, at {session.address(control['epc'])}"
                      f"{' in its delay slot' if cause >> 31 else ''}")
+
+
+@command("devices [--json]", "shows what the serial part, the clock and the board hold, without reading them", HOLDS)
+def devices_(session: Session, words: list[str]) -> None:
+    if words not in ([], ["--json"]):
+        raise Problem("usage: devices [--json]")
+    found = session.driver.devices()
+    for line in [json.dumps(found)] if words else devices.text(found):
+        session.tell(line)
 
 
 @command("tlb [I]", "shows translation entry I, or those that are valid", HOLDS)
@@ -129,8 +136,12 @@ def symbols(session: Session, words: list[str]) -> None:
 
 # What happened before
 
-@command("writer A", "shows what wrote the word at virtual address A last", BEFORE)
+@command("writer A", "shows what wrote the word at virtual address A last, or, as in `writer $a0`, a register", BEFORE)
 def writer(session: Session, words: list[str]) -> None:
+    if words[0].startswith("$"):
+        step = session.driver.register_writer(expressions.written(words[0]))
+        session.tell(f"no step before this position wrote {words[0]}" if step is None else session.step(step))
+        return
     address, physical = session.word_at(words[0])
     found = session.driver.writer(physical)
     if found.step is not None:

@@ -134,6 +134,8 @@ class Stub:
         number, = _numbers(rb"(\w+)", rest)
         if number >= len(target.NAMES):
             raise Malformed
+        if target.NAMES[number] == target.EXCEPTION:
+            return target.text({target.EXCEPTION: target.last_exception(self._driver)}, number)
         return target.text(target.values(self._driver), number)
 
     def _set_registers(self, rest: bytes) -> bytes:
@@ -376,8 +378,8 @@ def open_session(session: Session, commands: Sequence[str]) -> None:
         why = monitor.refusal(session, command, tell=lambda shown: None, of_gdb=True)
         if why:
             loading.say(f"the session's line `{command}` fails: {why}")
-    session.stops_of_gdb[:0] = [line for it in session.marks
-                                for line in gdb_stops.lines(it.address, it.watch.size if it.watch else None)]
+    session.stops_of_gdb[:0] = [line for it in session.marks for line in (
+        it.catch.lines_of_gdb() if it.catch else gdb_stops.lines(it.address, it.watch.size if it.watch else None))]
     session.marks.clear()
     session.saved_log, session.saved_patches = list(session.driver.log), list(session.driver.patches)
 

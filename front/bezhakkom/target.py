@@ -6,13 +6,15 @@ are 0, as gdb ends a list at one that has no value. The project's own feature ha
 
 from __future__ import annotations
 
+from . import tracing
 from .driver import Driver
 from .replies import Registers
 
 GENERAL = [f"r{number}" for number in range(32)]
 FLOATING = [f"f{number}" for number in range(32)] + ["fcsr", "fir"]
 CONTROL = ["index", "random", "entrylo", "context", "entryhi", "epc", "prid"]
-OWN = ["position", "nextpc", "delay", "loadreg", "loadval", *CONTROL]
+EXCEPTION = "exception"  # the last one of all: it is asked for alone, where it is wanted
+OWN = ["position", "nextpc", "delay", "loadreg", "loadval", *CONTROL, EXCEPTION]
 NAMES = [*GENERAL, "status", "lo", "hi", "badvaddr", "cause", "pc", *FLOATING, *OWN]
 NUMBERS = {name: number for number, name in enumerate(NAMES)}
 FEATURES = {
@@ -24,6 +26,8 @@ FEATURES = {
 POINTERS = {"pc": "code_ptr", "nextpc": "code_ptr", "epc": "code_ptr"}
 UNSIGNED = {"position", "delay", "loadreg"}
 BITS = {"position": 64}  # all others have 32
+
+NO_EXCEPTION = -1
 
 
 def description() -> bytes:
@@ -45,7 +49,7 @@ def _register(name: str) -> str:
 
 
 def values(driver: Driver) -> dict[str, int]:
-    """All registers at the position, each by the name that the description gives it."""
+    """All registers at the position, each by the name that the description gives it, but the exception."""
     return {**dict.fromkeys(FLOATING, 0), **driver.control(), **processor(driver.registers()), "position": driver.position}
 
 
@@ -57,11 +61,30 @@ def processor(registers: Registers) -> dict[str, int]:
     return {**dict(zip(GENERAL, registers.general)), **others}
 
 
+def exception(line: str) -> int:
+    """The code of the exception that a step took, as `trace` says what it did."""
+    found = tracing.read(line).exception
+    return NO_EXCEPTION if found is None else found
+
+
+def last_exception(driver: Driver) -> int:
+    """The same of the step before the position."""
+    here = driver.position
+    if not here:
+        return NO_EXCEPTION
+    try:
+        return exception(driver.values([f"goto {here - 1}", "trace 1"])[1][0])
+    finally:
+        driver.goto(here)
+
+
 def text(registers: dict[str, int], number: int) -> bytes:
     """The hexadecimal digits of a register, low byte first."""
     name = NAMES[number]
-    return registers[name].to_bytes(BITS.get(name, 32) // 8, "little").hex().encode()
+    bits = BITS.get(name, 32)
+    return (registers[name] & (1 << bits) - 1).to_bytes(bits // 8, "little").hex().encode()
 
 
 def all_text(registers: dict[str, int]) -> bytes:
-    return b"".join(text(registers, number) for number in range(len(NAMES)))
+    """Those of all registers but the exception."""
+    return b"".join(text(registers, NUMBERS[name]) for name in NAMES if name != EXCEPTION)

@@ -57,7 +57,10 @@ def read(line: str) -> Traced:
 
 def value(line: str) -> dict[str, Any]:
     """The same as a value of JSON, with those parts that there are."""
-    it = read(line)
+    return value_of(read(line))
+
+
+def value_of(it: Traced) -> dict[str, Any]:
     shown: dict[str, Any] = {"step": it.step, "pc": it.pc, "word": it.word}
     if it.write:
         shown["register"], shown["value"] = it.write

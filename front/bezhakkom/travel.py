@@ -13,7 +13,6 @@ from .errors import Interrupted
 from .idle import IDLE_STEPS, Idleness
 from .limits import GREATEST_POSITION, VISIT_STEPS
 from .standstill import TURN, Quiet, Standstill, quiet, standstill
-from .states import registers_at
 
 # A run goes in pieces. After each one `pause` is called, and may end the run.
 FIRST_PIECE = 1 << 16
@@ -169,7 +168,7 @@ def _leave(driver: Driver, addresses: range, stops: Stops, pause: Pause) -> Stop
     for batch in count(1):
         start = driver.position
         end = min(start + BATCH, GREATEST_POSITION)
-        counters = [state.pc for state in registers_at(driver, range(start + 1, end + 1))]
+        counters = [step.pc for step in driver.traced(start + 1, end + 1)]
         outside = next((start + at for at, pc in enumerate(counters, 1) if pc not in addresses), None)
         stop, reached = _first(driver, stops, start, outside or end)
         if stop and stop.position != outside:

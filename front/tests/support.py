@@ -44,6 +44,11 @@ def needs_erase(test: unittest.TestCase) -> None:
     _needs(test, "erased ranges and long runs", "erase 0 0", f"goto {GREATEST_POSITION}")
 
 
+def needs_questions(test: unittest.TestCase) -> None:
+    """Skips a test where the program that is started does not say who wrote a register, and what the devices hold."""
+    _needs(test, "writers of registers and devices", "regwriter 1", "devices")
+
+
 def _needs(test: unittest.TestCase, what: str, *commands: str) -> None:
     driver = start(rom([]))
     try:

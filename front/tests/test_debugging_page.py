@@ -22,8 +22,13 @@ class Page(unittest.TestCase):
         shown = debugger.run(words, "".join(f"{command}\n" for command in commands))
         self.assertEqual(with_commands(shown, commands), lines)
 
-    def test_step_by_step_in_the_shell(self) -> None:
-        start, *lines = transcript(PAGE, "Step by step")
+    def test_the_walks_in_the_shell(self) -> None:
+        for heading in "Step by step", "Exceptions", "Where a value comes from":
+            with self.subTest(heading=heading):
+                self.check(heading)
+
+    def check(self, heading: str) -> None:
+        start, *lines = transcript(PAGE, heading)
         with tempfile.NamedTemporaryFile("w") as script:
             script.write("".join(line[2:] + "\n" for line in lines if line.startswith("> ")))
             script.flush()

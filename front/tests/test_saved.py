@@ -200,7 +200,7 @@ class Saved(unittest.TestCase):
         again = str(self.folder / "again.session")
         said = shell(self.file, lines=("stops", "gdb", f"save {again}", "delete", "stops", "gdb")).stdout.splitlines()
         self.assertEqual(said[:len(kept)], [f"kept for gdb: {it}" for it in kept])
-        self.assertEqual((said[len(kept):-2], said[-1]), (kept, "there are none; `break A` and `watch A` make one"))
+        self.assertEqual((said[len(kept):-2], said[-1]), (kept, "there are none; `break A`, `watch A` and `catch exception` make one"))
         self.assertEqual(Path(again).read_text(), Path(self.file).read_text())
 
     def test_a_session_runs_nothing_in_gdb(self) -> None:

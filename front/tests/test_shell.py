@@ -72,7 +72,7 @@ class Echo(unittest.TestCase):
         self.assertEqual(talk("reverse-continue")[-1], "step 77, loop+0x8: sw r6, 256(r8)")
         self.assertEqual(talk("rc"), ["that is the begin of the run", "step 0, 0xbfc00000: lui r1, 0xbfe0"])
         self.assertEqual(talk("delete 2", "stops"), ["1: breakpoint at 0xbfc01018 <loop+0x18>"])
-        self.assertEqual(talk("delete 2"), ["there is no breakpoint or watch 2; `stops` lists them"])
+        self.assertEqual(talk("delete 2"), ["there is no stop 2; `stops` lists them"])
         self.assertEqual(talk("c", "c")[1::2], ["step 81, loop+0x18: sw r0, 260(r8)", "step 213, loop+0x18: sw r0, 260(r8)"])
         self.assertRegex(talk("c")[0], "waits for a byte, and the log has no more")
 

@@ -94,8 +94,8 @@ class InTheShell(unittest.TestCase):
 
     def test_trace(self) -> None:
         shown = self.shown("goto 40,023", "trace 2").splitlines()
-        self.assertRegex(shown[-2], r"^40,023 read_line\+\w+: addiu r3, r3, -1   v1 = 0xffffffff$")
-        self.assertRegex(shown[-1], r"^40,024 read_line\+\w+: sw r3, 32\(r2\)   stores 0xffffffff into 0x80001020 <session\+0x20>$")
+        self.assertRegex(shown[-2], r"^40,023 read_line\+\w+ \(login.c:44\): addiu r3, r3, -1   v1 = 0xffffffff$")
+        self.assertRegex(shown[-1], r"^40,024 read_line\+\w+ \(login.c:44\): sw r3, 32\(r2\)   stores 0xffffffff into 0x80001020 <session\+0x20>$")
 
     def test_a_trace_in_a_file(self) -> None:
         with TemporaryDirectory() as folder:
@@ -113,12 +113,12 @@ class InTheShell(unittest.TestCase):
             shown = "\n".join(debugger.batch("login/login.elf", "wb goto 40,023", "wb trace 2", f"wb trace 5 to {name}", "wb goto 40,025",
                                              "wb stores &session.length 1", log="login/log"))
             self.assertEqual(len(name.read_text().splitlines()), 6)
-        self.assertIn("40,024 read_line+0x30: sw r3, 32(r2)   stores 0xffffffff into 0x80001020 <session+0x20>", shown)
+        self.assertIn("40,024 read_line+0x30 (login.c:44): sw r3, 32(r2)   stores 0xffffffff into 0x80001020 <session+0x20>", shown)
         self.assertIn("0xffffffff by step 40,024, read_line+0x30, 1 step ago", shown)
 
     def test_io(self) -> None:
         shown = self.shown("goto 6684", "io 3").splitlines()
-        self.assertRegex("\n".join(shown), r"(?m)^6,684 receive\+0x4: lw r2, 8\(r2\)   v0 = 0x00000000; loads 0x00000000 from p:0x1fe00008$")
+        self.assertRegex("\n".join(shown), r"(?m)^6,684 receive\+0x4 \(login.c:33\): lw r2, 8\(r2\)   v0 = 0x00000000; loads 0x00000000 from p:0x1fe00008$")
         self.assertIn("none of the next 2 steps does", self.shown("goto 6685", "io 2"))
 
     def test_stores(self) -> None:

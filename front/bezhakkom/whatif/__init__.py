@@ -10,7 +10,8 @@ position at which a condition holds. Each answer is that of the machine run from
     compare    what differs between two pasts
     when       the first position at which a word has a value
     fuzz       other bytes after a position, until a condition comes true
+    why        the steps of this past that something comes from
 
-Nothing is estimated: there is no analysis of code, and what is said of an event was seen. Every one of them leaves log, image and
-position as they were.
+Nothing is estimated: what is said of an event was seen. Of code only `why` knows something, what instructions make their results of and which
+branches decide. Every one of them leaves log, image and position as they were.
 """

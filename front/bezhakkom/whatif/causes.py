@@ -11,10 +11,11 @@ from dataclasses import dataclass, field
 from typing import Any, List, Optional, Sequence, Tuple
 
 from ..driver import Driver
+from ..errors import STOPPED
 from ..log import Event, Kind
 from . import pasts
 from .jobs import answers
-from .pasts import STOPPED, Past, kept, told
+from .pasts import Past, kept, told
 from .questions import At, Question
 
 SET, DEL = "set", "del"

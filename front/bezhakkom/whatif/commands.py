@@ -1,4 +1,4 @@
-"""The commands of the shell and of gdb that ask what if."""
+"""The commands of the shell and of gdb that ask what if, and why."""
 from __future__ import annotations
 
 import json
@@ -7,7 +7,7 @@ from typing import Iterable, List, Optional, Tuple
 
 from .. import log as logs
 from .. import loading, saved
-from ..commands import WHAT_IF, command
+from ..commands import BEFORE, WHAT_IF, command
 from ..errors import Problem
 from ..log import Event, changes
 from ..saving import FORCE_WORD, save
@@ -18,11 +18,12 @@ from . import fuzz as fuzzing
 from . import shown
 from . import shrink as shrinking
 from . import when as first_time
+from . import why as reasons
 from .causes import DEL, SET
 from .causes import causes as causes_of
 from .futures import Label
 from .jobs import pool
-from .pasts import Past, undisturbed
+from .pasts import Past, answer, undisturbed
 from .words import CONDITION, WHAT, Words
 
 _WAYS = {"set": (SET,), "del": (DEL,), "both": (SET, DEL)}
@@ -157,6 +158,35 @@ def when(session: Session, words: list[str]) -> None:
     text = " ".join(line.rest)
     found = first_time.when(session.driver, condition, end)
     _tell(session, line, shown.when(session, text, found), shown.when_value(session, found))
+
+
+_WHY = "why WHAT [control] [address] [to input] [at N] [steps N] [--json]; WHAT is a register, an address of a word, or `sent L K`"
+_STEPS = 40  # that are shown, where the line has no number
+
+
+@command("why WHAT ..", "shows the steps that WHAT comes from here, back to what arrived: a register, an address of a word, `sent L K`",
+         BEFORE, more=_WHY)
+def why(session: Session, words: list[str]) -> None:
+    line = Words(session, words, _WHY, "at", "steps")
+    position, most = line.position(), line.number_after("steps", _STEPS)
+    if not line.rest:
+        raise line.problem("what is asked for is missing")
+    with session.at(position):
+        name, question = line.question(line.rest)
+    control, address = line.has("control"), line.has("address")
+    target = line.after("to")
+    if target not in (None, "input"):
+        raise line.problem("`to` is followed by `input`")
+    line.end()
+    if most < 1:
+        raise Problem("how many steps are shown is 1 or more")
+    found = reasons.why(session.driver, session.symbols, question, position, control=control, address=address)
+    if target:
+        found = found.to_input()
+    with session.at(position):
+        value = answer(session.driver, question)
+    _tell(session, line, shown.why(session, name, shown.value_of(session, question, value), found, most),
+          shown.why_value(session, name, value, found))
 
 
 _FUZZ = f"fuzz FROM until CONDITION [seed S] [steps N] [tries N] [save FILE [force]] [--jobs N] [--json]; a condition is {CONDITION}"

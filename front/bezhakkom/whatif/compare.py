@@ -1,23 +1,26 @@
 """What differs between two pasts: the present one and another.
 
-- *Registers*: the first position at which a reply to `regs` differs, up to the present position, found by looking at each.
+- *Registers*: the first position at which a reply to `regs` differs, up to the present position, found by looking at each step.
 - *Sent*: of each line, the first place at which what it sent up to the position differs, and the steps that sent these bytes.
 - *Words*: the words of RAM that differ at the position.
 """
 from __future__ import annotations
 
+import re
 from dataclasses import dataclass, field
 from typing import Iterator, List, Optional, Sequence, Tuple
 
 from .. import replies
 from ..driver import Driver
-from ..limits import LINES, RAM, WORDS
+from ..errors import STOPPED
+from ..limits import LINES, RAM, TRACED, WORDS
 from ..log import Event
 from ..replies import WORD_LINE, Registers
 from . import pasts, questions
-from .pasts import PRESENT, STOPPED, Past, kept
+from .pasts import PRESENT, Past, kept
 
-_POSITIONS = (64, 256, 1024, 4096)  # that are compared together, at first and later on
+_STEPS = (64, 256, 1024, 4096, 16_384)  # that are compared together, at first and later on
+_ACCESS = re.compile(rb" (?:load|store) 0x\w{8} 0x\w{8}")
 _WORDS = 4096 * WORDS  # that are shown together
 _BLOCK = 1024 * WORD_LINE  # bytes of what is shown that are compared together
 
@@ -120,19 +123,46 @@ def _sent(driver: Driver, other: Past, found: Comparison) -> None:
 
 
 def _registers(driver: Driver, other: Past, found: Comparison, begin: int) -> None:
-    low, sizes = begin, iter(_POSITIONS)
+    """Where steps did the same from the same registers on, these stay the same. So what steps did is compared, as text, and the registers
+    themselves only around a step that did something else, and at the end."""
+    low, sizes = begin, iter(_STEPS)
     size = next(sizes)
-    while low <= found.position:
-        positions = range(low, min(low + size, found.position + 1))
-        commands = [command for it in positions for command in (f"goto {it}", "regs")]
-        pairs = list(_both(driver, other, commands))[1::2]
-        for position, (one, two) in zip(positions, pairs):
-            if one != two:
-                found.registers = position, replies.registers(one), replies.registers(two)
-                return
-        driver.tell(positions[-1], (begin, found.position))
-        found.compared = positions[-1]
-        low, size = positions.stop, next(sizes, size)
+    if _differs_at(driver, other, found, [low]):
+        return
+    while low < found.position:
+        high = min(low + size, found.position)
+        one, two = _traced_in_both(driver, other, low, high)
+        step = next((low + at for at, (here, there) in enumerate(zip(one, two)) if here != there), high)
+        if _differs_at(driver, other, found, [step, min(step + 1, high)]):
+            return
+        low, size = min(step + 1, high), next(sizes, size)
+        driver.tell(low, (begin, found.position))
+
+
+def _traced_in_both(driver: Driver, other: Past, low: int, high: int) -> Tuple[List[bytes], List[bytes]]:
+    """What the steps from one on and before another did to registers, here and in the other past."""
+    commands = [it for at in range(low, high, TRACED) for count in (min(TRACED, high - at),) for it in (f"trace {count}", f"step {count}")]
+    one = driver.text(low, commands)
+    driver.values(other.there)
+    two = driver.text(low, commands)
+    driver.values(other.back)
+    return ([], []) if one == two else (_of_registers(one), _of_registers(two))
+
+
+def _of_registers(text: bytes) -> List[bytes]:
+    """The lines of steps without the word that was loaded or stored, of which a byte may be all that matters."""
+    return [_ACCESS.sub(b"", line) for line in text.split(b"\n") if line[:1].isdigit()]
+
+
+def _differs_at(driver: Driver, other: Past, found: Comparison, positions: Sequence[int]) -> bool:
+    """Notes the first of some positions at which registers differ, or that they do not."""
+    pairs = list(_both(driver, other, [command for it in positions for command in (f"goto {it}", "regs")]))[1::2]
+    for position, (one, two) in zip(positions, pairs):
+        if one != two:
+            found.registers = position, replies.registers(one), replies.registers(two)
+            return True
+        found.compared = position
+    return False
 
 
 def _words(driver: Driver, other: Past, found: Comparison) -> None:

@@ -7,7 +7,7 @@ from dataclasses import dataclass
 from typing import Callable, Iterator, Optional, Protocol, Tuple
 
 from .. import replies
-from ..limits import SPAN, VISIT_STEPS
+from ..limits import SPAN, TRACED, VISIT_STEPS
 from .pasts import Asking, Question
 from .questions import Console, at, together
 
@@ -16,8 +16,8 @@ SIGNS: dict[str, Callable[[int, int], bool]] = {
 
 _PIECES = (1, 4, 16, 64)  # visits that are asked for together
 _SPANS = (1, 4, 16, 64, 256)  # that are looked at together for stores
-_FEW = 1024  # stores are followed back one by one; where there are more in a span, each position of it is looked at
-_POSITIONS = 4096  # that are asked for together
+_FEW = 256  # stores are followed back one by one; where there are more in a span, each step of it is looked at
+_STEPS = 4096  # that are asked for together
 
 
 class Condition(Protocol):
@@ -77,12 +77,12 @@ class Holds:
     sign: str
     value: int
 
-    def _holds(self, lines: list[str]) -> bool:
-        return SIGNS[self.sign](replies.memory(lines)[0], self.value)
+    def _holds(self, word: int) -> bool:
+        return SIGNS[self.sign](word, self.value)
 
     def first(self, begin: int, end: int) -> Asking:
         at_begin, = (yield [f"goto {begin}", f"mem {self.physical} 1"])[1:]
-        if self._holds(at_begin):
+        if self._holds(replies.memory(at_begin)[0]):
             return begin
         low, sizes = begin, _growing(_SPANS)
         while low < end:
@@ -93,7 +93,7 @@ class Holds:
                 sizes = _growing(_SPANS)
                 if spans > 1:
                     continue
-                found = yield from self._looked(low + 1, high)
+                found = yield from self._looked(low, high)
             if found is not None:
                 return found
             low = high
@@ -109,17 +109,18 @@ class Holds:
             if step is None or step < low:
                 return found, True
             _, writer, _, lines = yield [f"goto {step}", f"writer {self.physical}", f"goto {step + 1}", f"mem {self.physical} 1"]
-            found = step + 1 if self._holds(lines) else found
+            found = step + 1 if self._holds(replies.memory(lines)[0]) else found
         return None, False
 
     def _looked(self, low: int, high: int) -> Asking:
-        """The least position from `low` to `high` with such a value: each of them is looked at."""
-        for first in range(low, high + 1, _POSITIONS):
-            positions = range(first, min(first + _POSITIONS, high + 1))
-            answered = yield [command for it in positions for command in (f"goto {it}", f"mem {self.physical} 1")]
-            found = next((it for it, lines in zip(positions, answered[1::2]) if self._holds(lines)), None)
-            if found is not None:
-                return found
+        """The least position above `low`, up to `high`, with such a value: what each step stores is looked at."""
+        stored = f" store {self.physical:#010x} "
+        for first in range(low, high, _STEPS):
+            counts = [min(TRACED, high - at) for at in range(first, min(first + _STEPS, high), TRACED)]
+            answered = yield [f"goto {first}", *(command for count in counts for command in (f"trace {count}", f"step {count}"))]
+            for line in (line for lines in answered[1::2] for line in lines if stored in line):
+                if self._holds(int(line.partition(stored)[2].split()[0], 16)):
+                    return int(line.split()[0]) + 1
         return None
 
 

@@ -10,14 +10,14 @@ from dataclasses import dataclass, field
 from typing import Any, Dict, List, Optional, Sequence, Tuple
 
 from ..driver import Driver
-from ..errors import Problem
+from ..errors import STOPPED, Problem
 from ..limits import GREATEST_TIME, LINES
 from ..log import Event, Kind
 from ..symbols import Symbols
 from . import pasts
 from .conditions import Condition, Then
 from .jobs import answers
-from .pasts import STOPPED, Past, Question, kept, told
+from .pasts import Past, Question, kept, told
 from .questions import At, Console, Register, State
 
 # What is done to the event: it gets a value, is taken out, or is moved to a step.

@@ -12,13 +12,13 @@ from dataclasses import dataclass, replace
 from typing import List, Optional, Tuple
 
 from ..driver import Driver
-from ..errors import Problem
+from ..errors import STOPPED, Problem
 from ..limits import GREATEST_POSITION, LINES
 from ..log import Event, Kind, changes
 from . import pasts
 from .conditions import ComesTrue, Condition
 from .jobs import answers
-from .pasts import STOPPED, Past, kept, told
+from .pasts import Past, kept, told
 from .questions import All, At, Console
 from .shrink import Shrunk, shrink
 

@@ -12,7 +12,6 @@ from typing import Any, Generator, Iterable, Iterator, List, Optional, Protocol,
 
 from .. import replies
 from ..driver import Driver
-from ..errors import Interrupted
 from ..log import Event, changes
 
 # A question asks some commands, gets their replies, and may ask more. What it returns is its answer.
@@ -186,6 +185,3 @@ def _replies(driver: Driver, commands: Sequence[str]) -> list[list[str]]:
         if refusal and refusal.name != "NotFound":
             raise refusal
     return answered
-
-
-STOPPED = (Interrupted, KeyboardInterrupt)  # Ctrl-C, in a turn and between two

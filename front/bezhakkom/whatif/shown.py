@@ -4,11 +4,12 @@ from __future__ import annotations
 from dataclasses import asdict
 from typing import Any, Dict, Iterator, List, Optional, Sequence, Tuple
 
-from .. import expressions
+from .. import expressions, tracing
 from .. import log as logs
 from ..log import Event, Kind, quoted
 from ..replies import Registers
 from ..session import Session, counted
+from ..step_lines import StepLines, place
 from .causes import DEL, SET, Causes
 from .compare import Comparison
 from .futures import OUT, STEP, VALUE, Futures, Label, Outcome
@@ -16,6 +17,7 @@ from .fuzz import Fuzzed
 from .questions import Console, Question, Sent
 from .shrink import Shrunk
 from .when import When
+from .why import End, Link, Origin, Role, Why
 
 Value = Dict[str, Any]
 
@@ -279,3 +281,82 @@ def fuzzed_value(found: Fuzzed, file: Optional[str]) -> Value:
     return {"seed": found.seed, "tried": found.tried, "outcomes": found.outcomes, "stopped": found.is_stopped,
             "crash": None if found.log is None else [event_value(it) for it in found.log],
             "shrunk": None if found.shrunk is None else shrunk_value(found.shrunk), "file": file}
+
+
+# why
+
+_FOLDED = 4  # turns of a loop are shown as one
+_LONGEST_TURN = 16  # steps
+_ROLES = {Role.VALUE: "from", Role.ADDRESS: "address from", Role.CONTROL: "decided by"}
+
+
+def why(session: Session, name: str, value: str, found: Why, most: int) -> Iterator[str]:
+    yield f"{name} at step {found.position:,}: {value}{_sources(session, found, found.links)}"
+    lines, steps, at, shown = StepLines(session), sorted(found.nodes, reverse=True), 0, 0
+    counters = [found.nodes[it].step.pc for it in steps]
+    while at < len(steps) and shown < most:
+        size, times = _turns(counters, at)
+        for number in steps[at:at + size]:
+            yield f"  {lines.of(found.nodes[number].step)}{_sources(session, found, found.nodes[number].links)}"
+        at, shown = at + size * times, shown + size
+        if times > 1:
+            what_is = "the same instruction" if size == 1 else f"the same {size} instructions"
+            yield f"  {what_is} {times - 1:,} times more, back to step {steps[at - 1]:,}"
+    if at < len(steps):
+        yield f"  and {counted(len(steps) - at, 'earlier step')}: `steps N` shows more, and --json has all"
+    if found.is_stopped:
+        yield f"steps before {steps[-1]:,} were not looked at" if steps else "interrupted"
+    events = found.events()
+    yield f"{counted(len(steps), 'step')}, " + (f"{counted(len(events), 'event')}:" if events else "no event")
+    yield from (f"  {it}" for it in runs(found.log, events))
+
+
+def _turns(counters: Sequence[int], at: int) -> Tuple[int, int]:
+    """How many steps from a place on are a turn of a loop, and how many such turns follow one another there; or one step."""
+    for size in range(1, _LONGEST_TURN + 1):
+        turn, times = counters[at:at + size], 1
+        while counters[at + times * size:at + (times + 1) * size] == turn:
+            times += 1
+        if times >= _FOLDED:
+            return size, times
+    return 1, 1
+
+
+def _sources(session: Session, found: Why, links: Sequence[Link]) -> str:
+    """What something comes from: `   from 40,021; decided by 40,017`."""
+    parts = []
+    for role, begin in _ROLES.items():
+        sources = [it.source for it in links if it.role is role]
+        shown = [_end(session, found, it) if isinstance(it, End) else f"{it:,}" for it in dict.fromkeys(sources)]
+        if shown:
+            parts.append(f"{begin} {', '.join(shown)}")
+    return "   " + "; ".join(parts) if parts else ""
+
+
+def _end(session: Session, found: Why, end: End) -> str:
+    number = end.number
+    if end.origin is Origin.INTERRUPT:
+        return "an interrupt"
+    if end.origin is Origin.FAR:
+        return "a branch long before"
+    if number is None:
+        return "reset" if end.origin is Origin.REGISTER else "a byte that was received, of no event that can be told"
+    if end.origin is Origin.EVENT:
+        return f"event {number:,}: {what(found.log[number])}"
+    if end.origin in (Origin.IMAGE, Origin.WORD):
+        return f"{'the image' if end.origin is Origin.IMAGE else 'reset'} at {place(session, number)}"
+    if end.origin is Origin.DEVICE:
+        return f"the device at {place(session, number)}"
+    return "reset" if end.origin is Origin.REGISTER else f"register {number} of coprocessor 0"
+
+
+def why_value(session: Session, name: str, value: int, found: Why) -> Value:
+    return {"what": name, "position": found.position, "value": value, "from": _links_value(found.links),
+            "steps": [{**tracing.value_of(node.step), **_named(session, node.step.pc), "bits": node.bits, "from": _links_value(node.links)}
+                      for _, node in sorted(found.nodes.items(), reverse=True)],
+            "events": [{"event": it, **event_value(found.log[it])} for it in found.events()], "stopped": found.is_stopped}
+
+
+def _links_value(links: Sequence[Link]) -> List[Value]:
+    return [{"as": it.role.value, **({it.source.origin.value: it.source.number} if isinstance(it.source, End) else {"step": it.source})}
+            for it in dict.fromkeys(links)]

@@ -12,12 +12,12 @@ from dataclasses import dataclass, replace
 from typing import List, Optional, Sequence, Tuple, Union
 
 from ..driver import Driver
-from ..errors import Problem
+from ..errors import STOPPED, Problem
 from ..log import Event, Kind, changes
 from . import pasts
 from .conditions import ComesTrue, Condition
 from .jobs import answers
-from .pasts import STOPPED, Case, Past, kept, told
+from .pasts import Case, Past, kept, told
 
 SIMPLE = b"0Aa \r"  # values from the simplest on
 _TOGETHER = 256  # pasts that are made ready together

@@ -5,10 +5,11 @@ from dataclasses import dataclass
 from typing import Optional
 
 from ..driver import Driver
+from ..errors import STOPPED
 from ..limits import SPAN
 from . import pasts
 from .conditions import Condition
-from .pasts import STOPPED, kept
+from .pasts import kept
 
 _MOST_SPANS = 256  # that are searched together
 

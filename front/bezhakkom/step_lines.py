@@ -1,0 +1,58 @@
+"""What steps did, as lines for people."""
+from __future__ import annotations
+
+from typing import Dict, Iterator, Optional, Tuple
+
+from .exceptions import TEXTS
+from .expressions import REGISTERS
+from .limits import RAM, ROM
+from .places import PHYSICAL, always_at
+from .session import Session
+from .tracing import Traced
+
+
+class StepLines:
+    """Steps as lines: `368 read_line+0x4 (login.c:52): sw r31, 28(r29)   stores 0xbfc00123 into 0x80001ffc`. The text of an instruction is
+    asked for once."""
+
+    def __init__(self, session: Session) -> None:
+        self._session = session
+        self._heads: Dict[Tuple[int, Optional[int]], str] = {}  # by PCs and words
+
+    def of(self, step: Traced) -> str:
+        parts = "; ".join(self._parts(step))
+        return f"{step.step:,} {self._head(step)}" + (f"   {parts}" if parts else "")
+
+    def _head(self, step: Traced) -> str:
+        """The place of a step, and its instruction."""
+        if step.word is None:
+            why = "an interrupt" if step.exception == 0 else "no instruction can be fetched here"
+            return f"{self._session.code(step.pc)}: {why}"
+        found = self._heads.get((step.pc, step.word))
+        if found is None:
+            with self._session.at(step.step):
+                found = self._heads[step.pc, step.word] = f"{self._session.code(step.pc)}: {self._session.instruction(step.pc)}"
+        return found
+
+    def _parts(self, step: Traced) -> Iterator[str]:
+        """What a step did, part by part."""
+        session = self._session
+        if step.write:
+            register, value = step.write
+            yield f"{REGISTERS[register]} = {session.address(value)}"
+        if step.hi_lo:
+            yield f"hi = {step.hi_lo[0]:#010x}, lo = {step.hi_lo[1]:#010x}"
+        if step.access:
+            how = "from" if step.access.kind == "load" else "into"
+            yield f"{step.access.kind}s {step.access.word:#010x} {how} {place(session, step.access.address)}"
+        if step.sent:
+            yield f"sends {chr(step.sent[1])!r} on line {step.sent[0]}"
+        if step.shuts_down:
+            yield "sets TS: several entries match"
+        if step.exception is not None:
+            yield f"exception {step.exception}: {TEXTS[step.exception]}"
+
+
+def place(session: Session, physical: int) -> str:
+    """A physical address: memory by its address in kseg0 or kseg1, which may have a name, and devices by their physical one."""
+    return session.address(always_at(physical)) if physical in RAM or physical in ROM else f"{PHYSICAL}{physical:#010x}"
