@@ -1,12 +1,9 @@
--- The bytes and events of a reply, one after the other.
-use Rattle.std.proofs.Common.{◌≡◌, ℕ, zero, suc, ◌+◌, ◌%◌, ◌^◌, ◌<◌, ◌≤◌, List, [], ◌∷◌, ◌++◌, length, get_or, drop, refl, ap, sym, ◌∙◌, arith, codes}
+-- The bytes and the numbered lines of a reply, one after the other.
+use Rattle.std.proofs.Common.{◌≡◌, ℕ, zero, suc, ◌+◌, ◌%◌, ◌^◌, ◌<◌, ◌≤◌, List, [], ◌∷◌, ◌++◌, length, get_or, drop, refl, ap, sym, ◌∙◌, arith, append_assoc, codes}
 use Rattle.std.specs.Prelude.{flat_map}
 use Rattle.std.proofs.lemmas.List.{drop_more}
-use Rattle.input_log.specs.Event.{LogEvent}
-use Rattle.wb_text.specs.Text.{line, byte_text}
-use Rattle.r3k_machine.specs.declared.traced.Traced.{Traced}
-use Rattle.wb_text.specs.Trace.{step_text, steps_text}
-use Rattle.wb_text.specs.Reply.{bytes_text, event_text, events_text}
+use Rattle.wb_text.specs.Text.{byte_text, line, numbered}
+use Rattle.wb_text.specs.Reply.{bytes_text}
 
 pub bytes_text-none : (bytes : List ℕ) → length bytes ≡ 0 → bytes_text bytes ≡ codes "none"
 unfolding bytes_text
@@ -18,42 +15,29 @@ unfolding bytes_text
 bytes_text-some [] some = absurd (omega (arith, some))
 bytes_text-some (byte ∷ bytes) some = refl
 
-pub events_text-end : (number : ℕ) (events : List LogEvent) (i : ℕ) → length events ≤ i → events_text number (drop i events) ≡ []
-unfolding events_text
-events_text-end number [] zero past = refl
-events_text-end number [] (suc i) past = refl
-events_text-end number (event ∷ events) zero past = absurd (omega (arith, past))
-events_text-end number (event ∷ events) (suc i) past = events_text-end number events i (omega (arith, past))
+pub numbered-end : {A : Type 0} (text : ℕ → A → List ℕ) (number : ℕ) (items : List A) (i : ℕ) → length items ≤ i → numbered text number (drop i items) ≡ []
+unfolding numbered
+numbered-end text number [] zero past = refl
+numbered-end text number [] (suc i) past = refl
+numbered-end text number (item ∷ items) zero past = absurd (omega (arith, past))
+numbered-end text number (item ∷ items) (suc i) past = numbered-end text number items i (omega (arith, past))
 
-events_text-cons : (number : ℕ) (event : LogEvent) (events : List LogEvent)
-    → events_text number (event ∷ events) ≡ line (event_text number event) ++ events_text ((number + 1) % 2 ^ 64) events
-unfolding events_text
-events_text-cons number event events = refl
+numbered-cons : {A : Type 0} (text : ℕ → A → List ℕ) (number : ℕ) (item : A) (items : List A)
+    → numbered text number (item ∷ items) ≡ line (text number item) ++ numbered text ((number + 1) % 2 ^ 64) items
+unfolding numbered
+numbered-cons text number item items = refl
 
-pub events_text-more : (number : ℕ) (events : List LogEvent) (i : ℕ) (event : LogEvent) → i < length events → event ≡ get_or events i event
-    → events_text number (drop i events) ≡ line (event_text number event) ++ events_text ((number + 1) % 2 ^ 64) (drop (i + 1) events)
-events_text-more number events i event inside is =
-    let later = drop (i + 1) events in
-    ap (events_text number) (drop_more events i event inside)
-    ∙ (events_text-cons number (get_or events i event) later
-    ∙ ap (λ e. line (event_text number e) ++ events_text ((number + 1) % 2 ^ 64) later) (sym is))
+numbered-more : {A : Type 0} (text : ℕ → A → List ℕ) (number : ℕ) (items : List A) (i : ℕ) (item : A) → i < length items → item ≡ get_or items i item
+    → numbered text number (drop i items) ≡ line (text number item) ++ numbered text ((number + 1) % 2 ^ 64) (drop (i + 1) items)
+numbered-more text number items i item inside is =
+    let later = drop (i + 1) items in
+    ap (numbered text number) (drop_more items i item inside)
+    ∙ (numbered-cons text number (get_or items i item) later
+    ∙ ap (λ e. line (text number e) ++ numbered text ((number + 1) % 2 ^ 64) later) (sym is))
 
-pub steps_text-end : (number : ℕ) (steps : List Traced) (i : ℕ) → length steps ≤ i → steps_text number (drop i steps) ≡ []
-unfolding steps_text
-steps_text-end number [] zero past = refl
-steps_text-end number [] (suc i) past = refl
-steps_text-end number (t ∷ steps) zero past = absurd (omega (arith, past))
-steps_text-end number (t ∷ steps) (suc i) past = steps_text-end number steps i (omega (arith, past))
-
-steps_text-cons : (number : ℕ) (t : Traced) (steps : List Traced)
-    → steps_text number (t ∷ steps) ≡ line (step_text number t) ++ steps_text ((number + 1) % 2 ^ 64) steps
-unfolding steps_text
-steps_text-cons number t steps = refl
-
-pub steps_text-more : (number : ℕ) (steps : List Traced) (i : ℕ) (t : Traced) → i < length steps → t ≡ get_or steps i t
-    → steps_text number (drop i steps) ≡ line (step_text number t) ++ steps_text ((number + 1) % 2 ^ 64) (drop (i + 1) steps)
-steps_text-more number steps i t inside is =
-    let later = drop (i + 1) steps in
-    ap (steps_text number) (drop_more steps i t inside)
-    ∙ (steps_text-cons number (get_or steps i t) later
-    ∙ ap (λ e. line (step_text number e) ++ steps_text ((number + 1) % 2 ^ 64) later) (sym is))
+-- what is shown with one more line
+pub numbered-on : {A : Type 0} (text : ℕ → A → List ℕ) (number : ℕ) (items : List A) (i : ℕ) (shown whole : List ℕ) (item : A) → i < length items → item ≡ get_or items i item
+    → shown ++ numbered text number (drop i items) ≡ whole
+    → (shown ++ line (text number item)) ++ numbered text ((number + 1) % 2 ^ 64) (drop (i + 1) items) ≡ whole
+numbered-on text number items i shown whole item inside is so_far =
+    append_assoc shown _ _ ∙ (ap (λ t. shown ++ t) (sym (numbered-more text number items i item inside is)) ∙ so_far)

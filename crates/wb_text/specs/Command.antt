@@ -6,7 +6,7 @@ use Rattle.input_log.specs.Limits.{max_time}
 use Rattle.wb_text.specs.Number.{number_of, number_within}
 use Rattle.wb_text.specs.Words.{words_of, begins_comment}
 use Rattle.wb_text.specs.declared.command.Command.{Command}
-use Rattle.wb_text.specs.declared.command.Command.TheVariants.{Pos, Goto, Step, Back, Visit, Regs, Reg, Cp0, Tlb, Where, Mem, Dis, Console, Find, Writer, Trace, Log, Add, Ferr, Wire, Del, Set, Move, Erase, Patch, Quit}
+use Rattle.wb_text.specs.declared.command.Command.TheVariants.{Pos, Goto, Step, Back, Visit, Regs, Reg, Cp0, Tlb, Where, Mem, Dis, Console, Find, Writer, Stores, Finds, RegisterWriter, Pcs, Devices, Trace, Log, Add, Ferr, Wire, Del, Set, Move, Erase, Patch, Quit}
 use Rattle.refusal.specs.declared.fault.Fault.{Fault}
 use Rattle.refusal.specs.declared.fault.Fault.TheVariants.{Syntax}
 
@@ -35,14 +35,18 @@ numbers_of (range ∷ ranges) [] = Err Syntax
 numbers_of (range ∷ ranges) (word ∷ words) =
     in_front (both_of (number_within range.0 range.1 (number_of word)) (numbers_of ranges words))
 
--- the ranges of numbers: of any, of a register, of a translation entry, of an address, of a word, of a line of the serial
--- part, of a byte, of an external line, of its level, of an event's time, of how many words, bytes and events a reply shows,
--- of how many steps are followed, and of how many are searched
+-- the ranges of numbers: of any, of a register, of one that instructions write (with 32 for HI and 33 for LO), of a translation
+-- entry, of an address, of a word, of a line of the serial part, of a byte, of an external line, of its level, of an event's time, of
+-- how many words, bytes, events, stores, senders and positions a reply shows, of how far positions are apart, of how many steps are
+-- followed, and of how many are searched
 abbrev pub any_number : ℕ × ℕ
 any_number = (0, 2 ^ 64 - 1)
 
 abbrev pub register_number : ℕ × ℕ
 register_number = (0, 31)
+
+abbrev pub written_number : ℕ × ℕ
+written_number = (0, 33)
 
 abbrev pub entry_number : ℕ × ℕ
 entry_number = (0, 63)
@@ -76,6 +80,18 @@ byte_count = (1, 256)
 
 abbrev pub event_count : ℕ × ℕ
 event_count = (1, 32)
+
+abbrev pub store_count : ℕ × ℕ
+store_count = (1, 32)
+
+abbrev pub find_count : ℕ × ℕ
+find_count = (1, 64)
+
+abbrev pub position_count : ℕ × ℕ
+position_count = (1, 64)
+
+abbrev pub distance : ℕ × ℕ
+distance = (1, 2 ^ 64 - 1)
 
 abbrev pub trace_count : ℕ × ℕ
 trace_count = (1, 64)
@@ -129,6 +145,11 @@ commands =
     ∷ three (codes "console") line_number any_number byte_count Console
     ∷ two (codes "find") line_number any_number Find
     ∷ one (codes "writer") address Writer
+    ∷ two (codes "stores") address store_count Stores
+    ∷ three (codes "finds") line_number any_number find_count Finds
+    ∷ one (codes "regwriter") written_number RegisterWriter
+    ∷ two (codes "pcs") distance position_count Pcs
+    ∷ none (codes "devices") Devices
     ∷ one (codes "trace") trace_count Trace
     ∷ two (codes "log") any_number event_count Log
     ∷ three (codes "add") event_time line_number byte_value Add

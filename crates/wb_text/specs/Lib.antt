@@ -3,5 +3,7 @@ pub mod Number
 pub mod Words
 pub mod Command
 pub mod Text
+pub mod Lists
+pub mod Devices
 pub mod Trace
 pub mod Reply

@@ -5,8 +5,10 @@ use Rattle.r3k_disasm.specs.Instruction.{text_of as instruction_text}
 use Rattle.input_log.specs.declared.event.Kind.{Kind}
 use Rattle.input_log.specs.declared.event.Kind.TheVariants.{Byte, Framing, Wire}
 use Rattle.input_log.specs.Event.{LogEvent}
-use Rattle.wb_text.specs.Text.{word_text, byte_text, register_text, line}
-use Rattle.wb_text.specs.Trace.{steps_text}
+use Rattle.wb_text.specs.Text.{byte_text, flag_text, line, numbered, register_text, value_text, word_text}
+use Rattle.wb_text.specs.Trace.{step_text}
+use Rattle.wb_text.specs.Lists.{finds_text, timed_list_text}
+use Rattle.wb_text.specs.Devices.{devices_text}
 use Rattle.wb_text.specs.declared.reply.ControlRegisters.{ControlRegisters}
 use Rattle.refusal.specs.declared.fault.Fault.{Fault}
 use Rattle.refusal.specs.declared.fault.Fault.TheVariants.{Memory as OutOfMemory, Syntax, Range, NoEvent, Unaligned, NotMemory, TooFar, NotFound}
@@ -18,7 +20,7 @@ use Rattle.wb_text.specs.declared.reply.Where.TheVariants.{Cached, Uncached, Add
 use Rattle.wb_text.specs.declared.reply.Writer.{Writer}
 use Rattle.wb_text.specs.declared.reply.Writer.TheVariants.{Step, Image, Never}
 use Rattle.wb_text.specs.declared.reply.Reply.{Reply}
-use Rattle.wb_text.specs.declared.reply.Reply.TheVariants.{Position, Registers, Register, Control, Entry, Where as Place, Memory, Instructions, Console, Found, Writer as Wrote, Trace, Log, Event, Left, Patched, Nothing, Fault as Refused}
+use Rattle.wb_text.specs.declared.reply.Reply.TheVariants.{Position, Registers, Register, Control, Entry, Where as Place, Memory, Instructions, Console, Found, Writer as Wrote, Stores, Finds, RegisterWriter, Pcs, Devices, Trace, Log, Event, Left, Patched, Nothing, Fault as Refused}
 
 -- a refusal by its number and name
 abbrev pub refusal_text : Fault → List ℕ
@@ -30,15 +32,6 @@ refusal_text Unaligned = codes "error 5 Unaligned"
 refusal_text NotMemory = codes "error 6 NotMemory"
 refusal_text TooFar = codes "error 7 TooFar"
 refusal_text NotFound = codes "error 8 NotFound"
-
--- a flag as a digit
-abbrev pub flag_text : Bool → List ℕ
-flag_text true = codes "1"
-flag_text false = codes "0"
-
--- a register and its value
-abbrev pub value_text : ℕ → ℕ → List ℕ
-value_text register value = register_text register ++ codes " " ++ word_text value
 
 -- the load slot: a register and its value, or `none`
 abbrev pub load_text : Option Load → List ℕ
@@ -118,6 +111,11 @@ writer_text (Step step) = codes "writer " ++ decimal step
 writer_text Image = codes "writer image"
 writer_text Never = codes "writer never"
 
+-- the last step that wrote a register, or `never`
+abbrev pub register_writer_text : Option ℕ → List ℕ
+register_writer_text (Some step) = codes "regwriter " ++ decimal step
+register_writer_text None = codes "regwriter never"
+
 -- what is said of a kind: nothing of the arrival of a byte
 abbrev pub kind_text : Kind → List ℕ
 kind_text Byte = []
@@ -129,14 +127,9 @@ unfoldable pub event_text : ℕ → LogEvent → List ℕ
 event_text number event =
     decimal number ++ codes " " ++ decimal event.time ++ codes " " ++ decimal event.line ++ codes " 0x" ++ byte_text event.byte ++ kind_text event.kind
 
--- the lines of events, whose numbers go on from one
-unfoldable pub events_text : ℕ → List LogEvent → List ℕ
-events_text number [] = []
-events_text number (event ∷ events) = line (event_text number event) ++ events_text ((number + 1) % 2 ^ 64) events
-
 -- the lines of `log`: how many events the log has, and those that are shown
 abbrev pub log_text : (total first : ℕ) → List LogEvent → List ℕ
-log_text total first events = line (codes "log " ++ decimal total) ++ events_text first events
+log_text total first events = line (codes "log " ++ decimal total) ++ numbered event_text first events
 
 -- the text of a reply
 abbrev pub text_of : Reply → List ℕ
@@ -151,7 +144,12 @@ text_of (Instructions w) = all_words_text true w
 text_of (Console number total bytes) = line (console_text number total bytes.items)
 text_of (Found step) = line (codes "find " ++ decimal step)
 text_of (Wrote writer) = line (writer_text writer)
-text_of (Trace first steps) = steps_text first steps.items
+text_of (Stores stores) = timed_list_text (codes "stores ") stores.items
+text_of (Finds first steps) = finds_text first steps.items
+text_of (RegisterWriter step) = line (register_writer_text step)
+text_of (Pcs pcs) = timed_list_text (codes "pcs ") pcs.items
+text_of (Devices d) = devices_text d
+text_of (Trace first steps) = numbered step_text first steps.items
 text_of (Log total first events) = log_text total first events.items
 text_of (Event number) = line (codes "event " ++ decimal number)
 text_of (Left total) = line (codes "log " ++ decimal total)

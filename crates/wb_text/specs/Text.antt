@@ -1,6 +1,6 @@
 -- How replies print numbers (own): a word as 0x and eight lower-case hexadecimal digits, a byte as
 -- two, other numbers in decimal.
-use Rattle.std.specs.Prelude.{ℕ, ◌/◌, ◌%◌, ◌^◌, List, [], ◌∷◌, ◌++◌, map, codes, false}
+use Rattle.std.specs.Prelude.{ℕ, ◌+◌, ◌/◌, ◌%◌, ◌^◌, Bool, true, false, List, [], ◌∷◌, ◌++◌, map, codes}
 use Rattle.std.specs.Fmt.{decimal, digit_glyph}
 
 -- the most bytes of a reply
@@ -23,6 +23,20 @@ byte_text byte = map (hexadecimal_digit byte) (1 ∷ 0 ∷ [])
 abbrev pub register_text : ℕ → List ℕ
 register_text register = codes "r" ++ decimal register
 
+-- a register and its value
+abbrev pub value_text : ℕ → ℕ → List ℕ
+value_text register value = register_text register ++ codes " " ++ word_text value
+
+-- a flag as a digit
+abbrev pub flag_text : Bool → List ℕ
+flag_text true = codes "1"
+flag_text false = codes "0"
+
 -- a line and its line feed
 abbrev pub line : List ℕ → List ℕ
 line text = text ++ 10 ∷ []
+
+-- a line for each item, with a number that goes on from one
+unfoldable pub numbered : {A : Type 0} → (ℕ → A → List ℕ) → ℕ → List A → List ℕ
+numbered text number [] = []
+numbered text number (item ∷ items) = line (text number item) ++ numbered text ((number + 1) % 2 ^ 64) items

@@ -1,5 +1,5 @@
 -- What `trace` says of a step (own): its number, PC and the word that was fetched, and then those parts that there are.
-use Rattle.std.specs.Prelude.{ℕ, ◌+◌, ◌%◌, ◌^◌, Bool, true, false, List, [], ◌∷◌, ◌++◌, Option, Some, None, codes}
+use Rattle.std.specs.Prelude.{ℕ, Bool, true, false, List, [], ◌++◌, Option, Some, None, codes}
 use Rattle.std.specs.Fmt.{decimal}
 use Rattle.cop0.specs.Codes.{code_of}
 use Rattle.cop0.specs.declared.exception.ExcCode.{ExcCode}
@@ -10,7 +10,7 @@ use Rattle.r3k_machine.specs.declared.traced.AccessKind.TheVariants.{Load, Store
 use Rattle.r3k_machine.specs.declared.traced.RegisterWrite.{RegisterWrite}
 use Rattle.r3k_machine.specs.declared.traced.Traced.{Traced}
 use Rattle.r3k_word.specs.declared.arithmetic.HiLo.{HiLo}
-use Rattle.wb_text.specs.Text.{byte_text, line, register_text, word_text}
+use Rattle.wb_text.specs.Text.{byte_text, value_text, word_text}
 
 -- the word that was fetched, or `none`
 abbrev pub fetched_text : Option ℕ → List ℕ
@@ -20,7 +20,7 @@ fetched_text (Some word) = codes " word " ++ word_text word
 -- the register that was written
 abbrev pub write_text : Option RegisterWrite → List ℕ
 write_text None = []
-write_text (Some write) = codes " " ++ register_text write.register ++ codes " " ++ word_text write.value
+write_text (Some write) = codes " " ++ value_text write.register write.value
 
 abbrev pub hi_lo_text : Option HiLo → List ℕ
 hi_lo_text None = []
@@ -54,8 +54,3 @@ unfoldable pub step_text : ℕ → Traced → List ℕ
 step_text number t =
     decimal number ++ codes " pc " ++ word_text t.pc ++ fetched_text t.word ++ write_text t.write ++ hi_lo_text t.hi_lo
     ++ access_text t.access ++ sent_text t.done.sent ++ shut_down_text t.shuts_down ++ exception_text t.exception
-
--- the lines of steps, whose numbers go on from one
-unfoldable pub steps_text : ℕ → List Traced → List ℕ
-steps_text number [] = []
-steps_text number (t ∷ steps) = line (step_text number t) ++ steps_text ((number + 1) % 2 ^ 64) steps

@@ -12,6 +12,9 @@ pub struct Bounded<const LEAST: u64, const MOST: u64> {
 /// The number of a register of the processor.
 pub type RegisterNumber = Bounded<0, 31>;
 
+/// The number of a register that instructions write: those of the processor, 32 for HI, and 33 for LO.
+pub type WrittenNumber = Bounded<0, 33>;
+
 /// The number of a translation entry.
 pub type EntryNumber = Bounded<0, 63>;
 
@@ -47,6 +50,18 @@ pub type EventCount = Bounded<1, 32>;
 
 /// How many steps are followed.
 pub type TraceCount = Bounded<1, 64>;
+
+/// How many stores a reply shows at most.
+pub type StoreCount = Bounded<1, 32>;
+
+/// How many steps that sent a byte a reply shows at most.
+pub type FindCount = Bounded<1, 64>;
+
+/// How many positions a reply shows.
+pub type PositionCount = Bounded<1, 64>;
+
+/// How many steps one position is from the next.
+pub type Distance = Bounded<1, { u64::MAX }>;
 
 /// How many steps a search runs at most.
 pub type StepCount = Bounded<1, 1_048_576>;

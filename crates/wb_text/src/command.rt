@@ -6,8 +6,9 @@ ghost use Rattle.wb_text.specs.Number.{number_of, number_within};
 ghost use Rattle.wb_text.specs.Command.{command_of, command_of_words, command_named, first_of, both_of, numbers_of};
 
 use crate::bounded::{
-    Address, AnyNumber, Bounded, ByteCount, ByteValue, EntryNumber, EventCount, EventTime, Level,
-    LineNumber, RegisterNumber, StepCount, TraceCount, WireNumber, WordCount, WordValue,
+    Address, AnyNumber, Bounded, ByteCount, ByteValue, Distance, EntryNumber, EventCount,
+    EventTime, FindCount, Level, LineNumber, PositionCount, RegisterNumber, StepCount, StoreCount,
+    TraceCount, WireNumber, WordCount, WordValue, WrittenNumber,
 };
 use crate::number::number;
 use crate::words::first_word;
@@ -63,6 +64,26 @@ pub enum Command {
     },
     /// Shows the last writer of a word of memory.
     Writer(Address),
+    /// Shows the last steps that stored into a word of memory.
+    Stores {
+        address: Address,
+        count: StoreCount,
+    },
+    /// Shows the steps that sent the bytes of a line, from one on.
+    Finds {
+        line: LineNumber,
+        place: u64,
+        count: FindCount,
+    },
+    /// Shows the last step that wrote a register.
+    RegisterWriter(WrittenNumber),
+    /// Shows the PC at the position and at later ones.
+    Pcs {
+        distance: Distance,
+        count: PositionCount,
+    },
+    /// Shows what the devices hold.
+    Devices,
     /// Shows what this many steps from the position on do.
     Trace(TraceCount),
     /// Shows events of the log, from one on.
@@ -197,6 +218,11 @@ fn command_by_name(name: &[u8], rest: &[u8]) -> Result<Command, Fault>
         b"console" (line: LineNumber, from: AnyNumber, count: ByteCount) => Command::Console { line, from: from.get(), count },
         b"find" (line: LineNumber, place: AnyNumber) => Command::Find { line, place: place.get() },
         b"writer" (address: Address) => Command::Writer(address),
+        b"stores" (address: Address, count: StoreCount) => Command::Stores { address, count },
+        b"finds" (line: LineNumber, place: AnyNumber, count: FindCount) => Command::Finds { line, place: place.get(), count },
+        b"regwriter" (number: WrittenNumber) => Command::RegisterWriter(number),
+        b"pcs" (distance: Distance, count: PositionCount) => Command::Pcs { distance, count },
+        b"devices" () => Command::Devices,
         b"trace" (count: TraceCount) => Command::Trace(count),
         b"log" (from: AnyNumber, count: EventCount) => Command::Log { from: from.get(), count },
         b"add" (time: EventTime, line: LineNumber, byte: ByteValue) => Command::Add { time, line, byte },

@@ -3,6 +3,8 @@
 
 pub mod bounded;
 pub mod command;
+pub mod devices;
+pub mod lists;
 pub mod memory;
 mod number;
 pub mod reply;
@@ -11,10 +13,13 @@ mod trace;
 mod words;
 
 pub use bounded::{
-    Address, Bounded, ByteCount, ByteValue, EntryNumber, EventCount, EventTime, Level, LineNumber,
-    RegisterNumber, StepCount, TraceCount, WireNumber, WordCount, WordValue,
+    Address, Bounded, ByteCount, ByteValue, Distance, EntryNumber, EventCount, EventTime,
+    FindCount, Level, LineNumber, PositionCount, RegisterNumber, StepCount, StoreCount, TraceCount,
+    WireNumber, WordCount, WordValue, WrittenNumber,
 };
 pub use command::{Command, parse_line};
+pub use devices::Devices;
+pub use lists::Timed;
 pub use memory::Words;
 pub use reply::{ControlRegisters, Load, Registers, Reply, Where, Writer, reply_text};
 pub use text::decimal_digits;

@@ -2,15 +2,19 @@
 
 ghost use Rattle.std.specs.Prelude.{◌≡◌, ◌+◌, ◌≤◌, ◌++◌, length};
 ghost use Rattle.arrayvec.specs.ArrayVec.{array_vec_len};
-ghost use Rattle.std.specs.Fmt.{decimal};
-ghost use Rattle.wb_text.specs.Text.{line, text_bytes, word_text};
-ghost use Rattle.wb_text.specs.Reply.{text_of, EndsWithLineFeed, HasText, refusal_text, flag_text, value_text, load_text};
+ghost use Rattle.wb_text.specs.Text.{line};
+ghost use Rattle.wb_text.specs.Reply.{text_of, EndsWithLineFeed, HasText, refusal_text, load_text};
 ghost use Rattle.wb_text.specs.Reply.{state_text, row_text, rows_text, control_text, entry_text, where_text, memory_text, all_words_text};
-ghost use Rattle.wb_text.specs.Reply.{bytes_text, console_text, writer_text, kind_text, event_text, events_text, log_text};
+ghost use Rattle.wb_text.specs.Reply.{bytes_text, console_text, register_writer_text, writer_text, kind_text, event_text, log_text};
 
 use crate::bounded::{EntryNumber, LineNumber, RegisterNumber};
+use crate::devices::{Devices, push_devices};
+use crate::lists::{Timed, push_finds, push_timed};
 use crate::memory::Words;
-use crate::text::{Text, push_byte, push_decimal, push_text, push_word};
+use crate::text::{
+    Text, flag, push_byte, push_decimal, push_field, push_number, push_register, push_text,
+    push_word,
+};
 use crate::trace::push_steps;
 use arrayvec::ArrayVec;
 use input_log::{Event, Kind};
@@ -115,6 +119,19 @@ pub enum Reply {
     Found(u64),
     /// The last writer of a word, of `writer`.
     Writer(Writer),
+    /// The last steps that stored into a word, with the word after each, of `stores`.
+    Stores(ArrayVec<Timed, 32>),
+    /// The steps that sent bytes, of which `first` is the first one's place, of `finds`.
+    Finds {
+        first: u64,
+        steps: ArrayVec<u64, 64>,
+    },
+    /// The last step that wrote a register, if one did, of `regwriter`.
+    RegisterWriter(Option<u64>),
+    /// The PC at positions, of `pcs`.
+    Pcs(ArrayVec<Timed, 64>),
+    /// What the devices hold, of `devices`.
+    Devices(Devices),
     /// What steps did, of which `first` is the first one's number, of `trace`.
     Trace {
         first: u64,
@@ -164,6 +181,11 @@ pub fn reply_text(reply: &Reply) -> Text
         }
         Reply::Found(step) => push_number(&mut text, b"find ", *step),
         Reply::Writer(writer) => push_writer(&mut text, *writer),
+        Reply::Stores(stores) => push_timed(&mut text, b"stores ", stores),
+        Reply::Finds { first, steps } => push_finds(&mut text, *first, steps),
+        Reply::RegisterWriter(step) => push_register_writer(&mut text, *step),
+        Reply::Pcs(pcs) => push_timed(&mut text, b"pcs ", pcs),
+        Reply::Devices(devices) => push_devices(&mut text, devices),
         Reply::Trace { first, steps } => push_steps(&mut text, *first, steps),
         Reply::Log {
             total,
@@ -199,18 +221,6 @@ fn refusal(fault: Fault) -> &'static [u8]
     }
 }
 
-// Appends the line of a name and a number.
-fn push_number(text: &mut Text, name: &[u8], number: u64)
-    requires short { length name.now ≤ 8 }
-    requires room { array_vec_len text.old ≤ 1000 }
-    ensures items { text.new.items ≡ text.old.items ++ line (name.now ++ decimal number) }
-    ensures room { array_vec_len text.new ≤ array_vec_len text.old + 29 }
-{
-    push_text(text, name);
-    push_decimal(text, number);
-    push_text(text, b"\n");
-}
-
 // Appends the line of all but the 32 registers.
 fn push_state(text: &mut Text, registers: &Registers)
     requires { array_vec_len text.old ≤ 3000 }
@@ -228,13 +238,6 @@ fn push_state(text: &mut Text, registers: &Registers)
     push_text(text, b"\n");
 }
 
-// A flag as a digit.
-fn flag(set: bool) -> &'static [u8]
-    ensures { result.now ≡ flag_text set }
-{
-    if set { b"1" } else { b"0" }
-}
-
 // Appends the load slot.
 fn push_load(text: &mut Text, load: Option<Load>)
     requires { array_vec_len text.old ≤ 4000 }
@@ -245,28 +248,6 @@ fn push_load(text: &mut Text, load: Option<Load>)
         None => push_text(text, b"none"),
         Some(load) => push_register(text, u64::from(load.register), load.value),
     }
-}
-
-// Appends a register and its value.
-fn push_register(text: &mut Text, number: u64, value: u32)
-    requires { array_vec_len text.old ≤ 4000 }
-    ensures items { text.new.items ≡ text.old.items ++ value_text number value }
-    ensures room { array_vec_len text.new ≤ array_vec_len text.old + 32 }
-{
-    push_text(text, b"r");
-    push_decimal(text, number);
-    push_text(text, b" ");
-    push_word(text, value);
-}
-
-// Appends a name and a word.
-fn push_field(text: &mut Text, name: &[u8], word: u32)
-    requires { array_vec_len text.old + (length name.now + 10) ≤ text_bytes }
-    ensures items { text.new.items ≡ text.old.items ++ (name.now ++ word_text word) }
-    ensures len { array_vec_len text.new ≡ array_vec_len text.old + (length name.now + 10) }
-{
-    push_text(text, name);
-    push_word(text, word);
 }
 
 // Appends the line of the control registers.
@@ -420,6 +401,17 @@ fn push_writer(text: &mut Text, writer: Writer)
         Writer::Step(step) => push_number(text, b"writer ", step),
         Writer::Image => push_text(text, b"writer image\n"),
         Writer::Never => push_text(text, b"writer never\n"),
+    }
+}
+
+// Appends the line of the last step that wrote a register.
+fn push_register_writer(text: &mut Text, step: Option<u64>)
+    requires { array_vec_len text.old ≤ 1000 }
+    ensures { text.new.items ≡ text.old.items ++ line (register_writer_text step) }
+{
+    match step {
+        Some(step) => push_number(text, b"regwriter ", step),
+        None => push_text(text, b"regwriter never\n"),
     }
 }
 

@@ -3,7 +3,7 @@
 ghost use Rattle.std.specs.Prelude.{◌≡◌, ◌+◌, ◌%◌, ◌≤◌, ◌<◌, ◌++◌, length, false};
 ghost use Rattle.std.specs.Fmt.{decimal, digit_glyph};
 ghost use Rattle.arrayvec.specs.ArrayVec.{array_vec_len};
-ghost use Rattle.wb_text.specs.Text.{text_bytes, word_text, byte_text};
+ghost use Rattle.wb_text.specs.Text.{byte_text, flag_text, line, text_bytes, value_text, word_text};
 
 use arrayvec::ArrayVec;
 
@@ -77,6 +77,47 @@ pub fn push_byte(text: &mut Text, byte: u8)
         hexadecimal_digit(u32::from(byte)),
     ];
     push_text(text, &digits);
+}
+
+/// Appends a name and a word.
+pub fn push_field(text: &mut Text, name: &[u8], word: u32)
+    requires { array_vec_len text.old + (length name.now + 10) ≤ text_bytes }
+    ensures items { text.new.items ≡ text.old.items ++ (name.now ++ word_text word) }
+    ensures len { array_vec_len text.new ≡ array_vec_len text.old + (length name.now + 10) }
+{
+    push_text(text, name);
+    push_word(text, word);
+}
+
+/// Appends a register and its value.
+pub fn push_register(text: &mut Text, number: u64, value: u32)
+    requires { array_vec_len text.old + 32 ≤ text_bytes }
+    ensures items { text.new.items ≡ text.old.items ++ value_text number value }
+    ensures room { array_vec_len text.new ≤ array_vec_len text.old + 32 }
+{
+    push_text(text, b"r");
+    push_decimal(text, number);
+    push_text(text, b" ");
+    push_word(text, value);
+}
+
+/// A flag as a digit.
+pub fn flag(set: bool) -> &'static [u8]
+    ensures { result.now ≡ flag_text set }
+{
+    if set { b"1" } else { b"0" }
+}
+
+/// Appends the line of a name and a number.
+pub fn push_number(text: &mut Text, name: &[u8], number: u64)
+    requires short { length name.now ≤ 10 }
+    requires room { array_vec_len text.old ≤ 1000 }
+    ensures items { text.new.items ≡ text.old.items ++ line (name.now ++ decimal number) }
+    ensures room { array_vec_len text.new ≤ array_vec_len text.old + 31 }
+{
+    push_text(text, name);
+    push_decimal(text, number);
+    push_text(text, b"\n");
 }
 
 // The last hexadecimal digit of a number.

@@ -2,10 +2,10 @@
 
 ghost use Rattle.std.specs.Prelude.{◌≡◌, ◌+◌, ◌≤◌, ◌++◌, length};
 ghost use Rattle.arrayvec.specs.ArrayVec.{array_vec_len};
-ghost use Rattle.wb_text.specs.Text.{line};
-ghost use Rattle.wb_text.specs.Trace.{access_text, exception_text, fetched_text, hi_lo_text, kind_text, sent_text, shut_down_text, step_text, steps_text, write_text};
+ghost use Rattle.wb_text.specs.Text.{line, numbered};
+ghost use Rattle.wb_text.specs.Trace.{access_text, exception_text, fetched_text, hi_lo_text, kind_text, sent_text, shut_down_text, step_text, write_text};
 
-use crate::text::{Text, push_byte, push_decimal, push_text, push_word};
+use crate::text::{Text, push_byte, push_decimal, push_register, push_text, push_word};
 use cop0::ExcCode;
 use dz_serial::Sent;
 use r3k_machine::{Access, AccessKind, RegisterWrite, Traced};
@@ -15,7 +15,7 @@ use r3k_word::arithmetic::HiLo;
 pub(crate) fn push_steps(text: &mut Text, first: u64, steps: &[Traced])
     requires few { length steps.now ≤ 64 }
     requires room { array_vec_len text.old ≤ 1000 }
-    ensures { text.new.items ≡ text.old.items ++ steps_text first steps.now }
+    ensures { text.new.items ≡ text.old.items ++ numbered step_text first steps.now }
 {
     let mut number = first;
     for step in steps {
@@ -65,10 +65,8 @@ fn push_write(text: &mut Text, write: Option<RegisterWrite>)
     ensures room { array_vec_len text.new ≤ array_vec_len text.old + 33 }
 {
     if let Some(write) = write {
-        push_text(text, b" r");
-        push_decimal(text, u64::from(write.register));
         push_text(text, b" ");
-        push_word(text, write.value);
+        push_register(text, u64::from(write.register), write.value);
     }
 }
 

@@ -1,19 +1,28 @@
 -- One event more, and then none.
-use Rattle.std.proofs.Common.{arith, ap, sym, ◌∙◌, ◌++◌, append_assoc, append-nil}
-use Rattle.wb_text.proofs.Shown.{events_text-end, events_text-more}
+use Rattle.std.proofs.Common.{arith, ap, sym, ◌∙◌, ◌++◌, append_assoc, append-nil, codes}
+use Rattle.std.specs.Fmt.{decimal}
+use Rattle.wb_text.specs.Text.{line, numbered}
+use Rattle.wb_text.specs.Reply.{event_text}
+use Rattle.wb_text.proofs.Shown.{numbered-end, numbered-on}
 use Rattle.wb_text.proofs.reply.push_log.Goals as goal
 
+pub loop-event-init : goal.loop-event-init
+loop-event-init c = record {
+  items = ap (λ t. t ++ numbered event_text c.args.first c.args.events.now) c.push_number.ensures.items
+      ∙ append_assoc c.args.text.now.items (line (codes "log " ++ decimal c.args.total)) (numbered event_text c.args.first c.args.events.now);
+  room = omega arith;
+}
+
 pub loop-event-preserved : goal.loop-event-preserved
-loop-event-preserved c =
-    let shown = c.loop-event.text.items in
-    let more = events_text-more c.loop-event.number c.args.events.now c.loop-event.event-index c.event-item.result (omega arith) c.event-item.is in
-    record {
-      items = rw c.push_event.ensures.items (append_assoc shown _ _ ∙ (ap (λ t. shown ++ t) (sym more) ∙ c.loop-event.invariant.items));
-      room = omega arith;
-    }
+loop-event-preserved c = record {
+  items =
+      rw c.push_event.ensures.items
+      (numbered-on event_text c.loop-event.number c.args.events.now c.loop-event.event-index c.loop-event.text.items _ _ (omega arith) c.event-item.is c.loop-event.invariant.items);
+  room = omega arith;
+}
 
 pub returns : goal.returns
 returns c =
     let shown = c.loop-event.text.items in
-    let none = events_text-end c.loop-event.number c.args.events.now c.loop-event.event-index (omega arith) in
+    let none = numbered-end event_text c.loop-event.number c.args.events.now c.loop-event.event-index (omega arith) in
     sym (append-nil shown) ∙ (ap (λ t. shown ++ t) (sym none) ∙ c.loop-event.invariant.items)
