@@ -2,18 +2,16 @@
 from __future__ import annotations
 
 import os
-import re
 import shutil
 import subprocess
 import unittest
 from pathlib import Path
 from typing import Optional, Sequence
 
-from front.tests import outside
-from front.tests.outside import TIMEOUT, WB
-from front.tests.support import ROOT
-
+ROOT = Path(__file__).resolve().parents[2]
+WB = str(ROOT / "bin/wb")
 DEBUGGER = "gdb-multiarch"
+TIMEOUT = 300
 
 # Neither the user's settings nor the width of a terminal may show.
 PLAIN = ["-nx", "-iex", "set width 0", "-iex", "set style enabled off"]
@@ -40,9 +38,6 @@ def batch(image: str, *commands: str, log: Optional[str] = None, options: Sequen
 
 def run(line: Sequence[str], typed: str = "") -> str:
     """What a command shows."""
-    if line[0] == WB:
-        shown = outside.run(line[1:], typed.encode("latin-1"), is_one_text=True, TERM="dumb").stdout.decode("latin-1")
-        return re.sub("\r\n?", "\n", shown)
     done = subprocess.run(line, cwd=ROOT, env=dict(os.environ, TERM="dumb"), input=typed, encoding="latin-1",
                           timeout=TIMEOUT,
                           stdout=subprocess.PIPE, stderr=subprocess.STDOUT)

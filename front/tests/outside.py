@@ -17,10 +17,8 @@ WB = str(ROOT / "bin/wb")
 TIMEOUT = 300  # seconds
 
 
-def run(arguments: Sequence[str], content: bytes = b"", folder: Path = ROOT, *, is_one_text: bool = False,
-        **environment: str) -> subprocess.CompletedProcess[bytes]:
-    """Runs it in a copy of this process, which has its modules already: to start Python and load them takes longer than most runs.
-    `is_one_text` says that what it writes to both of its streams is one text."""
+def run(arguments: Sequence[str], content: bytes = b"", folder: Path = ROOT) -> subprocess.CompletedProcess[bytes]:
+    """Runs it in a copy of this process, which has its modules already: to start Python and load them takes longer than most runs."""
     with tempfile.TemporaryFile() as given, tempfile.TemporaryFile() as out, tempfile.TemporaryFile() as errors:
         given.write(content)
         given.seek(0)
@@ -28,12 +26,11 @@ def run(arguments: Sequence[str], content: bytes = b"", folder: Path = ROOT, *, 
         if not child:
             signal.alarm(TIMEOUT)
             try:
-                for number, file in enumerate((given, out, out if is_one_text else errors)):
+                for number, file in enumerate((given, out, errors)):
                     os.dup2(file.fileno(), number)
                 sys.stdin, sys.stdout = open(0, closefd=False), open(1, "w", closefd=False)
                 sys.stderr = open(2, "w", errors="backslashreplace", closefd=False)  # as Python has it
                 os.chdir(folder)
-                os.environ.update(environment)
                 status = cli.main(arguments)
                 sys.stderr.flush()
                 os._exit(status)
