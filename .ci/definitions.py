@@ -1,41 +1,23 @@
-"""Makes docs/DEFINITIONS.md from the comments above the definitions in crates/*/specs, in the order of .ci/definitions.txt.
+"""What crates/*/specs define, by the comments above the definitions, in the order of .ci/definitions.txt.
 
-A row of the page is a comment with the definitions that it stands above. The first comment of a file says what it is about and where it
-comes from. Code is each file of src/ that imports a definition. Tests and edits are those that .ci/definitions.txt names.
+The first comment of a file says what it is about and where it comes from: a line of the map. A comment with the definitions that it stands
+above is a row of its crate. Code is each file of src/ that imports a definition. Tests and edits are those that .ci/definitions.txt names.
 
-`.ci/pages --write` writes the page, and `.ci/pages` compares.
+`.ci/pages --definitions` shows the map, `.ci/pages --definitions CRATE` the rows of a crate, and `.ci/pages` what is wrong.
 """
 import re
+import sys
 from pathlib import Path
 
 ROOT = Path(__file__).resolve().parent.parent
-PAGE = ROOT / "docs/DEFINITIONS.md"
 PLAN = ROOT / ".ci/definitions.txt"
 
 HEAD = """\
-# Definitions
-
-Every clause of the repository is stated in these definitions, which are in `crates/*/specs`, from words to the program. Read in this order,
-up to "Of use to proofs", they are the whole machine and the program around it. Numbers are whole and have no greatest value unless a line
-says so.
-
-This page is made by `.ci/pages --write` from the comments above the definitions. The last three columns lead to the code whose clauses cite
-a definition, to tests that compare a rule with values from outside, and to edits of the code that the prover refuses because of it.
-`.ci/definitions.txt` has the order, the tests and the edits.
-
-The sources are:
-
-- **K&H**: Kane and Heinrich, *MIPS RISC Architecture* (MIPS I, R3000), by chapter or appendix.
-- **KN02**: the *DECstation 5000/200 KN02 System Module Functional Specification*.
-- **MC146818**: the data sheet of the clock.
-- **own**: a rule of this project, or a part of a rule, as the comment says.
-"""
-
-PROOFS = """
-# Of use to proofs
-
-No reader of the meaning needs these: the tests by which two values are compared, faster ways that are proved to agree, laws, and the
-steps of a proof.
+Every clause of the repository is stated in these definitions, crates/CRATE/specs/FILE.antt, from words to the program. They are the whole
+machine and the program around it. Numbers are whole and have no greatest value unless a comment says so. Sources are K&H (Kane and
+Heinrich, "MIPS RISC Architecture", by chapter or appendix), KN02 (the "DECstation 5000/200 KN02 System Module Functional Specification"),
+MC146818 (the data sheet of the clock), and own, a rule of this project. `.ci/pages --definitions CRATE` shows the definitions of a crate,
+each with its source, and the code, tests and edits that hold it.
 """
 
 PUB = r"pub(?:\(\w+\))? "
@@ -138,10 +120,6 @@ def plan():
     return crates, wrong
 
 
-def link(text, path):
-    return f"[{text}](../{path.relative_to(ROOT)})"
-
-
 def test_of(name):
     """The file of a test, and whether it has the test."""
     crate, *modules, function = name.split("::")
@@ -156,16 +134,8 @@ def edit_of(crate, name):
     return next((it for it in (folder / f"{name}.edit", folder / f"more/{name}.edit.md") if it.exists()), None)
 
 
-def says(group):
-    return (group.comment or group.file.head).replace("|", "\\|").replace("*", "\\*")
-
-
-def row(group, names, *cells):
-    return f"| {', '.join(f'`{it}`' for it in names)} | `{group.file.name}` | {' | '.join(cells)} |"
-
-
-class Page:
-    """The page as it is made, and what is wrong with what it is made of."""
+class Definitions:
+    """All definitions, and what is wrong with .ci/definitions.txt."""
 
     def __init__(self):
         self.crates, self.wrong = plan()
@@ -210,31 +180,24 @@ class Page:
         """Those of these files of a crate that are there."""
         return [self.specs[crate.name, it] for it in names if (crate.name, it) in self.specs]
 
-    def rows(self, crate, for_proofs):
-        """The groups of a crate that are, or are not, of use to proofs alone, each with those of its names."""
-        for file in self.files(crate, crate.all_files()):
-            for group in file.groups:
-                if names := [it for it in group.names if crate.is_for_proofs(file.name, it) == for_proofs]:
-                    yield group, names
-
     def code(self, crate, file, names):
         """The files of src/ that import one of these definitions."""
         for source in sorted((ROOT / "crates" / crate.name / "src").glob("**/*.rt")):
             used = re.findall(rf"specs\.{file.name}\.(?:\{{([^}}]*)\}}|(\w+))", source.read_text())
             if {*names} & {it.strip() for one, other in used for it in (one or other).split(",")}:
-                yield link(source.stem, source)
+                yield str(source.relative_to(ROOT))
 
     def held(self, crate, file, names):
         """The code, the tests and the edits that hold these definitions."""
-        code, tests, edits = list(self.code(crate, file, names)), [], []
+        tests, edits = [], []
         for _, name, ruled, held in crate.rules:
             if name == file.name and {*ruled} & {*names}:
                 for it in held:
                     if not it.endswith(".edit"):
-                        tests.append(link(it.partition("::")[2], test_of(it)[0]))
+                        tests.append(it)
                     elif path := edit_of(crate.name, it):
-                        edits.append(link(it.removesuffix(".edit").rpartition("/")[2], path))
-        return [", ".join(dict.fromkeys(it)) for it in (code, tests, edits)]
+                        edits.append(str(path.relative_to(ROOT)))
+        return {"code": list(self.code(crate, file, names)), "tests": tests, "edits": edits}
 
     def from_code(self, crate):
         """What the definitions of a crate use of its code: the types, each with its comment there, and the constants with their values."""
@@ -243,27 +206,40 @@ class Page:
             path = ROOT / "crates" / crate.name / f"src/{module}.rt"
             kind = rf"^ *(?:{PUB})?(?:struct|enum|trait|type) {name}\b"
             if found := re.search(rf"(?m)((?:^ *///.*\n)*)(?:^ *#\[.*\n)*{kind}", path.read_text()):
-                yield f"- `{name}` in {link(module, path)}: " + " ".join(it.strip()[3:].strip() for it in found[1].splitlines())
+                yield f"{name} in src/{module}.rt: " + " ".join(it.strip()[3:].strip() for it in found[1].splitlines())
         for module, name in dict.fromkeys(it for file in files for it in file.constants):
             constants.setdefault(module, []).append(name)
         for module, names in constants.items():
             path = ROOT / "crates" / crate.name / f"src/{module}.rt"
             values = dict(re.findall(rf"(?m)^(?:{PUB})?const (\w+): [^=]*(= .*);$", path.read_text()))
-            yield f"- Constants in {link(module, path)}: " + ", ".join(f"`{it} {values.get(it, '')}`" for it in names)
+            yield f"constants in src/{module}.rt: " + ", ".join(f"{it} {values.get(it, '')}" for it in names)
 
-    def made(self):
+    def map(self):
+        """Each file by its crate, with what it is about."""
         lines = [HEAD]
-        for crate in (it for it in self.crates if it.files):
-            folder = ROOT / "crates" / crate.name / "specs"
-            lines.append(f"## {crate.title}: `{crate.name}`\n")
-            lines += [f"- {link(f'`{it.name}`', folder / f'{it.name}.antt')}: {it.head}" for it in self.files(crate, crate.files)]
-            if used := list(self.from_code(crate)):
-                lines += ["\nFrom the code:\n", *used]
-            lines += ["\n| Definition | File | Source | Says | Code | Tests | Edits |", "|---|---|---|---|---|---|---|"]
-            lines += [row(it, names, source(it), says(it), *self.held(crate, it.file, names)) for it, names in self.rows(crate, False)]
-            lines.append("")
-        lines.append(PROOFS)
         for crate in self.crates:
-            if rows := [row(it, names, says(it)) for it, names in self.rows(crate, True)]:
-                lines += [f"### `{crate.name}`\n", "| Definition | File | Says |", "|---|---|---|", *rows, ""]
-        return "\n".join(lines).replace("\n\n\n", "\n\n").rstrip() + "\n"
+            lines.append(f"{crate.name}: {crate.title}")
+            lines += [f"    {it.name + ('*' if it.name not in crate.files else ''):15} {it.head}" for it in self.files(crate, crate.all_files())]
+        return "\n".join([*lines, "", "* of use to proofs alone"]) + "\n"
+
+    def rows(self, crate):
+        """The definitions of a crate by their comments, and what they use of its code."""
+        lines = [f"{crate.name}: {crate.title}"]
+        for file in self.files(crate, crate.all_files()):
+            lines.append(f"\ncrates/{crate.name}/specs/{file.name}.antt: {file.head}")
+            for group in file.groups:
+                use = ", of use to proofs alone" if all(crate.is_for_proofs(file.name, it) for it in group.names) else ""
+                lines.append(f"\n    {', '.join(group.names)} ({source(group)}{use})")
+                lines += [f"        {group.comment}"] if group.comment else []
+                for what, those in self.held(crate, file, group.names).items():
+                    lines += [f"        {what}: {' '.join(dict.fromkeys(those))}"] if those else []
+        if used := list(self.from_code(crate)):
+            lines += ["\nFrom the code:\n", *(f"    {it}" for it in used)]
+        return "\n".join(lines) + "\n"
+
+    def shown(self, names):
+        """The map, or the rows of the crates that are named."""
+        known = {it.name: it for it in self.crates}
+        if unknown := [it for it in names if it not in known]:
+            sys.exit(f".ci/pages: no crate {' '.join(unknown)} has definitions; crates are {' '.join(known)}")
+        return "\n".join(self.rows(known[it]) for it in names) if names else self.map()
