@@ -3,26 +3,27 @@ use Rattle.std.proofs.Common.{◌≡◌, inl, inr, ℕ, zero, suc, ◌+◌, ◌-
 use Rattle.std.specs.FinMap as map
 use Rattle.std.specs.Option.{is_some, ok_or}
 use Rattle.std.specs.Result.{is_ok}
-use Rattle.std.proofs.lemmas.Bool.{le-leb, true≢false}
+use Rattle.std.proofs.lemmas.Bool.{eq-eqb, le-leb, true≢false}
 use Rattle.std.proofs.lemmas.List.{get_or-drop, length-drop, take_all, take_more}
 use Rattle.std.proofs.lemmas.Option.{get_or_from_slice_get, slice_get_cases, slice_get_within}
 use Rattle.dz_serial.specs.declared.write.Sent.{Sent}
 use Rattle.input_log.specs.Limits.{max_position}
 use Rattle.r3k_machine.specs.declared.step.Done.{Done}
-use Rattle.r3k_machine.specs.Run.{byte_on, last_where, last_writer, later, senders_of, trace_at, with_sender, writes}
+use Rattle.r3k_machine.specs.Core.{Core}
+use Rattle.r3k_machine.specs.Run.{byte_on, last_where, last_writer, later, senders_of, state_at, trace_at, with_sender, writes}
 use Rattle.r3k_machine.specs.declared.target.Target.TheVariants.{Memory as Word}
 use Rattle.r3k_machine.proofs.Splits.{trace_count}
 use Rattle.r3k_word.specs.Layout.{place_of_word}
 use Rattle.refusal.specs.Given.{GivesFault}
 use Rattle.refusal.specs.declared.fault.Fault.{Fault}
-use Rattle.refusal.specs.declared.fault.Fault.TheVariants.{Memory, NotFound, Range, TooFar}
+use Rattle.refusal.specs.declared.fault.Fault.TheVariants.{Memory, NotFound, Range, TooFar, Unaligned}
 use Rattle.timeline.proofs.Plain.{near_given, writer_given}
 use Rattle.timeline.specs.Console.{part_of}
 use Rattle.timeline.specs.History.{History}
-use Rattle.timeline.specs.Query.{core_at, sent_at, up_to_max, writer_at, writer_of}
+use Rattle.timeline.specs.Query.{core_at, of_place, sent_at, up_to_max, writer_at, writer_of}
 use Rattle.timeline.specs.declared.writer.Writer.{Writer}
 use Rattle.timeline.specs.declared.writer.Writer.TheVariants.{Step, Image, Never}
-use Rattle.wb_session.specs.Lists.{and_before, pc_of, pcs_from, senders_at, store_of, stores_before}
+use Rattle.wb_session.specs.Lists.{and_before, pc_of, pcs_at, pcs_from, senders_at, store_of, stores_at, stores_before}
 use Rattle.wb_text.specs.declared.lists.Timed.{Timed}
 
 some_is : (a b : ℕ) → Some a ≡ Some b → a ≡ b
@@ -221,3 +222,40 @@ pub pcs_more : (pages : ℕ) (h : History) (position distance count : ℕ)
     → pcs_from pages h position distance (count + 1) ≡ pcs_from pages h position distance count ++ pc_of pages h (position + count * distance) ∷ []
 unfolding pcs_from
 pcs_more pages h position distance count = rw add-one refl
+
+-- the PC, where the processor is given
+pc_or : Result Core Fault → ℕ
+pc_or (Ok core) = core.pc
+pc_or (Err fault) = 0
+
+pub pc_is : (pages : ℕ) (h : History) (position : ℕ) (core : Core) → position ≤ max_position → core_at pages h position ≡ Ok core
+    → (state_at pages h.image h.log position).core.pc ≡ core.pc
+unfolding pc_or
+pc_is pages h position core near given =
+    let answer : Result Core Fault = Ok (state_at pages h.image h.log position).core in
+    ap pc_or (sym (near_given position answer near) ∙ given)
+
+pub only_memory_core : (pages : ℕ) (h : History) (position : ℕ) (fault : Fault) → position ≤ max_position → GivesFault (core_at pages h position) fault → fault ≡ Memory
+only_memory_core pages h position fault near (inl same) =
+    let answer : Result Core Fault = Ok (state_at pages h.image h.log position).core in
+    absurd (true≢false (ap (λ (r : Result Core Fault). is_ok r) (sym (near_given position answer near) ∙ same)))
+only_memory_core pages h position fault near (inr lacks) = lacks.0
+
+pub pcs_given : (pages : ℕ) (h : History) (position distance count : ℕ) → position + (count - 1) * distance ≤ max_position
+    → pcs_at pages h position distance count ≡ Ok (pcs_from pages h position distance count)
+pcs_given pages h position distance count near =
+    let answer : Result (List Timed) Fault = Ok (pcs_from pages h position distance count) in
+    near_given (position + (count - 1) * distance) answer near
+
+-- a word's place, and the stores into it
+pub some_place : (o : Option ℕ) → is_some o ≡ true → (place : ℕ) × (o ≡ Some place)
+some_place None there = absurd (true≢false (sym there))
+some_place (Some place) there = (place, refl)
+
+pub stores_given : (pages : ℕ) (h : History) (position address place count : ℕ) → position ≤ max_position → address % 4 ≡ 0 → place_of_word pages address ≡ Some place
+    → stores_at pages h position address count ≡ Ok (stores_before pages h address place count position)
+stores_given pages h position address place count near even placed =
+    let answer : ℕ → Result (List Timed) Fault = λ place. up_to_max position (Ok (stores_before pages h address place count position)) in
+    let shown : Result (List Timed) Fault = Ok (stores_before pages h address place count position) in
+    ap (λ (even : Bool). if even then of_place (place_of_word pages address) answer else Err Unaligned) (eq-eqb (address % 4) 0 even)
+    ∙ (ap (λ (o : Option ℕ). of_place o answer) placed ∙ near_given position shown near)

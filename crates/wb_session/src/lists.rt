@@ -41,7 +41,8 @@ impl<const PAGES: u32, const SPAN: u32> Session<PAGES, SPAN> {
         for _ in 0..count.get() {
             let step = match self.timeline.writer_at(before, address) {
                 Ok(Writer::Step(step)) => step,
-                Ok(_) => return Ok(stores),
+                Ok(Writer::Image) => return Ok(stores),
+                Ok(Writer::Never) => return Ok(stores),
                 Err(fault) => return Err(fault),
             };
             match self.timeline.word_at(step + 1, address) {

@@ -18,9 +18,9 @@ use std::marker::Model;
 use timeline::{MAX_POSITION, Timeline};
 use wb_options::RunFault;
 use wb_text::{
-    Address, ByteCount, ByteValue, Command, Distance, EntryNumber, EventCount, EventTime, FindCount,
-    Level, LineNumber, PositionCount, RegisterNumber, Reply, StepCount, StoreCount, TraceCount,
-    WireNumber, WordValue, WrittenNumber,
+    Address, ByteCount, ByteValue, Command, Distance, EntryNumber, EventCount, EventTime,
+    FindCount, Level, LineNumber, PositionCount, RegisterNumber, Reply, StepCount, StoreCount,
+    TraceCount, WireNumber, WordValue, WrittenNumber,
 };
 
 // How many pasts are kept side by side.

@@ -1,6 +1,6 @@
 -- The senders, one after the other.
 use Rattle.std.proofs.Common.{◌≡◌, ◌+◌, ◌-◌, ◌*◌, ◌%◌, ◌≤◌, ◌++◌, ◌∷◌, [], ℕ, List, length, refl, sym, ap, ◌∙◌, subst, arith, Result, Ok, inr, rules}
-use Rattle.refusal.specs.Given.{GivesFault}
+use Rattle.refusal.specs.Given.{GivesFault, MayLackMemory}
 use Rattle.refusal.specs.declared.fault.Fault.{Fault}
 use Rattle.refusal.specs.declared.fault.Fault.TheVariants.{Memory, NotFound}
 use Rattle.input_log.specs.Limits.{max_position}
@@ -77,38 +77,6 @@ returns-in_default-clause-asks g c =
     up_to_all g.row.PAGES g.row.SPAN now.position (now.position % g.row.SPAN) c.loop-more.more c.args.count now.timeline c.loop-more.self-inside.timeline c.loop-more.steps
     (omega (arith, none)) (omega (arith, c.loop-more-test.true, c.get-more-end.ensures.value)) c.loop-more.invariant.asked
 
-pub returns-in-Err-NotFound-clause-senders : goal.returns-in-Err-NotFound-clause-senders
-returns-in-Err-NotFound-clause-senders g c =
-    let pages = g.row.PAGES in
-    let now = c.args.self.now in
-    let h = now.timeline.history in
-    let more = c.loop-more.more in
-    let before = c.loop-more.self-inside.timeline in
-    let all = senders_of c.args.line 0 (trace_at pages h.image h.log now.position) in
-    let place = rw c.in-Some.is at c.checked_add.ensures in
-    let near = subst (λ (s : Held). s.position ≤ max_position) c.self.view_is c.self.invariant.position in
-    let low : c.args.line ≤ 3 = omega (arith, c.get-number.ensures.most, c.get-number.ensures.value) in
-    let given = subst (λ (k : History). GivesFault (sent_at pages k now.position c.args.line (c.args.from + more)) NotFound) c.loop-more.invariant.same
-    (subst (λ (n : ℕ). GivesFault (sent_at pages before.history n c.args.line (c.args.from + more)) NotFound) c.loop-more.invariant.still
-    (subst (λ (l : ℕ). GivesFault (sent_at pages before.history c.loop-more.self-inside.position l (c.args.from + more)) NotFound) c.get-number.ensures.value
-    (subst (λ (p : ℕ). GivesFault (sent_at pages before.history c.loop-more.self-inside.position c.get-number.result p) NotFound) place.1 c.in-Err-NotFound.ensures.step))) in
-    senders_given pages h now.position c.args.line c.args.from c.args.count low near
-    ∙ ap (λ (xs : List ℕ). Ok xs)
-    (part_end all c.args.from more c.args.count (past_end all (c.args.from + more) (no_sender pages h now.position c.args.line (c.args.from + more) low near given))
-    (omega (arith, c.loop-more-test.true, c.get-more-end.ensures.value)) ∙ sym c.loop-more.invariant.so_far)
-
-pub returns-in-Err-NotFound-clause-asks : goal.returns-in-Err-NotFound-clause-asks
-returns-in-Err-NotFound-clause-asks g c =
-    let pages = g.row.PAGES in
-    let span = g.row.SPAN in
-    let now = c.args.self.now in
-    let at = c.loop-more.invariant.still in
-    let asks = rw at at c.in-Err-NotFound.ensures.asks in
-    up_to_all pages span now.position (now.position % span) (c.loop-more.more + 1) c.args.count now.timeline c.sent_at.new.self c.loop-more.steps
-    (omega arith) (omega (arith, c.loop-more-test.true, c.get-more-end.ensures.value))
-    (up_to_one pages span now.position now.position (now.position % span) c.loop-more.more now.timeline c.loop-more.self-inside.timeline c.sent_at.new.self
-    (omega (arith, c.self.invariant.sizes.least_span)) (λ _. refl) (omega arith) (omega arith) c.loop-more.invariant.asked asks.0 asks.1)
-
 pub returns-in-Err-NotFound-clause-landings : goal.returns-in-Err-NotFound-clause-landings
 returns-in-Err-NotFound-clause-landings g c = c.in-Err-NotFound.ensures.landings ∙ c.loop-more.invariant.landings
 
@@ -129,3 +97,46 @@ returns-clause-asks g c =
     let now = c.args.self.now in
     up_to_all g.row.PAGES g.row.SPAN now.position (now.position % g.row.SPAN) c.loop-more.more c.args.count now.timeline c.loop-more.self-inside.timeline c.loop-more.steps
     (omega (arith, c.loop-more-test.false, c.get-more-end.ensures.value, c.get-more-end.ensures.least)) (omega (arith, c.loop-more.auto.more-end, c.get-more-end.ensures.value)) c.loop-more.invariant.asked
+
+pub returns-in-Err-NotFound-clause-asks : goal.returns-in-Err-NotFound-clause-asks
+returns-in-Err-NotFound-clause-asks g c =
+    let pages = g.row.PAGES in
+    let span = g.row.SPAN in
+    let now = c.args.self.now in
+    let before = c.loop-more.self-inside.timeline in
+    let at = c.loop-more.invariant.still in
+    let asks = subst (λ (f : Fault). AsksFault pages span now.position 0 before c.sent_at.new.self f) c.in-Err-NotFound.field-0-is (rw at at c.in-Err-NotFound.ensures.asks) in
+    up_to_all {A = List ℕ} pages span now.position (now.position % span) (c.loop-more.more + 1) c.args.count now.timeline c.sent_at.new.self c.loop-more.steps.items
+    (omega arith) (omega (arith, c.loop-more-test.true, c.get-more-end.ensures.value))
+    (up_to_one pages span now.position now.position (now.position % span) c.loop-more.more now.timeline before c.sent_at.new.self
+    (omega (arith, c.self.invariant.sizes.least_span)) (λ _. refl) (omega arith) (omega arith) c.loop-more.invariant.asked asks.0 asks.1)
+
+-- memory was refused
+pub returns-in-Err : goal.returns-in-Err
+returns-in-Err g c =
+    let pages = g.row.PAGES in
+    let span = g.row.SPAN in
+    let now = c.args.self.now in
+    let h = now.timeline.history in
+    let more = c.loop-more.more in
+    let before = c.loop-more.self-inside.timeline in
+    let at = c.loop-more.invariant.still in
+    let fault = c.in-Err.fault in
+    let place = rw c.in-Some.is at c.checked_add.ensures in
+    let near = subst (λ (s : Held). s.position ≤ max_position) c.self.view_is c.self.invariant.position in
+    let low : c.args.line ≤ 3 = omega (arith, c.get-number.ensures.most, c.get-number.ensures.value) in
+    let given = subst (λ (k : History). GivesFault (sent_at pages k now.position c.args.line (c.args.from + more)) fault) c.loop-more.invariant.same
+    (subst (λ (n : ℕ). GivesFault (sent_at pages before.history n c.args.line (c.args.from + more)) fault) at
+    (subst (λ (l : ℕ). GivesFault (sent_at pages before.history c.loop-more.self-inside.position l (c.args.from + more)) fault) c.get-number.ensures.value
+    (subst (λ (p : ℕ). GivesFault (sent_at pages before.history c.loop-more.self-inside.position c.get-number.result p) fault) place.1 c.in-Err.ensures.step))) in
+    let other : fault ≡ NotFound → ⊥ = search rules in
+    let memory = only_memory_sender pages h now.position c.args.line (c.args.from + more) fault low near other given in
+    record {
+      senders = inr (memory, subst (λ (r : Result (List ℕ) Fault). MayLackMemory r) (sym (senders_given pages h now.position c.args.line c.args.from c.args.count low near)) tt);
+      same = search rules;
+      asks = subst (λ (f : Fault). AsksFault pages span now.position ((c.args.count - 1) * (now.position % span)) now.timeline c.sent_at.new.self f) (sym memory)
+          (up_to_part pages span now.position now.position (now.position % span) more c.args.count now.timeline before c.sent_at.new.self
+          (omega (arith, c.self.invariant.sizes.least_span)) (λ _. refl) (omega arith) (omega arith) (omega (arith, c.loop-more-test.true, c.get-more-end.ensures.value)) c.loop-more.invariant.asked
+          (subst (λ (f : Fault). AsksFault pages span now.position 0 before c.sent_at.new.self f) memory (rw at at c.in-Err.ensures.asks)));
+      landings = c.in-Err.ensures.landings ∙ c.loop-more.invariant.landings;
+    }
