@@ -56,6 +56,13 @@ impl Bus {
         (self.lines() & self.enables != 0, self.clock.line())
     }
 
+    /// What `devices` shows.
+    pub fn shown(&self) -> String {
+        let csr = self.clone().load(BOARD).unwrap();
+        let interrupt = u32::from(self.interrupts().0);
+        self.serial.shown() + &self.clock.shown() + &format!("board csr {csr:#010x} interrupt {interrupt}\n")
+    }
+
     /// Reads the aligned word of a physical address, if a device is there.
     pub fn load(&mut self, physical: u32) -> Option<u32> {
         let offset = physical & 0xFC;

@@ -101,6 +101,17 @@ impl Clock {
         }
     }
 
+    /// The line that `devices` shows of it: what reads of copies give, and the ticks up to the end of the second and of the period.
+    pub fn shown(&self) -> String {
+        let ticks = |period: Option<u32>| {
+            let left = period.filter(|_| self.runs()).map(|period| period - self.divider % period);
+            left.map_or("none".into(), |left| left.to_string())
+        };
+        let (second, period) = (ticks(Some(8192 * self.unit)), ticks(self.period()));
+        let registers: String = (0..64).map(|register| format!("{:02x}", self.clone().read(register))).collect();
+        format!("clock interrupt {} second {second} period {period} registers {registers}\n", u32::from(self.line()))
+    }
+
     pub fn write(&mut self, register: usize, byte: u8) {
         match register {
             A => {

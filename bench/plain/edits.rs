@@ -22,7 +22,7 @@ const WRONG: [u32; 4] = [0x0000_2002, 0x1FE0_0000, 0x0080_0000, 0x1FC4_0000];
 
 /// Lines that are mostly refused, whatever the session. GREATEST stands for the greatest position, and PAST for the
 /// number after it.
-const REFUSED: [&str; 16] = [
+const REFUSED: [&str; 21] = [
     "goto PAST",
     "erase 0 PAST",
     "erase PAST PAST",
@@ -39,6 +39,11 @@ const REFUSED: [&str; 16] = [
     "visit 0x2 1048576",
     "visit 0 0",
     "find 0 18446744073709551615",
+    "finds 0 18446744073709551615 64",
+    "stores 2 33",
+    "stores 2 1",
+    "regwriter 34",
+    "pcs PAST 2",
 ];
 /// The same of framing errors and external lines.
 const REFUSED_KINDS: [&str; 8] = [
@@ -344,12 +349,17 @@ impl Script {
         let line =
             if used.is_empty() || self.random.one_in(6) { self.random.below(4) } else { self.random.pick(&used) };
         let sent = seen.sent[line as usize];
-        let question = match self.random.below(9) {
+        let question = match self.random.below(14) {
             0..=3 => format!("writer {address:#x}"),
             4 => format!("mem {address:#x} {}", 1 + self.random.below(4)),
             5 => format!("find {line} {}", self.random.below(sent + 2)),
             6 => format!("console {line} {} 256", self.random.below(sent + 1)),
             7 => format!("trace {}", 1 + self.random.below(64)),
+            8 => format!("stores {address:#x} {}", 1 + self.random.below(32)),
+            9 => format!("finds {line} {} {}", self.random.below(sent + 2), 1 + self.random.below(64)),
+            10 => format!("regwriter {}", self.random.below(34)),
+            11 => format!("pcs {} {}", self.random.pick(&[1, 3, 64, 1000]), 1 + self.random.below(64)),
+            12 => "devices".into(),
             _ => self.random.pick(&["regs", "cp0", "log 0 32", "pos"]).into(),
         };
         self.tell(&question);

@@ -44,9 +44,11 @@ impl Parts {
     pub const ALL: Parts = Parts { pages: 2048, translation: true, caches: true, devices: true, kinds: true };
 }
 
-/// What a step reported: the byte that it sent, the address of the word of RAM that it stored into, and whether it took an exception.
+/// What a step reported: the word that it fetched, the byte that it sent, the address of the word of RAM that it stored into, and
+/// whether it took an exception.
 #[derive(Clone, Copy, Debug, Default, PartialEq)]
 pub struct Done {
+    pub fetched: Option<u32>,
     pub sent: Option<Sent>,
     pub stored: Option<u32>,
     pub excepted: bool,
@@ -220,6 +222,11 @@ impl Machine {
         Ok(Physical { address: lo & 0xFFFF_F000 | address & 0xFFF, cacheable: lo & UNCACHED == 0 })
     }
 
+    /// What the devices hold, as `devices` shows it.
+    pub fn devices(&self) -> String {
+        self.bus.shown()
+    }
+
     /// What an address means for a load of a byte.
     pub fn where_is(&mut self, address: u32) -> Result<Physical, Exception> {
         self.physical(address, 0, false)
@@ -237,7 +244,8 @@ impl Machine {
     #[inline]
     pub fn fetch(&mut self, address: u32) -> Result<u32, Exception> {
         let physical = self.physical(address, 3, false)?;
-        self.place(physical.address).map(|place| self.words[place]).ok_or(Exception::FetchBus)
+        self.done.fetched = self.place(physical.address).map(|place| self.words[place]);
+        self.done.fetched.ok_or(Exception::FetchBus)
     }
 
     /// The aligned word at an address, of which a load takes bytes.

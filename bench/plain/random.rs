@@ -411,6 +411,10 @@ pub fn script(seed: u64, commands: &[&str]) -> String {
                 }
                 "mem" | "dis" => format!("{address:#x} 16"),
                 "console" => format!("{line} {} 256", random.below(3)),
+                "stores" => format!("{address:#x} {}", 1 + random.below(32)),
+                "finds" => format!("{line} {} {}", random.below(3), 1 + random.below(64)),
+                "regwriter" => random.below(34).to_string(),
+                "pcs" => format!("{} {}", 1 + random.below(100), 1 + random.below(64)),
                 "trace" => (1 + random.below(64)).to_string(),
                 "log" => "0 32".into(),
                 _ => String::new(),

@@ -45,6 +45,11 @@ pub enum Command {
     Writer(u32),
     Visit { address: u32, limit: u64 },
     Find { line: u8, place: u64 },
+    Stores { address: u32, count: usize },
+    Finds { line: u8, place: u64, count: usize },
+    RegisterWriter(usize),
+    Pcs { distance: u64, count: u64 },
+    Devices,
     Trace(u64),
     Log { from: u64, count: usize },
     Add(Event),
@@ -61,7 +66,7 @@ const ANY: u64 = u64::MAX;
 const WORD: u64 = 0xFFFF_FFFF;
 
 /// The name of each command, with the least and the greatest of each of its numbers.
-const COMMANDS: [(&str, &[(u64, u64)]); 26] = [
+const COMMANDS: [(&str, &[(u64, u64)]); 31] = [
     ("pos", &[]),
     ("goto", &[(0, ANY)]),
     ("step", &[(0, ANY)]),
@@ -77,6 +82,11 @@ const COMMANDS: [(&str, &[(u64, u64)]); 26] = [
     ("writer", &[(0, WORD)]),
     ("visit", &[(0, WORD), (1, 1_048_576)]),
     ("find", &[(0, 3), (0, ANY)]),
+    ("stores", &[(0, WORD), (1, 32)]),
+    ("finds", &[(0, 3), (0, ANY), (1, 64)]),
+    ("regwriter", &[(0, 33)]),
+    ("pcs", &[(1, ANY), (1, 64)]),
+    ("devices", &[]),
     ("trace", &[(1, 64)]),
     ("log", &[(0, ANY), (1, 32)]),
     ("add", &[(0, GREATEST - 1), (0, 3), (0, 255)]),
@@ -128,6 +138,11 @@ fn command(name: &str, n: &[u64]) -> Command {
         "writer" => Command::Writer(n[0] as u32),
         "visit" => Command::Visit { address: n[0] as u32, limit: n[1] },
         "find" => Command::Find { line: n[0] as u8, place: n[1] },
+        "stores" => Command::Stores { address: n[0] as u32, count: n[1] as usize },
+        "finds" => Command::Finds { line: n[0] as u8, place: n[1], count: n[2] as usize },
+        "regwriter" => Command::RegisterWriter(n[0] as usize),
+        "pcs" => Command::Pcs { distance: n[0], count: n[1] },
+        "devices" => Command::Devices,
         "trace" => Command::Trace(n[0]),
         "log" => Command::Log { from: n[0], count: n[1] as usize },
         "add" => added(Kind::Byte, n),

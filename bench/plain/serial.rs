@@ -1,6 +1,8 @@
 //! The serial part: four lines with one silo of received characters, and a scanner that offers the lines that can send.
 
 use std::collections::VecDeque;
+use std::fmt::Write;
+use std::iter;
 
 // CSR.
 const TRDY: u32 = 1 << 15;
@@ -133,6 +135,25 @@ impl Serial {
             16 => (0..4).map(|line| u32::from(self.lines[line].sends) << line).sum(),
             _ => 0,
         }
+    }
+
+    /// The lines that `devices` shows of it: what reads of a copy give, and what it holds besides.
+    pub fn shown(&self) -> String {
+        let mut copy = self.clone();
+        let [csr, rbuf, tcr, msr] = [0, 8, 16, 24].map(|offset| copy.read(offset));
+        let mut text = format!("serial csr {csr:#010x} rbuf {rbuf:#010x} tcr {tcr:#010x} msr {msr:#010x}");
+        writeln!(text, " served {} time {}", self.last_served, self.byte_time).unwrap();
+        for (number, line) in self.lines.iter().enumerate() {
+            let (receiver, lost) = (u32::from(line.receives), u32::from(line.lost));
+            writeln!(text, "line {number} receiver {receiver} lost {lost} busy {}", line.busy).unwrap();
+        }
+        let mut copy = self.clone();
+        let waiting: Vec<u32> = iter::from_fn(|| Some(copy.read(8)).filter(|word| word & DVAL != 0)).collect();
+        write!(text, "silo {}", waiting.len()).unwrap();
+        for word in waiting {
+            write!(text, " {word:#010x}").unwrap();
+        }
+        text + "\n"
     }
 
     /// Writes the covered bytes of the word at an offset. `lanes` has a bit for each byte.

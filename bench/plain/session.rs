@@ -135,6 +135,14 @@ impl Session {
                 let place = usize::try_from(place).map_err(|_| Refusal::NotFound)?;
                 format!("find {}\n", sent.get(place).ok_or(Refusal::NotFound)?.0)
             }
+            Command::Stores { address, count } => {
+                self.check_memory(address, 1)?;
+                self.stores(address, count)
+            }
+            Command::Finds { line, place, count } => self.finds(line, place, count),
+            Command::RegisterWriter(register) => self.register_writer(register),
+            Command::Pcs { distance, count } => self.pcs(distance, count)?,
+            Command::Devices => self.machine().devices(),
             Command::Trace(count) => self.trace(count)?,
             Command::Log { from, count } => self.events(from, count),
             _ => unreachable!("no query: {command:?}"),
@@ -160,6 +168,45 @@ impl Session {
             None if self.image.words.contains_key(&address) => "writer image\n".into(),
             None => "writer never\n".into(),
         }
+    }
+
+    /// The last stores into a word, the last one first, each with the word after it.
+    fn stores(&self, address: u32, count: usize) -> String {
+        let mut stores = Vec::new();
+        self.run(self.position, |time, done, machine| {
+            if done.stored == Some(address) {
+                stores.push((time, machine.word(address)));
+            }
+        });
+        listed("stores", stores.into_iter().rev().take(count))
+    }
+
+    /// The steps that sent the bytes of a line from a place on.
+    fn finds(&self, line: u8, place: u64, count: usize) -> String {
+        let sent = self.sent(line);
+        let from = usize::try_from(place).unwrap_or(usize::MAX);
+        let found: Vec<String> = (from..sent.len()).take(count).map(|it| format!("{it} {}\n", sent[it].0)).collect();
+        format!("finds {}\n{}", found.len(), found.concat())
+    }
+
+    fn register_writer(&self, register: usize) -> String {
+        let mut last = None;
+        self.run(self.position, |time, done, machine| {
+            if machine.written(done).contains(&register) {
+                last = Some(time);
+            }
+        });
+        last.map_or("regwriter never\n".into(), |step| format!("regwriter {step}\n"))
+    }
+
+    /// The PC at the position and at later ones.
+    fn pcs(&self, distance: u64, count: u64) -> Result<String, Refusal> {
+        let last = u128::from(self.position) + u128::from(distance) * u128::from(count - 1);
+        let last = u64::try_from(last).ok().filter(|&it| it <= GREATEST).ok_or(Refusal::TooFar)?;
+        let mut pcs = vec![Machine::new(&self.image, self.parts).pc];
+        self.run(last, |_, _, machine| pcs.push(machine.pc));
+        let shown = (0..count).map(|it| self.position + it * distance).map(|position| (position, pcs[position as usize]));
+        Ok(listed("pcs", shown))
     }
 
     /// What the next steps do.
@@ -201,6 +248,12 @@ impl Session {
         }
         if self.parts.has_memory(address, count) { Ok(()) } else { Err(Refusal::NotMemory) }
     }
+}
+
+/// How many words there are, under a name, and each after its step or position.
+fn listed(name: &str, words: impl Iterator<Item = (u64, u32)>) -> String {
+    let lines: Vec<String> = words.map(|(time, word)| format!("{time} {word:#010x}\n")).collect();
+    format!("{name} {}\n{}", lines.len(), lines.concat())
 }
 
 fn event(number: usize) -> Result<String, Refusal> {

@@ -5,7 +5,7 @@ use std::ops::RangeInclusive;
 
 use crate::control::TS;
 use crate::log::Event;
-use crate::machine::Machine;
+use crate::machine::{Done, Machine};
 
 impl Machine {
     /// Makes the step of a number, in which these events take effect first, and says what it did.
@@ -54,6 +54,23 @@ impl Machine {
             write!(line, " exception {}", self.control.cause >> 2 & 31).unwrap();
         }
         line + "\n"
+    }
+}
+
+impl Machine {
+    /// The registers that the step just made wrote, with 32 for HI and 33 for LO. A load's register is the one that waits.
+    pub fn written(&self, done: Done) -> Vec<usize> {
+        let Some(word) = done.fetched.filter(|_| !done.excepted) else {
+            return Vec::new();
+        };
+        let hi_lo: &[usize] = match (word >> 26, word % 64) {
+            (0, 0x11) => &[32],
+            (0, 0x13) => &[33],
+            (0, 0x18..=0x1B) => &[32, 33],
+            _ => &[],
+        };
+        let register = destination(word).unwrap_or(self.load.0);
+        hi_lo.iter().copied().chain(Some(register).filter(|&it| it != 0)).collect()
     }
 }
 

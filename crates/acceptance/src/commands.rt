@@ -65,6 +65,44 @@ fn steps_that_are_followed(rt: HostRuntime) -> Result<(), Fail> {
     says(&rt, source, b"", dialogue)
 }
 
+/// A receiver, a line and the scanner are turned on, a byte arrives in step 7, and one is sent. Nothing is learned by looking.
+#[test]
+fn devices_that_are_looked_at(rt: HostRuntime) -> Result<(), Fail> {
+    let source =
+        "lui r1, 0xbfe0; addiu r2, r0, 0x1000; sw r2, 8(r1); addiu r3, r0, 1; sw r3, 16(r1); addiu r4, r0, 0x20; sw r4, 0(r1); sw r3, 24(r1)
+        lw r5, 8(r1)";
+    let dialogue =
+        "add 7 0 0x41 => event 0; goto 8 => pos 8
+        devices => serial csr 0x000000a0 rbuf 0x00008041 tcr 0x00000001 msr 0x00000000 served 0 time 16; line 0 receiver 1 lost 0 busy 16
+        line 1 receiver 0 lost 0 busy 0; line 2 receiver 0 lost 0 busy 0; line 3 receiver 0 lost 0 busy 0; silo 1 0x00008041
+        clock interrupt 0 second 8184 period none registers 00000000000001010100200600800000000000000000000000000000000000000000000000000000000000000000000000000000000000000000000000000000
+        board csr 0x00000000 interrupt 0
+        step 1 => pos 9
+        devices => serial csr 0x00000020 rbuf 0x00000000 tcr 0x00000001 msr 0x00000000 served 0 time 16; line 0 receiver 1 lost 0 busy 15
+        line 1 receiver 0 lost 0 busy 0; line 2 receiver 0 lost 0 busy 0; line 3 receiver 0 lost 0 busy 0; silo 0
+        clock interrupt 0 second 8183 period none registers 00000000000001010100200600800000000000000000000000000000000000000000000000000000000000000000000000000000000000000000000000000000
+        board csr 0x00000000 interrupt 0
+        finds 0 0 4 => finds 1; 0 7; finds 0 1 4 => finds 0; finds 1 0 64 => finds 0";
+    says(&rt, source, b"", dialogue)
+}
+
+/// Stores into a word with what it held after each, and the last writers of registers: a load counts at its own step.
+#[test]
+fn stores_and_register_writers(rt: HostRuntime) -> Result<(), Fail> {
+    let source =
+        "lui r1, 0xa000; addiu r2, r0, 0x20; sw r2, 0x40(r1); sb r2, 0x41(r1); sw r2, 0x44(r1); lw r3, 0x40(r1); mult r2, r2; mthi r2
+        addiu r0, r2, 1";
+    let dialogue =
+        "goto 9 => pos 9; stores 0x40 4 => stores 2; 3 0x00002020; 2 0x00000020; stores 0x40 1 => stores 1; 3 0x00002020
+        stores 0x48 32 => stores 0; stores 0x42 1 => error 5 Unaligned; stores 0x800000 1 => error 6 NotMemory
+        regwriter 1 => regwriter 0; regwriter 2 => regwriter 1; regwriter 32 => regwriter 7; regwriter 33 => regwriter 6
+        regwriter 0 => regwriter never; goto 6 => pos 6; regwriter 3 => regwriter 5; goto 5 => pos 5; regwriter 3 => regwriter never
+        goto 3 => pos 3; stores 0x40 4 => stores 1; 2 0x00000020
+        pcs 2 3 => pcs 3; 3 0xbfc0000c; 5 0xbfc00014; 7 0xbfc0001c; pos => pos 3; goto 1099511627774 => pos 1099511627774
+        pcs 1 3 => error 7 TooFar; pcs 18446744073709551615 64 => error 7 TooFar";
+    says(&rt, source, b"", dialogue)
+}
+
 #[test]
 fn control_registers_at_reset(rt: HostRuntime) -> Result<(), Fail> {
     let dialogue =

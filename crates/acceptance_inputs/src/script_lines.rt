@@ -55,6 +55,13 @@ find 0 1 = Ok Some Find line 0 place 1 / find 3 18446744073709551615 = Ok Some F
 writer 0x1fc00000 = Ok Some Writer 0x1fc00000 / \twriter 4294967295  = Ok Some Writer 0xffffffff
 find 4 0; find 0 18446744073709551616; writer 0x100000000 = Err Range
 find 4 x; find 4; find x 18446744073709551616; find 4 0 8; writer 0x100000000 1; writer; writer r2 = Err Syntax
+stores 0x1fc00000 32 = Ok Some Stores address 0x1fc00000 count 32 / stores 0 1 = Ok Some Stores address 0 count 1
+finds 3 18446744073709551615 64 = Ok Some Finds line 3 place 18446744073709551615 count 64
+regwriter 33 = Ok Some RegisterWriter 33 / regwriter 0 = Ok Some RegisterWriter 0 / devices = Ok Some Devices
+pcs 18446744073709551615 64 = Ok Some Pcs distance 18446744073709551615 count 64 / pcs 1 1 = Ok Some Pcs distance 1 count 1
+stores 0x100000000 1; stores 0 0; stores 0 33; finds 4 0 1; finds 0 0 0; finds 0 0 65; regwriter 34; pcs 0 1; pcs 1 0 = Err Range
+pcs 1 65; pcs 18446744073709551616 1 = Err Range
+stores 0; stores 0 33 1; finds 4 0; finds 4 0 1 1; regwriter; regwriter 34 1; regwriter hi; pcs 0; pcs 0 1 1; devices 0 = Err Syntax
 trace 1 = Ok Some Trace 1 / trace 0x40 = Ok Some Trace 64
 trace 0; trace 65 = Err Range
 trace; trace 65 1; trace x = Err Syntax

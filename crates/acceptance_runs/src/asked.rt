@@ -76,6 +76,10 @@ impl<const PAGES: u32, const SPAN: u32> Asked<PAGES, SPAN> {
                 let line = u8::try_from(*line)?;
                 answered(alloc, self.timeline.sent_at(*position, line, *place))
             }
+            ("trace", [position, count]) => {
+                let steps = self.timeline.follow(*position, *count);
+                answered(alloc, steps.map(|steps| steps.len()))
+            }
             _ => self.edit(alloc, name, numbers),
         }
     }

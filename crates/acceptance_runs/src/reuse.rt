@@ -27,6 +27,12 @@ next 0 0xbfc00ffc 256 = NotFound, costs = 64, next 20 0xbfc01000 20 = 31, costs-
 # The span after these has no record.
 next 128 0xbfc02000 192 = NotFound, costs = 64
 
+$ followed steps
+# Steps are followed from the start of the position's span on.
+--
+writer 256 0x100 = Step 253, costs = 256, trace 130 3 = 3, costs-at-most 5 = true, trace 130 0 = Range, trace 130 65 = Range
+trace 1099511627775 1 = TooFar, costs = 0
+
 $ two edits
 # Two bytes cost two spans, and one deleted its own.
 --

@@ -23,6 +23,7 @@ enum Call {
     WriteKinds,
     Assemble,
     Timeline,
+    Follow,
     Session,
     Serve,
     Options,
@@ -31,7 +32,7 @@ enum Call {
     Record,
 }
 
-const CALLS: [(Call, &[u8]); 15] = [
+const CALLS: [(Call, &[u8]); 16] = [
     (Call::ReadImage, b"read_image"),
     (Call::RawRom, b"raw_rom"),
     (Call::WriteImage, b"write_image"),
@@ -41,6 +42,7 @@ const CALLS: [(Call, &[u8]); 15] = [
     (Call::WriteKinds, b"write_kinds"),
     (Call::Assemble, b"assemble"),
     (Call::Timeline, b"Timeline::new"),
+    (Call::Follow, b"Timeline::follow"),
     (Call::Session, b"Session::new"),
     (Call::Serve, b"serve"),
     (Call::Options, b"options"),
@@ -116,6 +118,7 @@ fn made<const PAGES: u32, const SPAN: u32, W: Sink>(
         Call::WriteKinds => show_written_log(alloc, name, KINDS, show),
         Call::Assemble => show_assembled(alloc, name, show),
         Call::Timeline => show_timeline::<PAGES, SPAN, W>(alloc, name, show),
+        Call::Follow => show_followed::<PAGES, SPAN, W>(alloc, name, show),
         Call::Session => show_session::<PAGES, SPAN, W>(alloc, name, show),
         Call::Serve => show_served::<PAGES, SPAN, W>(alloc, name, show),
         Call::Options => show_options(alloc, name, &["r3kwb", "--log", "18"], show),
@@ -185,6 +188,27 @@ fn show_timeline<const PAGES: u32, const SPAN: u32, W: Sink>(
     let made = Timeline::<PAGES, SPAN>::new(alloc, image, log)?;
     show_image(name, made.image(), show);
     show_events(name, made.log(), show);
+    Ok(())
+}
+
+// Shows what the first steps of a second span do.
+fn show_followed<const PAGES: u32, const SPAN: u32, W: Sink>(
+    alloc: Global,
+    name: &[u8],
+    show: &mut Show<W>,
+) -> Result<(), RunFault>
+    requires sizes { AreSizes PAGES SPAN }
+{
+    let image = read_image(alloc, &LOAD_SLOT)?;
+    let log = read_log(alloc, LOG)?;
+    let mut made = Timeline::<PAGES, SPAN>::new(alloc, image, log)?;
+    let Ok(steps) = made.follow(64, 4) else {
+        return Err(RunFault::Memory);
+    };
+    for step in &steps {
+        show.text(name);
+        show.bytes(b"", &step.pc.to_be_bytes());
+    }
     Ok(())
 }
 

@@ -1,12 +1,14 @@
 -- What queries cost, as replies report it, and what several at one position cost together.
-use Rattle.std.proofs.Common.{◌≡◌, ◌⊎◌, inl, inr, ℕ, zero, suc, ◌+◌, ◌-◌, ◌*◌, ◌/◌, ◌%◌, ◌<◌, ◌≤◌, ◌==◌, ◌∷◌, nat_eq, cond, take, List, Option, Some, None, Bool, true, false, if◌then◌else◌, Contains, Result, Ok, Err, refl, sym, ap, ◌∙◌, subst, arith}
-use Rattle.std.proofs.Math.Nat.{add-mul, mul-le-mul_right}
+use Rattle.std.proofs.Common.{◌≡◌, ◌⊎◌, inl, inr, ℕ, zero, suc, ◌+◌, ◌-◌, ◌*◌, ◌/◌, ◌%◌, ◌<◌, ◌≤◌, ◌==◌, ◌∷◌, nat_eq, cond, slice_get, take, List, Option, Some, None, Bool, true, false, if◌then◌else◌, Contains, Result, Ok, Err, refl, sym, ap, ◌∙◌, subst, arith}
+use Rattle.std.proofs.Math.Nat.{add-mul, div-mul-le_self, mul-le-mul_right}
+use Rattle.std.proofs.lemmas.Nat.{le-div}
 use Rattle.std.specs.Option.{ok_or}
 use Rattle.std.specs.Result.{is_ok}
 use Rattle.std.proofs.lemmas.Bool.{eq-eqb, true≢false}
 use Rattle.std.specs.Set.{remove_key}
-use Rattle.timeline.specs.Reuse.{Holding, Lacks, Reaches, ServesFirst, Spends, kept_at, stay}
-use Rattle.timeline.proofs.Counts.{turned_on}
+use Rattle.timeline.specs.Reuse.{Holding, IsServing, Lacks, Reaches, ServesFirst, Spends, Turns, kept_at, put_one, stay, use_one}
+use Rattle.timeline.specs.History.{History}
+use Rattle.timeline.proofs.Counts.{first_used, serving_turned, turned_on}
 use Rattle.refusal.specs.declared.fault.Fault.{Fault}
 use Rattle.refusal.specs.declared.fault.Fault.TheVariants.{Memory, Unaligned, NotMemory}
 use Rattle.timeline.specs.Landed.{Asks, AsksFault, Landed, Lands, holding}
@@ -97,27 +99,116 @@ spends_more pages span count less more old new within spends = record {
   turns = spends.turns;
 }
 
--- a query after one that was answered runs no span
-pub spends_again : (pages span count a b : ℕ) (old now new : Holding) → Spends pages span count a old now → Reaches pages span count old now
-    → Spends pages span count b now new → Spends pages span count (a + b) old new
-spends_again pages span count a b old now new first reaches second = record {
+-- where queries turned a row, the record that was used last serves if it did before
+first_turned : (pages span : ℕ) (h : Holding) (index : ℕ) (row : List _) → Turns pages span h index row → ServesFirst pages span h index
+    → IsServing pages span h.history index (slice_get row 0)
+first_turned pages span h index _ (stay row is) serves = subst (λ row. IsServing pages span h.history index (slice_get row 0)) (sym is) serves
+first_turned pages span h index _ (use_one before row turns place near is) serves = first_used pages span place before row _ _ near is
+first_turned pages span h index _ (put_one before row turns none is) serves =
+    absurd (none (serving_turned pages span h index before turns (λ far. far 0 serves)))
+
+still_first : (pages span count more : ℕ) (now new : Holding) (index : ℕ) → Spends pages span count more now new → ServesFirst pages span now index
+    → ServesFirst pages span new index
+still_first pages span count more now new index spends serves =
+    subst (λ (h : History). IsServing pages span h index (slice_get (kept_at new index) 0)) (sym spends.history)
+    (first_turned pages span now index (kept_at new index) (spends.turns index) serves)
+
+-- a query after one that was answered, and at no later span, runs no span
+spends_again : (pages span below count a b : ℕ) (old now new : Holding) → below ≤ count → Spends pages span count a old now → Reaches pages span count old now
+    → Spends pages span below b now new → Spends pages span count (a + b) old new
+spends_again pages span below count a b old now new within first reaches second = record {
   history = second.history ∙ first.history;
   grows = let before = first.grows in let after = second.grows in omega (arith, before, after);
   most = λ lacking lacks.
       let before = first.most lacking lacks in
-      let after = second.most 0 (all_there pages span now count reaches.there) in
+      let after = second.most 0 (all_there pages span now below (λ index less. reaches.there index (omega (arith, less, within)))) in
       let none : 0 * span ≡ 0 = omega arith in
       omega (arith, before, after, none);
   pasts = second.pasts ∙ first.pasts;
   turns = λ index. turned_on pages span old now index (kept_at new index) first.history first.pasts (first.turns index) (second.turns index);
 }
 
-pub reaches_again : (pages span count a b : ℕ) (old now new : Holding) → Reaches pages span count old now → Spends pages span count b now new → Reaches pages span count now new
+reaches_again : (pages span below count b : ℕ) (old now new : Holding) → Reaches pages span count old now → Spends pages span below b now new
     → Reaches pages span count old new
-reaches_again pages span count a b old now new first spends second = record {
+reaches_again pages span below count b old now new first spends = record {
   least = λ lacking lacks. let before = first.least lacking lacks in let after = spends.grows in omega (arith, before, after);
-  there = second.there;
+  there = λ index less. still_first pages span below b now new index spends (first.there index less);
 }
+
+one_more : (n rest : ℕ) → (n + 1) * rest ≡ n * rest + rest
+one_more n rest = add-mul n 1 rest ∙ ap (λ (m : ℕ). n * rest + m) (let e : 1 * rest ≡ rest = omega arith in e)
+
+-- So many queries were made at positions up to one, the first of them at that position. Each after it costs at most `rest` steps.
+pub record AskedUpTo (pages span position rest asked : ℕ) (old now : Landed) : Type 0 where
+  pub first : asked ≡ 0 → now ≡ old
+  pub spends : Spends pages span (position / span) (position % span + (asked - 1) * rest) (holding old) (holding now)
+  pub reaches : 0 < asked → Reaches pages span (position / span) (holding old) (holding now)
+
+pub up_to_none : (pages span position rest : ℕ) (h : Landed) → AskedUpTo pages span position rest 0 h h
+up_to_none pages span position rest h = record {
+  first = λ _. refl;
+  spends = spends_more pages span (position / span) 0 (position % span + (0 - 1) * rest) (holding h) (holding h) (omega arith) (nothing_spent pages span (position / span) (holding h));
+  reaches = λ some. absurd (omega (arith, some));
+}
+
+spans_below : (q position span : ℕ) → 0 < span → q ≤ position → q / span ≤ position / span
+spans_below q position span some below = le-div (q / span) position span some (let least = div-mul-le_self q span in omega (arith, least, below))
+
+-- what one more costs, whether it is answered or not
+spends_one : (pages span position q rest asked : ℕ) (old now new : Landed) → 0 < span → (asked ≡ 0 → q ≡ position) → q ≤ position → q % span ≤ rest
+    → AskedUpTo pages span position rest asked old now
+    → Spends pages span (q / span) (q % span + 0) (holding now) (holding new)
+    → Spends pages span (position / span) (position % span + asked * rest) (holding old) (holding new)
+spends_one pages span position q rest zero old now new some at below small so one =
+    spends_more pages span (position / span) (position % span + 0) (position % span + 0 * rest) (holding old) (holding new) (omega arith)
+    (subst (λ (h : Landed). Spends pages span (position / span) (position % span + 0) (holding h) (holding new)) (so.first refl)
+    (subst (λ (p : ℕ). Spends pages span (p / span) (p % span + 0) (holding now) (holding new)) (at refl) one))
+spends_one pages span position q rest (suc n) old now new some at below small so one =
+    let less : (suc n - 1) * rest ≡ n * rest = ap (λ (k : ℕ). k * rest) (let e : suc n - 1 ≡ n = omega arith in e) in
+    let more : suc n * rest ≡ n * rest + rest = ap (λ (k : ℕ). k * rest) (let e : suc n ≡ n + 1 = omega arith in e) ∙ one_more n rest in
+    spends_more pages span (position / span) (position % span + (suc n - 1) * rest + (q % span + 0)) (position % span + suc n * rest) (holding old) (holding new)
+    (omega (arith, less, more, small))
+    (spends_again pages span (q / span) (position / span) (position % span + (suc n - 1) * rest) (q % span + 0) (holding old) (holding now) (holding new)
+    (spans_below q position span some below) so.spends (so.reaches (omega arith)) one)
+
+reaches_one : (pages span position q rest asked : ℕ) (old now new : Landed) → (asked ≡ 0 → q ≡ position) → AskedUpTo pages span position rest asked old now
+    → Spends pages span (q / span) (q % span + 0) (holding now) (holding new)
+    → Reaches pages span (q / span) (holding now) (holding new)
+    → Reaches pages span (position / span) (holding old) (holding new)
+reaches_one pages span position q rest zero old now new at so one there =
+    subst (λ (h : Landed). Reaches pages span (position / span) (holding h) (holding new)) (so.first refl)
+    (subst (λ (p : ℕ). Reaches pages span (p / span) (holding now) (holding new)) (at refl) there)
+reaches_one pages span position q rest (suc n) old now new at so one there =
+    reaches_again pages span (q / span) (position / span) (q % span + 0) (holding old) (holding now) (holding new) (so.reaches (omega arith)) one
+
+pub up_to_one : (pages span position q rest asked : ℕ) (old now new : Landed) → 0 < span → (asked ≡ 0 → q ≡ position) → q ≤ position → q % span ≤ rest
+    → AskedUpTo pages span position rest asked old now
+    → Spends pages span (q / span) (q % span + 0) (holding now) (holding new) → Reaches pages span (q / span) (holding now) (holding new)
+    → AskedUpTo pages span position rest (asked + 1) old new
+up_to_one pages span position q rest asked old now new some at below small so one there = record {
+  first = λ none. absurd (omega (arith, none));
+  spends = subst (λ (n : ℕ). Spends pages span (position / span) (position % span + n * rest) (holding old) (holding new)) (let e : asked ≡ asked + 1 - 1 = omega arith in e)
+      (spends_one pages span position q rest asked old now new some at below small so one);
+  reaches = λ _. reaches_one pages span position q rest asked old now new at so one there;
+}
+
+-- all of them were answered
+pub up_to_all : {A : Type 0} (pages span position rest asked count : ℕ) (old new : Landed) (x : A) → 0 < asked → asked ≤ count
+    → AskedUpTo pages span position rest asked old new → Asks {A = A} pages span position ((count - 1) * rest) old new (Ok x)
+up_to_all pages span position rest asked count old new x some within so =
+    let less : (asked - 1) * rest ≤ (count - 1) * rest = mul-le-mul_right rest (let l : asked - 1 ≤ count - 1 = omega (arith, within) in l) in (
+      spends_more pages span (position / span) (position % span + (asked - 1) * rest) (position % span + (count - 1) * rest) (holding old) (holding new) (omega (arith, less)) so.spends,
+      so.reaches some,
+    )
+
+-- the last of them was refused for memory
+pub up_to_part : (pages span position q rest asked count : ℕ) (old now new : Landed) → 0 < span → (asked ≡ 0 → q ≡ position) → q ≤ position → q % span ≤ rest
+    → asked < count → AskedUpTo pages span position rest asked old now
+    → AsksFault pages span q 0 now new Memory → AsksFault pages span position ((count - 1) * rest) old new Memory
+up_to_part pages span position q rest asked count old now new some at below small within so asks =
+    let less : asked * rest ≤ (count - 1) * rest = mul-le-mul_right rest (let l : asked ≤ count - 1 = omega (arith, within) in l) in
+    spends_more pages span (position / span) (position % span + asked * rest) (position % span + (count - 1) * rest) (holding old) (holding new) (omega (arith, less))
+    (spends_one pages span position q rest asked old now new some at below small so asks)
 
 -- what is left of the kept states where a query of the state was answered
 abbrev pub Left : (span position : ℕ) → (old new : Landed) → Type 0
@@ -177,80 +268,40 @@ left_refused span position (suc n) old now new none some same free =
 
 -- n words were asked for at a position
 pub record AskedSo (pages span position words : ℕ) (old now : Landed) : Type 0 where
-  pub first : words ≡ 0 → now ≡ old
-  pub spends : Spends pages span (position / span) (words * (position % span)) (holding old) (holding now)
-  pub reaches : 0 < words → Reaches pages span (position / span) (holding old) (holding now)
+  pub up_to : AskedUpTo pages span position (position % span) words old now
   pub free : Contains old.landings position → (now.steps ≡ old.steps) × Contains now.landings position
   pub left : 0 < words → Left span position old now
 
 pub asked_none : (pages span position : ℕ) (h : Landed) → AskedSo pages span position 0 h h
 asked_none pages span position h = record {
-  first = λ _. refl;
-  spends = spends_more pages span (position / span) 0 (0 * (position % span)) (holding h) (holding h) (omega arith) (nothing_spent pages span (position / span) (holding h));
-  reaches = λ some. absurd (omega (arith, some));
+  up_to = up_to_none pages span position (position % span) h;
   free = λ there. (refl, there);
   left = λ some. absurd (omega (arith, some));
 }
 
-one_more : (n rest : ℕ) → (n + 1) * rest ≡ n * rest + rest
-one_more n rest = add-mul n 1 rest ∙ ap (λ (m : ℕ). n * rest + m) (let e : 1 * rest ≡ rest = omega arith in e)
-
--- what one more costs, whether it is answered or not
-spends_one : (pages span position words : ℕ) (old now new : Landed) → AskedSo pages span position words old now
-    → Spends pages span (position / span) (position % span + 0) (holding now) (holding new)
-    → Spends pages span (position / span) ((words + 1) * (position % span)) (holding old) (holding new)
-spends_one pages span position zero old now new so one =
-    spends_more pages span (position / span) (position % span + 0) ((0 + 1) * (position % span)) (holding old) (holding new) (let e = one_more 0 (position % span) in omega (arith, e))
-    (subst (λ (h : Landed). Spends pages span (position / span) (position % span + 0) (holding h) (holding new)) (so.first refl) one)
-spends_one pages span position (suc n) old now new so one =
-    spends_more pages span (position / span) (suc n * (position % span) + (position % span + 0)) ((suc n + 1) * (position % span)) (holding old) (holding new)
-    (let e = one_more (suc n) (position % span) in omega (arith, e))
-    (spends_again pages span (position / span) (suc n * (position % span)) (position % span + 0) (holding old) (holding now) (holding new) so.spends (so.reaches (omega arith)) one)
-
-reaches_one : (pages span position words : ℕ) (old now new : Landed) → AskedSo pages span position words old now
-    → Spends pages span (position / span) (position % span + 0) (holding now) (holding new)
-    → Reaches pages span (position / span) (holding now) (holding new)
-    → Reaches pages span (position / span) (holding old) (holding new)
-reaches_one pages span position zero old now new so one there =
-    subst (λ (h : Landed). Reaches pages span (position / span) (holding h) (holding new)) (so.first refl) there
-reaches_one pages span position (suc n) old now new so one there =
-    reaches_again pages span (position / span) (suc n * (position % span)) (position % span + 0) (holding old) (holding now) (holding new) (so.reaches (omega arith)) one there
-
-pub asked_one : {A : Type 0} (pages span position words : ℕ) (old now new : Landed) (x : A) → AskedSo pages span position words old now
+pub asked_one : {A : Type 0} (pages span position words : ℕ) (old now new : Landed) (x : A) → 0 < span → AskedSo pages span position words old now
     → Asks {A = A} pages span position 0 now new (Ok x) → Lands {A = A} {E = Fault} span position now new (Ok x)
     → AskedSo pages span position (words + 1) old new
-asked_one pages span position words old now new x so asks lands = record {
-  first = λ none. absurd (omega (arith, none));
-  spends = spends_one pages span position words old now new so asks.0;
-  reaches = λ _. reaches_one pages span position words old now new so asks.0 asks.1;
+asked_one pages span position words old now new x some so asks lands = record {
+  up_to = up_to_one pages span position position (position % span) words old now new some (λ _. refl) (omega arith) (omega arith) so.up_to asks.0 asks.1;
   free = λ there.
       let before = so.free there in
       (lands.free before.1 ∙ before.0, subst (λ (l : List ℕ). Contains l position) (sym (lands.again before.1)) (0, omega arith, refl));
-  left = λ _. left_one span position words old now new so.first so.left (left_by span position now new x lands);
+  left = λ _. left_one span position words old now new so.up_to.first so.left (left_by span position now new x lands);
 }
 
 -- all words were shown
 pub asked_all : {A : Type 0} (pages span position count : ℕ) (old new : Landed) (x : A) → 0 < count → AskedSo pages span position count old new
     → Asks {A = A} pages span position ((count - 1) * (position % span)) old new (Ok x)
 asked_all pages span position count old new x some so =
-    let rest = position % span in
-    let e : count ≡ count - 1 + 1 = omega (arith, some) in
-    let whole : count * rest ≡ (count - 1) * rest + rest = ap (λ (n : ℕ). n * rest) e ∙ one_more (count - 1) rest in (
-      spends_more pages span (position / span) (count * rest) (rest + (count - 1) * rest) (holding old) (holding new) (omega (arith, whole)) so.spends,
-      so.reaches some,
-    )
+    up_to_all {A = _} pages span position (position % span) count count old new x some (omega arith) so.up_to
 
 -- one of them was refused for memory
-pub asked_part : (pages span position words count : ℕ) (old now new : Landed) → words < count → AskedSo pages span position words old now
+pub asked_part : (pages span position words count : ℕ) (old now new : Landed) → 0 < span → words < count → AskedSo pages span position words old now
     → AsksFault pages span position 0 now new Memory
     → AsksFault pages span position ((count - 1) * (position % span)) old new Memory
-asked_part pages span position words count old now new below so asks =
-    let rest = position % span in
-    let e : count ≡ count - 1 + 1 = omega (arith, below) in
-    let whole : count * rest ≡ (count - 1) * rest + rest = ap (λ (n : ℕ). n * rest) e ∙ one_more (count - 1) rest in
-    let less : (words + 1) * rest ≤ count * rest = mul-le-mul_right rest (let l : words + 1 ≤ count = omega (arith, below) in l) in
-    spends_more pages span (position / span) ((words + 1) * rest) (rest + (count - 1) * rest) (holding old) (holding new) (omega (arith, whole, less))
-    (spends_one pages span position words old now new so asks)
+asked_part pages span position words count old now new some below so asks =
+    up_to_part pages span position position (position % span) words count old now new some (λ _. refl) (omega arith) (omega arith) below so.up_to asks
 
 -- words that have no places are refused before anything is asked
 IsNotAsked : (pages span beyond position : ℕ) → Landed → Result (List ℕ) Fault → Type 0

@@ -1,3 +1,4 @@
 mod Costs
+mod Listed
 mod Places
 mod Refusals

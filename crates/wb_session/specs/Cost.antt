@@ -1,9 +1,9 @@
 -- What a command costs (own): the steps that it may run, and what is kept after it.
-use Rattle.std.specs.Prelude.{◌≡◌, ◌⊎◌, ℕ, ◌-◌, ◌*◌, ◌%◌, [], Contains, Result, Ok, Err}
+use Rattle.std.specs.Prelude.{◌≡◌, ◌⊎◌, ℕ, ◌+◌, ◌-◌, ◌*◌, ◌%◌, [], Contains, Result, Ok, Err}
 use Rattle.timeline.specs.Landed.{Asks, Landed, Lands}
 use Rattle.refusal.specs.declared.fault.Fault.{Fault}
 use Rattle.wb_text.specs.declared.command.Command.{Command}
-use Rattle.wb_text.specs.declared.command.Command.TheVariants.{Pos, Goto, Step, Back, Visit, Regs, Reg, Cp0, Tlb, Where, Mem, Dis, Console, Find, Writer, Trace, Log, Add, Ferr, Wire, Del, Set, Move, Erase, Patch, Quit}
+use Rattle.wb_text.specs.declared.command.Command.TheVariants.{Pos, Goto, Step, Back, Visit, Regs, Reg, Cp0, Tlb, Where, Mem, Dis, Console, Find, Writer, Stores, Finds, RegisterWriter, Pcs, Devices, Trace, Log, Add, Ferr, Wire, Del, Set, Move, Erase, Patch, Quit}
 use Rattle.wb_text.specs.declared.reply.Reply.{Reply}
 use Rattle.wb_text.specs.declared.reply.Reply.TheVariants.{Fault as Refused}
 use Rattle.wb_session.specs.Session.{Held}
@@ -28,7 +28,8 @@ pub record AsksState (pages span : ℕ) (old new : Held) (reply : Reply) : Type 
   pub asks : Asks pages span old.position 0 old.timeline new.timeline (outcome_of reply)
   pub lands : Lands span old.position old.timeline new.timeline (outcome_of reply)
 
--- one query of what the steps before the position reported, or of what comes at most `beyond` steps after it
+-- One query of what the steps before the position reported, or of what comes at most `beyond` steps after it; or several of the former,
+-- where those after the first cost at most as many steps together.
 pub record AsksSteps (pages span beyond : ℕ) (old new : Held) (reply : Reply) : Type 0 where
   pub asks : Asks pages span old.position beyond old.timeline new.timeline (outcome_of reply)
   pub landings : new.timeline.landings ≡ old.timeline.landings
@@ -45,6 +46,11 @@ pub record AsksWords (pages span count : ℕ) (old new : Held) (reply : Reply) :
   pub asks : Asks pages span old.position ((count - 1) * (old.position % span)) old.timeline new.timeline (outcome_of reply)
   pub free : Contains old.timeline.landings old.position → new.timeline.steps ≡ old.timeline.steps
   pub lands : LandsOnce span old.position old.timeline new.timeline (outcome_of reply)
+
+-- Several queries at positions up to one. The first is at that position, and costs what one query there costs. Each of at most `more` after it
+-- costs at most the steps of a span.
+abbrev pub AsksUpTo : (pages span position more : ℕ) → (old new : Held) → Reply → Type 0
+AsksUpTo pages span position more old new reply = Asks pages span position (more * span) old.timeline new.timeline (outcome_of reply)
 
 -- what each command costs, on a machine with `pages` pages of RAM whose runs are kept in spans of `span` steps
 abbrev pub Costs : (pages span : ℕ) → Command → (old new : Held) → Reply → Type 0
@@ -63,6 +69,11 @@ Costs pages span (Dis address count) old new reply = AsksWords pages span count 
 Costs pages span (Console line from count) old new reply = AsksSteps pages span 0 old new reply
 Costs pages span (Find line place) old new reply = AsksSteps pages span 0 old new reply
 Costs pages span (Writer address) old new reply = AsksSteps pages span 0 old new reply
+Costs pages span (Stores address count) old new reply = AsksUpTo pages span old.position (2 * count - 1) old new reply
+Costs pages span (Finds line place count) old new reply = AsksSteps pages span ((count - 1) * (old.position % span)) old new reply
+Costs pages span (RegisterWriter register) old new reply = AsksSteps pages span 0 old new reply
+Costs pages span (Pcs distance count) old new reply = AsksUpTo pages span (old.position + (count - 1) * distance) (count - 1) old new reply
+Costs pages span Devices old new reply = AsksState pages span old new reply
 Costs pages span (Trace count) old new reply = AsksSteps pages span count old new reply
 Costs pages span (Log from count) old new reply = AsksNothing old new
 Costs pages span (Add time line byte) old new reply = Edits old new reply

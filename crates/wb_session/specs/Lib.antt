@@ -6,6 +6,9 @@ pub use Rattle.timeline.specs.Landed
 pub use Rattle.wb_text.specs.Command
 pub use Rattle.wb_text.specs.Reply
 pub use Rattle.wb_options.specs.Fault
+pub use Rattle.kn02_bus.specs.State
 pub mod Memory
+pub mod Lists
+pub mod Devices
 pub mod Session
 pub mod Cost

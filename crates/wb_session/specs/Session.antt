@@ -19,14 +19,14 @@ use Rattle.timeline.specs.Console.{part_of}
 use Rattle.input_log.specs.Limits.{max_position}
 use Rattle.timeline.specs.History.{History}
 use Rattle.timeline.specs.Landed.{Landed}
-use Rattle.timeline.specs.Query.{console_at, core_at, followed, next_pc, sent_at, writer_at}
+use Rattle.timeline.specs.Query.{console_at, core_at, followed, next_pc, register_writer_at, sent_at, writer_at}
 use Rattle.timeline.specs.Sizes.{AreSizes}
 use Rattle.timeline.specs.declared.writer.Writer.{Writer as LastWriter}
 use Rattle.timeline.specs.declared.writer.Writer.TheVariants as last
 use Rattle.wb_options.specs.declared.fault.RunFault.{RunFault}
 use Rattle.wb_options.specs.declared.fault.RunFault.TheVariants.{Memory as OutOfMemory, BadImage}
 use Rattle.wb_text.specs.declared.command.Command.{Command}
-use Rattle.wb_text.specs.declared.command.Command.TheVariants.{Pos, Goto, Step, Back, Visit, Regs, Reg, Cp0, Tlb, Where as WhereIs, Mem, Dis, Console, Find, Writer as WriterOf, Trace, Log, Add, Ferr, Wire, Del, Set, Move, Erase, Patch, Quit}
+use Rattle.wb_text.specs.declared.command.Command.TheVariants.{Pos, Goto, Step, Back, Visit, Regs, Reg, Cp0, Tlb, Where as WhereIs, Mem, Dis, Console, Find, Writer as WriterOf, Stores, Finds, RegisterWriter, Pcs, Devices, Trace, Log, Add, Ferr, Wire, Del, Set, Move, Erase, Patch, Quit}
 use Rattle.r3k_machine.specs.declared.traced.Traced.{Traced}
 use Rattle.refusal.specs.declared.fault.Fault.{Fault}
 use Rattle.refusal.specs.declared.fault.Fault.TheVariants.{Memory, NotFound, TooFar}
@@ -39,8 +39,11 @@ use Rattle.wb_text.specs.declared.reply.Writer.TheVariants as writer
 use Rattle.wb_text.specs.declared.reply.Where.{Where}
 use Rattle.wb_text.specs.declared.reply.Where.TheVariants.{Cached, Uncached, AddressError, Refill, Miss}
 use Rattle.wb_text.specs.declared.reply.Reply.{Reply}
-use Rattle.wb_text.specs.declared.reply.Reply.TheVariants.{Position, Registers, Register, Control, Entry as EntryReply, Where as Place, Memory as MemoryReply, Instructions, Console as ConsoleReply, Found, Writer as WriterReply, Trace as TraceReply, Log as LogReply, Event, Left, Patched, Nothing, Fault as Refused}
+use Rattle.wb_text.specs.declared.reply.Reply.TheVariants.{Position, Registers, Register, Control, Entry as EntryReply, Where as Place, Memory as MemoryReply, Instructions, Console as ConsoleReply, Found, Writer as WriterReply, Stores as StoresReply, Finds as FindsReply, RegisterWriter as RegisterWriterReply, Pcs as PcsReply, Devices as DevicesReply, Trace as TraceReply, Log as LogReply, Event, Left, Patched, Nothing, Fault as Refused}
+use Rattle.wb_text.specs.declared.lists.Timed.{Timed}
 use Rattle.wb_session.specs.Memory.{places_of}
+use Rattle.wb_session.specs.Lists.{pcs_at, senders_at, stores_at}
+use Rattle.wb_session.specs.Devices.{devices_shown}
 
 -- what a session is: an image, a log and a position
 pub record Triple : Type 0 where
@@ -168,6 +171,22 @@ console_shown line shown = ConsoleReply line shown.0 (record { items = shown.1 }
 abbrev pub log_shown : (from count : ℕ) → List LogEvent → Reply
 log_shown from count log = LogReply (length log) from (record { items = part_of from count log })
 
+-- what `regwriter` shows of the last step that wrote a register: that none did is no refusal
+abbrev pub writer_or_none : Result ℕ Fault → Result (Option ℕ) Fault
+writer_or_none (Ok step) = Ok (Some step)
+writer_or_none (Err NotFound) = Ok None
+writer_or_none (Err fault) = Err fault
+
+-- what `stores`, `finds` and `pcs` show of a list
+abbrev pub stores_shown : List Timed → Reply
+stores_shown stores = StoresReply (record { items = stores })
+
+abbrev pub finds_shown : (place : ℕ) → List ℕ → Reply
+finds_shown place steps = FindsReply place (record { items = steps })
+
+abbrev pub pcs_shown : List Timed → Reply
+pcs_shown pcs = PcsReply (record { items = pcs })
+
 -- what `trace` shows of steps, by the position at which the first one begins
 abbrev pub trace_shown : (position : ℕ) → List Traced → Reply
 trace_shown position steps = TraceReply position (record { items = steps })
@@ -210,6 +229,12 @@ plain pages s (Dis address count) = shows s (λ words. Instructions words) (word
 plain pages s (Console line from count) = shows s (console_shown line) (console_at pages (history_of s) s.position line from count)
 plain pages s (Find line place) = shows s (λ step. Found step) (sent_at pages (history_of s) s.position line place)
 plain pages s (WriterOf address) = shows s (λ last. WriterReply (shown_writer last)) (writer_at pages (history_of s) s.position address)
+plain pages s (Stores address count) = shows s stores_shown (stores_at pages (history_of s) s.position address count)
+plain pages s (Finds line place count) = shows s (finds_shown place) (senders_at pages (history_of s) s.position line place count)
+plain pages s (RegisterWriter register) =
+    shows s (λ step. RegisterWriterReply step) (writer_or_none (register_writer_at pages (history_of s) s.position register))
+plain pages s (Pcs distance count) = shows s pcs_shown (pcs_at pages (history_of s) s.position distance count)
+plain pages s Devices = of_core pages s (λ core. DevicesReply (devices_shown core.bus))
 plain pages s (Trace count) = shows s (trace_shown s.position) (followed pages (history_of s) s.position count)
 plain pages s (Log from count) = answer s (log_shown from count s.log)
 plain pages s (Add time line byte) = edits s (λ _. Event (length (up_to time s.log))) (adding (record { time = time; kind = Byte; line = line; byte = byte }) s.log)
@@ -239,6 +264,11 @@ takes_memory (Dis address count) = true
 takes_memory (Console line from count) = true
 takes_memory (Find line place) = true
 takes_memory (WriterOf address) = true
+takes_memory (Stores address count) = true
+takes_memory (Finds line place count) = true
+takes_memory (RegisterWriter register) = true
+takes_memory (Pcs distance count) = true
+takes_memory Devices = true
 takes_memory (Trace count) = true
 takes_memory (Log from count) = false
 takes_memory (Add time line byte) = true

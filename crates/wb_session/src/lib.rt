@@ -1,6 +1,7 @@
 //! A session over a boot image and an input log: the answer to each command.
 #![tactic(auto)]
 
+mod lists;
 mod session;
 mod showing;
 mod words;

@@ -8,7 +8,7 @@ ghost use Rattle.wb_session.specs.Session.{Answers, IsNewFault, answer, begun, l
 ghost use Rattle.wb_session.specs.Cost.{AsksNothing, Costs};
 
 use crate::showing::{
-    control_of, entry_shown, events_from, place_shown, registers_of, writer_shown,
+    control_of, devices_of, entry_shown, events_from, place_shown, registers_of, writer_shown,
 };
 use input_log::Log;
 use r3k_image::Image;
@@ -18,8 +18,9 @@ use std::marker::Model;
 use timeline::{MAX_POSITION, Timeline};
 use wb_options::RunFault;
 use wb_text::{
-    Address, ByteCount, ByteValue, Command, EntryNumber, EventCount, EventTime, Level, LineNumber,
-    RegisterNumber, Reply, StepCount, TraceCount, WireNumber, WordValue,
+    Address, ByteCount, ByteValue, Command, Distance, EntryNumber, EventCount, EventTime,
+    FindCount, Level, LineNumber, PositionCount, RegisterNumber, Reply, StepCount, StoreCount,
+    TraceCount, WireNumber, WordValue, WrittenNumber,
 };
 
 // How many pasts are kept side by side.
@@ -95,6 +96,11 @@ impl<const PAGES: u32, const SPAN: u32> Session<PAGES, SPAN> {
             Command::Console { line, from, count } => self.console(line, from, count),
             Command::Find { line, place } => self.find(line, place),
             Command::Writer(address) => self.writer(address),
+            Command::Stores { address, count } => self.stores(address, count),
+            Command::Finds { line, place, count } => self.finds(line, place, count),
+            Command::RegisterWriter(number) => self.register_writer(number),
+            Command::Pcs { distance, count } => self.pcs(distance, count),
+            Command::Devices => self.devices(),
             Command::Trace(count) => self.trace(count),
             Command::Log { from, count } => self.events(from, count),
             Command::Add { time, line, byte } => self.add(time, line, byte),
@@ -254,6 +260,68 @@ impl<const PAGES: u32, const SPAN: u32> Session<PAGES, SPAN> {
     {
         match self.timeline.writer_at(self.position, address.get() as u32) {
             Ok(writer) => Reply::Writer(writer_shown(writer)),
+            Err(fault) => Reply::Fault(fault),
+        }
+    }
+
+    // Shows the last stores into a word.
+    fn stores(&mut self, address: Address, count: StoreCount) -> Reply
+        ensures answers { Answers PAGES (triple_of self.old) (command.Stores address count) (triple_of self.new) result }
+        ensures costs { Costs PAGES SPAN (command.Stores address count) self.old self.new result }
+    {
+        match self.last_stores(address, count) {
+            Ok(stores) => Reply::Stores(stores),
+            Err(fault) => Reply::Fault(fault),
+        }
+    }
+
+    // Shows the steps that sent bytes.
+    fn finds(&mut self, line: LineNumber, place: u64, count: FindCount) -> Reply
+        ensures answers { Answers PAGES (triple_of self.old) (command.Finds line place count) (triple_of self.new) result }
+        ensures costs { Costs PAGES SPAN (command.Finds line place count) self.old self.new result }
+    {
+        match self.senders(line, place, count) {
+            Ok(steps) => Reply::Finds {
+                first: place,
+                steps,
+            },
+            Err(fault) => Reply::Fault(fault),
+        }
+    }
+
+    // Shows the last step that wrote a register.
+    fn register_writer(&mut self, number: WrittenNumber) -> Reply
+        ensures answers { Answers PAGES (triple_of self.old) (command.RegisterWriter number) (triple_of self.new) result }
+        ensures costs { Costs PAGES SPAN (command.RegisterWriter number) self.old self.new result }
+    {
+        match self
+            .timeline
+            .register_writer_at(self.position, number.get() as u8)
+        {
+            Ok(step) => Reply::RegisterWriter(Some(step)),
+            Err(Fault::NotFound) => Reply::RegisterWriter(None),
+            Err(fault) => Reply::Fault(fault),
+        }
+    }
+
+    // Shows the PC at positions.
+    fn pcs(&mut self, distance: Distance, count: PositionCount) -> Reply
+        ensures answers { Answers PAGES (triple_of self.old) (command.Pcs distance count) (triple_of self.new) result }
+        ensures costs { Costs PAGES SPAN (command.Pcs distance count) self.old self.new result }
+    {
+        match self.pcs_from(distance, count) {
+            Ok(pcs) => Reply::Pcs(pcs),
+            Err(fault) => Reply::Fault(fault),
+        }
+    }
+
+    // Shows what the devices hold.
+    fn devices(&mut self) -> Reply
+        ensures answers { Answers PAGES (triple_of self.old) command.Devices (triple_of self.new) result }
+        ensures costs { Costs PAGES SPAN command.Devices self.old self.new result }
+    {
+        match self.timeline.core_at(self.position) {
+            Ok(core) => Reply::Devices(devices_of(core.bus())),
             Err(fault) => Reply::Fault(fault),
         }
     }

@@ -2,6 +2,7 @@
 
 ghost use Rattle.std.specs.Prelude.{◌≡◌, ◌≤◌};
 ghost use Rattle.timeline.specs.Console.{part_of};
+ghost use Rattle.wb_session.specs.Devices.{devices_shown, line_shown, serial_shown};
 ghost use Rattle.wb_session.specs.Session.{shown, shown_control, shown_entry, shown_place, shown_writer};
 
 use arrayvec::ArrayVec;
@@ -9,9 +10,12 @@ use cop0::Cop0;
 use cop0::number::{
     BAD_VADDR, CAUSE, CONTEXT, ENTRY_HI, ENTRY_LO, EPC, INDEX, PRID, RANDOM, STATUS,
 };
+use dz_serial::{CSR, Dz, MSR, RBUF, SerialLine, TCR};
 use input_log::Event;
+use kn02_bus::Bus;
 use r3k_machine::{self as machine, Core};
 use tlb64::Entry;
+use wb_text::devices::{Board, Clock, Devices, Line, Serial};
 use wb_text::{ControlRegisters, EntryNumber, Load, Registers, Reply, Where, Writer};
 
 /// The events from a place on, at most `count`.
@@ -94,5 +98,60 @@ pub(crate) fn writer_shown(writer: timeline::Writer) -> Writer
         timeline::Writer::Step(step) => Writer::Step(step),
         timeline::Writer::Image => Writer::Image,
         timeline::Writer::Never => Writer::Never,
+    }
+}
+
+/// What `devices` shows of the bus.
+pub(crate) fn devices_of(bus: &Bus) -> Devices
+    ensures { result ≡ devices_shown bus.now }
+{
+    let serial = bus.serial();
+    let clock = bus.clock();
+    Devices {
+        serial: serial_of(&serial),
+        lines: [
+            line_of(&serial, 0),
+            line_of(&serial, 1),
+            line_of(&serial, 2),
+            line_of(&serial, 3),
+        ],
+        silo: serial.waiting(),
+        clock: Clock {
+            interrupt: clock.interrupts(),
+            second: clock.next_second(),
+            period: clock.next_period(),
+            registers: clock.values(),
+        },
+        board: Board {
+            csr: bus.csr(),
+            interrupt: bus.lines().board,
+        },
+    }
+}
+
+// What it shows of the serial part as a whole.
+fn serial_of(serial: &Dz) -> Serial
+    ensures { result ≡ serial_shown serial.now }
+{
+    Serial {
+        csr: serial.word(CSR),
+        rbuf: serial.word(RBUF),
+        tcr: serial.word(TCR),
+        msr: serial.word(MSR),
+        last_served: serial.last_served().number(),
+        byte_time: serial.byte_time(),
+    }
+}
+
+// What it shows of a line of the serial part.
+fn line_of(serial: &Dz, number: u8) -> Line
+    requires { number ≤ 3 }
+    ensures { result ≡ line_shown serial.now number }
+{
+    let line = SerialLine::new(number);
+    Line {
+        receiver: serial.receives(line),
+        lost: serial.has_lost(line),
+        busy: serial.busy(line),
     }
 }

@@ -44,6 +44,21 @@ returns-in-Find g c = rw c.in-Find.is c.find.ensures
 pub returns-in-Writer : goal.returns-in-Writer
 returns-in-Writer g c = rw c.in-Writer.is c.writer.ensures
 
+pub returns-in-Stores : goal.returns-in-Stores
+returns-in-Stores g c = rw c.in-Stores.is c.stores.ensures
+
+pub returns-in-Finds : goal.returns-in-Finds
+returns-in-Finds g c = rw c.in-Finds.is c.finds.ensures
+
+pub returns-in-RegisterWriter : goal.returns-in-RegisterWriter
+returns-in-RegisterWriter g c = rw c.in-RegisterWriter.is c.register_writer.ensures
+
+pub returns-in-Pcs : goal.returns-in-Pcs
+returns-in-Pcs g c = rw c.in-Pcs.is c.pcs.ensures
+
+pub returns-in-Devices : goal.returns-in-Devices
+returns-in-Devices g c = rw c.in-Devices.is c.devices.ensures
+
 pub returns-in-Trace : goal.returns-in-Trace
 returns-in-Trace g c = rw c.in-Trace.is c.trace.ensures
 

@@ -57,7 +57,7 @@ loop-word-preserved g c =
       );
       len = omega (arith, c.push.ensures.len, c.loop-word.invariant.len);
       asked = subst (λ (n : ℕ). AskedSo pages span n (word + 1) now.timeline c.word_at.new.self) position
-          (asked_one pages span c.self.inside.position word now.timeline before c.word_at.new.self c.in-Ok.value asked c.in-Ok.ensures.asks c.in-Ok.ensures.lands);
+          (asked_one pages span c.self.inside.position word now.timeline before c.word_at.new.self c.in-Ok.value (omega (arith, c.self.invariant.sizes.least_span)) asked c.in-Ok.ensures.asks c.in-Ok.ensures.lands);
     }
 
 pub returns-in-Err : goal.returns-in-Err
@@ -80,7 +80,7 @@ returns-in-Err g c =
     let before = c.loop-word.self-inside.timeline in
     let after = c.word_at.new.self in
     let so = subst (λ (n : ℕ). AskedSo pages span n word now.timeline before) (sym position) c.loop-word.invariant.asked in
-    let cost = asked_part pages span c.self.inside.position word c.args.count now.timeline before after (omega (arith, c.loop-word-test.true, c.get-word-end.ensures.value)) so
+    let cost = asked_part pages span c.self.inside.position word c.args.count now.timeline before after (omega (arith, c.self.invariant.sizes.least_span)) (omega (arith, c.loop-word-test.true, c.get-word-end.ensures.value)) so
     (subst (λ (f : Fault). AsksFault pages span c.self.inside.position 0 before after f) memory c.in-Err.ensures.asks) in record {
       words = inr (ap Err memory, ap (λ (r : Result (List ℕ) Fault). is_ok r) all);
       same = search rules;
@@ -91,5 +91,5 @@ returns-in-Err g c =
           let from : ℕ = c.self.inside.position in
           let steps : Contains now.timeline.landings from → after.steps ≡ now.timeline.steps = (λ there. let kept = so.free there in c.in-Err.ensures.lands.free kept.1 ∙ kept.0) in
           subst (λ (n : ℕ). LandsOnce {A = Unit {0}} span n now.timeline after (Err Memory)) position
-          (left_refused span from word now.timeline before after so.first so.left c.in-Err.ensures.lands.refused steps);
+          (left_refused span from word now.timeline before after so.up_to.first so.left c.in-Err.ensures.lands.refused steps);
     }
