@@ -6,6 +6,7 @@ import json
 import random
 import unittest
 from typing import Dict, List, Optional, Sequence, Tuple
+from unittest import mock
 
 import bezhakkom
 from bezhakkom.driver import Driver
@@ -13,8 +14,10 @@ from bezhakkom.log import Event, Kind
 from bezhakkom.replies import registers
 from bezhakkom.symbols import Symbols, symbols_of
 from bezhakkom.whatif import needs
+from bezhakkom.whatif.conditions import Holds
 from bezhakkom.whatif.pasts import Question, answer, with_byte
 from bezhakkom.whatif.questions import At, Register, Sent, Word
+from bezhakkom.whatif.when import when
 from bezhakkom.whatif.why import End, Link, Origin, Role, Why, why
 from front.tests import brute, debugger, scripts
 from front.tests.support import ROOT, immediate, rom, start
@@ -192,6 +195,32 @@ class Arrived(unittest.TestCase):
                 self.assertEqual(named, self.changing(run, Register("r", number), len(words), range(1, 256)), seed)
         self.assertGreater(named_in_all, 20)
         self.assertLess(named_in_all, 20 * BYTES)
+
+
+class Isolated(unittest.TestCase):
+    """A store to a cache that is isolated from memory is no store into the word: neither to who asks why, nor to who asks when."""
+
+    WORDS = [
+        immediate(0x0F, 0, 8, 0x8000), immediate(9, 0, 2, 5),
+        immediate(0x2B, 8, 2, DATA),    # 2: 5 is stored
+        immediate(0x0F, 0, 3, 1), 0x4083_6000, immediate(9, 0, 4, 7), 0,
+        immediate(0x2B, 8, 4, DATA),    # 7: 7 goes to the cache
+        immediate(0x23, 8, 6, DATA),    # 8: and comes from there
+        0x4080_6000, 0, 0,
+        immediate(0x23, 8, 5, DATA),    # 12: 5 is loaded
+        0, 0]
+
+    def test_why(self) -> None:
+        with brute.fresh(rom(self.WORDS), []) as run:
+            self.assertEqual([brute.register(run, 14, number) for number in (5, 6)], [5, 7])
+            self.assertEqual([it.source for it in asked(run, Word(DATA), 14).links], [2])
+            found = asked(run, Register("r", 5), 14)
+            self.assertEqual((found.links[0].source, found.nodes[12].links[0].source), (12, 2))
+            self.assertEqual(asked(run, Register("r", 6), 14).nodes[8].links, [Link(Role.VALUE, End(Origin.CACHE))])
+
+    def test_when(self) -> None:
+        with brute.fresh(rom(self.WORDS), []) as run, mock.patch("bezhakkom.whatif.conditions._FEW", 0):
+            self.assertEqual([when(run, Holds(DATA, "==", it), 14).position for it in (5, 7)], [3, None])
 
 
 class Needs(unittest.TestCase):

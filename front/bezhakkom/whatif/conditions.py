@@ -120,7 +120,11 @@ class Holds:
             answered = yield [f"goto {first}", *(command for count in counts for command in (f"trace {count}", f"step {count}"))]
             for line in (line for lines in answered[1::2] for line in lines if stored in line):
                 if self._holds(int(line.partition(stored)[2].split()[0], 16)):
-                    return int(line.split()[0]) + 1
+                    position = int(line.split()[0]) + 1
+                    # It was no store into memory where a cache is isolated.
+                    _, word = yield [f"goto {position}", f"mem {self.physical} 1"]
+                    if self._holds(replies.memory(word)[0]):
+                        return position
         return None
 
 

@@ -337,6 +337,8 @@ def _end(session: Session, found: Why, end: End) -> str:
     number = end.number
     if end.origin is Origin.INTERRUPT:
         return "an interrupt"
+    if end.origin is Origin.CACHE:
+        return "an isolated cache"
     if end.origin is Origin.FAR:
         return "a branch long before"
     if number is None:

@@ -27,7 +27,7 @@ from .questions import Register, Sent, Word
 
 _RBUF = 0x1FE0_0008
 _VALID, _FRAMING = 0x8000, 0x2000
-_SILO = 64  # bytes that it holds
+_MOST_TRIED = 256  # events with the byte that a step got
 _BYTE = 0xFF
 MOST_STEPS = 100_000
 _LOOKED_AT = 1 << 16  # steps back in which the branch is looked for that decided a step
@@ -49,6 +49,7 @@ class Origin(Enum):
     REGISTER = "register"  # that is 0 since reset
     EVENT = "event"  # a byte of the log
     DEVICE = "device"  # a register of a device
+    CACHE = "cache"  # a word of an isolated one
     CONTROL = "coprocessor 0"  # one of its registers
     INTERRUPT = "interrupt"  # that was taken
     FAR = "far"  # a branch that decided it long before
@@ -245,6 +246,7 @@ class _Slice:
                     wish.links.append(Link(wish.role, End(Origin.REGISTER, int(number))))
 
     def _answers(self, commands: List[str]) -> List[List[str]]:
+        """The replies. Where a program has no `regwriter`, its steps are looked at."""
         answers = self._driver.ask_all(commands)
         for at, command in enumerate(commands):
             if command.startswith("regwriter") and answers[at] == ["error 2 Syntax"]:
@@ -262,12 +264,12 @@ class _Slice:
         for wish in self._wishes.pop(number):
             bits = wish.bits
             if wish.physical is not None and step.access and step.access.address == wish.physical:
-                covered = needs.covered(word, self._byte(number, word))
+                covered = needs.covered(word, self._byte(number))
                 if bits & ~covered:
                     self._want_word(_Wish(wish.links, wish.role, bits & ~covered, wish.physical), number)
                 if not bits & covered:
                     continue
-                bits = needs.stored(word, self._byte(number, word), bits & covered)
+                bits = needs.stored(word, self._byte(number), bits & covered)
             node.bits |= bits
             decides = decides or wish.role is Role.CONTROL
             wish.links.append(Link(wish.role, number))
@@ -275,10 +277,11 @@ class _Slice:
         if not is_wanted:
             return
         self._found.nodes[number] = node
-        if decides:
-            self._want_registers(node, needs.decided(word), Role.VALUE)
-        if step.exception is None and node.bits:
-            self._want_operands(node, word)
+        if step.exception is None:
+            if decides:
+                self._want_registers(node, needs.decided(word), Role.VALUE)
+            if node.bits:
+                self._want_operands(node, word)
         if (self._address or step.exception) and needs.code(word) in needs.LOADS | needs.STORES:
             self._want_registers(node, {needs.rs(word): ALL}, Role.ADDRESS)
         if step.exception == 0:
@@ -307,8 +310,10 @@ class _Slice:
     def _want_loaded(self, node: Node, word: int) -> None:
         number, access = node.step.step, node.step.access
         assert access
-        bits, stays = needs.loaded(word, self._byte(number, word), node.bits)
-        if access.address in RAM or access.address in ROM:
+        bits, stays = needs.loaded(word, self._byte(number), node.bits)
+        if self._blocks.of(number).is_isolated(number):
+            node.links.append(Link(Role.VALUE, End(Origin.CACHE)))
+        elif access.address in RAM or access.address in ROM:
             if bits:
                 self._want_word(_Wish(node.links, Role.VALUE, bits, access.address), number)
         elif access.address == _RBUF and access.word & _VALID:
@@ -319,9 +324,9 @@ class _Slice:
             # What the load before it gets lands first.
             self._want_register(_Wish(node.links, Role.VALUE, stays), needs.rt(word), number, number + 1)
 
-    def _byte(self, number: int, word: int) -> int:
+    def _byte(self, number: int) -> int:
         """The byte of its word that a load or store begins at."""
-        return self._blocks.of(number).value(needs.rs(word), number) + needs.immediate(word) & 3
+        return self._blocks.of(number).address(number) & 3
 
     # Branches
 
@@ -342,8 +347,8 @@ class _Slice:
         self._fetched_at = number
         branches = self._branches.deciding(counter, counter - named[1] if named else counter)
         calls = handlers = 0
-        for number in range(at // SIZE, max(at - _LOOKED_AT, 0) // SIZE - 1, -1):
-            for step, turn, place in self._blocks.of(number * SIZE).turns:
+        for block in range(at // SIZE, max(at - _LOOKED_AT, 0) // SIZE - 1, -1):
+            for step, turn, place in self._blocks.of(block * SIZE).turns:
                 if step >= at:
                     continue
                 if turn is Turn.EXCEPTION:
@@ -399,12 +404,12 @@ class _Slice:
         tried = 0
         for index in range(end - 1, -1, -1):
             event = self._found.log[index]
-            if event.time > step.step or event.kind is Kind.WIRE:
+            if event.time > step.step or (event.line, event.byte, event.kind) != (line, byte, kind):
                 continue
-            if (event.line, event.byte, event.kind) == (line, byte, kind) and self._is_got(step, index):
+            if self._is_got(step, index):
                 return index
             tried += 1
-            if tried > _SILO:
+            if tried == _MOST_TRIED:
                 break
         return None
 
