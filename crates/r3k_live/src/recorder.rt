@@ -231,8 +231,8 @@ impl<const PAGES: u32, const SPAN: u32> Recorder<PAGES, SPAN> {
     {
         note_sent(&mut self.sent, done.sent, self.steps);
         self.stores.note(done.stored, self.steps);
-        self.destinations.note(done.wrote, self.steps);
         mark(&mut self.touched, done.touched[1]);
+        self.destinations.note(done.wrote, self.steps);
         self.steps += 1;
     }
 
@@ -248,9 +248,9 @@ impl<const PAGES: u32, const SPAN: u32> Recorder<PAGES, SPAN> {
     {
         note_sent(&mut self.sent, done.sent, self.steps);
         self.stores.note(done.stored, self.steps);
-        self.destinations.note(done.wrote, self.steps);
         mark(&mut self.touched, done.touched[0]);
         mark(&mut self.touched, done.touched[1]);
+        self.destinations.note(done.wrote, self.steps);
         self.steps += 1;
     }
 }

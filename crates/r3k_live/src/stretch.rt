@@ -130,16 +130,16 @@ fn step_straight<const PAGES: u32, const SPAN: u32>(
         if !step_quickly(core, flow, memory, page, index, recorder) {
             return false;
         }
-        index += 1;
         if flow.delay() {
-            if index >= end {
+            if index + 1 >= end {
                 return false;
             }
-            if !step_quickly(core, flow, memory, page, index, recorder) {
+            if !step_quickly(core, flow, memory, page, index + 1, recorder) {
                 return false;
             }
             return !flow.delay();
         }
+        index += 1;
     }
     flow.stand_straight(page.address(end));
     false

@@ -84,7 +84,10 @@ fn show_fact<const PAGES: u32, const SPAN: u32, W: Sink>(
     show: &mut Show<W>,
 ) {
     show.text(name);
-    show.number(b" writer", fact.writer(Target::Memory(0x100)).unwrap_or(0) as u64);
+    show.number(
+        b" writer",
+        fact.writer(Target::Memory(0x100)).unwrap_or(0) as u64,
+    );
     show.text(name);
     show.number(b" sent", fact.sent().len() as u64);
     for page in fact.touched() {
