@@ -187,27 +187,13 @@ class Driver:
             count = min(most, STORES)
             try:
                 self.goto(position)
-                found = self._stores(physical, count)
+                found = replies.timed(self.value(f"stores {physical} {count}"))
             finally:
                 self.goto(here)
             yield from found
             if len(found) < count:
                 return
             position, most = found[-1][0], most - count
-
-    def _stores(self, physical: int, count: int) -> list[tuple[int, int]]:
-        try:
-            return replies.timed(self.value(f"stores {physical} {count}"))
-        except Refused as refused:
-            if refused.name != "Syntax":
-                raise
-        # A program without `stores`.
-        found: list[tuple[int, int]] = []
-        while len(found) < count and (step := self.writer(physical).step) is not None:
-            self.goto(step + 1)
-            found.append((step, self.words(physical, 1)[0]))
-            self.goto(step)
-        return found
 
     def devices(self) -> dict[str, Any]:
         """What the devices hold, as reads would give it, but nothing is read."""

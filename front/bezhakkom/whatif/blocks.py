@@ -142,15 +142,6 @@ class Blocks:
     def has(self, step: int) -> bool:
         return step // SIZE in self._kept
 
-    def last_writer(self, register: int, end: int) -> Optional[int]:
-        """What `regwriter` says at a position, by looking at the steps before it."""
-        while end:
-            found = self.of(end - 1).writer(register, end, end + 1)
-            if found is not None:
-                return found
-            end = (end - 1) // SIZE * SIZE
-        return None
-
     def begin(self, step: int) -> int:
         """The first step of those that are known without a gap before a step."""
         number = step // SIZE

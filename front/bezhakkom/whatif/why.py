@@ -233,7 +233,7 @@ class _Slice:
     def _ask(self) -> None:
         """Asks who wrote the registers and words that no known step did."""
         asked, self._asked = self._asked, {}
-        answers = self._answers([it for position, question in asked for it in (f"goto {position}", question)])[1::2]
+        answers = self._driver.ask_all([it for position, question in asked for it in (f"goto {position}", question)])[1::2]
         for (_, question), wishes, lines in zip(asked, asked.values(), answers):
             name, number = question.split()
             found = replies.writer(lines)
@@ -244,15 +244,6 @@ class _Slice:
                     wish.links.append(Link(wish.role, _end_of_word(found, int(number))))
                 else:
                     wish.links.append(Link(wish.role, End(Origin.REGISTER, int(number))))
-
-    def _answers(self, commands: List[str]) -> List[List[str]]:
-        """The replies. Where a program has no `regwriter`, its steps are looked at."""
-        answers = self._driver.ask_all(commands)
-        for at, command in enumerate(commands):
-            if command.startswith("regwriter") and answers[at] == ["error 2 Syntax"]:
-                step = self._blocks.last_writer(int(command.split()[1]), int(commands[at - 1].split()[1]))
-                answers[at] = ["regwriter never" if step is None else f"regwriter {step}"]
-        return answers
 
     # Steps
 
