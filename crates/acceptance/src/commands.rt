@@ -71,8 +71,7 @@ fn devices_that_are_looked_at(rt: HostRuntime) -> Result<(), Fail> {
     let source =
         "lui r1, 0xbfe0; addiu r2, r0, 0x1000; sw r2, 8(r1); addiu r3, r0, 1; sw r3, 16(r1); addiu r4, r0, 0x20; sw r4, 0(r1); sw r3, 24(r1)
         lw r5, 8(r1)";
-    let dialogue =
-        "add 7 0 0x41 => event 0; goto 8 => pos 8
+    let dialogue = "add 7 0 0x41 => event 0; goto 8 => pos 8
         devices => serial csr 0x000000a0 rbuf 0x00008041 tcr 0x00000001 msr 0x00000000 served 0 time 16; line 0 receiver 1 lost 0 busy 16
         line 1 receiver 0 lost 0 busy 0; line 2 receiver 0 lost 0 busy 0; line 3 receiver 0 lost 0 busy 0; silo 1 0x00008041
         clock interrupt 0 second 8184 period none registers 00000000000001010100200600800000000000000000000000000000000000000000000000000000000000000000000000000000000000000000000000000000
