@@ -20,8 +20,11 @@ class StepLines:
         self._heads: Dict[Tuple[int, Optional[int]], str] = {}  # by PCs and words
 
     def of(self, step: Traced) -> str:
+        return f"{step.step:,} {self.without_number(step)}"
+
+    def without_number(self, step: Traced) -> str:
         parts = "; ".join(self._parts(step))
-        return f"{step.step:,} {self._head(step)}" + (f"   {parts}" if parts else "")
+        return self._head(step) + (f"   {parts}" if parts else "")
 
     def _head(self, step: Traced) -> str:
         """The place of a step, and its instruction."""

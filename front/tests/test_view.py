@@ -24,8 +24,12 @@ from bezhakkom.loading import Opening
 from bezhakkom.lines import Lines
 from bezhakkom.log import Event, Kind
 from bezhakkom.states import registers_at
+from bezhakkom.symbols import symbols_of
 from bezhakkom.view.fields import Fields
 from bezhakkom.view.server import FILES, MOST_BYTES, Server
+from bezhakkom.whatif import why as reasons
+from bezhakkom.whatif.questions import Register, Sent, Word
+from bezhakkom.whatif.why import End, Origin
 from front.tests import brute, viewed
 from front.tests.support import ROOT, needs_kinds
 from front.tests.viewed import BUTTON, DRIVER, LOGIN, Hand, laid_out, posted, served, view
@@ -391,6 +395,36 @@ class Sweeps(unittest.TestCase):
             # An empty line is enough: Return alone.
             self.assertEqual(reply["state"]["events"], 1)
             self.assertEqual(hand.ask(edits=[hand.edit("undo")])["state"]["events"], 10)
+
+
+class Reasons(unittest.TestCase):
+    def test_why(self) -> None:
+        """The steps and events that a word, a register and a byte that was sent come from are those of a fresh program with the log as it was
+        edited. Events have the names that the page knows, whatever was taken out before them."""
+        image, log = brute.image("login/login.elf"), brute.without(brute.log_of("login"), 0)
+        with brute.fresh(image, log) as driver, laid_out(*LOGIN) as desk:
+            hand = Hand(desk)
+            hand.ask(edits=[hand.edit("delete", id=0)])
+            driver.goto(60_000)
+            last = driver.sent(0) - 1
+            for what, question, control in (("session+32", Word(LENGTH), False), ("$v1", Register("v1", 3), False),
+                                            (f"sent 0 {last}", Sent(0, last), False), ("session+32 control to input", Word(LENGTH), True)):
+                found = reasons.why(driver, symbols_of(image), question, 60_000, control=control)
+                found = found.to_input() if control else found
+                shown = hand.ask(cursor=60_000, why={"what": what})["why"]
+                self.assertEqual((shown["steps"], shown["events"]), (len(found.nodes), [it + 1 for it in found.events()]))
+                rows = [it for it in shown["rows"] if "step" in it]
+                if not control:  # else turns of loops are one
+                    self.assertEqual([it["step"] for it in rows], sorted(found.nodes, reverse=True))
+                for links, node_links in ((shown["from"], found.links), *((it["from"], found.nodes[it["step"]].links) for it in rows)):
+                    sources = [it for _, those in links for it in those]
+                    wanted = [it.source for it in node_links]
+                    self.assertEqual({it["step"] for it in sources if "text" not in it}, {it for it in wanted if isinstance(it, int)})
+                    events = {it.number for it in wanted if isinstance(it, End) and it.origin is Origin.EVENT and it.number is not None}
+                    self.assertEqual({(it["event"], it["step"]) for it in sources if "event" in it}, {(it + 1, log[it].time) for it in events})
+            for what in ("", "nothing", "console", "v1 to output"):
+                with self.assertRaises(Problem):
+                    hand.ask(cursor=60_000, why={"what": what})
 
 
 class Saving(unittest.TestCase):

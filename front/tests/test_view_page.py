@@ -81,6 +81,9 @@ class Page(unittest.TestCase):
                 plain = re.sub(r"[^\n\t\x20-\x7e]", lambda it: {8: "\\b", 27: "\\e"}.get(ord(it[0]), f"\\x{ord(it[0]):02x}"), content.replace("\r", ""))
                 self.assertEqual(shown_there[str(line)], plain)
 
+    def click(self, selector: str) -> None:
+        self.browser.run("document.querySelector(arguments[0]).click()", selector)
+
     def key_on(self, event: int, *keys: str, held: Sequence[str] = ()) -> None:
         self.browser.run("window.bezhakkom.handle(arguments[0]).focus()", event)
         self.browser.keys(*keys, held=held)
@@ -249,6 +252,48 @@ class Page(unittest.TestCase):
             # A click on a byte goes to the step that sent it: the sixth one is the first `o` of the prompt.
             self.browser.run("document.querySelector('.console [data-place]').click()")
             self.browser.waits(f"window.bezhakkom.s.at.position === 147 && {READY}")
+
+    def test_why(self) -> None:
+        """Why the length is -1 is a list of steps: each link goes to its step, an event is selected, and an edit ends the list. A word, a
+        register and a byte that was sent are asked for by a click, and anything by its name."""
+        steps = [40_024, 40_023, 40_021, 30_024, 30_023, 30_021, 20_031, 20_030, 20_021, 372]  # as docs/DEBUGGING.md counts them
+        rows = "[...document.querySelectorAll('#why [data-step]')].map(it => +it.dataset.step)"
+        name = "document.getElementById('why-name').textContent"
+        with self.page("--to", "131072", *LOGIN):
+            self.browser.run("window.bezhakkom.s.cursor = 40025; window.bezhakkom.ask({draw: true, live: true})")
+            self.rest()
+            self.click("[aria-label='why session+32']")
+            self.assertEqual(self.browser.waits(f"!document.getElementById('why').hidden && {rows}"), steps)
+            self.assertEqual(self.browser.run(f"return {name}"), "session+0x20 at step 40,025: 0xffffffff")
+            # Its first link has the focus. From there on keys go through the chain.
+            self.browser.keys("Enter")
+            self.browser.waits(f"window.bezhakkom.s.at.position === 40024 && {READY}")
+            self.assertEqual(self.browser.run("return document.querySelector('#why [aria-current]').textContent.slice(0, 7)"), "▸40,024")
+            self.click("#why [data-step='40021'] td:last-child button")
+            self.browser.waits(f"window.bezhakkom.s.at.position === 30024 && {READY}")
+            self.click("[data-register=v1]")
+            self.browser.waits(f"/^v1 at step 30,024: 0x00000000$/.test({name})")
+            self.click("[aria-label='why the last byte before the cursor that line 0 sent']")
+            self.browser.waits(f"/^byte 10 of line 0 at step 30,024: /.test({name})")
+            # The backspaces are out of view, one is selected and comes into view.
+            self.browser.run("window.bezhakkom.s.cursor = 40025; window.bezhakkom.s.view = {begin: 60000, end: 61000}; window.bezhakkom.ask({draw: true, live: true})")
+            self.rest()
+            self.browser.run("document.getElementById('canvas').focus()")
+            self.browser.keys("y", *"session+32 control to input", "Enter")
+            self.browser.waits(f"/^session.0x20 at step 40,025: /.test({name}) && {READY}")
+            self.assertRegex(self.browser.run("return document.getElementById('said').textContent"), "It comes from [0-9,]+ steps and 3 events.$")
+            self.browser.run("[...document.querySelectorAll('#why button')].find(it => it.textContent === 'line 0, 0x08, step 40,000').click()")
+            self.browser.waits("document.activeElement.dataset.id === '2'")
+            self.rest()
+            self.assertEqual(self.browser.run("return document.querySelectorAll('.event.selected').length"), 1)
+            self.browser.keys("Delete")
+            self.browser.waits("document.getElementById('why').hidden")
+            self.assertEqual((self.log(), self.shown()["state"]["events"]), ([], 9))
+            # What is asked for and is none is said, and nothing is shown.
+            self.browser.run("document.getElementById('whence').click()")
+            self.browser.keys(*"nothing", "Enter")
+            self.browser.waits("/nothing/.test(document.getElementById('said').textContent)")
+            self.assertTrue(self.browser.run("return document.getElementById('why').hidden"))
 
     def test_a_sweep(self) -> None:
         """The borders of outcomes are exact, and a click makes one so."""

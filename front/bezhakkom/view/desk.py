@@ -18,11 +18,14 @@ from ..lines import Lines
 from ..log import Event, Kind, changes
 from ..replies import words_of
 from ..saved import Opened, lines_of_edit
-from ..session import Session
+from ..session import Session, counted
+from ..step_lines import StepLines
 from ..symbols import symbols_of
 from ..whatif import causes as causes_of
+from ..whatif import shown
 from ..whatif import shrink as shrinking
-from ..whatif.pasts import undisturbed
+from ..whatif.pasts import answer, undisturbed
+from ..whatif.why import End, Link, Origin, Why
 from ..whatif.words import Words
 from . import jumps, rows
 from .fields import GREATEST_ID, Fields
@@ -38,6 +41,8 @@ MOST_SHOWN = 1_500  # events in view that are shown one by one
 MOST_EDITS, MOST_TRIED, MOST_WORDS, MOST_KEPT = 4_096, 512, 16, 64
 INTERRUPTED = "That was stopped."
 AS_NOW = "as now"  # what a sweep may want in place of a condition
+WHY = "WHAT [control] [address] [to input]; WHAT is a register, an address of a word, or `sent L K`"
+MOST_STEPS = 400  # of a chain that are shown
 MOST_ENTERED = 10  # functions of which visits are looked for
 SOURCE = 7  # lines of source before and after the present one
 
@@ -147,7 +152,7 @@ class Desk:
 
     def _asked(self, ask: Fields, reply: Dict[str, Any]) -> None:
         """All that a request asks after its edits."""
-        self._in_step(ask.has("view") and not any(map(ask.has, ("words", "jump", "sweep", "causes", "save", "rest"))))
+        self._in_step(ask.has("view") and not any(map(ask.has, ("words", "jump", "sweep", "causes", "why", "save", "rest"))))
         if ask.has("end"):
             self.end = min(-(-ask.number("end", SPAN) // SPAN) * SPAN, GREATEST_POSITION // SPAN * SPAN)
         if ask.has("words"):
@@ -158,9 +163,9 @@ class Desk:
             reply["jump"] = found
             position = position if found is None else min(found, self.end)
         reply["cursor_at"] = position
-        for name, answer in (("sweep", self._swept), ("causes", self._causes), ("save", self._save)):
+        for name, answered in (("sweep", self._swept), ("causes", self._causes), ("why", self._why), ("save", self._save)):
             if ask.has(name):
-                reply[name] = answer(ask.part(name), position)
+                reply[name] = answered(ask.part(name), position)
         if ask.has("view"):
             self._draw(ask, reply, position)
 
@@ -432,6 +437,41 @@ class Desk:
         found = causes_of.causes(self._driver, question, position)
         return {"what": name, "by_value": [self._now.ids[it] for it in found.by_value],
                 "by_being_there": [self._now.ids[it] for it in found.by_being_there], "events": found.events, "asked": found.asked}
+
+    def _why(self, ask: Fields, position: int) -> Dict[str, Any]:
+        """The steps that something comes from at the cursor. A row is a step, or a text where steps are not shown."""
+        session = self._session
+        name, question, found = Words(session, words_of(ask.text("what")), WHY).why(position)
+        self._driver.goto(position)
+        value = shown.value_of(session, question, answer(self._driver, question))
+        lines, made = StepLines(session), []
+        stretches, rest = shown.shown_steps(found, MOST_STEPS)
+        for turn, more in stretches:
+            made += [{"step": it.step.step, "text": lines.without_number(it.step), "from": self._comes_from(found, it.links)} for it in turn]
+            if more:
+                made.append({"text": shown.same_again(turn, more)})
+        if rest:
+            made.append({"text": f"and {counted(rest, 'earlier step')}"})
+        if found.is_stopped:
+            made.append({"text": "what comes before was not looked at"})
+        return {"what": name, "value": value, "position": position, "from": self._comes_from(found, found.links), "rows": made,
+                "steps": len(found.nodes), "events": [self._now.ids[it] for it in found.events()]}
+
+    def _comes_from(self, found: Why, links: Sequence[Link]) -> List[Any]:
+        """What something comes from, by how it comes from it: texts, with the step, or the name and the step of the event."""
+        made = []
+        for how, sources in shown.sources_of(self._session, found, links):
+            those: List[Dict[str, Any]] = []
+            for text, source in sources:
+                if not isinstance(source, End):
+                    those.append({"step": source})
+                elif source.origin is Origin.EVENT and source.number is not None:
+                    event = found.log[source.number]
+                    those.append({"text": f"{shown.what(event)}, step {event.time:,}", "event": self._now.ids[source.number], "step": event.time})
+                else:
+                    those.append({"text": text})
+            made.append([how, those])
+        return made
 
     def _shrink(self, edit: Fields) -> None:
         """Makes the log the smallest in which a condition still comes true."""

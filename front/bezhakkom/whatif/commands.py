@@ -18,7 +18,6 @@ from . import fuzz as fuzzing
 from . import shown
 from . import shrink as shrinking
 from . import when as first_time
-from . import why as reasons
 from .causes import DEL, SET
 from .causes import causes as causes_of
 from .futures import Label
@@ -169,20 +168,9 @@ _STEPS = 40  # that are shown, where the line has no number
 def why(session: Session, words: list[str]) -> None:
     line = Words(session, words, _WHY, "at", "steps")
     position, most = line.position(), line.number_after("steps", _STEPS)
-    if not line.rest:
-        raise line.problem("what is asked for is missing")
-    with session.at(position):
-        name, question = line.question(line.rest)
-    control, address = line.has("control"), line.has("address")
-    target = line.after("to")
-    if target not in (None, "input"):
-        raise line.problem("`to` is followed by `input`")
-    line.end()
     if most < 1:
         raise Problem("how many steps are shown is 1 or more")
-    found = reasons.why(session.driver, session.symbols, question, position, control=control, address=address)
-    if target:
-        found = found.to_input()
+    name, question, found = line.why(position)
     with session.at(position):
         value = answer(session.driver, question)
     _tell(session, line, shown.why(session, name, shown.value_of(session, question, value), found, most),

@@ -2,7 +2,7 @@
 from __future__ import annotations
 
 from dataclasses import asdict
-from typing import Any, Dict, Iterator, List, Optional, Sequence, Tuple
+from typing import Any, Dict, Iterator, List, Optional, Sequence, Tuple, Union
 
 from .. import expressions, tracing
 from .. import log as logs
@@ -17,7 +17,7 @@ from .fuzz import Fuzzed
 from .questions import Console, Question, Sent
 from .shrink import Shrunk
 from .when import When
-from .why import End, Link, Origin, Role, Why
+from .why import End, Link, Node, Origin, Role, Why
 
 Value = Dict[str, Any]
 
@@ -292,23 +292,38 @@ _ROLES = {Role.VALUE: "from", Role.ADDRESS: "address from", Role.CONTROL: "decid
 
 def why(session: Session, name: str, value: str, found: Why, most: int) -> Iterator[str]:
     yield f"{name} at step {found.position:,}: {value}{_sources(session, found, found.links)}"
-    lines, steps, at, shown = StepLines(session), sorted(found.nodes, reverse=True), 0, 0
-    counters = [found.nodes[it].step.pc for it in steps]
-    while at < len(steps) and shown < most:
-        size, times = _turns(counters, at)
-        for number in steps[at:at + size]:
-            yield f"  {lines.of(found.nodes[number].step)}{_sources(session, found, found.nodes[number].links)}"
-        at, shown = at + size * times, shown + size
-        if times > 1:
-            what_is = "the same instruction" if size == 1 else f"the same {size} instructions"
-            yield f"  {what_is} {times - 1:,} times more, back to step {steps[at - 1]:,}"
-    if at < len(steps):
-        yield f"  and {counted(len(steps) - at, 'earlier step')}: `steps N` shows more, and --json has all"
+    lines = StepLines(session)
+    stretches, rest = shown_steps(found, most)
+    for turn, more in stretches:
+        yield from (f"  {lines.of(it.step)}{_sources(session, found, it.links)}" for it in turn)
+        if more:
+            yield f"  {same_again(turn, more)}"
+    if rest:
+        yield f"  and {counted(rest, 'earlier step')}: `steps N` shows more, and --json has all"
     if found.is_stopped:
-        yield f"steps before {steps[-1]:,} were not looked at" if steps else "interrupted"
+        yield f"steps before {min(found.nodes):,} were not looked at" if found.nodes else "interrupted"
     events = found.events()
-    yield f"{counted(len(steps), 'step')}, " + (f"{counted(len(events), 'event')}:" if events else "no event")
+    yield f"{counted(len(found.nodes), 'step')}, " + (f"{counted(len(events), 'event')}:" if events else "no event")
     yield from (f"  {it}" for it in runs(found.log, events))
+
+
+def shown_steps(found: Why, most: int) -> Tuple[List[Tuple[Sequence[Node], Sequence[Node]]], int]:
+    """The steps from the last one back, some `most` of them, where turns of a loop are shown as one: a turn, and what follows it of the
+    same instructions. And how many steps are left."""
+    nodes = [node for _, node in sorted(found.nodes.items(), reverse=True)]
+    counters = [it.step.pc for it in nodes]
+    stretches: List[Tuple[Sequence[Node], Sequence[Node]]] = []
+    at = shown = 0
+    while at < len(nodes) and shown < most:
+        size, times = _turns(counters, at)
+        stretches.append((nodes[at:at + size], nodes[at + size:at + size * times]))
+        at, shown = at + size * times, shown + size
+    return stretches, len(nodes) - at
+
+
+def same_again(turn: Sequence[Node], more: Sequence[Node]) -> str:
+    what_is = "the same instruction" if len(turn) == 1 else f"the same {len(turn)} instructions"
+    return f"{what_is} {len(more) // len(turn):,} times more, back to step {more[-1].step.step:,}"
 
 
 def _turns(counters: Sequence[int], at: int) -> Tuple[int, int]:
@@ -324,13 +339,16 @@ def _turns(counters: Sequence[int], at: int) -> Tuple[int, int]:
 
 def _sources(session: Session, found: Why, links: Sequence[Link]) -> str:
     """What something comes from: `   from 40,021; decided by 40,017`."""
-    parts = []
-    for role, begin in _ROLES.items():
-        sources = [it.source for it in links if it.role is role]
-        shown = [_end(session, found, it) if isinstance(it, End) else f"{it:,}" for it in dict.fromkeys(sources)]
-        if shown:
-            parts.append(f"{begin} {', '.join(shown)}")
+    parts = [f"{how} {', '.join(text for text, _ in sources)}" for how, sources in sources_of(session, found, links)]
     return "   " + "; ".join(parts) if parts else ""
+
+
+def sources_of(session: Session, found: Why, links: Sequence[Link]) -> Iterator[Tuple[str, List[Tuple[str, Union[int, End]]]]]:
+    """What something comes from, with its text, by how it comes from it."""
+    for role, how in _ROLES.items():
+        sources = dict.fromkeys(it.source for it in links if it.role is role)
+        if sources:
+            yield how, [(_end(session, found, it) if isinstance(it, End) else f"{it:,}", it) for it in sources]
 
 
 def _end(session: Session, found: Why, end: End) -> str:

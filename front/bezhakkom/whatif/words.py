@@ -11,9 +11,11 @@ from ..limits import GREATEST_POSITION, LINES
 from ..log import unquoted
 from ..replies import CONTROL_NAMES
 from ..session import Session
+from . import why as reasons
 from .conditions import SIGNS, Comes, Condition, Holds, Sends
 from .pasts import Question
 from .questions import Console, Register, Sent, Word
+from .why import Why
 
 _KEPT = {"pc": "pc", "next": "next_pc", "hi": "hi", "lo": "lo"}
 _COMPARED = re.compile(r"(.+?)(" + "|".join(sorted(SIGNS, key=len, reverse=True)) + r")(.+)")
@@ -104,6 +106,20 @@ class Words:
             return name.lstrip("$"), register
         address, physical = session.word_at(name)
         return session.place(address), Word(physical)
+
+    def why(self, position: int) -> Tuple[str, Question, Why]:
+        """`WHAT [control] [address] [to input]`: what is asked at a position, with its name, and where it comes from. No word is left."""
+        if not self.rest:
+            raise self.problem("what is asked for is missing")
+        with self._session.at(position):
+            name, question = self.question(self.rest)
+        control, address = self.has("control"), self.has("address")
+        target = self.after("to")
+        if target not in (None, "input"):
+            raise self.problem("`to` is followed by `input`")
+        self.end()
+        found = reasons.why(self._session.driver, self._session.symbols, question, position, control=control, address=address)
+        return name, question, found.to_input() if target else found
 
     def _line(self, word: str) -> int:
         line = self._session.number(word)

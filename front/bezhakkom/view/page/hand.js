@@ -188,6 +188,14 @@ export function seek(step, began) {
   draw();
   ask({draw: true, live: true}, began);
 }
+export function goTo(step) { seek(step); inSight(); }
+// An event has the focus, once it is in view.
+export function select(id, step) {
+  const half = (s.view.end - s.view.begin) / 2;
+  s.selected = new Set([id]); wanted = id;
+  if (step < s.view.begin || step > s.view.end) return look(step - half, step + half);
+  draw(); panes(); focusWanted();
+}
 function inSight() {
   if (s.cursor >= s.view.begin && s.cursor <= s.view.end) return;
   const half = (s.view.end - s.view.begin) / 2;
@@ -262,6 +270,7 @@ document.addEventListener("keydown", event => {
   }
   if (isText || event.altKey) return;
   if (key === "Escape" && s.sweep) return sweeps.end("The sweep has ended.");
+  if (key === "Escape" && element && element.closest("#why")) return $("why-end").click();
   const it = element && element.classList.contains("event") ? present(+element.dataset.id) : null;
   if (it) return onEvent(it, event);
   const isButton = element && (element.tagName === "BUTTON" || element.tagName === "SUMMARY");

@@ -5,20 +5,30 @@ import {X, draw, handle, onRowButton, readColors, rows, unfold} from "./rows.js"
 import {onGo, outcome, panes, table} from "./panes.js";
 import * as hand from "./hand.js";
 import * as sweeps from "./sweep.js";
+import * as whys from "./why.js";
 import {picture, save} from "./save.js";
 
 let told = 0;
 onReply(
-  () => { draw(); panes(); hand.focusWanted(); },
+  () => { draw(); panes(); whys.mark(); hand.focusWanted(); },
   // The hand rests: what came of the last edit is said once.
   () => {
     table();
     if (lastEdit() > told && !s.sweep) { told = lastEdit(); const text = outcome(); if (text) say(text); }
   });
-onGo(hand.go, hand.seek);
+onGo(hand.go, hand.goTo);
+whys.onWhy(hand.goTo, hand.select);
 onRowButton((row, goes, forward) => {
-  if (goes === "fold") { unfold(); draw(); } else hand.onRow(row, goes, forward);
+  if (goes === "fold") { unfold(); draw(); } else if (goes === "why") whyRow(row); else hand.onRow(row, goes, forward);
 });
+
+// Why a word holds what it does, or a line sent the last byte before the cursor.
+function whyRow(row) {
+  const sent = row.kind === "out" && s.at && s.at.position === s.cursor ? s.at.sent[row.line] : 0;
+  if (row.kind === "word") whys.why(s.state.words[row.word]);
+  else if (sent) whys.why(`sent ${row.line} ${sent - 1}`);
+  else say(`Line ${row.line} sent nothing before the cursor.`);
+}
 
 async function causes(what) {
   say("Trying other pasts…");
@@ -56,6 +66,8 @@ $("longer").onclick = () => ask({end: 2 * s.state.end}).then(() => hand.look(s.v
 $("line-back").onclick = () => hand.go({jump: {to: "line"}});
 $("line-on").onclick = () => hand.go({jump: {to: "line", forward: true}});
 $("who").onclick = hand.who;
+$("whence").onclick = () => hand.type("Why (a register, a word, `sent 0 5`; then `control`, `address`, `to input`):", s.state.words[0] || "v0", whys.why);
+$("why-end").onclick = () => { whys.end(); $("canvas").focus(); };
 $("difference").onclick = () => hand.go({jump: {to: "difference"}});
 $("show-ghost").onchange = () => { s.showGhost = $("show-ghost").checked; draw(); panes(); ask({draw: true, ghost: true}); };
 $("all-lines").onchange = () => { s.allLines = $("all-lines").checked; draw(); };
@@ -72,10 +84,11 @@ $("add-word").onclick = () => hand.type("Words that have rows:", s.state.words.j
 $("save").onclick = () => save($("save-kind").value);
 $("facts").addEventListener("toggle", table);
 $("listed").addEventListener("click", event => { const row = event.target.closest("[data-address]"); if (row) hand.go({jump: {to: "visit", function: (+row.dataset.address).toString(16), forward: true}}); });
+$("registers").addEventListener("click", event => { const name = event.target.dataset.register; if (name) whys.why(`$${name}`); });
 
 Object.assign(hand.commands, {
   save: () => save("log"), f: all, "+": $("closer").onclick, "-": $("wider").onclick, ",": $("line-back").onclick, ".": $("line-on").onclick,
-  w: hand.who, d: $("difference").onclick, k: keep, g: () => $("show-ghost").click(), t: $("sweep-time").onclick, v: $("sweep-value").onclick,
+  w: hand.who, y: $("whence").onclick, d: $("difference").onclick, k: keep, g: () => $("show-ghost").click(), t: $("sweep-time").onclick, v: $("sweep-value").onclick,
 });
 
 matchMedia("(prefers-color-scheme: dark)").addEventListener("change", () => { readColors(); draw(); });

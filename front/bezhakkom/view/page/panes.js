@@ -122,12 +122,20 @@ function machine() {
       $("listed").append(row);
     }
   }
-  let text = "";
-  at.registers.forEach((value, k) => { text += `${NAMES[k].padStart(4)} ${hex(value).slice(2)}${k % 4 === 3 ? "\n" : ""}`; });
-  text += `  hi ${hex(at.hi).slice(2)}  lo ${hex(at.lo).slice(2)}\n`;
-  text += ["status", "cause", "epc", "badvaddr"].map(it => `${it} ${hex(at.control[it]).slice(2)}`).join(" ");
+  registers(at);
+}
+
+// A register is asked for by a click on it.
+function registers(at) {
+  const box = $("registers"), values = [...at.registers, at.hi, at.lo];
+  if (!box.children.length) {
+    for (const name of [...NAMES, "hi", "lo"]) { const it = made("span"); it.dataset.register = name; it.title = `why ${name}`; box.append(it); }
+    box.append(made("span"));
+  }
+  values.forEach((value, k) => write(box.children[k], `${box.children[k].dataset.register.padStart(4)} ${hex(value).slice(2)}${k % 4 === 3 ? "\n" : ""}`));
+  let text = "\n" + ["status", "cause", "epc", "badvaddr"].map(it => `${it} ${hex(at.control[it]).slice(2)}`).join(" ");
   if (at.load) text += `\non its way: ${NAMES[at.load[0]]} = ${hex(at.load[1])}`;
-  write($("registers"), text);
+  write(box.lastChild, text);
 }
 
 function stepButton(text) {

@@ -283,10 +283,19 @@ function names() {
       made.onclick = () => onRow(row, goes, forward);
       return made;
     };
-    box.append(label, ...(goes ? [button(false, "‹"), button(true, "›")] : []));
+    box.append(label, ...(goes ? [button(false, "‹"), button(true, "›")] : []), ...(row.kind === "word" || row.kind === "out" ? [whyButton(row)] : []));
     $("names").append(box);
   }
   if (focused) { const again = $("names").querySelector(`[data-key="${CSS.escape(focused)}"]`); if (again) again.focus(); }
+}
+
+function whyButton(row) {
+  const made = document.createElement("button"), what = row.kind === "word" ? row.name : `the last byte before the cursor that line ${row.line} sent`;
+  made.textContent = "?"; made.dataset.key = `${row.name} why`;
+  made.title = "where that comes from";
+  made.setAttribute("aria-label", `why ${what}`);
+  made.onclick = () => onRow(row, "why");
+  return made;
 }
 
 // Handles of events: real elements, which have focus, names and values. Those of one step fan out.
