@@ -12,7 +12,7 @@ from argparse import REMAINDER
 from pathlib import Path
 from typing import Sequence
 
-from . import interrupts, loading, saved, stub, symbol_file
+from . import interrupts, loading, saved, symbol_file, through
 from .arguments import Parser
 from .elf import jump_to
 from .errors import Problem
@@ -52,7 +52,8 @@ def parser() -> Parser:
     made = Parser("gdb", "[OPTIONS] [--through] IMAGE [GDB-ARGUMENTS]", DESCRIPTION, EPILOG)
     made.add_argument("image", metavar="IMAGE", help="what the machine starts from, or a session that `save` made")
     made.add_argument("rest", metavar="GDB-ARGUMENTS", nargs=REMAINDER, help="what gdb gets besides")
-    stub.add_options(made)
+    loading.add_options(made)
+    through.add_option(made)
     return made
 
 

@@ -7,6 +7,7 @@ import select
 import signal
 import subprocess
 import tempfile
+import time
 from collections import deque
 from pathlib import Path
 from typing import Callable, Iterator, Sequence
@@ -27,6 +28,9 @@ _SET_PIPE_SIZE, _PIPE_BYTES = 1031, 1 << 20
 
 # How often a turn looks whether it is to end, in milliseconds.
 _GLANCE = 50
+
+# The replies to a script of so many bytes are taken so many seconds apart, while the pipe has room: to take each as it comes takes longer.
+_LONG, _APART = 1 << 13, 0.0004
 
 # Asked in a turn: 0 to go on, 1 to end it between two commands, 2 to end the program.
 Stop = Callable[[], int]
@@ -117,6 +121,8 @@ class Program:
                 self.close()
                 raise Ended("the program was ended")
             text += self._move()
+            if len(script) > _LONG:
+                time.sleep(_APART)
         return bytes(text)
 
     def _put(self, command: str) -> None:

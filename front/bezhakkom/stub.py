@@ -8,7 +8,7 @@ import signal
 import sys
 from typing import Callable, Optional, Sequence
 
-from . import elf, gdb_stops, listening, loading, memory, monitor, places, saved, target
+from . import elf, gdb_stops, listening, loading, memory, monitor, places, saved, target, through
 from .arguments import Parser
 from .errors import Interrupted, Problem, Unexpected
 from .gdb_stops import MOST_WATCHED
@@ -384,16 +384,11 @@ def open_session(session: Session, commands: Sequence[str]) -> None:
     session.saved_log, session.saved_patches = list(session.driver.log), list(session.driver.patches)
 
 
-def add_options(parser: Parser) -> None:
-    """Puts the options that gdb on the stub has too into a parser."""
-    loading.add_options(parser)
-    parser.add_argument("--through", action="store_true", help="single steps run exceptions whole, with their handlers")
-
-
 def parser() -> Parser:
     made = Parser("stub", "[OPTIONS] [--through] [--progress] [--listen HOST:PORT] IMAGE", DESCRIPTION, EPILOG)
     made.add_argument("image", metavar="IMAGE", help="what the machine starts from, or a session that `save` made")
-    add_options(made)
+    loading.add_options(made)
+    through.add_option(made)
     made.add_argument("--progress", action="store_true", help="shows how far long runs are, for a debugger on a terminal")
     made.add_argument("--listen", metavar="HOST:PORT",
                       help="takes debuggers at a port, one at a time. Without HOST it can be reached from this machine alone; with "

@@ -8,11 +8,16 @@ from __future__ import annotations
 from typing import Optional
 
 from . import instruction, search
+from .arguments import Parser
 from .driver import Driver
 from .limits import GREATEST_POSITION
 
 HANDLER = 1 << 20  # the steps that a handler may take
 NESTED = 64  # the exceptions that one step may meet
+
+
+def add_option(parser: Parser) -> None:
+    parser.add_argument("--through", action="store_true", help="single steps run exceptions whole, with their handlers")
 
 
 def after(driver: Driver) -> int:

@@ -7,6 +7,9 @@ import subprocess
 import unittest
 from pathlib import Path
 from typing import Optional, Sequence
+from unittest import mock
+
+from front.tests import outside
 
 ROOT = Path(__file__).resolve().parents[2]
 WB = str(ROOT / "bin/wb")
@@ -37,8 +40,11 @@ def batch(image: str, *commands: str, log: Optional[str] = None, options: Sequen
 
 
 def run(line: Sequence[str], typed: str = "") -> str:
-    """What a command shows."""
-    done = subprocess.run(line, cwd=ROOT, env=dict(os.environ, TERM="dumb"), input=typed, encoding="latin-1",
-                          timeout=TIMEOUT,
-                          stdout=subprocess.PIPE, stderr=subprocess.STDOUT)
-    return done.stdout
+    """What a command shows. One of `bin/wb` runs in a copy of this process."""
+    with mock.patch.dict(os.environ, TERM="dumb"):
+        if line[0] == WB:
+            shown = outside.run(line[1:], typed.encode("latin-1"), together=True).stdout
+        else:
+            shown = subprocess.run(line, cwd=ROOT, input=typed.encode("latin-1"), timeout=TIMEOUT, stdout=subprocess.PIPE,
+                                   stderr=subprocess.STDOUT).stdout
+    return shown.decode("latin-1")

@@ -17,8 +17,9 @@ WB = str(ROOT / "bin/wb")
 TIMEOUT = 300  # seconds
 
 
-def run(arguments: Sequence[str], content: bytes = b"", folder: Path = ROOT) -> subprocess.CompletedProcess[bytes]:
-    """Runs it in a copy of this process, which has its modules already: to start Python and load them takes longer than most runs."""
+def run(arguments: Sequence[str], content: bytes = b"", folder: Path = ROOT, together: bool = False) -> subprocess.CompletedProcess[bytes]:
+    """Runs it in a copy of this process, which has its modules already: to start Python and load them takes longer than most runs. What goes
+    to standard error may be shown together with the rest, in its order."""
     with tempfile.TemporaryFile() as given, tempfile.TemporaryFile() as out, tempfile.TemporaryFile() as errors:
         given.write(content)
         given.seek(0)
@@ -26,7 +27,7 @@ def run(arguments: Sequence[str], content: bytes = b"", folder: Path = ROOT) -> 
         if not child:
             signal.alarm(TIMEOUT)
             try:
-                for number, file in enumerate((given, out, errors)):
+                for number, file in enumerate((given, out, out if together else errors)):
                     os.dup2(file.fileno(), number)
                 sys.stdin, sys.stdout = open(0, closefd=False), open(1, "w", closefd=False)
                 sys.stderr = open(2, "w", errors="backslashreplace", closefd=False)  # as Python has it

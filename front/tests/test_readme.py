@@ -41,6 +41,9 @@ class Readme(unittest.TestCase):
         self.assertEqual([len(it) for it in blocks], [10, 4])
         with tempfile.TemporaryDirectory() as name:
             copy, environment = fresh(Path(name))
+            # The rest of the loader's is on docs/WHATIF.md, and runs in the test of that page.
+            walk = copy / "examples/loader/walk"
+            walk.write_text(walk.read_text().partition("causes record+0x18 by del\n")[0])
             for start, *lines in blocks:
                 done = subprocess.run(shlex.split(start)[1:], cwd=copy, env=environment, stdin=subprocess.DEVNULL,
                                       capture_output=True, text=True)

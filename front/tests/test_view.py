@@ -400,31 +400,32 @@ class Sweeps(unittest.TestCase):
 class Reasons(unittest.TestCase):
     def test_why(self) -> None:
         """The steps and events that a word, a register and a byte that was sent come from are those of a fresh program with the log as it was
-        edited. Events have the names that the page knows, whatever was taken out before them."""
-        image, log = brute.image("login/login.elf"), brute.without(brute.log_of("login"), 0)
+        edited. Events have the names that the page knows, whatever was put in before them."""
+        image, log, here = brute.image("login/login.elf"), [Event(900, 0, 0x79), *brute.log_of("login")], 1_500
+        names = [70, *range(10)]
         with brute.fresh(image, log) as driver, laid_out(*LOGIN) as desk:
             hand = Hand(desk)
-            hand.ask(edits=[hand.edit("delete", id=0)])
-            driver.goto(60_000)
+            hand.ask(edits=[hand.edit("add", id=70, time=900, line=0, byte=0x79)])
+            driver.goto(here)
             last = driver.sent(0) - 1
             for what, question, control in (("session+32", Word(LENGTH), False), ("$v1", Register("v1", 3), False),
                                             (f"sent 0 {last}", Sent(0, last), False), ("session+32 control to input", Word(LENGTH), True)):
-                found = reasons.why(driver, symbols_of(image), question, 60_000, control=control)
+                found = reasons.why(driver, symbols_of(image), question, here, control=control)
                 found = found.to_input() if control else found
-                shown = hand.ask(cursor=60_000, why={"what": what})["why"]
-                self.assertEqual((shown["steps"], shown["events"]), (len(found.nodes), [it + 1 for it in found.events()]))
+                shown = hand.ask(cursor=here, why={"what": what})["why"]
+                self.assertEqual((shown["steps"], shown["events"]), (len(found.nodes), [names[it] for it in found.events()]))
                 rows = [it for it in shown["rows"] if "step" in it]
                 if not control:  # else turns of loops are one
                     self.assertEqual([it["step"] for it in rows], sorted(found.nodes, reverse=True))
-                for links, node_links in ((shown["from"], found.links), *((it["from"], found.nodes[it["step"]].links) for it in rows)):
+                for links, wanted in ((shown["from"], found.links), *((it["from"], found.nodes[it["step"]].links) for it in rows)):
                     sources = [it for _, those in links for it in those]
-                    wanted = [it.source for it in node_links]
-                    self.assertEqual({it["step"] for it in sources if "text" not in it}, {it for it in wanted if isinstance(it, int)})
-                    events = {it.number for it in wanted if isinstance(it, End) and it.origin is Origin.EVENT and it.number is not None}
-                    self.assertEqual({(it["event"], it["step"]) for it in sources if "event" in it}, {(it + 1, log[it].time) for it in events})
+                    self.assertEqual({it["step"] for it in sources if "text" not in it}, {it.source for it in wanted if isinstance(it.source, int)})
+                    events = {it.source.number for it in wanted if isinstance(it.source, End) and it.source.origin is Origin.EVENT}
+                    self.assertEqual({it["event"] for it in sources if "event" in it}, {names[it] for it in events if it is not None})
+            self.assertEqual(shown["events"], [70])
             for what in ("", "nothing", "console", "v1 to output"):
                 with self.assertRaises(Problem):
-                    hand.ask(cursor=60_000, why={"what": what})
+                    hand.ask(cursor=here, why={"what": what})
 
 
 class Saving(unittest.TestCase):

@@ -152,7 +152,8 @@ class Arrived(unittest.TestCase):
 
     def one_use(self, source: random.Random) -> Tuple[List[int], int]:
         """A program in which each value is used once, by what loses no bit of it but those that a mask or a shift takes away; and the
-        register with what comes out."""
+        register with what comes out. Each of its bits is one bit that arrived or several, by `xor`, or is turned. So a byte changes it by
+        any value only where it does by one bit."""
         words, live = reading(), list(POOL[:BYTES])
         free = [it for it in POOL if it not in live]
         words += [immediate(12, it, it, 0xFF) for it in live]
@@ -192,7 +193,7 @@ class Arrived(unittest.TestCase):
             with self.subTest(seed), brute.fresh(rom(words), arriving(source)) as run:
                 named = asked(run, Register("r", number), len(words)).events()
                 named_in_all += len(named)
-                self.assertEqual(named, self.changing(run, Register("r", number), len(words), range(1, 256)), seed)
+                self.assertEqual(named, self.changing(run, Register("r", number), len(words), [1 << bit for bit in range(8)]), seed)
         self.assertGreater(named_in_all, 20)
         self.assertLess(named_in_all, 20 * BYTES)
 

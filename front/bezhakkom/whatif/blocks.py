@@ -3,7 +3,7 @@ from __future__ import annotations
 
 from bisect import bisect_left
 from functools import lru_cache
-from typing import Dict, List, Optional, Tuple
+from typing import Dict, Iterator, List, Optional, Tuple
 
 from .. import replies, tracing
 from ..driver import Driver
@@ -139,15 +139,12 @@ class Blocks:
             found = self._kept[number]
         return found
 
-    def has(self, step: int) -> bool:
-        return step // SIZE in self._kept
-
-    def begin(self, step: int) -> int:
-        """The first step of those that are known without a gap before a step."""
-        number = step // SIZE
-        while number - 1 in self._kept:
+    def known(self, end: int) -> Iterator[Block]:
+        """The blocks that are known without a gap, from that of the step before `end` back."""
+        number = (end - 1) // SIZE
+        while number in self._kept:
+            yield self._kept[number]
             number -= 1
-        return number * SIZE
 
     def _ask(self, first: int, end: int) -> None:
         for number in sorted(self._kept)[_KEPT:]:

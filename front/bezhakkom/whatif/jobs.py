@@ -2,11 +2,10 @@
 one process, in the same order."""
 from __future__ import annotations
 
-import multiprocessing
 import signal
 import threading
 from collections import deque
-from concurrent.futures import Executor, Future, ProcessPoolExecutor, wait
+from concurrent.futures import Executor, Future, wait
 from contextlib import contextmanager
 from itertools import count
 from typing import Any, Deque, Iterator, List, Optional, Sequence, Tuple
@@ -33,6 +32,10 @@ def pool(jobs: int) -> Iterator[Optional[Executor]]:
     if jobs < 2:
         yield None
         return
+    # Each start of a front end would take longer, were these imported above.
+    import multiprocessing
+    from concurrent.futures import ProcessPoolExecutor
+
     # A fork has the modules. A new Python would have to find them, and the main module is no file of its own.
     made = ProcessPoolExecutor(jobs, multiprocessing.get_context("fork"), _ignore_ctrl_c)
     try:

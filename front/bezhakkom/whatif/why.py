@@ -205,12 +205,13 @@ class _Slice:
 
     def _want_register(self, wish: _Wish, register: int, end: int, position: int) -> None:
         """Wants the last step below `end` that wrote a register with what it holds at a position."""
-        low = self._blocks.begin(end - 1) if end and self._blocks.has(end - 1) else end
-        for number in range((end - 1) // SIZE, low // SIZE - 1, -1):
-            step = self._blocks.of(number * SIZE).writer(register, end, position)
+        low = end
+        for block in self._blocks.known(end):
+            step = block.writer(register, end, position)
             if step is not None:
                 self._want_step(step, wish)
                 return
+            low = block.first
         if not low:
             wish.links.append(Link(wish.role, End(Origin.REGISTER, register)))
             return
@@ -222,12 +223,13 @@ class _Slice:
     def _want_word(self, wish: _Wish, end: int) -> None:
         """Wants the last step below `end` that stored into a word."""
         assert wish.physical is not None
-        low = self._blocks.begin(end - 1) if end and self._blocks.has(end - 1) else end
-        for number in range((end - 1) // SIZE, low // SIZE - 1, -1):
-            step = self._blocks.of(number * SIZE).store(wish.physical, end)
+        low = end
+        for block in self._blocks.known(end):
+            step = block.store(wish.physical, end)
             if step is not None:
                 self._want_step(step, wish)
                 return
+            low = block.first
         self._asked.setdefault((low, f"writer {wish.physical}"), []).append(wish)
 
     def _ask(self) -> None:
