@@ -14,14 +14,15 @@ from enum import Enum
 from typing import Optional
 
 from . import instruction, search
-from .driver import Driver
+from .driver import Driver, unmapped
 from .limits import GREATEST_POSITION, RAM, ROM
 from .log import Kind
-from .replies import Registers, memory
-from .states import registers_at
+from .replies import Registers
+from .states import followed, registers_at
+from .tracing import Access, Traced
 
 TURN = 1024  # the most that a turn may take to be seen: an asked state counts 1
-BATCH = 16  # states that are asked for together
+BATCH = 30  # states that are asked for together
 ASKED = 4  # what a question besides counts, as the program runs some steps again for it
 EMPTY = 64  # empty words of ROM are passed over where there are at least so many
 
@@ -87,9 +88,9 @@ class Loop:
         self._states = [driver.registers()]
         self._passed = 0  # steps through empty ROM, whose states are not asked for
         self._cost = 1
-        self._words: dict[int, int] = {}  # the instructions, by their addresses
-        self._places: dict[int, Optional[int]] = {}  # the physical addresses of loads and stores
+        self._steps: dict[int, Traced] = {}  # those that were looked at last
         self._first_words: dict[int, int] = {}  # what the words that are stored to hold at the first state
+        self._last_words: dict[int, int] = {}  # and at the last one
         self._changed: set[int] = set()  # those that hold something else
         self._known = {key_of(self._states[0])}  # the states since the last step that changed more than the processor
         self._asks_serial = False
@@ -162,11 +163,12 @@ class Loop:
     def _ahead(self) -> list[Registers]:
         """The states of the next steps."""
         self._cost += BATCH
-        first = self._here + 1
-        if first + BATCH > GREATEST_POSITION:
+        if self._here + BATCH + 2 > GREATEST_POSITION:
             self._cost += TURN
             return []
-        return registers_at(self._driver, range(first, first + BATCH))
+        found = list(followed(self._driver, self._here, self._states[-1], BATCH))
+        self._steps = {step.step: step for step, _ in found}
+        return [state for _, state in found]
 
     def _is_all_as_before(self) -> bool:
         """Whether at the last state all but the processor is as at the first one."""
@@ -181,8 +183,7 @@ class Loop:
         """Passes over empty ROM, up to shortly before its end, or before where the first state was. What comes after the same
         number of steps as there are words has taken no exception."""
         state = self._states[-1]
-        recent = self._states[-BATCH:-1]
-        if self._listens or not _is_in_rom(state.pc) or any(self._words.get(it.pc) != 0 for it in recent):
+        if self._listens or not _is_in_rom(state.pc) or any(it.word != 0 for it in self._steps.values()):
             return True
         count = _empty_words(self._driver, state.pc & 0x1FFF_FFFF) - 1
         first = self._states[0].pc
@@ -199,38 +200,26 @@ class Loop:
 
     def _keeps(self, after: Registers) -> bool:
         """Whether the step from the last state to `after` keeps what it must."""
-        before = self._states[-1]
-        if after.pc != before.next_pc:
+        step = self._step()
+        if step.exception is not None:
             return not self._listens and self._can_go_on()
-        if self._listens and after.pc in VECTORS:
-            return False  # it may be an interrupt that looks like a step
-        word = self._word(before)
-        code = instruction.code(word)
+        assert step.word is not None
+        code = instruction.code(step.word)
         if code == instruction.COPROCESSOR_0:
-            return self._can_do(word) and self._can_go_on()
-        if code not in instruction.LOADS and code not in instruction.STORES:
-            return True
-        address = instruction.address(word, before)
-        if address not in self._places:
-            self._ask_at(self._here)
-            self._places[address] = self._driver.physical(address)
-        place = self._places[address]
-        if place is None:
-            return False
-        return self._stores(place) if code in instruction.STORES else self._loads(word, place, after)
+            return self._can_do(step.word) and self._can_go_on()
+        if step.access is None:
+            return code not in instruction.LOADS and code not in instruction.STORES
+        if step.access.kind == "store":
+            return self._stores(step.access)
+        return self._loads(step.word, step.access.address | instruction.address(step.word, self._states[-1]) & 3, after)
 
     def _ask_at(self, position: int) -> None:
         self._cost += ASKED
         self._driver.goto(position)
 
-    def _word(self, state: Registers) -> int:
-        if state.pc not in self._words:
-            if _is_in_rom(state.pc):
-                self._words[state.pc] = self._driver.boot().word(state.pc & 0x1FFF_FFFF) or 0
-            else:
-                self._ask_at(self._here)
-                self._words[state.pc] = instruction.next_word(self._driver, state)
-        return self._words[state.pc]
+    def _step(self) -> Traced:
+        """What the step from the last state does."""
+        return self._steps[self._here]
 
     def _can_do(self, word: int) -> bool:
         """Whether an instruction of coprocessor 0 neither reads nor uses what counts by itself."""
@@ -248,8 +237,6 @@ class Loop:
         """Whether the machine can be compared after a step that may change how it takes addresses and interrupts."""
         self._is_deep = True
         self._begin_anew()
-        self._places = {address: place for address, place in self._places.items() if _is_unmapped(address)}
-        self._words = {address: word for address, word in self._words.items() if _is_unmapped(address)}
         self._ask_at(self._here + 1)
         return self._can_take(self._driver.control()["status"])
 
@@ -264,19 +251,19 @@ class Loop:
         """States that were known say nothing of the rest, as a step changed more than the processor."""
         self._known.clear()
 
-    def _stores(self, place: int) -> bool:
+    def _stores(self, access: Access) -> bool:
         """Notes what a store changes."""
-        if place not in RAM:
-            return place in ROM
-        word, here = place & ~3, self._here
-        self._cost += ASKED
-        lines = self._driver.values([f"goto {here}", f"mem {word} 1", f"goto {here + 1}", f"mem {word} 1"])
-        before, after = memory(lines[1])[0], memory(lines[3])[0]
-        if before != after:
+        word = access.address
+        if word not in RAM:
+            return word in ROM
+        if word not in self._last_words:
+            self._ask_at(self._here)
+            self._last_words[word] = self._first_words[word] = self._driver.words(word, 1)[0]
+        if access.word != self._last_words[word]:
             self._is_deep = True
             self._begin_anew()
-            self._words = {at: it for at, it in self._words.items() if _is_unmapped(at) and at & 0x1FFF_FFFF != word}
-        if after == self._first_words.setdefault(word, before):
+        self._last_words[word] = access.word
+        if access.word == self._first_words[word]:
             self._changed.discard(word)
         else:
             self._changed.add(word)
@@ -311,13 +298,8 @@ def entries_of(driver: Driver, position: int) -> list[list[str]]:
     return driver.values([f"tlb {number}" for number in range(64)])
 
 
-def _is_unmapped(address: int) -> bool:
-    """Whether an address leads to the same place always."""
-    return 0x8000_0000 <= address < 0xC000_0000
-
-
 def _is_in_rom(address: int) -> bool:
-    return _is_unmapped(address) and address & 0x1FFF_FFFF in ROM
+    return unmapped(address) in ROM
 
 
 def _empty_words(driver: Driver, place: int) -> int:

@@ -1,11 +1,13 @@
 """What the machine holds at several positions, asked together. The driver stands at the last of them afterwards."""
 from __future__ import annotations
 
-from typing import Iterable
+from typing import Iterable, Iterator, Tuple
 
 from . import replies
 from .driver import Driver
 from .replies import Registers
+from .tracing import Traced
+from .whatif.needs import has_slot, is_late
 
 
 def replies_at(driver: Driver, positions: Iterable[int], command: str) -> list[list[str]]:
@@ -15,3 +17,27 @@ def replies_at(driver: Driver, positions: Iterable[int], command: str) -> list[l
 
 def registers_at(driver: Driver, positions: Iterable[int]) -> list[Registers]:
     return [replies.registers(lines) for lines in replies_at(driver, positions, "regs")]
+
+
+def followed(driver: Driver, first: int, state: Registers, count: int) -> Iterator[Tuple[Traced, Registers]]:
+    """What so many steps do from one on, before which the state is known, each with the state after it. The steps are asked for, and not
+    the states, of which each has nine lines."""
+    steps = list(driver.traced(first, first + count + 2))
+    for step, after, later in zip(steps, steps[1:], steps[2:]):
+        general, write, load = list(state.general), step.write, None
+        if state.load:
+            general[state.load[0]] = state.load[1]
+        if write and step.word is not None and is_late(step.word):
+            load = write
+        elif write:
+            general[write[0]] = write[1]
+        delay = step.exception is None and step.word is not None and has_slot(step.word)
+        if after.exception is None:
+            following = later.pc
+        elif delay:  # the exception hides where the branch leads
+            following = registers_at(driver, [after.step])[0].next_pc
+        else:
+            following = after.pc + 4 & 0xFFFF_FFFF
+        hi, lo = step.hi_lo or (state.hi, state.lo)
+        state = Registers(after.pc, following, hi, lo, delay, load, general)
+        yield step, state

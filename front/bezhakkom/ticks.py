@@ -84,14 +84,12 @@ class _Seconds(Loop):
         self._begin_anew()
 
     def _keeps(self, after: Registers) -> bool:
-        if after.pc == self._states[-1].next_pc:
+        exception = self._step().exception
+        if exception is None:
             return super()._keeps(after)
-        if not self._can_go_on():
-            return False
-        self._driver.goto(self._here + 1)
-        if self._driver.control()["cause"] >> 2 & 31 == INTERRUPT:
+        if exception == INTERRUPT:
             self._inputs.append((self._here, -1))
-        return True
+        return self._can_go_on()
 
     def _can_move(self, register: int) -> bool:
         if register == CAUSE:

@@ -11,7 +11,8 @@ from bezhakkom.limits import GREATEST_POSITION
 from bezhakkom.log import Event, Kind
 from bezhakkom.replies import memory, registers
 from bezhakkom.standstill import Quiet, Standstill, quiet, standstill
-from bezhakkom.states import registers_at
+from bezhakkom.states import followed, registers_at
+from front.tests import brute
 from front.tests.support import DATA, immediate, needs_kinds, random_rom, rom, start
 from bezhakkom.travel import Reason, Stops
 
@@ -125,6 +126,19 @@ class Stands(unittest.TestCase):
         """The processor and the words at DATA, at positions from one on."""
         shown = driver.values([it for at in range(first, first + count) for it in (f"goto {at}", "regs", f"mem {DATA} 2")])
         return [lines for number, lines in enumerate(shown) if number % 3]
+
+    def test_states_that_follow(self) -> None:
+        """They are made of what steps do, also around exceptions, and are those that the program shows."""
+        guests = [(rom(devices_rom(random.Random(seed))), []) for seed in range(12)]
+        guests += [(brute.image(f"{name}/boot.s"), brute.log_of(name) if name == "driver" else [])
+                   for name in ("driver", "exceptions", "user-mode", "load-slot")]
+        for guest, log in guests:
+            with brute.fresh(guest, log) as driver:
+                for position in 0, 3, 95, 7_000:
+                    state, = registers_at(driver, [position])
+                    found = list(followed(driver, position, state, 60))
+                    self.assertEqual([step.step for step, _ in found], list(range(position, position + 60)))
+                    self.assertEqual([it for _, it in found], registers_at(driver, range(position + 1, position + 61)), guest.name)
 
     def test_a_line_that_will_never_be_ready(self) -> None:
         # No line may send. The loop's register has its value from position 5 on.
