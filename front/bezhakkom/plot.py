@@ -16,7 +16,7 @@ from .log import Event, Kind
 from .picture import BACKGROUNDS, COLUMNS, PICTURE, Function, Lane, Mark, Picture, Stores, draw
 from .progress import on_terminal
 from .protocol import EDITS
-from .states import registers_at, replies_at
+from .states import counters_at, registers_at, replies_at
 from .symbols import Symbols, symbols_of
 
 DESCRIPTION = """\
@@ -183,7 +183,11 @@ class _Plot:
         """Which function the PC was in, at all positions or at samples of them; the other functions are shown together."""
         positions = self._samples()
         exact = len(positions) == self._end
-        names = [self._function(state.pc) for state in registers_at(self._driver, positions)]
+        if isinstance(positions, range):
+            counters = counters_at(self._driver, positions)
+        else:
+            counters = [state.pc for state in registers_at(self._driver, positions)]
+        names = [self._function(it) for it in counters]
         shares = Counter(names)
         shown = [name for name, _ in shares.most_common(FUNCTIONS)]
         rows = {name: [position for position, other in zip(positions, names) if other == name] for name in shown}

@@ -1,10 +1,11 @@
 """What the machine holds at several positions, asked together. The driver stands at the last of them afterwards."""
 from __future__ import annotations
 
-from typing import Iterable, Iterator, Tuple
+from typing import Iterable, Iterator, Sequence, Tuple
 
 from . import replies
 from .driver import Driver
+from .limits import FINDS, PCS
 from .replies import Registers
 from .tracing import Traced
 from .whatif.needs import has_slot, is_late
@@ -17,6 +18,36 @@ def replies_at(driver: Driver, positions: Iterable[int], command: str) -> list[l
 
 def registers_at(driver: Driver, positions: Iterable[int]) -> list[Registers]:
     return [replies.registers(lines) for lines in replies_at(driver, positions, "regs")]
+
+
+def counters_at(driver: Driver, positions: range) -> list[int]:
+    """The PC at positions that follow one another."""
+    asked = [line for first, command in of_counters(positions) for line in (f"goto {first}", command)]
+    return [counter for lines in driver.values(asked)[1::2] for _, counter in replies.timed(lines)]
+
+
+def of_counters(positions: Sequence[int]) -> Iterator[Tuple[int, str]]:
+    """Questions for the PC at positions in ascending order, each with its own position: those that follow one another are asked for together.
+    Of positions that are far apart that would take longer, where more is asked there: the run would be gone along twice."""
+    for it in stretches(positions, PCS):
+        yield it.start, f"pcs 1 {len(it)}"
+
+
+def of_steps(line: int, places: Sequence[int]) -> Iterator[str]:
+    """Questions for the steps that sent the bytes of a line at places in ascending order."""
+    for it in stretches(places, FINDS):
+        yield f"finds {line} {it.start} {len(it)}"
+
+
+def stretches(numbers: Sequence[int], most: int) -> Iterator[range]:
+    """Numbers in ascending order, as ranges of at most so many."""
+    at = 0
+    while at < len(numbers):
+        end = at + 1
+        while end < len(numbers) and end - at < most and numbers[end] == numbers[end - 1] + 1:
+            end += 1
+        yield range(numbers[at], numbers[end - 1] + 1)
+        at = end
 
 
 def followed(driver: Driver, first: int, state: Registers, count: int) -> Iterator[Tuple[Traced, Registers]]:

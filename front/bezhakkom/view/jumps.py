@@ -8,7 +8,7 @@ from .. import replies, search
 from ..driver import Driver
 from ..limits import LINES
 from ..lines import Line, Lines
-from ..states import registers_at
+from ..states import counters_at, of_steps
 from .past import Past, first_difference
 
 _TOGETHER = 256  # positions or bytes that are looked at together
@@ -80,12 +80,12 @@ def _lines(driver: Driver, lines: Lines, forward: bool, end: int) -> Iterator[Tu
     here = driver.position
     for first in range(0, _MOST_STEPS, _TOGETHER):
         if forward:
-            positions = list(range(here + first, min(here + first + _TOGETHER, end + 1)))
+            positions = range(here + first, min(here + first + _TOGETHER, end + 1))
         else:
-            positions = list(range(max(0, here - first - _TOGETHER + 1), here - first + 1))
+            positions = range(max(0, here - first - _TOGETHER + 1), here - first + 1)
         if not positions:
             return
-        found = [(at, lines.at(state.pc)) for at, state in zip(positions, registers_at(driver, positions))]
+        found = [(at, lines.at(counter)) for at, counter in zip(positions, counters_at(driver, positions))]
         yield from found if forward else reversed(found)
 
 
@@ -125,8 +125,8 @@ def _sent(driver: Driver, line: int, first: int) -> Iterator[Tuple[int, int]]:
     while place < count:
         size = min(_TOGETHER, count - place)
         driver.goto(end)
-        shown, *steps = driver.values([f"console {line} {place} {size}", *(f"find {line} {it}" for it in range(place, place + size))])
-        yield from zip(map(replies.last_number, steps), replies.console(shown)[1])
+        shown, *found = driver.values([f"console {line} {place} {size}", *of_steps(line, range(place, place + size))])
+        yield from zip((step for lines in found for _, step in replies.timed(lines)), replies.console(shown)[1])
         place += size
 
 

@@ -13,6 +13,7 @@ from ..driver import Driver, unmapped
 from ..instruction import LOADS, STORES, address, code
 from ..limits import CONSOLE_BYTES, LINES, RAM, RESET_PC, ROM, SPAN, VISIT_STEPS
 from ..program import WINDOW
+from ..states import of_counters, of_steps
 from ..symbols import Symbols
 from .past import Past, Visited
 
@@ -150,19 +151,19 @@ def sent(past: Past, view: View, hints: Dict[Any, Any]) -> Row:
     """Of each line, places of bytes with the steps that sent them. The bytes between two of them stand within a column, or all of them are
     there. And how many were sent before the view, in it, and in all."""
     known, key = past.known, ("sent", view.begin, view.end, view.columns)
-    guess = [(line, place) for line, place in hints.get(key, ()) if place not in known.steps[line]]
+    asked = _of_steps(past, hints.get(key, ()))
     ends = (view.begin, view.end, view.until)
     lack = [(line, at) for at in sorted(set(ends)) for line in range(LINES) if at not in known.counts[line]]
-    answered = yield [*((at, f"console {line} 0 1") for line, at in lack), *((view.until, f"find {line} {place}") for line, place in guess)]
+    answered = yield [*((at, f"console {line} 0 1") for line, at in lack), *((view.until, question) for _, question in asked)]
     for (line, at), lines in zip(lack, answered):
         known.counts[line][at] = replies.console(lines)[0]
-    _note_steps(past, guess, answered[len(lack):])
+    _note_steps(past, asked, answered[len(lack):])
     low, high, whole = ([known.counts[line][at] for line in range(LINES)] for at in ends)
     shown: List[Set[int]] = [set() for _ in range(LINES)]
     work = [(line, low[line], high[line] - 1) for line in range(LINES) if high[line] > low[line]]
     while work:
-        missing = sorted({(line, place) for line, first, last in work for place in (first, last) if place not in known.steps[line]})
-        _note_steps(past, missing, (yield [(view.until, f"find {line} {place}") for line, place in missing]))
+        asked = _of_steps(past, [(line, place) for line, first, last in work for place in (first, last)])
+        _note_steps(past, asked, (yield [(view.until, question) for _, question in asked]))
         more = []
         for line, first, last in work:
             shown[line].update((first, last))
@@ -177,10 +178,18 @@ def sent(past: Past, view: View, hints: Dict[Any, Any]) -> Row:
              "whole": whole[line]} for line in range(LINES)]
 
 
-def _note_steps(past: Past, places: Sequence[Tuple[int, int]], answered: Sequence[List[str]]) -> None:
-    for (line, place), lines in zip(places, answered):
-        if not replies.is_refusal(lines[0]):
-            past.known.steps[line][place] = replies.last_number(lines)
+def _of_steps(past: Past, places: Iterable[Tuple[int, int]]) -> List[Tuple[int, str]]:
+    """Questions, each with its line, for the steps of bytes by line and place, as far as they are not known."""
+    lack: List[Set[int]] = [set() for _ in range(LINES)]
+    for line, place in places:
+        if place not in past.known.steps[line]:
+            lack[line].add(place)
+    return [(line, question) for line in range(LINES) for question in of_steps(line, sorted(lack[line]))]
+
+
+def _note_steps(past: Past, asked: Sequence[Tuple[int, str]], answered: Sequence[List[str]]) -> None:
+    for (line, _), lines in zip(asked, answered):
+        past.known.steps[line].update(replies.timed(lines))
 
 
 def text(past: Past, view: View, cursor: int) -> Row:
@@ -274,9 +283,12 @@ def functions(past: Past, view: View, name: Callable[[int], str]) -> Row:
     """In which function the PC is: at all positions in view, or at samples."""
     positions, known = view.positions(), past.known.counters
     lack = [it for it in positions if it not in known]
-    answered = yield [(at, "regs") for at in lack]
-    for at, lines in zip(lack, answered):
-        known[at] = int(lines[0].split()[1], 16)
+    if view.is_exact():
+        for lines in (yield list(of_counters(lack))):
+            known.update(replies.timed(lines))
+    else:
+        answered = yield [(at, "regs") for at in lack]
+        known.update((at, int(lines[0].split()[1], 16)) for at, lines in zip(lack, answered))
     names: Dict[str, int] = {}
     runs = [[at, names.setdefault(name(known[at]), len(names))] for at in positions]
     return {"names": list(names), "at": runs, "exact": view.is_exact()}
