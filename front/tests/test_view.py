@@ -238,6 +238,21 @@ class Costs(unittest.TestCase):
                 self.assertLessEqual(max(it["batches"] for it in costs[1:]), 4, costs)
                 self.assertLessEqual(max(it["questions"] for it in costs), 600, costs)
 
+    def test_to_and_fro(self) -> None:
+        """Where many pasts are kept, an event that goes to and fro between two steps asks no more than at first."""
+        with laid_out("--to", "1000000", *LOGIN) as desk:
+            hand = Hand(desk)
+            for number in range(8):
+                hand.ask(edits=[hand.edit("change", id=2, time=41_000 + number, byte=8), hand.edit("keep", name=f"past {number}")])
+            for window in (view(0, 2 * SPAN), view(0, desk.end)):
+                costs = []
+                for turn in range(6):
+                    edit = hand.edit("change", id=2, time=70_000 if turn % 2 else 50_000, byte=8)
+                    costs.append(hand.ask(view=window, cursor=40_024, live=True, edits=[edit])["cost"])
+                    hand.rested(view=window, cursor=40_024)
+                for name in "questions", "batches":
+                    self.assertLessEqual(max(it[name] for it in costs[2:]), max(it[name] for it in costs[:2]), (name, costs))
+
     def test_the_rest_comes_in_pieces(self) -> None:
         """A run of 40 million steps is made in pieces, between which an edit may come."""
         with laid_out("--to", "40000000", *LOGIN) as desk:
