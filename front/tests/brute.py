@@ -17,7 +17,7 @@ from bezhakkom.driver import Driver
 from bezhakkom.image import Image
 from bezhakkom.limits import LINES
 from bezhakkom.log import Event, Kind
-from bezhakkom.states import registers_at, replies_at
+from bezhakkom.states import registers_at
 from front.tests.support import ROOT, start
 
 @lru_cache(None)
@@ -103,7 +103,7 @@ def word(driver: Driver, position: int, physical: int) -> int:
 
 def words(driver: Driver, end: int, physical: int) -> list[int]:
     """A word at each position before an end."""
-    return [replies.memory(it)[0] for it in replies_at(driver, range(end), f"mem {physical} 1")]
+    return replies.memory(driver.text(0, [f"mem {physical} 1", "step 1"] * end).decode().splitlines()[::2])
 
 
 def sent(driver: Driver, position: int) -> tuple[bytes, ...]:
