@@ -438,6 +438,13 @@ class Reasons(unittest.TestCase):
                     events = {it.source.number for it in wanted if isinstance(it.source, End) and it.source.origin is Origin.EVENT}
                     self.assertEqual({it["event"] for it in sources if "event" in it}, {names[it] for it in events if it is not None})
             self.assertEqual(shown["events"], [70])
+            # What was found before it is stopped is shown.
+            glances = iter(range(1 << 30))
+            desk._driver.wants_stop = lambda: desk._stop or next(glances) == 60 and desk.interrupt() is None
+            shown = hand.ask(cursor=110_000, why={"what": "session+32 control"})["why"]
+            self.assertEqual(shown["rows"][-1], {"text": "what comes before was not looked at"})
+            self.assertIn(shown["steps"], range(1, 20_000))
+            desk._driver.wants_stop = lambda: False
             for what in ("", "nothing", "console", "v1 to output"):
                 with self.assertRaises(Problem):
                     hand.ask(cursor=here, why={"what": what})

@@ -442,6 +442,7 @@ class Desk:
         """The steps that something comes from at the cursor. A row is a step, or a text where steps are not shown."""
         session = self._session
         name, question, found = Words(session, words_of(ask.text("what")), WHY).why(position)
+        self._stop = False  # what was found is shown
         self._driver.goto(position)
         value = shown.value_of(session, question, answer(self._driver, question))
         lines, made = StepLines(session), []
