@@ -4,21 +4,38 @@ from __future__ import annotations
 import os
 import pty
 import select
+import sys
 import time
+from typing import NoReturn, Optional, Sequence
 
+from bezhakkom import cli, progress
 from front.tests.support import ROOT
 
 PATIENCE = 300  # seconds, for a machine that is busy: what does not come fails then
 
 
+def copied(arguments: Sequence[str], patience: float) -> NoReturn:
+    """Runs a command in this process, on the terminal that it has, and ends it."""
+    progress._PATIENCE = patience
+    try:
+        sys.stdin, sys.stdout, sys.stderr = open(0, closefd=False), open(1, "w", closefd=False), open(2, "w", closefd=False)
+        os._exit(cli.main(arguments))
+    finally:
+        os._exit(70)
+
+
 class Terminal:
     """A command on a terminal of its own, in the repository's folder."""
 
-    def __init__(self, *arguments: str, **environment: str) -> None:
+    def __init__(self, *arguments: str, patience: Optional[float] = None, **environment: str) -> None:
+        """With a patience it shows after so many seconds how far a run is, and is a copy of this process."""
         self.process, self._terminal = pty.fork()
         if not self.process:
             os.chdir(ROOT)
-            os.execve(ROOT / "bin/wb", ["bin/wb", *arguments], {**os.environ, "TERM": "dumb", **environment})
+            os.environ.update(environment, TERM="dumb")
+            if patience is None:
+                os.execv(ROOT / "bin/wb", ["bin/wb", *arguments])
+            copied(arguments, patience)
         self._shown = b""
 
     def type(self, keys: bytes) -> None:

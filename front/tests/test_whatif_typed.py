@@ -16,7 +16,7 @@ class OnATerminal(unittest.TestCase):
     def test_ctrl_c(self) -> None:
         """One stops it, shows what was found, and all is as before. The guest takes long for each past: each value of the last byte
         has its own way through 100 million steps."""
-        terminal = Terminal("shell", *LOADER)
+        terminal = Terminal("shell", *LOADER, patience=0.2)
         terminal.until(b"wb 0> ")
         terminal.type(b"goto 100,000,000\n")
         terminal.until(b"wb 100,000,000> ")
