@@ -156,12 +156,13 @@ class InGdb(unittest.TestCase):
     def test_the_same_breakpoints(self) -> None:
         """Those that gdb makes by itself are those that it has in a session of the shell."""
         debugger.needed()
-        for kind in ("", "sys", "tlbl"):
-            lines = [it.split(" ", 1)[1] for it in Catch(kind).lines_of_gdb()]
-            shown = "\n".join(debugger.batch("exceptions/boot.s", f"catch exception {kind}", "info breakpoints"))
-            for line in lines:
+        kinds = "", "sys", "tlbl"
+        shown = "\n".join(debugger.batch("exceptions/boot.s", *(
+            it for kind in kinds for it in ("echo <kind>\\n", f"catch exception {kind}", "info breakpoints", "delete"))))
+        for kind, part in zip(kinds, shown.split("<kind>\n")[1:]):
+            for line in (it.split(" ", 1)[1] for it in Catch(kind).lines_of_gdb()):
                 place, condition = line.split(" if ")
-                self.assertRegex(shown, rf"{place[1:]} .*\n\tstop only if {re.escape(condition)}")
+                self.assertRegex(part, rf"{place[1:]} .*\n\tstop only if {re.escape(condition)}")
 
     def test_breakpoints_by_number(self) -> None:
         debugger.needed()

@@ -83,18 +83,15 @@ class Login(GdbTest):
         self.assertEqual(sum("(target evals)" in line for line in target), 3)
         self.holds(target, "Error in testing breakpoint condition:", "Division by zero")
 
-    def test_delay_slots(self) -> None:
+    def test_slots(self) -> None:
+        # lui v0, 0xbfe0; lw v0, 0(v0), which gives MSE and TRDY; nop
         lines = self.batch("starti 144", *['printf "%x %d\\n", $pc, $delay', "stepi"] * 2,
                            'printf "%x %d\\n", $pc, $delay',
                            "reverse-stepi",
-                           'printf "%x %d\\n", $pc, $delay')
-        self.holds(lines, "bfc001a0 0", "bfc001a4 1", "bfc001a8 0", "bfc001a4 1")
-
-    def test_load_slots(self) -> None:
-        # lui v0, 0xbfe0; lw v0, 0(v0), which gives MSE and TRDY; nop
-        lines = self.batch("starti 142", 'printf "%x %d %x\\n", $v0, $loadreg, $loadval', "stepi",
+                           'printf "%x %d\\n", $pc, $delay',
+                           "starti 142", 'printf "%x %d %x\\n", $v0, $loadreg, $loadval', "stepi",
                            'printf "%x %d %x\\n", $v0, $loadreg, $loadval')
-        self.holds(lines, "bfe00000 2 8020", "8020 0 0")
+        self.holds(lines, "bfc001a0 0", "bfc001a4 1", "bfc001a8 0", "bfc001a4 1", "bfe00000 2 8020", "8020 0 0")
 
     def test_finish_and_back(self) -> None:
         lines = self.batch("break send", "continue", "delete", "finish", POSITION, "reverse-stepi", "reverse-finish",
@@ -262,20 +259,17 @@ class Driver(GdbTest):
 class UserProgram(GdbTest):
     IMAGE = "user-mode/boot.s"
 
-    def test_its_memory_is_read_where_it_leads(self) -> None:
+    def test_its_memory(self) -> None:
         # The fetch of step 8 misses, and has its entry from step 15 on; the store of step 20, from 27 on, and is made
         # in step 30. The system call is taken in step 33.
         lines = batch(self.IMAGE, "starti 8", "x/xw 0x400000", "starti 19", "x/2xw 0x400000", "x/xw 0x500000",
                       "starti 31",
                       "x/xw 0x500000",
-                      "x/xw 0x80011000", "starti 34", "x/xw 0x500000")
+                      "x/xw 0x80011000", "starti 34", "x/xw 0x500000", "starti 42", "watch *(int *) 0x500000", "reverse-continue", POSITION)
         self.holds(lines, "0x400000:\tCannot access memory at address 0x400000", "0x400000:\t0x3c080050\t0x3409002a",
                    "0x500000:\tCannot access memory at address 0x500000",
-                   "0x500000:\t0x0000002a", "0x80011000 <done+4072>:\t0x0000002a", "0x500000:\t0x0000002a")
-
-    def test_its_word_is_watched(self) -> None:
-        lines = batch(self.IMAGE, "starti 42", "watch *(int *) 0x500000", "reverse-continue", POSITION)
-        self.holds(lines, "Old value = 42", "New value = 0", "at 30")
+                   "0x500000:\t0x0000002a", "0x80011000 <done+4072>:\t0x0000002a", "0x500000:\t0x0000002a",
+                   "Old value = 42", "New value = 0", "at 30")
 
     def test_steps_run_exceptions_whole(self) -> None:
         lines = batch(self.IMAGE, "starti 8", *["stepi", POSITION] * 6, *["reverse-stepi", POSITION] * 2,

@@ -33,8 +33,8 @@ class Shrink_(unittest.TestCase):
         brute.kept(self, driver, before)
         with brute.fresh(brute.image(guest), found.log) as alone:
             self.assertEqual(holds(alone), found.position)
-        for index in range(len(found.log)):
-            with brute.fresh(brute.image(guest), brute.without(found.log, index)) as alone:
+            for index in range(len(found.log)):
+                alone.revert(brute.without(found.log, index), [])
                 self.assertIsNone(holds(alone), index)
         # Each event that is left was there, at its step; its byte may be simpler.
         rest = iter((it.time, it.line, it.kind) for it in log)
