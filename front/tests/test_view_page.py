@@ -286,7 +286,11 @@ class Page(unittest.TestCase):
             self.browser.waits("document.activeElement.dataset.id === '2'")
             self.rest()
             self.assertEqual(self.browser.run("return document.querySelectorAll('.event.selected').length"), 1)
-            self.browser.keys("Delete")
+            self.browser.run("document.getElementById('keep').click()")
+            self.browser.keys("Enter")
+            self.browser.waits(f"window.bezhakkom.s.state.kept.length && {READY}")
+            self.assertFalse(self.browser.run("return document.getElementById('why').hidden"))
+            self.key_on(2, "Delete")
             self.browser.waits("document.getElementById('why').hidden")
             self.assertEqual((self.log(), self.shown()["state"]["events"]), ([], 9))
             # What is asked for and is none is said, and nothing is shown.

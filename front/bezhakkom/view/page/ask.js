@@ -5,7 +5,7 @@ const SLOW = 30, QUICK = 12;                // milliseconds of an answer after w
 const MOST_EDITS = 2000;                    // of one request
 const MOST_NAME = 200;                      // characters of the name of an edit
 let want = null, busy = false, resting = 0, failures = 0;
-let numbers = 0, edits = 0;
+let numbers = 0, edits = 0, pasts = 0;
 let unsent = [], sent = [];                 // edits that no reply has confirmed
 let draw = () => {}, settled = () => {};
 export const timings = [];                  // of each answered hand movement, for the measures
@@ -13,10 +13,12 @@ export const timings = [];                  // of each answered hand movement, f
 export function onReply(drawn, rested) { draw = drawn; settled = rested; }
 export const isBusy = () => busy || want !== null || unsent.length > 0 || sent.length > 0 || resting !== 0;
 export const lastEdit = () => edits;
+export const lastPast = () => pasts;        // of those that edits made
 
 // An edit has a number, and is made once, however often it is sent.
 export function edit(one, began) {
   if (one.name) one.name = one.name.replace(/[^\x20-\x7e]/g, "?").slice(0, MOST_NAME);
+  if (one.do !== "keep" && one.do !== "against") pasts++;
   const last = unsent.findIndex(it => one.do === "change" && it.do === "change" && it.id === one.id && it.gesture === one.gesture);
   if (last >= 0) Object.assign(unsent[last], one, {name: unsent[last].name});
   else unsent.push({...one, number: ++edits});

@@ -1,20 +1,20 @@
 // Why something holds what it does: the steps that it comes from, from the last one back. It is gone with the next edit.
 import {$, s, number, say} from "./state.js";
-import {ask, lastEdit} from "./ask.js";
+import {ask, lastPast} from "./ask.js";
 import {draw} from "./rows.js";
 
 let seek = () => {}, select = () => {}, asked = 0;
 export const onWhy = (toStep, toEvent) => { seek = toStep; select = toEvent; };
 
 export async function why(what) {
-  const edits = lastEdit();
+  const past = lastPast();
   say("Going back through the steps…");
   $("stop").hidden = false;
   const reply = await ask({why: {what}});
   $("stop").hidden = true;
   if (!reply.why) return;
-  if (lastEdit() !== edits) return say("An edit came in between.");
-  asked = edits;
+  if (lastPast() !== past) return say("An edit came in between.");
+  asked = past;
   show(reply.why);
 }
 
@@ -28,7 +28,7 @@ export function end() {
 // After each reply: the row of the step at the cursor is marked.
 export function mark() {
   if ($("why").hidden) return;
-  if (lastEdit() !== asked) return end();
+  if (lastPast() !== asked) return end();
   for (const row of $("why-steps").querySelectorAll("[data-step]")) {
     const here = +row.dataset.step === s.cursor;
     row.firstChild.textContent = here ? "▸" : "";
