@@ -275,13 +275,14 @@ class Page(unittest.TestCase):
             self.browser.waits(f"/^v1 at step 30,024: 0x00000000$/.test({name})")
             self.click("[aria-label='why the last byte before the cursor that line 0 sent']")
             self.browser.waits(f"/^byte 10 of line 0 at step 30,024: /.test({name})")
-            # The backspaces are out of view, one is selected and comes into view.
-            self.browser.run("window.bezhakkom.s.cursor = 40025; window.bezhakkom.s.view = {begin: 60000, end: 61000}; window.bezhakkom.ask({draw: true, live: true})")
+            # A backspace is out of view. It is selected, and comes into view.
+            self.browser.run("window.bezhakkom.s.cursor = 40011; window.bezhakkom.s.view = {begin: 60000, end: 61000}; window.bezhakkom.ask({draw: true, live: true})")
             self.rest()
             self.browser.run("document.getElementById('canvas').focus()")
-            self.browser.keys("y", *"session+32 control to input", "Enter")
-            self.browser.waits(f"/^session.0x20 at step 40,025: /.test({name}) && {READY}")
-            self.assertRegex(self.browser.run("return document.getElementById('said').textContent"), "It comes from [0-9,]+ steps and 3 events.$")
+            self.browser.keys("y", *"v0 to input", "Enter")
+            self.browser.waits(f"/^v0 at step 40,011: /.test({name}) && {READY}")
+            self.assertEqual(self.browser.run("return document.getElementById('said').textContent"),
+                             "v0 at step 40,011: 0x00000008. It comes from 3 steps and 1 event.")
             self.browser.run("[...document.querySelectorAll('#why button')].find(it => it.textContent === 'line 0, 0x08, step 40,000').click()")
             self.browser.waits("document.activeElement.dataset.id === '2'")
             self.rest()
