@@ -81,12 +81,12 @@ edited (Move place time) events = moving place time events
 edited (Erase from to) events = erasing from to events
 
 -- the place after an edit of the event that it adds, sets or moves
-abbrev pub place_of : Edit → List LogEvent → Option ℕ
-place_of (Add time kind line byte) events = Some (length (up_to time events))
-place_of (Delete place) events = None
-place_of (Set place byte) events = Some place
-place_of (Move place time) events = Some (length (up_to time (without place events)))
-place_of (Erase from to) events = None
+abbrev pub event_place : Edit → List LogEvent → Option ℕ
+event_place (Add time kind line byte) events = Some (length (up_to time events))
+event_place (Delete place) events = None
+event_place (Set place byte) events = Some place
+event_place (Move place time) events = Some (length (up_to time (without place events)))
+event_place (Erase from to) events = None
 
 -- the time of an event that may be there, and 0 of none
 abbrev pub time_of : Option LogEvent → ℕ

@@ -16,13 +16,13 @@ impl Log {
     ghost use Rattle.refusal.specs.declared.fault.Fault.TheVariants.{NoEvent};
     ghost use Rattle.refusal.specs.Given.{Changes, ChangesOrLacks};
     ghost use Rattle.input_log.specs.declared.event.Kind.TheVariants.{Byte, Framing, Wire};
-    ghost use Rattle.input_log.specs.Edits.{ChangesBy, adding, deleting, edited, erasing, moving, place_of, setting, time_of, times_of, up_to, without};
+    ghost use Rattle.input_log.specs.Edits.{ChangesBy, adding, deleting, edited, erasing, event_place, moving, setting, time_of, times_of, up_to, without};
 
     /// Makes an edit, and reports the number that the event then has which it adds, sets or moves. Its refusals are those of
     /// the call that it makes.
     pub fn edit(&mut self, edit: Edit) -> Result<Option<usize>, Fault>
         ensures log { ChangesBy edit (edited edit self.old) self.old self.new result }
-        ensures place { IfOk result (λ place. place ≡ place_of edit self.old) }
+        ensures place { IfOk result (λ place. place ≡ event_place edit self.old) }
     {
         match edit {
             Edit::Add {
