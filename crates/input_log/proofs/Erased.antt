@@ -1,5 +1,5 @@
 -- Erasing the events of a range of times: the places that they stand at, and what is left.
-use Rattle.std.proofs.Common.{◌≡◌, ℕ, ◌≤◌, ◌⊎◌, inl, inr, Bool, true, false, cond, not, leb, ltb, ◌&&◌, List, ◌++◌, length, take, drop, ap, sym, subst, refl, arith, ◌∙◌, Result, Ok, Err}
+use Rattle.std.proofs.Common.{◌≡◌, ℕ, ◌≤◌, ◌⊎◌, inl, inr, Bool, true, false, not, leb, ltb, ◌&&◌, List, ◌++◌, length, take, drop, ap, sym, refl, arith, ◌∙◌, Ok}
 use Rattle.std.specs.List.{filter, remove_range, prefix_len}
 use Rattle.std.specs.List.Sorted.{IsPartitionPoint}
 use Rattle.std.proofs.lemmas.Bool.{le-leb}
@@ -7,8 +7,6 @@ use Rattle.std.proofs.lemmas.Bool.Decides.{nat_tests}
 use Rattle.std.proofs.lemmas.List.{length-take-le, take-append-drop}
 use Rattle.std.proofs.lemmas.List.Elements.{filter-append}
 use Rattle.std.proofs.lemmas.List.Folds.{length-prefix_len}
-use Rattle.refusal.specs.declared.fault.Fault.{Fault}
-use Rattle.refusal.specs.declared.fault.Fault.TheVariants.{Range}
 use Rattle.input_log.specs.Limits.{max_position}
 use Rattle.input_log.specs.Event.{LogEvent}
 use Rattle.input_log.specs.Log.{AreInOrder, IsLog, window_of, earlier_than}
@@ -68,20 +66,10 @@ erased from to xs le within = rw (le-leb _ _ le, le-leb _ _ within) refl
 
 -- ---- laws
 
-accepted : (b : Bool) (made new : List LogEvent) → cond {A = Result (List LogEvent) Fault} b (Ok made) (Err Range) ≡ Ok new → made ≡ new
-accepted true made new h = cc
-accepted false made new h = absurd cc
-
-erased_is : (from to : ℕ) (log new : List LogEvent) → erasing from to log ≡ Ok new → without_times from to log ≡ new
-erased_is from to log new h = accepted (leb from to && leb to max_position) (without_times from to log) new h
-
 pub log_without_times : (from to : ℕ) (log : List LogEvent) → IsLog log → IsLog (without_times from to log)
 log_without_times from to log good = filtered_log (λ e. not (leb from e.time && ltb e.time to)) log good
 
-pub log_erased : (from to : ℕ) (log new : List LogEvent) → IsLog log → erasing from to log ≡ Ok new → IsLog new
-log_erased from to log new good h = subst IsLog (erased_is from to log new h) (log_without_times from to log good)
-
-window_kept : (from to first last : ℕ) (log : List LogEvent) → (last ≤ from) ⊎ (to ≤ first)
+pub window_kept : (from to first last : ℕ) (log : List LogEvent) → (last ≤ from) ⊎ (to ≤ first)
     → window_of first last (without_times from to log) ≡ window_of first last log
 window_kept from to first last log (inl le) =
     filter-filter (λ e. leb first e.time && ltb e.time last) (λ e. not (leb from e.time && ltb e.time to)) (λ e. leb first e.time && ltb e.time last)
@@ -89,8 +77,3 @@ window_kept from to first last log (inl le) =
 window_kept from to first last log (inr le) =
     filter-filter (λ e. leb first e.time && ltb e.time last) (λ e. not (leb from e.time && ltb e.time to)) (λ e. leb first e.time && ltb e.time last)
     (λ e. grind (arith, nat_tests)) log
-
-pub window_erased : (from to first last : ℕ) (log new : List LogEvent) → erasing from to log ≡ Ok new → (last ≤ from) ⊎ (to ≤ first)
-    → window_of first last new ≡ window_of first last log
-window_erased from to first last log new h outside =
-    ap (window_of first last) (sym (erased_is from to log new h)) ∙ window_kept from to first last log outside

@@ -4,5 +4,5 @@ pub mod Loop
 pub mod Fields
 pub mod Logs
 pub mod Editing
-pub mod Edited
 pub mod Erased
+pub mod Edited

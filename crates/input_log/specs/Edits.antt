@@ -1,9 +1,12 @@
 -- The edits of a log (own): an event is added, deleted, given another byte, or moved to another time, and those of a range
 -- of times are erased.
-use Rattle.std.specs.Prelude.{ℕ, ◌+◌, ◌++◌, ◌∷◌, ◌<◌, ◌≤◌, ◌⊎◌, List, length, take, drop, filter, slice_get, slice_set, Option, Some, None, Result, Ok, Err, not, ◌&&◌, if◌then◌else◌, nat_le, nat_lt}
+use Rattle.std.specs.Prelude.{◌≡◌, ℕ, ◌+◌, ◌++◌, ◌∷◌, ◌<◌, ◌≤◌, ◌⊎◌, Bool, true, false, List, length, take, drop, filter, min, max, slice_get, slice_set, Option, Some, None, Result, Ok, Err, not, ◌&&◌, if◌then◌else◌, nat_le, nat_lt}
 use Rattle.input_log.specs.Limits.{max_events, max_position, max_time}
 use Rattle.input_log.specs.Event.{LogEvent, max_line, max_byte}
-use Rattle.input_log.specs.Log.{later_than}
+use Rattle.input_log.specs.Log.{later_than, window_of}
+use Rattle.input_log.specs.declared.edit.Edit.{Edit}
+use Rattle.input_log.specs.declared.edit.Edit.TheVariants.{Add, Delete, Set, Move, Erase}
+use Rattle.refusal.specs.Given.{GivesFault}
 use Rattle.refusal.specs.declared.fault.Fault.{Fault}
 use Rattle.refusal.specs.declared.fault.Fault.TheVariants.{Range, NoEvent}
 
@@ -68,3 +71,55 @@ erasing from to events = if nat_le from to && nat_le to max_position then Ok (wi
 -- a time is none of those from one up to another, which is left out
 abbrev pub IsOutside : (time from to : ℕ) → Type 0
 IsOutside time from to = (time < from) ⊎ (to ≤ time)
+
+-- what an edit makes of a log
+abbrev pub edited : Edit → List LogEvent → Result (List LogEvent) Fault
+edited (Add time kind line byte) events = adding (record { time = time; kind = kind; line = line; byte = byte }) events
+edited (Delete place) events = deleting place events
+edited (Set place byte) events = setting place byte events
+edited (Move place time) events = moving place time events
+edited (Erase from to) events = erasing from to events
+
+-- the place after an edit of the event that it adds, sets or moves
+abbrev pub event_place : Edit → List LogEvent → Option ℕ
+event_place (Add time kind line byte) events = Some (length (up_to time events))
+event_place (Delete place) events = None
+event_place (Set place byte) events = Some place
+event_place (Move place time) events = Some (length (up_to time (without place events)))
+event_place (Erase from to) events = None
+
+-- the time of an event that may be there, and 0 of none
+abbrev pub time_of : Option LogEvent → ℕ
+time_of (Some event) = event.time
+time_of None = 0
+
+-- the first and the last time that an edit may change
+abbrev pub times_of : Edit → List LogEvent → ℕ × ℕ
+times_of (Add time kind line byte) events = (time, time)
+times_of (Delete place) events = (time_of (slice_get events place), time_of (slice_get events place))
+times_of (Set place byte) events = (time_of (slice_get events place), time_of (slice_get events place))
+times_of (Move place time) events = (min (time_of (slice_get events place)) time, max (time_of (slice_get events place)) time)
+times_of (Erase from to) events = (from, to)
+
+-- two logs have the same events before one time and after another one
+abbrev pub AreSameOutside : (from last : ℕ) → (a b : List LogEvent) → Type 0
+AreSameOutside from last a b = (start end : ℕ) → (end ≤ from) ⊎ (last < start) → window_of start end b ≡ window_of start end a
+
+-- the edits that take memory
+abbrev pub takes_memory : Edit → Bool
+takes_memory (Add time kind line byte) = true
+takes_memory (Delete place) = false
+takes_memory (Set place byte) = false
+takes_memory (Move place time) = false
+takes_memory (Erase from to) = false
+
+-- why an edit is refused whose plain answer is this one
+abbrev pub IsRefused : {V : Type 0} → (takes_memory : Bool) → Result V Fault → Fault → Type 0
+IsRefused true plain fault = GivesFault plain fault
+IsRefused false plain fault = plain ≡ Err fault
+
+-- A value after an edit, and what the call gave, where the plain edit leads to this value or is refused. What is refused
+-- changes nothing.
+abbrev pub ChangesBy : {V A : Type 0} → Edit → Result V Fault → (old new : V) → Result A Fault → Type 0
+ChangesBy edit plain old new (Ok answer) = plain ≡ Ok new
+ChangesBy edit plain old new (Err fault) = (new ≡ old) × IsRefused (takes_memory edit) plain fault

@@ -1,10 +1,11 @@
 //! Edits of a log. A refused edit leaves the log as it was.
 
-ghost use Rattle.std.specs.Prelude.{◌≡◌, ◌<◌, ◌≤◌, length};
+ghost use Rattle.std.specs.Prelude.{◌≡◌, ◌<◌, ◌≤◌, length, slice_get};
 ghost use Rattle.std.specs.List.{insert, remove, remove_range};
 ghost use Rattle.input_log.specs.Edits.{up_to, without};
 ghost use Rattle.input_log.specs.Log.{AreInOrder, earlier_than};
 
+use crate::edit::Edit;
 use crate::event::{Event, Kind};
 use crate::limits::{MAX_EVENTS, MAX_POSITION, MAX_TIME};
 use crate::log::Log;
@@ -15,7 +16,64 @@ impl Log {
     ghost use Rattle.refusal.specs.declared.fault.Fault.TheVariants.{NoEvent};
     ghost use Rattle.refusal.specs.Given.{Changes, ChangesOrLacks};
     ghost use Rattle.input_log.specs.declared.event.Kind.TheVariants.{Byte, Framing, Wire};
-    ghost use Rattle.input_log.specs.Edits.{up_to, without, adding, deleting, setting, moving, erasing};
+    ghost use Rattle.input_log.specs.Edits.{ChangesBy, adding, deleting, edited, erasing, event_place, moving, setting, time_of, times_of, up_to, without};
+
+    /// Makes an edit, and reports the number that the event then has which it adds, sets or moves. Its refusals are those of
+    /// the call that it makes.
+    pub fn edit(&mut self, edit: Edit) -> Result<Option<usize>, Fault>
+        ensures log { ChangesBy edit (edited edit self.old) self.old self.new result }
+        ensures place { IfOk result (λ place. place ≡ event_place edit self.old) }
+    {
+        match edit {
+            Edit::Add {
+                time,
+                kind,
+                line,
+                byte,
+            } => Ok(Some(self.put(time, kind, line, byte)?)),
+            Edit::Delete { place } => {
+                self.del(place)?;
+                Ok(None)
+            }
+            Edit::Set { place, byte } => {
+                self.set(place, byte)?;
+                Ok(Some(place as usize))
+            }
+            Edit::Move { place, time } => Ok(Some(self.move_to(place, time)?)),
+            Edit::Erase { from, to } => {
+                self.erase(from, to)?;
+                Ok(None)
+            }
+        }
+    }
+
+    /// The first and the last time that an edit may change: no event of another time is other after it.
+    pub fn times_of(&self, edit: Edit) -> (u64, u64)
+        ensures { result ≡ times_of edit self.now }
+    {
+        match edit {
+            Edit::Add { time, .. } => (time, time),
+            Edit::Delete { place } | Edit::Set { place, .. } => {
+                let time = self.time_at(place);
+                (time, time)
+            }
+            Edit::Move { place, time } => {
+                let old = self.time_at(place);
+                (old.min(time), old.max(time))
+            }
+            Edit::Erase { from, to } => (from, to),
+        }
+    }
+
+    // The time of the event of a number, or 0 where there is none.
+    fn time_at(&self, place: u64) -> u64
+        ensures { result ≡ time_of (slice_get self.now place) }
+    {
+        match self.events.get(place as usize) {
+            Some(event) => event.time,
+            None => 0,
+        }
+    }
 
     /// Adds the arrival of a byte after all events of its time or an earlier one, and reports its number. Events are
     /// numbered from 0. `Range` if the line is above 3, the time above 1,099,511,627,774, or the log full; else `Memory` if

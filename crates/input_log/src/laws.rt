@@ -1,16 +1,16 @@
 //! Laws of logs: nothing runs here.
 
-ghost use Rattle.std.specs.Prelude.{◌≡◌, ◌+◌, ◌^◌, ◌<◌, ◌≤◌, ◌⊎◌, ◌++◌, ℕ, List, Some, Ok, slice_index, slice_get};
+ghost use Rattle.std.specs.Prelude.{◌≡◌, ◌+◌, ◌^◌, ◌<◌, ◌≤◌, ◌++◌, ℕ, List, Ok, slice_index};
+ghost use Rattle.input_log.specs.declared.edit.Edit.{Edit};
+ghost use Rattle.input_log.specs.Edits.{AreSameOutside, edited, times_of};
 ghost use Rattle.input_log.specs.Event.{LogEvent};
 ghost use Rattle.input_log.specs.declared.format.Version.{Version};
-ghost use Rattle.input_log.specs.Edits.{IsOutside, adding, deleting, setting, moving, erasing};
 ghost use Rattle.input_log.specs.Log.{AreInOrder, AreWithin, IsLog, window_of, later_than};
 ghost use Rattle.input_log.specs.Spelling.{Fits, IsSpelled, spelled_in, spelling};
 ghost use Rattle.input_log.specs.Reading.{log_at};
 
 /// What is written is read again, what is read is a log, and in one version a log has one spelling. A window within a window is a
-/// window of the log, two that meet make one, and a window of a log is a log. So is an edited log, and its windows without the
-/// times of the edit are as before.
+/// window of the log, two that meet make one, and a window of a log is a log. An edit leaves the windows without its times.
 pub fn log_laws()
     ensures read { (log : List LogEvent) → IsLog log → log_at (spelling log) ≡ Ok log }
     ensures read_in { (version : Version) (log : List LogEvent) → IsLog log → Fits version log →
@@ -28,28 +28,6 @@ pub fn log_laws()
         window_of from middle log ++ window_of middle to log ≡ window_of from to log }
     ensures later { (time from to : ℕ) (log : List LogEvent) → from ≤ time + 1 →
         later_than time (window_of from to log) ≡ window_of (time + 1) to log }
-    ensures log_added { (event : LogEvent) (log new : List LogEvent) → IsLog log →
-        adding event log ≡ Ok new → IsLog new }
-    ensures log_deleted { (place : ℕ) (log new : List LogEvent) → IsLog log →
-        deleting place log ≡ Ok new → IsLog new }
-    ensures log_set { (place byte : ℕ) (log new : List LogEvent) → IsLog log →
-        setting place byte log ≡ Ok new → IsLog new }
-    ensures log_moved { (place time : ℕ) (log new : List LogEvent) → IsLog log →
-        moving place time log ≡ Ok new → IsLog new }
-    ensures log_erased { (from to : ℕ) (log new : List LogEvent) → IsLog log → erasing from to log ≡ Ok new → IsLog new }
-    ensures window_added { (event : LogEvent) (from to : ℕ) (log new : List LogEvent) → AreInOrder log →
-        adding event log ≡ Ok new → IsOutside event.time from to →
-        window_of from to new ≡ window_of from to log }
-    ensures window_deleted { (place from to : ℕ) (event : LogEvent) (log new : List LogEvent) →
-        slice_get log place ≡ Some event → deleting place log ≡ Ok new → IsOutside event.time from to →
-        window_of from to new ≡ window_of from to log }
-    ensures window_set { (place byte from to : ℕ) (event : LogEvent) (log new : List LogEvent) →
-        slice_get log place ≡ Some event → setting place byte log ≡ Ok new → IsOutside event.time from to →
-        window_of from to new ≡ window_of from to log }
-    ensures window_moved { (place time from to : ℕ) (event : LogEvent) (log new : List LogEvent) → IsLog log →
-        slice_get log place ≡ Some event → moving place time log ≡ Ok new →
-        IsOutside event.time from to → IsOutside time from to →
-        window_of from to new ≡ window_of from to log }
-    ensures window_erased { (from to first last : ℕ) (log new : List LogEvent) → erasing from to log ≡ Ok new →
-        (last ≤ from) ⊎ (to ≤ first) → window_of first last new ≡ window_of first last log }
+    ensures edited { (edit : Edit) (log new : List LogEvent) → IsLog log → edited edit log ≡ Ok new →
+        AreSameOutside (times_of edit log).0 (times_of edit log).1 log new }
 {}

@@ -2,6 +2,7 @@
 #![tactic(auto)]
 
 mod cursor;
+mod edit;
 mod edits;
 mod event;
 mod fault;
@@ -13,6 +14,7 @@ mod reading;
 mod writing;
 
 pub use cursor::Cursor;
+pub use edit::Edit;
 pub use event::{Event, Kind, same_events};
 pub use fault::{LogFault, LogKind};
 pub use laws::log_laws;

@@ -1,10 +1,11 @@
 -- Spans that go on from where one of them ends, and logs that are the same outside some times.
-use Rattle.std.proofs.Common.{◌≡◌, ℕ, zero, suc, ◌+◌, ◌-◌, ◌*◌, ◌/◌, ◌<◌, ◌≤◌, ◌⊎◌, IfSome, IsSome, List, [], ◌∷◌, ◌++◌, inl, inr, length, map, Option, Some, None, slice_get, slice_index_or, slice_set, refl, sym, ap, subst, ◌∙◌, arith}
+use Rattle.std.proofs.Common.{◌≡◌, ℕ, zero, suc, ◌+◌, ◌-◌, ◌*◌, ◌/◌, ◌<◌, ◌≤◌, ◌⊎◌, IsSome, List, [], ◌∷◌, ◌++◌, inl, inr, length, map, Option, Some, None, slice_get, slice_index_or, slice_set, refl, sym, ap, subst, ◌∙◌, arith}
 use Rattle.std.proofs.Math.Nat.{div-mul-le_self, lt-div-mul-add, mul-le-mul_right}
 use Rattle.std.proofs.Math.Path.{ap₂}
 use Rattle.std.specs.Option.{is_some}
 use Rattle.std.proofs.lemmas.Bool.{cases_eq, cases_lt, false≢true}
 use Rattle.input_log.specs.Event.{LogEvent}
+use Rattle.input_log.specs.Edits.{AreSameOutside}
 use Rattle.r3k_image.specs.Boot.{Boot}
 use Rattle.r3k_machine.specs.Reset.{reset}
 use Rattle.r3k_machine.specs.Run.{run, state_at}
@@ -17,7 +18,7 @@ use Rattle.checkpoints.specs.Kept.{Kept, first_at}
 use Rattle.present_run.specs.Index.{Agrees, Index}
 use Rattle.present_run.specs.declared.frontier.Frontier.{Frontier}
 use Rattle.present_run.specs.declared.runs.Runs.{Runs}
-use Rattle.present_run.specs.Runs.{AreOf, AreSameOutside, IsKnown}
+use Rattle.present_run.specs.Runs.{AreOf, IsKnown}
 use Rattle.present_run.proofs.Known.{known_by}
 use Rattle.present_run.proofs.Next.{and_last}
 use Rattle.present_run.proofs.Spans.{ends, next_start, some_is}

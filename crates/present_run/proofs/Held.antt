@@ -1,10 +1,9 @@
 -- States of the run that are kept.
-use Rattle.std.proofs.Common.{◌≡◌, ◌⊎◌, inl, inr, ℕ, zero, suc, ◌∷◌, length, get_or, ◌+◌, ◌*◌, ◌/◌, ◌%◌, ◌<◌, ◌≤◌, List, [], Contains, Option, Some, None, IfSome, MatchOption, nat_eq, slice_index_or, take, Result, Ok, Err, OnOk, OnErr, refl, sym, ap, ◌∙◌, subst, arith}
+use Rattle.std.proofs.Common.{◌≡◌, ◌⊎◌, inl, inr, ℕ, zero, suc, ◌∷◌, length, get_or, ◌+◌, ◌*◌, ◌/◌, ◌%◌, ◌<◌, ◌≤◌, List, [], Contains, Option, Some, None, IfSome, MatchOption, nat_eq, take, Result, Ok, Err, OnOk, OnErr, refl, sym, ap, ◌∙◌, subst, arith}
 use Rattle.std.proofs.Math.Nat.{le_trans}
 use Rattle.std.specs.Set.{remove_key}
 use Rattle.r3k_machine.specs.Run.{state_at}
 use Rattle.r3k_machine.specs.State.{State}
-use Rattle.span_fact.specs.Span.{Span}
 use Rattle.present_run.specs.Landings.{HasNone, IsNearest, positions_of}
 use Rattle.present_run.specs.History.{History}
 use Rattle.present_run.specs.Reuse.{Holding, Reaches, ServesFirst, Spends, stay}

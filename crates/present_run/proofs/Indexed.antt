@@ -1,5 +1,5 @@
 -- What joined records report together, by a rule from each to the next: for those who know the run that they are records of.
-use Rattle.std.proofs.Common.{◌≡◌, ℕ, zero, suc, ◌+◌, ◌-◌, ◌*◌, ◌<◌, ◌≤◌, List, length, Option, Some, None, slice_index_or, sym, ap, subst, ◌∙◌, arith, add-one}
+use Rattle.std.proofs.Common.{◌≡◌, ℕ, zero, suc, ◌+◌, ◌-◌, ◌*◌, ◌<◌, ◌≤◌, List, length, Option, Some, None, sym, ap, subst, ◌∙◌, arith, add-one}
 use Rattle.r3k_machine.specs.declared.target.Target.{Target}
 use Rattle.r3k_machine.specs.Run.{last_writer, later}
 use Rattle.span_fact.specs.Span.{Span}

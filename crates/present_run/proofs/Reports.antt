@@ -1,5 +1,5 @@
 -- What the run from reset reports up to a position: by an earlier position, and the steps after it.
-use Rattle.std.proofs.Common.{◌≡◌, ℕ, suc, ◌+◌, ◌-◌, ◌*◌, ◌≤◌, ◌++◌, sym, ap, ◌∙◌, arith, zero-add, List, length, map, Option, Some, None, [], ◌∷◌, ◌<◌, ◌==◌, Bool, if◌then◌else◌, add-zero, refl, true, false}
+use Rattle.std.proofs.Common.{◌≡◌, ℕ, suc, ◌+◌, ◌-◌, ◌*◌, ◌≤◌, ◌++◌, sym, ap, ◌∙◌, arith, zero-add, List, length, map, Option, Some, None, [], ◌∷◌, ◌<◌, Bool, if◌then◌else◌, add-zero, refl, true, false}
 use Rattle.std.specs.Option.{is_some}
 use Rattle.std.proofs.lemmas.Bool.{true≢false}
 use Rattle.std.proofs.Math.Path.{ap₂}

@@ -1,9 +1,8 @@
 -- The present run of a history, as it is kept (own).
-use Rattle.std.specs.Prelude.{◌≡◌, ℕ, ◌+◌, ◌-◌, ◌*◌, ◌/◌, ◌%◌, ◌<◌, ◌≤◌, ◌⊎◌, IfSome, IsTrue, List, Contains, Option, Some, None, map, slice_index_or}
+use Rattle.std.specs.Prelude.{◌≡◌, ℕ, ◌+◌, ◌-◌, ◌*◌, ◌/◌, ◌%◌, ◌<◌, ◌≤◌, IfSome, IsTrue, List, Contains, Option, Some, None, map}
 use Rattle.std.specs.Coded.{Coded-set, codes}
 use Rattle.std.proofs.Props.{props}
 use Rattle.input_log.specs.Event.{LogEvent}
-use Rattle.input_log.specs.Log.{window_of}
 use Rattle.r3k_image.specs.Boot.{Boot}
 use Rattle.r3k_machine.specs.Reset.{reset}
 use Rattle.r3k_machine.specs.declared.step.Done.{Done}
@@ -24,10 +23,6 @@ use Rattle.present_run.specs.declared.runs.Runs.{Runs}
 -- what the steps from one position up to another report
 abbrev pub steps_between : (pages : ℕ) → Boot → List LogEvent → (from to : ℕ) → List Done
 steps_between pages image log from to = trace pages log from (state_at pages image log from) (to - from)
-
--- two logs have the same events before one time and after another one
-abbrev pub AreSameOutside : (from last : ℕ) → (a b : List LogEvent) → Type 0
-AreSameOutside from last a b = (start end : ℕ) → (end ≤ from) ⊎ (last < start) → window_of start end b ≡ window_of start end a
 
 -- outside a set of pages a span ends with the words of a state
 abbrev pub EndsNear : (pages span : ℕ) → Option Span → List ℕ → State → Type 0

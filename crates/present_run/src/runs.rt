@@ -5,7 +5,8 @@ ghost use Rattle.input_log.specs.Event.{LogEvent};
 ghost use Rattle.r3k_image.specs.Boot.{Boot};
 ghost use Rattle.r3k_word.specs.Layout.{word_count_of};
 ghost use Rattle.r3k_machine.specs.Reset.{reset};
-ghost use Rattle.present_run.specs.Runs.{AreOf, AreSameOutside};
+ghost use Rattle.input_log.specs.Edits.{AreSameOutside};
+ghost use Rattle.present_run.specs.Runs.{AreOf};
 ghost use Rattle.present_run.specs.Sizes.{AreSizes};
 
 use crate::frontier::Frontier;

@@ -1,7 +1,6 @@
 use Rattle.input_log.proofs.Logs.{log_takes, log_at_again, log_at_in}
 use Rattle.input_log.proofs.Window.{narrowed, later, whole, are_within, is_log, split}
-use Rattle.input_log.proofs.Edited.{log_added, log_deleted, log_set, log_moved, window_added, window_deleted, window_set, window_moved}
-use Rattle.input_log.proofs.Erased.{log_erased, window_erased}
+use Rattle.input_log.proofs.Edited.{same_outside}
 use Rattle.input_log.proofs.laws.log_laws.Goals as goal
 
 pub returns-clause-read : goal.returns-clause-read
@@ -34,32 +33,5 @@ returns-clause-split c = split
 pub returns-clause-later : goal.returns-clause-later
 returns-clause-later c = later
 
-pub returns-clause-log_added : goal.returns-clause-log_added
-returns-clause-log_added c = log_added
-
-pub returns-clause-log_deleted : goal.returns-clause-log_deleted
-returns-clause-log_deleted c = log_deleted
-
-pub returns-clause-log_set : goal.returns-clause-log_set
-returns-clause-log_set c = log_set
-
-pub returns-clause-log_moved : goal.returns-clause-log_moved
-returns-clause-log_moved c = log_moved
-
-pub returns-clause-window_added : goal.returns-clause-window_added
-returns-clause-window_added c = window_added
-
-pub returns-clause-window_deleted : goal.returns-clause-window_deleted
-returns-clause-window_deleted c = window_deleted
-
-pub returns-clause-window_set : goal.returns-clause-window_set
-returns-clause-window_set c = window_set
-
-pub returns-clause-window_moved : goal.returns-clause-window_moved
-returns-clause-window_moved c = window_moved
-
-pub returns-clause-log_erased : goal.returns-clause-log_erased
-returns-clause-log_erased c = log_erased
-
-pub returns-clause-window_erased : goal.returns-clause-window_erased
-returns-clause-window_erased c = window_erased
+pub returns-clause-edited : goal.returns-clause-edited
+returns-clause-edited c = same_outside

@@ -4,7 +4,7 @@ use Rattle.r3k_machine.specs.State.{State}
 use Rattle.r3k_pages.specs.Pages.{SameOutside}
 use Rattle.span_fact.specs.Span.{Span, end_of}
 use Rattle.checkpoints.specs.Kept.{Kept, NearlyApplies, first_at}
-use Rattle.present_run.specs.Runs.{EndsAt, EndsNear, IsKnown, IsKnownAfter}
+use Rattle.present_run.specs.Runs.{EndsAt, EndsNear, IsKnown}
 use Rattle.present_run.specs.declared.frontier.Frontier.{Frontier}
 use Rattle.present_run.proofs.Carry.{empty}
 use Rattle.present_run.proofs.Known.{tied}

@@ -1,4 +1,4 @@
-use Rattle.std.proofs.Common.{◌≡◌, ◌+◌, ◌-◌, IfSome, ap, subst, ◌∙◌, arith}
+use Rattle.std.proofs.Common.{◌≡◌, ◌+◌, ◌-◌, IfSome, ap, subst, arith}
 use Rattle.r3k_pages.specs.Pages.{SameOutside}
 use Rattle.checkpoints.specs.Kept.{first_at}
 use Rattle.present_run.proofs.Known.{led}

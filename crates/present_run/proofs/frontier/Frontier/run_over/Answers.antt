@@ -3,8 +3,7 @@ use Rattle.std.proofs.lemmas.Bool.{false≢true}
 use Rattle.r3k_machine.specs.State.{State}
 use Rattle.span_fact.specs.Span.{Span, end_of}
 use Rattle.checkpoints.specs.Kept.{Kept, first_at, row_at}
-use Rattle.present_run.specs.Runs.{EndsAt, EndsNear, IsKnownAfter}
-use Rattle.present_run.specs.declared.frontier.Frontier.{Frontier}
+use Rattle.present_run.specs.Runs.{EndsAt, EndsNear}
 use Rattle.present_run.proofs.Differ.{same_all}
 use Rattle.present_run.proofs.Known.{tied}
 use Rattle.present_run.proofs.frontier.Frontier.run_over.Goals as goal

@@ -1,7 +1,6 @@
-use Rattle.std.proofs.Common.{◌≡◌, ℕ, ◌+◌, ◌/◌, List, None, Option, Some, arith, inl, inr, subst}
+use Rattle.std.proofs.Common.{◌≡◌, ℕ, ◌+◌, List, None, Some, arith, inl, inr, subst}
 use Rattle.std.proofs.lemmas.Bool.{cases_lt}
 use Rattle.r3k_machine.specs.Run.{last_writer}
-use Rattle.r3k_live.specs.Marks.{mark_of}
 use Rattle.span_fact.specs.Span.{Span}
 use Rattle.write_index.specs.Pages.{IsLast}
 use Rattle.present_run.specs.Index.{Index, steps_at}

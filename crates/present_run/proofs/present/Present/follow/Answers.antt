@@ -1,7 +1,6 @@
-use Rattle.std.proofs.Common.{◌/◌, ◌%◌, ◌+◌, ◌∙◌, ap, arith}
+use Rattle.std.proofs.Common.{◌/◌, ◌%◌, ◌∙◌, ap}
 use Rattle.r3k_machine.specs.Traced.{traces_at}
 use Rattle.present_run.specs.History.{History}
-use Rattle.present_run.specs.Reuse.{Reaches}
 use Rattle.present_run.specs.Shown.{holding_of}
 use Rattle.present_run.proofs.Counts.{reaches_more, spends_more}
 use Rattle.present_run.proofs.Stays.{stays_on}

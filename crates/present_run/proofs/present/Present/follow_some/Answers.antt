@@ -1,4 +1,4 @@
-use Rattle.std.proofs.Common.{◌≡◌, ℕ, suc, ◌+◌, ◌++◌, [], ◌∷◌, List, Option, Some, sym, ap, ◌∙◌, arith, refl}
+use Rattle.std.proofs.Common.{◌≡◌, ℕ, ◌+◌, ◌++◌, [], ◌∷◌, List, Some, sym, ap, ◌∙◌, arith, refl}
 use Rattle.r3k_machine.specs.declared.traced.Traced.{Traced}
 use Rattle.r3k_machine.specs.Traced.{traced_at, traces_at}
 use Rattle.present_run.specs.History.{History}

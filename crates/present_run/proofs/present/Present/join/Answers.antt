@@ -1,7 +1,6 @@
-use Rattle.std.proofs.Common.{◌≡◌, ◌⊎◌, ℕ, ◌+◌, ◌*◌, ◌<◌, ◌≤◌, List, Option, None, Some, length, map, slice_get, slice_index_or, sym, ap, subst, arith}
+use Rattle.std.proofs.Common.{◌≡◌, ◌⊎◌, ℕ, ◌+◌, ◌*◌, ◌<◌, ◌≤◌, List, Option, Some, length, map, slice_get, sym, ap, subst, arith}
 use Rattle.r3k_machine.specs.State.{State}
 use Rattle.r3k_machine.specs.Run.{state_at}
-use Rattle.r3k_machine.specs.Reset.{reset}
 use Rattle.span_fact.specs.Span.{Span}
 use Rattle.checkpoints.specs.Kept.{Kept, first_at}
 use Rattle.present_run.specs.Index.{Agrees, Index}

@@ -1,4 +1,4 @@
-use Rattle.std.proofs.Common.{◌≡◌, ℕ, ◌+◌, ◌*◌, IfSome, IsSomeAnd, List, Option, length, refl, sym, ap, subst, ◌∙◌, arith}
+use Rattle.std.proofs.Common.{◌≡◌, ℕ, ◌+◌, ◌*◌, IfSome, IsSomeAnd, List, Option, length, sym, ap, subst, ◌∙◌, arith}
 use Rattle.r3k_machine.specs.State.{State}
 use Rattle.r3k_machine.specs.Run.{state_at}
 use Rattle.span_fact.specs.Span.{Span, end_of}
@@ -6,7 +6,6 @@ use Rattle.checkpoints.specs.Kept.{Kept, NearlyApplies, first_at}
 use Rattle.present_run.specs.Index.{Agrees}
 use Rattle.present_run.specs.Reuse.{span_of}
 use Rattle.present_run.specs.Ends.{IsJoined}
-use Rattle.present_run.specs.Runs.{IsKnown}
 use Rattle.present_run.proofs.Held.{landed_over}
 use Rattle.present_run.proofs.Again.{over_joined}
 use Rattle.present_run.proofs.Known.{end_known, known_before, own_events}

@@ -1,6 +1,5 @@
-use Rattle.std.proofs.Common.{◌≡◌, ◌<◌, inl, inr, ℕ, ◌+◌, ◌*◌, List, Option, Some, None, MatchOption, map, length, slice_get, refl, sym, ap, subst, ◌∙◌, arith}
+use Rattle.std.proofs.Common.{◌≡◌, ◌<◌, inl, inr, ℕ, ◌+◌, ◌*◌, List, Option, Some, map, slice_get, refl, sym, ap, subst, ◌∙◌, arith}
 use Rattle.std.proofs.lemmas.Bool.{cases_eq}
-use Rattle.r3k_machine.specs.State.{State}
 use Rattle.r3k_machine.specs.Run.{state_at}
 use Rattle.span_fact.specs.Span.{Span}
 use Rattle.checkpoints.specs.Kept.{first_at, promoted, row_at}
@@ -11,7 +10,7 @@ use Rattle.present_run.specs.Ends.{AreEnds, IsJoined}
 use Rattle.present_run.proofs.Again.{goes_on_kept, over_kept}
 use Rattle.present_run.proofs.Counts.{first_promoted}
 use Rattle.present_run.proofs.Held.{landed_over}
-use Rattle.present_run.proofs.Near.{none_near, promoted_zero}
+use Rattle.present_run.proofs.Near.{promoted_zero}
 use Rattle.present_run.proofs.present.Present.promote.Goals as goal
 
 pub returns-then-place-eq0-clause-row : goal.returns-then-place-eq0-clause-row

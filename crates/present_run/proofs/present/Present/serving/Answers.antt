@@ -1,8 +1,7 @@
-use Rattle.std.proofs.Common.{◌≡◌, ◌<◌, ℕ, ◌+◌, ◌-◌, ◌*◌, IfSome, Option, MatchOption, slice_get, sym, ap, subst, ◌∙◌, arith}
+use Rattle.std.proofs.Common.{◌≡◌, ℕ, ◌+◌, ◌-◌, ◌*◌, IfSome, slice_get, sym, ap, subst, ◌∙◌, arith}
 use Rattle.input_log.specs.Log.{window_of}
 use Rattle.r3k_machine.specs.State.{State}
 use Rattle.r3k_machine.specs.Run.{state_at}
-use Rattle.r3k_pages.specs.Pages.{SameOutside}
 use Rattle.span_fact.specs.Span.{end_of}
 use Rattle.checkpoints.specs.Kept.{first_at, row_at}
 use Rattle.present_run.proofs.Known.{ends_there, known_before}

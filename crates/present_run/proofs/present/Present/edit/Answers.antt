@@ -1,0 +1,36 @@
+use Rattle.std.proofs.Common.{List, sym, ap, subst}
+use Rattle.input_log.specs.Event.{LogEvent}
+use Rattle.input_log.specs.Log.{IsLog}
+use Rattle.input_log.specs.Edits.{AreSameOutside, edited, times_of}
+use Rattle.present_run.specs.Runs.{AreLandings, AreOf}
+use Rattle.present_run.specs.Landings.{positions_of}
+use Rattle.present_run.specs.Shown.{landed_of}
+use Rattle.present_run.proofs.Edited.{log_edited}
+use Rattle.present_run.proofs.Held.{none}
+use Rattle.present_run.proofs.present.Present.edit.Goals as goal
+
+pub invariant_of-self-2 : goal.invariant_of-self-2
+invariant_of-self-2 g c =
+    let log = c.args.self.now.inputs.log in
+    let good = subst IsLog c.events-log.ensures.all c.events-log.ensures.log in
+    let changed : AreSameOutside (times_of c.args.edit log).0 (times_of c.args.edit log).1 log c.edit.new.self =
+    c.log_laws.ensures.edited c.args.edit log c.edit.new.self good (c.in_ok-place.ensures {u = tt}).log in record {
+      fits = c.args.self.now.fits;
+      of = c.forget.ensures.of c.args.self.now.inputs.image log c.edit.new.self c.args.self.now.of (rw c.times_of-from.ensures changed);
+      landed = λ e there. absurd (none _ e c.clear.ensures there);
+    }
+
+pub returns-clause-log : goal.returns-clause-log
+returns-clause-log g c =
+    log_edited (edited c.args.edit) (landed_of c.args.self.now) c.edit.new.self _ _ _ _ (c.in_ok-place.ensures {u = tt}).log c.forget.ensures.rows c.forget.ensures.pasts c.forget.ensures.steps
+    (ap positions_of c.clear.ensures)
+
+-- a refused edit leaves the log
+pub invariant_of-self : goal.invariant_of-self
+invariant_of-self g c =
+    let now = c.args.self.now in
+    let same = (c.in_err-place.ensures {u = tt}).log.0 in record {
+      fits = now.fits;
+      of = subst (λ (log : List LogEvent). AreOf {pages = g.row.PAGES} {span = g.row.SPAN} now.inputs.image log now.runs) (sym same) now.of;
+      landed = subst (λ (log : List LogEvent). AreLandings g.row.PAGES g.row.SPAN (record { image = now.inputs.image; log = log }) now.runs.kept.valid now.landings) (sym same) now.landed;
+    }
