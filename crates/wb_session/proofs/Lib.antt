@@ -1,4 +1,5 @@
 mod Costs
+mod Left
 mod Listed
 mod Places
 mod Refusals

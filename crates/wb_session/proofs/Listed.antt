@@ -1,12 +1,11 @@
 -- Lists of answers, one more at a time.
-use Rattle.std.proofs.Common.{◌≡◌, inl, inr, ℕ, zero, suc, ◌+◌, ◌-◌, ◌*◌, ◌%◌, ◌<◌, ◌≤◌, ◌==◌, Bool, true, false, if◌then◌else◌, List, [], ◌∷◌, ◌++◌, length, take, drop, Option, Some, None, Result, Ok, Err, slice_get, get_or, refl, sym, ap, ◌∙◌, subst, arith, add-one}
-use Rattle.std.specs.FinMap as map
+use Rattle.std.proofs.Common.{◌≡◌, inl, inr, ℕ, zero, suc, ◌+◌, ◌-◌, ◌*◌, ◌%◌, ◌<◌, ◌≤◌, Bool, true, false, if◌then◌else◌, List, [], ◌∷◌, ◌++◌, map, append_assoc, length, drop, Option, Some, None, Result, Ok, Err, slice_get, refl, sym, ap, ◌∙◌, subst, arith, add-one}
+use Rattle.std.specs.FinMap as words
 use Rattle.std.specs.Option.{is_some, ok_or}
 use Rattle.std.specs.Result.{is_ok}
 use Rattle.std.proofs.lemmas.Bool.{eq-eqb, le-leb, true≢false}
-use Rattle.std.proofs.lemmas.List.{get_or-drop, length-drop, take_all, take_more}
+use Rattle.std.proofs.lemmas.List.{append-nil, get_or-drop, length-drop, map-append, take_all, take_more}
 use Rattle.std.proofs.lemmas.Option.{get_or_from_slice_get, slice_get_cases, slice_get_within}
-use Rattle.dz_serial.specs.declared.write.Sent.{Sent}
 use Rattle.input_log.specs.Limits.{max_position}
 use Rattle.r3k_machine.specs.declared.step.Done.{Done}
 use Rattle.r3k_machine.specs.Core.{Core}
@@ -16,14 +15,14 @@ use Rattle.r3k_machine.proofs.Splits.{trace_count}
 use Rattle.r3k_word.specs.Layout.{place_of_word}
 use Rattle.refusal.specs.Given.{GivesFault}
 use Rattle.refusal.specs.declared.fault.Fault.{Fault}
-use Rattle.refusal.specs.declared.fault.Fault.TheVariants.{Memory, NotFound, Range, TooFar, Unaligned}
+use Rattle.refusal.specs.declared.fault.Fault.TheVariants.{Memory, NotFound, Range, Unaligned}
 use Rattle.timeline.proofs.Plain.{near_given, writer_given}
 use Rattle.timeline.specs.Console.{part_of}
 use Rattle.timeline.specs.History.{History}
 use Rattle.timeline.specs.Query.{core_at, of_place, sent_at, up_to_max, writer_at, writer_of}
 use Rattle.timeline.specs.declared.writer.Writer.{Writer}
 use Rattle.timeline.specs.declared.writer.Writer.TheVariants.{Step, Image, Never}
-use Rattle.wb_session.specs.Lists.{and_before, pc_of, pcs_at, pcs_from, senders_at, store_of, stores_at, stores_before}
+use Rattle.wb_session.specs.Lists.{and_before, pc_of, pcs_at, pcs_from, positions_from, senders_at, store_of, stores_at, stores_before}
 use Rattle.wb_text.specs.declared.lists.Timed.{Timed}
 
 some_is : (a b : ℕ) → Some a ≡ Some b → a ≡ b
@@ -63,13 +62,13 @@ pub stored_by : (pages : ℕ) (h : History) (position address step : ℕ) → po
     → writer_at pages h position address ≡ Ok (Step step) → last_writer (Word address) (trace_at pages h.image h.log position) ≡ Some step
 unfolding given_of
 stored_by pages h position address step near even there given =
-    step_is _ (map.get h.image.words address) step (ap given_of (sym (writer_given pages h position address near even there) ∙ given))
+    step_is _ (words.get h.image.words address) step (ap given_of (sym (writer_given pages h position address near even there) ∙ given))
 
 not_stored : (pages : ℕ) (h : History) (position address : ℕ) (writer : Writer) → is_step writer ≡ false → position ≤ max_position → address % 4 ≡ 0
     → is_some (place_of_word pages address) ≡ true → writer_at pages h position address ≡ Ok writer → last_writer (Word address) (trace_at pages h.image h.log position) ≡ None
 unfolding given_of
 not_stored pages h position address writer other near even there given =
-    none_is _ (map.get h.image.words address) writer other (ap given_of (sym (writer_given pages h position address near even there) ∙ given))
+    none_is _ (words.get h.image.words address) writer other (ap given_of (sym (writer_given pages h position address near even there) ∙ given))
 
 pub by_image : (pages : ℕ) (h : History) (position address : ℕ) → position ≤ max_position → address % 4 ≡ 0 → is_some (place_of_word pages address) ≡ true
     → writer_at pages h position address ≡ Ok Image → last_writer (Word address) (trace_at pages h.image h.log position) ≡ None
@@ -213,15 +212,40 @@ past_end xs i none =
       | inr past ↦ past.0
     ]
 
+-- positions that are some distance apart, one more
+pub positions_zero : (position distance : ℕ) → positions_from position distance 0 ≡ []
+unfolding positions_from
+positions_zero position distance = refl
+
+pub positions_more : (position distance count : ℕ)
+    → positions_from position distance (count + 1) ≡ positions_from position distance count ++ (position + count * distance) ∷ []
+unfolding positions_from
+positions_more position distance count = rw add-one refl
+
+-- the first of them stand at the front
+pub positions_front : (position distance count more : ℕ)
+    → (rest : List ℕ) × (positions_from position distance count ++ rest ≡ positions_from position distance (count + more))
+positions_front position distance count zero =
+    ([], append-nil (positions_from position distance count) ∙ ap (positions_from position distance) (let e : count ≡ count + 0 = omega arith in e))
+positions_front position distance count (suc more) =
+    let front = positions_front position distance count more in
+    let last : List ℕ = (position + (count + more) * distance) ∷ [] in (
+      front.0 ++ last,
+      sym (append_assoc (positions_from position distance count) front.0 last)
+          ∙ (ap (λ (xs : List ℕ). xs ++ last) front.1
+          ∙ (sym (positions_more position distance (count + more))
+          ∙ ap (positions_from position distance) (let e : count + more + 1 ≡ count + suc more = omega arith in e))),
+    )
+
 -- the PC at positions, one more
 pub pcs_zero : (pages : ℕ) (h : History) (position distance : ℕ) → pcs_from pages h position distance 0 ≡ []
-unfolding pcs_from
-pcs_zero pages h position distance = refl
+pcs_zero pages h position distance = ap (map (pc_of pages h)) (positions_zero position distance)
 
 pub pcs_more : (pages : ℕ) (h : History) (position distance count : ℕ)
     → pcs_from pages h position distance (count + 1) ≡ pcs_from pages h position distance count ++ pc_of pages h (position + count * distance) ∷ []
-unfolding pcs_from
-pcs_more pages h position distance count = rw add-one refl
+pcs_more pages h position distance count =
+    ap (map (pc_of pages h)) (positions_more position distance count)
+    ∙ map-append (pc_of pages h) (positions_from position distance count) ((position + count * distance) ∷ [])
 
 -- the PC, where the processor is given
 pc_or : Result Core Fault → ℕ

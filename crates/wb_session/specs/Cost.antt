@@ -1,11 +1,13 @@
 -- What a command costs (own): the steps that it may run, and what is kept after it.
-use Rattle.std.specs.Prelude.{◌≡◌, ◌⊎◌, ℕ, ◌+◌, ◌-◌, ◌*◌, ◌%◌, [], Contains, Result, Ok, Err}
+use Rattle.std.specs.Prelude.{◌≡◌, ◌⊎◌, ℕ, ◌+◌, ◌-◌, ◌*◌, ◌%◌, List, [], ◌∷◌, take, Contains, Result, Ok, Err, nat_eq}
+use Rattle.std.specs.Set.{remove_key}
 use Rattle.timeline.specs.Landed.{Asks, Landed, Lands}
 use Rattle.refusal.specs.declared.fault.Fault.{Fault}
 use Rattle.wb_text.specs.declared.command.Command.{Command}
 use Rattle.wb_text.specs.declared.command.Command.TheVariants.{Pos, Goto, Step, Back, Visit, Regs, Reg, Cp0, Tlb, Where, Mem, Dis, Console, Find, Writer, Stores, Finds, RegisterWriter, Pcs, Devices, Trace, Log, Add, Ferr, Wire, Del, Set, Move, Erase, Patch, Quit}
 use Rattle.wb_text.specs.declared.reply.Reply.{Reply}
 use Rattle.wb_text.specs.declared.reply.Reply.TheVariants.{Fault as Refused}
+use Rattle.wb_session.specs.Lists.{states_after, states_apart, stores_at}
 use Rattle.wb_session.specs.Session.{Held}
 
 -- what a reply says of a query: it was answered, or refused
@@ -47,10 +49,27 @@ pub record AsksWords (pages span count : ℕ) (old new : Held) (reply : Reply) :
   pub free : Contains old.timeline.landings old.position → new.timeline.steps ≡ old.timeline.steps
   pub lands : LandsOnce span old.position old.timeline new.timeline (outcome_of reply)
 
+-- What one query of the state at a position, which is answered, does with the kept states: as in `Lands`.
+pub record Leaves (span position : ℕ) (before after : List ℕ) : Type 0 where
+  pub again : Contains before position → after ≡ position ∷ remove_key (nat_eq position) before
+  pub first : ¬ Contains before position → (after ≡ take 8 (position ∷ before)) ⊎ (after ≡ before)
+  pub start : position % span ≡ 0 → after ≡ before
+
+-- what such queries do with them, one after the other
+abbrev pub LeavesAlong : (span : ℕ) (positions before after : List ℕ) → Type 0
+LeavesAlong span [] before after = after ≡ before
+LeavesAlong span (position ∷ rest) before after = (between : List ℕ) × Leaves span position before between × LeavesAlong span rest between after
+
+-- Where one of them is refused, those before it have left the kept states so.
+abbrev pub LeavesBy : {A : Type 0} → (span : ℕ) (positions before after : List ℕ) → Result A Fault → Type 0
+LeavesBy span positions before after (Ok answer) = LeavesAlong span positions before after
+LeavesBy span positions before after (Err fault) = (asked : ℕ) × LeavesAlong span (take asked positions) before after
+
 -- Several queries at positions up to one. The first is at that position, and costs what one query there costs. Each of at most `more` after it
--- costs at most the steps of a span.
-abbrev pub AsksUpTo : (pages span position more : ℕ) → (old new : Held) → Reply → Type 0
-AsksUpTo pages span position more old new reply = Asks pages span position (more * span) old.timeline new.timeline (outcome_of reply)
+-- costs at most the steps of a span. Those of them that ask for a state are at `positions`, in this order.
+pub record AsksStates (pages span position more : ℕ) (positions : List ℕ) (old new : Held) (reply : Reply) : Type 0 where
+  pub asks : Asks pages span position (more * span) old.timeline new.timeline (outcome_of reply)
+  pub leaves : LeavesBy span positions old.timeline.landings new.timeline.landings (outcome_of reply)
 
 -- what each command costs, on a machine with `pages` pages of RAM whose runs are kept in spans of `span` steps
 abbrev pub Costs : (pages span : ℕ) → Command → (old new : Held) → Reply → Type 0
@@ -69,10 +88,12 @@ Costs pages span (Dis address count) old new reply = AsksWords pages span count 
 Costs pages span (Console line from count) old new reply = AsksSteps pages span 0 old new reply
 Costs pages span (Find line place) old new reply = AsksSteps pages span 0 old new reply
 Costs pages span (Writer address) old new reply = AsksSteps pages span 0 old new reply
-Costs pages span (Stores address count) old new reply = AsksUpTo pages span old.position (2 * count - 1) old new reply
+Costs pages span (Stores address count) old new reply =
+    AsksStates pages span old.position (2 * count - 1) (states_after (stores_at pages old.timeline.history old.position address count)) old new reply
 Costs pages span (Finds line place count) old new reply = AsksSteps pages span ((count - 1) * (old.position % span)) old new reply
 Costs pages span (RegisterWriter register) old new reply = AsksSteps pages span 0 old new reply
-Costs pages span (Pcs distance count) old new reply = AsksUpTo pages span (old.position + (count - 1) * distance) (count - 1) old new reply
+Costs pages span (Pcs distance count) old new reply =
+    AsksStates pages span (old.position + (count - 1) * distance) (count - 1) (states_apart old.position distance count) old new reply
 Costs pages span Devices old new reply = AsksState pages span old new reply
 Costs pages span (Trace count) old new reply = AsksSteps pages span count old new reply
 Costs pages span (Log from count) old new reply = AsksNothing old new

@@ -5,7 +5,8 @@ ghost use Rattle.std.specs.Option.{SomeIff};
 ghost use Rattle.input_log.specs.Limits.{max_position};
 ghost use Rattle.refusal.specs.Given.{GivesFault};
 ghost use Rattle.timeline.specs.Landed.{Asks};
-ghost use Rattle.wb_session.specs.Lists.{pcs_at, senders_at, stores_at};
+ghost use Rattle.wb_session.specs.Cost.{LeavesBy};
+ghost use Rattle.wb_session.specs.Lists.{pcs_at, senders_at, states_after, states_apart, stores_at};
 ghost use Rattle.wb_session.specs.Session.{triple_of};
 
 use crate::session::Session;
@@ -28,6 +29,8 @@ impl<const PAGES: u32, const SPAN: u32> Session<PAGES, SPAN> {
             (GivesFault (stores_at PAGES self.old.timeline.history self.old.position address count)) }
         ensures same { triple_of self.new ≡ triple_of self.old }
         ensures asks { Asks PAGES SPAN self.old.position ((2 * count - 1) * SPAN) self.old.timeline self.new.timeline result }
+        ensures leaves { LeavesBy SPAN (states_after (stores_at PAGES self.old.timeline.history self.old.position address count))
+            self.old.timeline.landings self.new.timeline.landings result }
     {
         let address = address.get() as u32;
         if address % 4 != 0 {
@@ -94,6 +97,8 @@ impl<const PAGES: u32, const SPAN: u32> Session<PAGES, SPAN> {
             (GivesFault (pcs_at PAGES self.old.timeline.history self.old.position distance count)) }
         ensures same { triple_of self.new ≡ triple_of self.old }
         ensures asks { Asks PAGES SPAN (self.old.position + (count - 1) * distance) ((count - 1) * SPAN) self.old.timeline self.new.timeline result }
+        ensures leaves { LeavesBy SPAN (states_apart self.old.position distance count)
+            self.old.timeline.landings self.new.timeline.landings result }
     {
         let later = count.get() - 1;
         let Some(last) = position_after(self.position, distance.get(), later) else {

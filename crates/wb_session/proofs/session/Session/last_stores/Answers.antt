@@ -1,12 +1,11 @@
 -- The stores, one before the other.
-use Rattle.std.proofs.Common.{◌≡◌, ◌+◌, ◌-◌, ◌*◌, ◌%◌, ◌<◌, ◌≤◌, ◌++◌, ◌∷◌, [], ℕ, true, not, Fits, w64, List, length, append_assoc, rules, refl, sym, ap, ◌∙◌, subst, arith, Option, Some, Result, Ok, inr}
+use Rattle.std.proofs.Common.{◌≡◌, ◌+◌, ◌-◌, ◌*◌, ◌%◌, ◌<◌, ◌≤◌, ◌++◌, ◌∷◌, [], ℕ, true, not, List, append_assoc, rules, refl, sym, ap, ◌∙◌, subst, arith, Result, Ok, inr}
 use Rattle.std.proofs.Math.Nat.{mod-lt}
 use Rattle.std.proofs.Math.Path.{ap₂}
 use Rattle.std.proofs.lemmas.List.{append-nil}
 use Rattle.std.specs.Option.{is_some}
 use Rattle.refusal.specs.Given.{GivesFault, MayLackMemory}
 use Rattle.refusal.specs.declared.fault.Fault.{Fault}
-use Rattle.refusal.specs.declared.fault.Fault.TheVariants.{Memory}
 use Rattle.input_log.specs.Limits.{max_position}
 use Rattle.r3k_word.specs.Layout.{place_of_word}
 use Rattle.timeline.specs.Landed.{AsksFault}
@@ -15,9 +14,10 @@ use Rattle.timeline.specs.Query.{word_at, writer_at}
 use Rattle.timeline.specs.declared.writer.Writer.{Writer}
 use Rattle.timeline.specs.declared.writer.Writer.TheVariants.{Step, Image, Never}
 use Rattle.wb_text.specs.declared.lists.Timed.{Timed}
-use Rattle.wb_session.specs.Lists.{store_of, stores_before}
+use Rattle.wb_session.specs.Lists.{stores_at, stores_before}
 use Rattle.wb_session.specs.Session.{Held}
 use Rattle.wb_session.proofs.Costs.{AskedUpTo, up_to_all, up_to_none, up_to_one, up_to_part}
+use Rattle.wb_session.proofs.Left.{leaves_one, store_one, stores_all, stores_front}
 use Rattle.wb_session.proofs.Listed.{before_position, by_image, by_nobody, only_memory_writer, some_place, stored_by, stores_given, stores_more, stores_none, stores_zero}
 use Rattle.wb_session.proofs.Places.{only_memory, value_is}
 use Rattle.wb_session.proofs.session.Session.last_stores.Goals as goal
@@ -39,6 +39,7 @@ loop-init g c =
       len = rw c.new-stores.ensures refl;
       asked = subst (λ (s : Held). AskedUpTo pages span s.position span 0 s.timeline c.self.inside.timeline) c.self.view_is
           (up_to_none pages span c.self.inside.position span c.self.inside.timeline);
+      left = rw c.new-stores.ensures (ap (λ (s : Held). s.timeline.landings) c.self.view_is);
     }
 
 pub returns-in-Ok-Image : goal.returns-in-Ok-Image
@@ -67,13 +68,17 @@ returns-in-Ok-Image g c =
     (subst (λ (k : History). writer_at pages k here address ≡ Ok c.in-Ok-Image.field-0) c.loop.invariant.same
     (subst (λ (a : ℕ). writer_at pages before.history here a ≡ Ok c.in-Ok-Image.field-0) c.get-address.ensures.value c.in-Ok-Image.ensures.writer)) in
     let none = by_image pages h here address near even there wrote in
+    let all : stores_at pages h position address c.args.count ≡ Ok c.loop.stores.items =
+    stores_given pages h position address placed.0 c.args.count far even placed.1
+    ∙ ap (λ (xs : List Timed). let r : Result (List Timed) Fault = Ok xs in r)
+    (sym (c.loop.invariant.so_far placed.0 placed.1)
+    ∙ (ap (λ (xs : List Timed). c.loop.stores.items ++ xs) (stores_none pages h address placed.0 (c.args.count - k) here none) ∙ append-nil c.loop.stores.items)) in
     record {
-      stores =
-          stores_given pages h position address placed.0 c.args.count far even placed.1
-          ∙ ap (λ (xs : List Timed). let r : Result (List Timed) Fault = Ok xs in r)
-          (sym (c.loop.invariant.so_far placed.0 placed.1)
-          ∙ (ap (λ (xs : List Timed). c.loop.stores.items ++ xs) (stores_none pages h address placed.0 (c.args.count - k) here none) ∙ append-nil c.loop.stores.items));
+      stores = all;
       same = search rules;
+      leaves =
+          stores_all span c.loop.stores.items (stores_at pages h position address c.args.count) now.timeline.landings before.landings c.writer_at.new.self.landings all
+          c.in-Ok-Image.ensures.landings c.loop.invariant.left;
       asks =
           up_to_all {A = List Timed} pages span position span (2 * k + 1) (2 * c.args.count) now.timeline c.writer_at.new.self c.loop.stores.items (omega arith)
           (omega (arith, c.loop-test.true, c.get-end.ensures.value))
@@ -107,13 +112,17 @@ returns-in-Ok-Never g c =
     (subst (λ (k : History). writer_at pages k here address ≡ Ok c.in-Ok-Never.field-0) c.loop.invariant.same
     (subst (λ (a : ℕ). writer_at pages before.history here a ≡ Ok c.in-Ok-Never.field-0) c.get-address.ensures.value c.in-Ok-Never.ensures.writer)) in
     let none = by_nobody pages h here address near even there wrote in
+    let all : stores_at pages h position address c.args.count ≡ Ok c.loop.stores.items =
+    stores_given pages h position address placed.0 c.args.count far even placed.1
+    ∙ ap (λ (xs : List Timed). let r : Result (List Timed) Fault = Ok xs in r)
+    (sym (c.loop.invariant.so_far placed.0 placed.1)
+    ∙ (ap (λ (xs : List Timed). c.loop.stores.items ++ xs) (stores_none pages h address placed.0 (c.args.count - k) here none) ∙ append-nil c.loop.stores.items)) in
     record {
-      stores =
-          stores_given pages h position address placed.0 c.args.count far even placed.1
-          ∙ ap (λ (xs : List Timed). let r : Result (List Timed) Fault = Ok xs in r)
-          (sym (c.loop.invariant.so_far placed.0 placed.1)
-          ∙ (ap (λ (xs : List Timed). c.loop.stores.items ++ xs) (stores_none pages h address placed.0 (c.args.count - k) here none) ∙ append-nil c.loop.stores.items));
+      stores = all;
       same = search rules;
+      leaves =
+          stores_all span c.loop.stores.items (stores_at pages h position address c.args.count) now.timeline.landings before.landings c.writer_at.new.self.landings all
+          c.in-Ok-Never.ensures.landings c.loop.invariant.left;
       asks =
           up_to_all {A = List Timed} pages span position span (2 * k + 1) (2 * c.args.count) now.timeline c.writer_at.new.self c.loop.stores.items (omega arith)
           (omega (arith, c.loop-test.true, c.get-end.ensures.value))
@@ -150,6 +159,29 @@ returns-in-Err-clause-asks g c =
     (up_to_part pages span position here span (2 * k) (2 * c.args.count) now.timeline before c.writer_at.new.self some first c.loop.invariant.within small
     (omega (arith, c.loop-test.true, c.get-end.ensures.value)) c.loop.invariant.asked
     (subst (λ (f : Fault). AsksFault pages span here 0 before c.writer_at.new.self f) memory c.in-Err.ensures.asks))
+
+pub returns-in-Err-clause-leaves : goal.returns-in-Err-clause-leaves
+returns-in-Err-clause-leaves g c =
+    let pages = g.row.PAGES in
+    let span = g.row.SPAN in
+    let now = c.args.self.now in
+    let h = now.timeline.history in
+    let address = c.args.address in
+    let position = now.position in
+    let k = c.loop.counter in
+    let here = c.loop.before in
+    let before = c.loop.self-inside.timeline in
+    let even : address % 4 ≡ 0 = omega (arith, c.if-address-ne0.false, c.get-address.ensures.value) in
+    let there : is_some (place_of_word pages address) ≡ true =
+    ap (λ (a : ℕ). is_some (place_of_word pages a)) (sym c.get-address.ensures.value)
+    ∙ (ap is_some (sym c.place_of.ensures) ∙ (c.is_none.ensures ∙ ap not c.if-is_none.false)) in
+    let placed = some_place (place_of_word pages address) there in
+    let far = subst (λ (s : Held). s.position ≤ max_position) c.self.view_is c.self.invariant.position in
+    let rest = stores_before pages h address placed.0 (c.args.count - k) here in
+    stores_front span c.loop.stores.items rest (stores_at pages h position address c.args.count) now.timeline.landings before.landings c.writer_at.new.self.landings c.in-Err.fault
+    (stores_given pages h position address placed.0 c.args.count far even placed.1
+    ∙ ap (λ (xs : List Timed). let r : Result (List Timed) Fault = Ok xs in r) (sym (c.loop.invariant.so_far placed.0 placed.1)))
+    c.in-Err.ensures.landings c.loop.invariant.left
 
 pub overflow_add-step : goal.overflow_add-step
 overflow_add-step g c =
@@ -263,6 +295,29 @@ returns-in-Err-word_at-clause-asks g c =
     (λ none. absurd (omega (arith, none))) (omega (arith, lower, c.loop.invariant.within)) less (omega (arith, c.loop-test.true, c.get-end.ensures.value)) asked
     (subst (λ (f : Fault). AsksFault pages span (step + 1) 0 c.writer_at.new.self c.word_at.new.self f) memory c.in-Err-word_at.ensures.asks))
 
+pub returns-in-Err-word_at-clause-leaves : goal.returns-in-Err-word_at-clause-leaves
+returns-in-Err-word_at-clause-leaves g c =
+    let pages = g.row.PAGES in
+    let span = g.row.SPAN in
+    let now = c.args.self.now in
+    let h = now.timeline.history in
+    let address = c.args.address in
+    let position = now.position in
+    let k = c.loop.counter in
+    let here = c.loop.before in
+    let before = c.loop.self-inside.timeline in
+    let even : address % 4 ≡ 0 = omega (arith, c.if-address-ne0.false, c.get-address.ensures.value) in
+    let there : is_some (place_of_word pages address) ≡ true =
+    ap (λ (a : ℕ). is_some (place_of_word pages a)) (sym c.get-address.ensures.value)
+    ∙ (ap is_some (sym c.place_of.ensures) ∙ (c.is_none.ensures ∙ ap not c.if-is_none.false)) in
+    let placed = some_place (place_of_word pages address) there in
+    let far = subst (λ (s : Held). s.position ≤ max_position) c.self.view_is c.self.invariant.position in
+    let rest = stores_before pages h address placed.0 (c.args.count - k) here in
+    stores_front span c.loop.stores.items rest (stores_at pages h position address c.args.count) now.timeline.landings before.landings c.word_at.new.self.landings c.in-Err-word_at.fault
+    (stores_given pages h position address placed.0 c.args.count far even placed.1
+    ∙ ap (λ (xs : List Timed). let r : Result (List Timed) Fault = Ok xs in r) (sym (c.loop.invariant.so_far placed.0 placed.1)))
+    (c.in-Err-word_at.ensures.lands.refused ∙ c.in-Ok-Step.ensures.landings) c.loop.invariant.left
+
 pub loop-preserved : goal.loop-preserved
 loop-preserved g c =
     let pages = g.row.PAGES in
@@ -319,10 +374,14 @@ loop-preserved g c =
           subst (λ (n : ℕ). AskedUpTo pages span position span n now.timeline c.word_at.new.self) (let e : 2 * k + 1 + 1 ≡ 2 * (k + 1) = omega arith in e)
           (up_to_one pages span position (step + 1) span (2 * k + 1) now.timeline c.writer_at.new.self c.word_at.new.self some (λ none. absurd (omega (arith, none)))
           (omega (arith, lower, c.loop.invariant.within)) less asked c.in-Ok.ensures.asks.0 c.in-Ok.ensures.asks.1);
+      left =
+          store_one span c.loop.stores.items _ (record { time = step; word = c.in-Ok.word }) now.timeline.landings before.landings c.writer_at.new.self.landings
+          c.word_at.new.self.landings c.push.ensures.items c.in-Ok-Step.ensures.landings c.loop.invariant.left
+          (leaves_one span (step + 1) c.writer_at.new.self c.word_at.new.self c.in-Ok.word c.in-Ok.ensures.lands);
     }
 
-pub returns-clause-stores : goal.returns-clause-stores
-returns-clause-stores g c =
+pub returns : goal.returns
+returns g c =
     let pages = g.row.PAGES in
     let span = g.row.SPAN in
     let now = c.args.self.now in
@@ -332,24 +391,27 @@ returns-clause-stores g c =
     let k = c.loop.counter in
     let here = c.loop.before in
     let before = c.loop.self-inside.timeline in
-    let some : 0 < span = omega (arith, c.self.invariant.sizes.least_span) in
     let even : address % 4 ≡ 0 = omega (arith, c.if-address-ne0.false, c.get-address.ensures.value) in
     let there : is_some (place_of_word pages address) ≡ true =
     ap (λ (a : ℕ). is_some (place_of_word pages a)) (sym c.get-address.ensures.value)
     ∙ (ap is_some (sym c.place_of.ensures) ∙ (c.is_none.ensures ∙ ap not c.if-is_none.false)) in
     let placed = some_place (place_of_word pages address) there in
     let far = subst (λ (s : Held). s.position ≤ max_position) c.self.view_is c.self.invariant.position in
-    let near : here ≤ max_position = omega (arith, c.loop.invariant.within, far) in
-    let first = λ (none : 2 * k ≡ 0). c.loop.invariant.first (omega (arith, none)) in
-    let small : here % span ≤ span = (let less = mod-lt here some in omega (arith, less)) in
     let whole : c.args.count - k ≡ 0 = omega (arith, c.loop-test.false, c.get-end.ensures.value) in
+    let all : stores_at pages h position address c.args.count ≡ Ok c.loop.stores.items =
     stores_given pages h position address placed.0 c.args.count far even placed.1
     ∙ ap (λ (xs : List Timed). let r : Result (List Timed) Fault = Ok xs in r)
     (sym (c.loop.invariant.so_far placed.0 placed.1)
     ∙ (ap (λ (n : ℕ). c.loop.stores.items ++ stores_before pages h address placed.0 n here) whole
-    ∙ (ap (λ (xs : List Timed). c.loop.stores.items ++ xs) (stores_zero pages h address placed.0 here) ∙ append-nil c.loop.stores.items)))
-
-pub returns-clause-asks : goal.returns-clause-asks
-returns-clause-asks g c =
-    up_to_all {A = List Timed} g.row.PAGES g.row.SPAN c.args.self.now.position g.row.SPAN (2 * c.loop.counter) (2 * c.args.count) c.args.self.now.timeline c.loop.self-inside.timeline c.loop.stores.items
-    (omega (arith, c.loop-test.false, c.get-end.ensures.value, c.get-end.ensures.least)) (omega (arith, c.loop.auto.counter-end, c.get-end.ensures.value)) c.loop.invariant.asked
+    ∙ (ap (λ (xs : List Timed). c.loop.stores.items ++ xs) (stores_zero pages h address placed.0 here) ∙ append-nil c.loop.stores.items))) in
+    record {
+      stores = all;
+      same = search rules;
+      asks =
+          up_to_all {A = List Timed} pages span position span (2 * k) (2 * c.args.count) now.timeline before c.loop.stores.items
+          (omega (arith, c.loop-test.false, c.get-end.ensures.value, c.get-end.ensures.least)) (omega (arith, c.loop.auto.counter-end, c.get-end.ensures.value))
+          c.loop.invariant.asked;
+      leaves =
+          stores_all span c.loop.stores.items (stores_at pages h position address c.args.count) now.timeline.landings before.landings before.landings all refl
+          c.loop.invariant.left;
+    }

@@ -1,7 +1,8 @@
-use Rattle.std.proofs.Common.{◌≡◌, ◌≤◌, ◌-◌, ◌*◌, ◌++◌, ℕ, List, length, Some}
+use Rattle.std.proofs.Common.{◌≡◌, ◌≤◌, ◌-◌, ◌*◌, ◌++◌, ℕ, length, Some, Ok}
 use Rattle.r3k_word.specs.Layout.{place_of_word}
 use Rattle.timeline.specs.History.{History}
-use Rattle.wb_session.specs.Lists.{stores_before}
+use Rattle.wb_session.specs.Cost.{LeavesAlong}
+use Rattle.wb_session.specs.Lists.{states_after, stores_before}
 use Rattle.wb_session.proofs.Costs.{AskedUpTo}
 use Rattle.wb_session.proofs.session.Session.last_stores.Given as goal
 
@@ -17,4 +18,5 @@ invariant-loop g l = record {
       ≡ stores_before g.row.PAGES l.fn.self.timeline.history l.fn.address place l.fn.count l.fn.self.position;
   len : length l.stores.items ≡ l.counter;
   asked : AskedUpTo g.row.PAGES g.row.SPAN l.fn.self.position g.row.SPAN (2 * l.counter) l.fn.self.timeline l.self-inside.timeline;
+  left : LeavesAlong g.row.SPAN (states_after (Ok l.stores.items)) l.fn.self.timeline.landings l.self-inside.timeline.landings;
 }

@@ -1,10 +1,9 @@
 -- The PCs, one after the other; the last one was asked for first.
-use Rattle.std.proofs.Common.{◌≡◌, ◌+◌, ◌-◌, ◌*◌, ◌%◌, ◌<◌, ◌≤◌, ◌++◌, ◌∷◌, [], ℕ, suc, Fits, w64, List, length, refl, sym, ap, ◌∙◌, subst, arith, Result, Ok, inr}
+use Rattle.std.proofs.Common.{◌≡◌, ◌+◌, ◌-◌, ◌*◌, ◌<◌, ◌≤◌, ◌++◌, ◌∷◌, [], ℕ, List, refl, sym, ap, ◌∙◌, subst, arith, Result, Ok, inr}
 use Rattle.std.proofs.Math.Nat.{add-mul, mod-lt, mul-le-mul_right}
 use Rattle.std.proofs.Math.Path.{ap₂}
 use Rattle.refusal.specs.Given.{GivesFault, MayLackMemory}
 use Rattle.refusal.specs.declared.fault.Fault.{Fault}
-use Rattle.refusal.specs.declared.fault.Fault.TheVariants.{Memory}
 use Rattle.input_log.specs.Limits.{max_position}
 use Rattle.r3k_machine.specs.Core.{Core}
 use Rattle.r3k_machine.specs.Run.{state_at}
@@ -12,10 +11,12 @@ use Rattle.timeline.specs.Landed.{AsksFault}
 use Rattle.timeline.specs.History.{History}
 use Rattle.timeline.specs.Query.{core_at}
 use Rattle.wb_text.specs.declared.lists.Timed.{Timed}
-use Rattle.wb_session.specs.Lists.{pc_of, pcs_from}
+use Rattle.wb_session.specs.Cost.{Leaves, LeavesAlong}
+use Rattle.wb_session.specs.Lists.{pc_of, pcs_from, positions_from, states_apart}
 use Rattle.wb_session.specs.Session.{Held}
 use Rattle.wb_session.proofs.Costs.{AskedUpTo, up_to_none, up_to_one, up_to_part}
-use Rattle.wb_session.proofs.Listed.{only_memory_core, pc_is, pcs_given, pcs_more, pcs_zero}
+use Rattle.wb_session.proofs.Left.{along_front, along_one, leaves_one}
+use Rattle.wb_session.proofs.Listed.{only_memory_core, pc_is, pcs_given, pcs_more, pcs_zero, positions_front, positions_more, positions_zero}
 use Rattle.wb_session.proofs.session.Session.pcs_from.Goals as goal
 
 -- a position with its PC
@@ -31,6 +32,7 @@ pub loop-init : goal.loop-init
 loop-init g c =
     let pages = g.row.PAGES in
     let span = g.row.SPAN in
+    let now = c.args.self.now in
     let last = c.in-Some.last in
     let still = ap (λ (s : Held). s.position) c.self.view_is in
     let some : 0 < span = omega (arith, c.self.invariant.sizes.least_span) in
@@ -38,11 +40,15 @@ loop-init g c =
       same = c.in-Ok.ensures.same ∙ ap (λ (s : Held). s.timeline.history) c.self.view_is;
       still = still;
       at = omega (arith, still);
-      so_far = c.new-pcs.ensures ∙ sym (pcs_zero pages c.args.self.now.timeline.history c.args.self.now.position c.args.distance);
+      so_far = c.new-pcs.ensures ∙ sym (pcs_zero pages now.timeline.history now.position c.args.distance);
       len = rw c.new-pcs.ensures refl;
       asked = subst (λ (s : Held). AskedUpTo pages span last span 1 s.timeline c.core_at.new.self) c.self.view_is
           (up_to_one pages span last last span 0 c.self.inside.timeline c.self.inside.timeline c.core_at.new.self some (λ _. refl) (omega arith)
           (let small = mod-lt last some in omega (arith, small)) (up_to_none pages span last span c.self.inside.timeline) c.in-Ok.ensures.asks.0 c.in-Ok.ensures.asks.1);
+      left =
+          subst (λ (positions : List ℕ). LeavesAlong span (last ∷ positions) now.timeline.landings c.core_at.new.self.landings) (sym (positions_zero now.position c.args.distance))
+          (along_one span [] last now.timeline.landings c.self.inside.timeline.landings c.core_at.new.self.landings (ap (λ (s : Held). s.timeline.landings) c.self.view_is)
+          (leaves_one span last c.self.inside.timeline c.core_at.new.self c.in-Ok.core c.in-Ok.ensures.lands));
     }
 
 -- where a position on the way lies
@@ -54,6 +60,9 @@ on_the_way position k later distance last is below =
 -- the same way, by what the call was given
 same_way : (p q n m d e : ℕ) → p ≡ q → n ≡ m → d ≡ e → p + (n - 1) * d ≡ q + (m - 1) * e
 same_way p q n m d e from later distance = ap₂ (λ (a b : ℕ). a + b) from (ap₂ (λ (n d : ℕ). (n - 1) * d) later distance)
+
+pub returns-in-Err-clause-leaves : goal.returns-in-Err-clause-leaves
+returns-in-Err-clause-leaves g c = (0, c.in-Err.ensures.lands.refused ∙ ap (λ (s : Held). s.timeline.landings) c.self.view_is)
 
 pub returns-in-Err-core_at-clause-pcs : goal.returns-in-Err-core_at-clause-pcs
 returns-in-Err-core_at-clause-pcs g c =
@@ -103,6 +112,20 @@ returns-in-Err-core_at-clause-asks g c =
     (let small = mod-lt here some in omega (arith, small)) (omega (arith, c.loop-test.true, c.get-later.ensures.value)) c.loop.invariant.asked
     (subst (λ (f : Fault). AsksFault pages span here 0 before new f) memory c.in-Err-core_at.ensures.asks)))
 
+pub returns-in-Err-core_at-clause-leaves : goal.returns-in-Err-core_at-clause-leaves
+returns-in-Err-core_at-clause-leaves g c =
+    let now = c.args.self.now in
+    let k = c.loop.counter in
+    let d = c.args.distance in
+    let last = c.in-Some.last in
+    let spot = c.in-Some.ensures {u = tt} in
+    let lies : last ≡ now.position + (c.args.count - 1) * d = spot.1 ∙ same_way _ _ _ _ _ _ (ap (λ (s : Held). s.position) c.self.view_is) c.get-later.ensures.value c.get.ensures.value in
+    let front = positions_front now.position d k (c.args.count - 1 - k) in
+    let whole : k + (c.args.count - 1 - k) ≡ c.args.count - 1 = omega (arith, c.loop-test.true, c.get-later.ensures.value) in
+    along_front g.row.SPAN (last ∷ positions_from now.position d k) front.0 (states_apart now.position d c.args.count) now.timeline.landings
+    c.loop.self-inside.timeline.landings c.core_at-in-loop.new.self.landings c.in-Err-core_at.fault
+    (ap₂ (λ (p : ℕ) (ps : List ℕ). p ∷ ps) lies (front.1 ∙ ap (positions_from now.position d) whole)) c.in-Err-core_at.ensures.lands.refused c.loop.invariant.left
+
 pub overflow_add-position : goal.overflow_add-position
 overflow_add-position g c =
     let now = c.args.self.now in
@@ -148,6 +171,11 @@ loop-preserved g c =
       asked =
           up_to_one pages span last here span (k + 1) now.timeline before c.core_at-in-loop.new.self some (λ none. absurd (omega (arith, none))) (omega (arith, below))
           (let small = mod-lt here some in omega (arith, small)) c.loop.invariant.asked c.in-Ok-core_at.ensures.asks.0 c.in-Ok-core_at.ensures.asks.1;
+      left =
+          subst (λ (positions : List ℕ). LeavesAlong span (last ∷ positions) now.timeline.landings c.core_at-in-loop.new.self.landings) (sym (positions_more now.position d k))
+          (along_one span (last ∷ positions_from now.position d k) (now.position + k * d) now.timeline.landings before.landings c.core_at-in-loop.new.self.landings c.loop.invariant.left
+          (subst (λ (n : ℕ). Leaves span n before.landings c.core_at-in-loop.new.self.landings) c.loop.invariant.at
+          (leaves_one span here before c.core_at-in-loop.new.self c.in-Ok-core_at.core c.in-Ok-core_at.ensures.lands)));
     }
 
 pub returns-clause-pcs : goal.returns-clause-pcs
@@ -171,3 +199,15 @@ returns-clause-pcs g c =
     (sym (c.push-2.ensures.items
     ∙ (ap₂ (λ (xs : List Timed) (x : Timed). xs ++ x ∷ []) c.loop.invariant.so_far (timed pages h (now.position + k * d) last c.pc-last_pc.result last_is pc)
     ∙ (sym (pcs_more pages h now.position d k) ∙ ap (pcs_from pages h now.position d) whole))))
+
+pub returns-clause-leaves : goal.returns-clause-leaves
+returns-clause-leaves g c =
+    let now = c.args.self.now in
+    let k = c.loop.counter in
+    let d = c.args.distance in
+    let last = c.in-Some.last in
+    let spot = c.in-Some.ensures {u = tt} in
+    let lies : last ≡ now.position + (c.args.count - 1) * d = spot.1 ∙ same_way _ _ _ _ _ _ (ap (λ (s : Held). s.position) c.self.view_is) c.get-later.ensures.value c.get.ensures.value in
+    let whole : k ≡ c.args.count - 1 = omega (arith, c.loop.auto.counter-end, c.loop-test.false, c.get-later.ensures.value, c.get-later.ensures.least) in
+    subst (λ (positions : List ℕ). LeavesAlong g.row.SPAN positions now.timeline.landings c.loop.self-inside.timeline.landings)
+    (ap₂ (λ (p : ℕ) (ps : List ℕ). p ∷ ps) lies (ap (positions_from now.position d) whole)) c.loop.invariant.left

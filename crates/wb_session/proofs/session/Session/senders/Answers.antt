@@ -1,8 +1,8 @@
 -- The senders, one after the other.
-use Rattle.std.proofs.Common.{◌≡◌, ◌+◌, ◌-◌, ◌*◌, ◌%◌, ◌≤◌, ◌++◌, ◌∷◌, [], ℕ, List, length, refl, sym, ap, ◌∙◌, subst, arith, Result, Ok, inr, rules}
+use Rattle.std.proofs.Common.{◌≡◌, ◌+◌, ◌-◌, ◌*◌, ◌%◌, ◌≤◌, ◌++◌, ◌∷◌, [], ℕ, List, refl, sym, ap, ◌∙◌, subst, arith, Result, Ok, inr, rules}
 use Rattle.refusal.specs.Given.{GivesFault, MayLackMemory}
 use Rattle.refusal.specs.declared.fault.Fault.{Fault}
-use Rattle.refusal.specs.declared.fault.Fault.TheVariants.{Memory, NotFound}
+use Rattle.refusal.specs.declared.fault.Fault.TheVariants.{NotFound}
 use Rattle.input_log.specs.Limits.{max_position}
 use Rattle.r3k_machine.specs.Run.{senders_of, trace_at}
 use Rattle.timeline.specs.Console.{part_of}
@@ -11,7 +11,7 @@ use Rattle.timeline.specs.History.{History}
 use Rattle.timeline.specs.Query.{sent_at}
 use Rattle.wb_session.specs.Session.{Held}
 use Rattle.wb_session.proofs.Costs.{AskedUpTo, up_to_all, up_to_none, up_to_one, up_to_part}
-use Rattle.wb_session.proofs.Listed.{no_sender, only_memory_sender, part_end, part_more, past_end, sender_is, senders_given, senders_within}
+use Rattle.wb_session.proofs.Listed.{only_memory_sender, part_end, part_more, sender_is, senders_given, senders_within}
 use Rattle.wb_session.proofs.session.Session.senders.Goals as goal
 
 pub loop-more-init : goal.loop-more-init
