@@ -9,7 +9,7 @@ use Rattle.r3k_machine.specs.State.{State}
 use Rattle.r3k_machine.specs.Step.{Outcome, outcome_of_instruction, outcome_of_step}
 use Rattle.r3k_machine.specs.Reports.{DifferAt}
 use Rattle.r3k_machine.specs.Quiet.{outcome_elapsed, state_elapsed}
-use Rattle.r3k_live.specs.Going.{HasGone, HasGoneFor, IsFreeFor, PassesBy}
+use Rattle.r3k_live.specs.Going.{AreLeft, HasGone, HasGoneFor, IsFreeFor, PassesBy}
 use Rattle.r3k_live.specs.Standing.{HasStood}
 use Rattle.r3k_live.specs.Record.{is_dirty}
 use Rattle.r3k_live.specs.Recording.{Recording, Records}
@@ -73,6 +73,10 @@ pub free_of : (left log : List LogEvent) (time since free n : ℕ) → time ≡ 
 free_of left log time since free n is within same none = λ k before.
     ap (λ (t : ℕ). arriving log (t + k)) (sym is) ∙ (sym (same (time + k) (omega arith)) ∙ none k (omega arith))
 
+-- fewer times from one on
+pub fewer_free : (log : List LogEvent) (time since free n : ℕ) → time ≡ since → n ≤ free → IsFreeFor free log time → IsFreeFor n log since
+fewer_free log time since free n is within none = λ k before. ap (λ (t : ℕ). arriving log (t + k)) (sym is) ∙ none k (omega (arith, before, within))
+
 -- some steps, and then more, before which it does not stand at the address
 pub gone_on : (pages : ℕ) (log : List LogEvent) (from : ℕ) (start : State) (address made n more : ℕ) (s t : State) (r mid later : Recording)
     → HasGoneFor pages log from start address made n r s mid → HasGoneFor pages log from start address (made + n) more mid t later
@@ -103,3 +107,23 @@ no_more pages log from start address made s r gone =
       passed = λ k after below there. omega (arith, after, below);
       stood = λ before stood. subst (λ (n : ℕ). HasStood pages log from start n before r.stood) same stood;
     }
+
+-- Steps from a time on: so goes any run that is there, with the events that are left.
+abbrev pub GoesFor : (pages time : ℕ) → (events : List LogEvent) → (address n : ℕ) → (s t : State) → (r later : Recording) → Type 0
+GoesFor pages time events address n s t r later =
+    (log : List LogEvent) (from : ℕ) (start : State) (made : ℕ) → time ≡ from + made → AreLeft time events log → HasGone pages log from start made s r
+    → HasGoneFor pages log from start address made n r t later
+
+-- none
+pub goes_for_none : (pages time : ℕ) (events : List LogEvent) (address : ℕ) (s : State) (r : Recording) → GoesFor pages time events address 0 s s r r
+goes_for_none pages time events address s r = λ log from start made now left gone. no_more pages log from start address made s r gone
+
+-- and then more, from where it does not stand at the address
+pub goes_for_more : (pages time : ℕ) (events : List LogEvent) (address n more : ℕ) (s t u : State) (r mid later : Recording)
+    → GoesFor pages time events address n s t r mid → GoesFor pages (time + n) events address more t u mid later → ¬ (t.core.pc ≡ address)
+    → GoesFor pages time events address (n + more) s u r later
+goes_for_more pages time events address n more s t u r mid later first second elsewhere = λ log from start made now left gone.
+    let there = first log from start made now left gone in
+    gone_on pages log from start address made n more t u r mid later there
+    (second log from start (made + n) (omega (arith, now)) (λ later after. left later (omega (arith, after))) there.gone)
+    (λ some others here. elsewhere (ap (λ (s : State). s.core.pc) there.gone.state ∙ here))

@@ -7,6 +7,9 @@ pub mod Apart
 pub mod Overlaid
 pub mod Gone
 mod Slots
+mod Holding
 mod Noted
 mod Stood
+mod Leads
 mod Quick
+mod Turns

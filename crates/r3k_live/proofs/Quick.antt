@@ -1,5 +1,5 @@
 -- Quick steps of a page, one after another.
-use Rattle.std.proofs.Common.{◌≡◌, ℕ, ◌+◌, ◌-◌, ◌*◌, ◌/◌, ◌^◌, ◌<◌, ◌≤◌, ◌||◌, nat_eq, List, [], ◌∷◌, ◌++◌, IsFalse, refl, sym, subst, ap, ◌∙◌, arith, inl, inr}
+use Rattle.std.proofs.Common.{◌≡◌, ℕ, ◌+◌, ◌-◌, ◌*◌, ◌/◌, ◌^◌, ◌<◌, ◌≤◌, ◌||◌, nat_eq, List, [], ◌∷◌, ◌++◌, IfSome, IsFalse, refl, sym, subst, ap, ◌∙◌, arith, inl, inr}
 use Rattle.std.proofs.lemmas.Bool.{cases_lt}
 use Rattle.input_log.specs.Event.{LogEvent}
 use Rattle.r3k_word.specs.Word.{sum_of}
@@ -9,22 +9,25 @@ use Rattle.r3k_machine.specs.declared.step.Done.{Done}
 use Rattle.r3k_machine.specs.Run.{run}
 use Rattle.r3k_machine.specs.State.{State}
 use Rattle.r3k_machine.specs.Step.{outcome_of_instruction, outcome_of_step}
-use Rattle.r3k_machine.specs.Reports.{DifferAt}
+use Rattle.r3k_machine.specs.Reports.{DifferAt, IsRamWord}
 use Rattle.r3k_machine.specs.Core.{Core}
 use Rattle.r3k_machine.specs.Flow.{with_flow}
-use Rattle.r3k_machine.specs.Quiet.{IsIndexIn, LeadsOn, outcome_elapsed, state_elapsed}
+use Rattle.r3k_machine.specs.Quiet.{IsIndexIn, IsQuick, LeadsOn, outcome_elapsed, state_elapsed}
 use Rattle.r3k_machine.specs.declared.flow.Flow.{Flow}
-use Rattle.r3k_live.specs.Going.{Ends, GoesOn, GoesOver, HasGone, HasGoneFor, HasGoneOn, IsFreeFor, IsWordAt, MayGoOn}
+use Rattle.r3k_live.specs.Going.{Ends, GoesOn, GoesOver, HasGone, HasGoneFor, HasGoneOn, IsFreeFor, IsWordAt, LeadsTo, MayGoOn}
 use Rattle.r3k_live.specs.Recording.{Recording, Records}
 use Rattle.std.proofs.Math.Path.{ap₂}
 use Rattle.r3k_pages.specs.Pages.{holds}
 use Rattle.r3k_live.proofs.Gone.{gone_on, no_more, quick_more, recorded_too}
+use Rattle.r3k_live.proofs.Leads.{leads_more, leads_none, leads_one, leads_too}
 use Rattle.r3k_live.proofs.Stood.{stood_more}
 
 -- by none
 pub goes_nowhere : (pages most address : ℕ) (page : CodePage) (made : ℕ) (s : State) (r : Recording) → made ≤ most → MayGoOn pages most page s.core r
     → GoesOn pages most address page made made s s r r
 goes_nowhere pages most address page made s r within may = record {
+  least = omega arith;
+  leads = subst (λ (n : ℕ). LeadsTo pages n s s r r) (let e : 0 ≡ made - made = omega arith in e) (leads_none pages s r);
   bound = within;
   count = omega arith;
   stood = refl;
@@ -42,8 +45,11 @@ pub goes_once : (pages most address : ℕ) (page : CodePage) (made : ℕ) (s t :
     → outcome_of_step pages [] (state_elapsed made s) ≡ outcome_elapsed (made + 1) (outcome_of_instruction pages s)
     → outcome_of_instruction pages s ≡ record { state = t; done = done }
     → ((steps : List Done) → Records pages steps r → Records pages (steps ++ done ∷ []) later) → DifferAt done.stored s.words t.words
+    → IsQuick pages s → IfSome done.stored (IsRamWord pages)
     → GoesOn pages most address page made (made + 1) s t r later
-goes_once pages most address page made s t done r later within here elsewhere may count stood at_once ran records differ = record {
+goes_once pages most address page made s t done r later within here elsewhere may count stood at_once ran records differ quick ram = record {
+  least = omega arith;
+  leads = subst (λ (n : ℕ). LeadsTo pages n s t r later) (let e : 1 ≡ made + 1 - made = omega arith in e) (leads_one pages s t done r later quick ran records differ ram);
   bound = omega (arith, within);
   count = omega (arith, count);
   stood = stood;
@@ -62,6 +68,10 @@ goes_once pages most address page made s t done r later within here elsewhere ma
 pub goes_further : (pages most address : ℕ) (page : CodePage) (a b c : ℕ) (s t u : State) (r mid later : Recording)
     → GoesOn pages most address page a b s t r mid → GoesOn pages most address page b c t u mid later → GoesOn pages most address page a c s u r later
 goes_further pages most address page a b c s t u r mid later first more = record {
+  least = omega (arith, first.least, more.least);
+  leads =
+      subst (λ (n : ℕ). LeadsTo pages n s u r later) (let e : b - a + (c - b) ≡ c - a = omega (arith, first.least, more.least) in e)
+      (leads_more pages (b - a) (c - b) s t u r mid later first.leads more.leads);
   bound = more.bound;
   count = omega (arith, first.count, more.count);
   stood = more.stood ∙ first.stood;
@@ -176,6 +186,7 @@ at_next pages most begun first halt end index page s r core new flow after words
 pub over_none : (pages most address : ℕ) (page : CodePage) (s : State) (r : Recording) → ((s : State) → state_elapsed 0 s ≡ s) → MayGoOn pages most page s.core r
     → GoesOver pages most address 0 s s r r
 over_none pages most address page s r none may = record {
+  leads = leads_none pages s r;
   bound = omega arith;
   count = omega arith;
   quiet = may.quiet;
@@ -189,6 +200,9 @@ pub over_more : (pages most address : ℕ) (page : CodePage) (made n : ℕ) (s t
     → ((other : ℕ) → holds later.stood other ≡ (holds quick.stood other || nat_eq (u.core.pc / PAGE_BYTES) other)) → later.steps ≡ quick.steps
     → GoesOver pages most address n s u r later
 over_more pages most address page made n s t u r mid quick later more over on records stood steps = record {
+  leads =
+      subst (λ (k : ℕ). LeadsTo pages k s u r later) (let e : made + (n - made) ≡ n = omega (arith, more) in e)
+      (leads_too pages (made + (n - made)) s u r quick later (leads_more pages made (n - made) s t u r mid quick over.leads on.leads) records);
   bound = on.bound;
   count = omega (arith, over.count, on.count, steps, more);
   quiet = on.may.quiet;

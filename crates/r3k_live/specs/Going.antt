@@ -1,13 +1,16 @@
 -- How far a run has gone (own).
-use Rattle.std.specs.Prelude.{◌≡◌, ℕ, ◌+◌, ◌-◌, ◌<◌, ◌≤◌, List, [], IsFalse, IsTrue, slice_index}
+use Rattle.std.specs.Prelude.{◌≡◌, ℕ, zero, suc, ◌+◌, ◌-◌, ◌*◌, ◌<◌, ◌≤◌, List, [], ◌∷◌, ◌++◌, IsFalse, IsTrue, None, slice_index}
 use Rattle.input_log.specs.Event.{LogEvent}
 use Rattle.r3k_word.specs.Layout.{page_of_place}
 use Rattle.r3k_word.specs.declared.layout.TheConstants.{PAGE_WORDS}
 use Rattle.r3k_machine.specs.declared.quick.CodePage.{CodePage}
+use Rattle.r3k_machine.specs.declared.step.Done.{Done}
+use Rattle.r3k_machine.specs.declared.target.Target.TheVariants.{Memory}
 use Rattle.r3k_machine.specs.Core.{Core}
-use Rattle.r3k_machine.specs.Quiet.{IsCodePage, IsIndexIn, IsQuietFor, state_elapsed}
-use Rattle.r3k_machine.specs.Run.{arriving, run, trace}
+use Rattle.r3k_machine.specs.Quiet.{IsCodePage, IsIndexIn, IsQuick, IsQuietFor, state_elapsed}
+use Rattle.r3k_machine.specs.Run.{arriving, last_writer, run, trace}
 use Rattle.r3k_machine.specs.State.{State}
+use Rattle.r3k_machine.specs.Step.{outcome_of_instruction}
 use Rattle.r3k_pages.specs.Pages.{holds}
 use Rattle.r3k_live.specs.Record.{is_dirty}
 use Rattle.r3k_live.specs.Recording.{Recording, Records}
@@ -39,6 +42,22 @@ AreLeft time left log = (later : ℕ) → time ≤ later → arriving left later
 abbrev pub IsFreeFor : ℕ → List LogEvent → ℕ → Type 0
 IsFreeFor n log time = (k : ℕ) → k < n → arriving log (time + k) ≡ []
 
+-- the state after n instructions with no tick between them, and what these report
+unfoldable pub quick_run : (pages : ℕ) → State → (n : ℕ) → State
+quick_run pages s zero = s
+quick_run pages s (suc n) = (outcome_of_instruction pages (quick_run pages s n)).state
+
+unfoldable pub quick_trace : (pages : ℕ) → State → (n : ℕ) → List Done
+quick_trace pages s zero = []
+quick_trace pages s (suc n) = quick_trace pages s n ++ (outcome_of_instruction pages (quick_run pages s n)).done ∷ []
+
+-- n instructions, each of them quick, lead from a state to another one, and are recorded
+pub record LeadsTo (pages n : ℕ) (s t : State) (r later : Recording) : Type 0 where
+  pub quick : (k : ℕ) → k < n → IsQuick pages (quick_run pages s k)
+  pub end : t ≡ quick_run pages s n
+  pub records : (steps : List Done) → Records pages steps r → Records pages (steps ++ quick_trace pages s n) later
+  pub stayed : (place : ℕ) → last_writer (Memory (4 * place)) (quick_trace pages s n) ≡ None → slice_index s.words place ≡ slice_index t.words place
+
 -- Quick steps of a page may go on, as long as they are fewer than `most`: the times are quiet, and the page was touched before.
 pub record MayGoOn (pages most : ℕ) (page : CodePage) (core : Core) (r : Recording) : Type 0 where
   pub quiet : IsQuietFor most core
@@ -54,9 +73,11 @@ pub record HasGoneOn (pages : ℕ) (log : List LogEvent) (from : ℕ) (start : S
 -- Quick steps of a page go on from `made` of them to n. Their ticks and falls of Random are still to come. So goes any run that no event
 -- reaches in these times.
 pub record GoesOn (pages most address : ℕ) (page : CodePage) (made n : ℕ) (s t : State) (r later : Recording) : Type 0 where
+  pub least : made ≤ n
   pub bound : n ≤ most
   pub count : later.steps + made ≡ r.steps + n
   pub stood : later.stood ≡ r.stood
+  pub leads : LeadsTo pages (n - made) s t r later
   pub may : MayGoOn pages most page t.core later
   pub runs : (log : List LogEvent) (from : ℕ) (start : State) (before : ℕ) → IsFreeFor most log (from + before)
       → HasGone pages log from start (before + made) (state_elapsed made s) r
@@ -68,6 +89,7 @@ pub record GoesOver (pages most address n : ℕ) (s t : State) (r later : Record
   pub bound : n ≤ most
   pub count : later.steps ≡ r.steps + n
   pub quiet : IsQuietFor most t.core
+  pub leads : LeadsTo pages n s t r later
   pub runs : (log : List LogEvent) (from : ℕ) (start : State) (before : ℕ) → IsFreeFor most log (from + before)
       → HasGone pages log from start before s r
       → HasGoneFor pages log from start address before n r (state_elapsed n t) later

@@ -13,3 +13,4 @@ pub mod Living
 pub mod Going
 pub mod Slots
 pub mod Stores
+pub mod Waiting

@@ -8,6 +8,7 @@ ghost use Rattle.r3k_machine.specs.Run.{last_writer};
 ghost use Rattle.r3k_live.specs.Kept.{kept_step};
 ghost use Rattle.r3k_live.specs.Marks.{mark_of, registers_below};
 ghost use Rattle.r3k_live.specs.Record.{AreDestinations};
+ghost use Rattle.r3k_live.specs.Waiting.{passed_by};
 
 use r3k_machine::{Destination, Target};
 use r3k_word::layout::PAGE_BYTES;
@@ -48,6 +49,19 @@ impl Destinations {
         ensures long { length self.old ≡ 35 }
     {
         self.last[wrote.index()] = step + 1;
+    }
+
+    /// The last steps after so many come later by as many as have passed, but for those after `steps`.
+    pub(crate) fn pass(&mut self, since: u32, passed: u32, steps: u32)
+        requires fits { steps + passed < 2 ^ 32 }
+        ensures { (number : ℕ) → number ≤ 34 → slice_index self.old number ≤ steps → slice_index self.new number ≡ passed_by since passed (slice_index self.old number) }
+    {
+        for number in 0..35 {
+            let last = self.last[number];
+            if since < last && last <= steps {
+                self.last[number] = last + passed;
+            }
+        }
     }
 
     /// The last step that wrote a register, if one did: 1 to 31, 32 for HI, 33 for LO.

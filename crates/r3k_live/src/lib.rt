@@ -10,6 +10,7 @@ mod recorder;
 mod stores;
 mod stretch;
 mod virtual_pages;
+mod waiting;
 
 pub use boundary::Boundary;
 pub use destinations::{Destinations, mark};

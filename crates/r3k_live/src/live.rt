@@ -20,6 +20,7 @@ use crate::boundary::Boundary;
 use crate::flat::FlatMemory;
 use crate::recorder::Recorder;
 use crate::stretch::advance;
+use crate::waiting::PATIENCE;
 use input_log::{Cursor, Event};
 use r3k_image::Image;
 use r3k_machine::{Core, Done, Mem, Traced, follow};
@@ -273,6 +274,7 @@ fn step_until<const PAGES: u32, const SPAN: u32>(
 {
     recorder.stand(core.pc() / PAGE_BYTES);
     let mut made = 0;
+    let mut patience = PATIENCE;
     while made < steps {
         let time = from + made as u64;
         let more = advance(
@@ -283,6 +285,7 @@ fn step_until<const PAGES: u32, const SPAN: u32>(
             steps - made,
             stop,
             recorder,
+            &mut patience,
         );
         made += more;
         if core.pc() as u64 == stop {

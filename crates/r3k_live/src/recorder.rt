@@ -1,8 +1,8 @@
 //! A record of what steps reported: bytes sent, words stored into, registers written, and pages touched.
 
-ghost use Rattle.std.specs.Prelude.{◌≡◌, ◌+◌, ◌^◌, ◌<◌, ◌≤◌, [], ◌∷◌, ◌++◌, All, ◌||◌, IfOk, IfSome, IsTrue, List, length, nat_eq, vec_capacity, vec_len, ℕ};
+ghost use Rattle.std.specs.Prelude.{◌≡◌, ◌+◌, ◌^◌, ◌<◌, ◌≤◌, [], ◌∷◌, ◌++◌, ◌*◌, All, Contains, ◌||◌, IfOk, IfSome, IsTrue, List, length, nat_eq, slice_index, vec_capacity, vec_len, ℕ};
 ghost use Rattle.std.specs.List.Sorted.{IsStrictlyIncreasing};
-ghost use Rattle.r3k_word.specs.declared.layout.TheConstants.{MAX_RAM_PAGES};
+ghost use Rattle.r3k_word.specs.declared.layout.TheConstants.{MAX_RAM_PAGES, PAGE_WORDS};
 ghost use Rattle.r3k_pages.specs.Pages.{IsPageSet, holds, page_count_of};
 ghost use Rattle.r3k_machine.specs.declared.step.Done.{Done};
 ghost use Rattle.r3k_machine.specs.declared.target.Target.TheVariants.{Memory};
@@ -12,10 +12,12 @@ ghost use Rattle.r3k_machine.specs.Reports.{IsPage, IsRamWord};
 ghost use Rattle.r3k_live.specs.Marks.{marks_of};
 ghost use Rattle.r3k_live.specs.Record.{AreDestinations, AreWriters, dirty_pages, sent_from, touched_pages, with_sent};
 ghost use Rattle.r3k_live.specs.Recording.{Records};
+ghost use Rattle.r3k_live.specs.Waiting.{HasPassed, IsHeld, held_at, is_among};
 
 use crate::destinations::Destinations;
-use crate::stores::Stores;
+use crate::stores::{HELD, Held, Stores};
 use crate::virtual_pages::VirtualPages;
+use arrayvec::ArrayVec;
 use dz_serial::{Sent, SerialLine};
 use r3k_machine::{Done, Target};
 use r3k_pages::PageMarks;
@@ -215,6 +217,28 @@ impl<const PAGES: u32, const SPAN: u32> Recorder<PAGES, SPAN> {
         ensures { result ≡ holds self.now.touched page }
     {
         self.touched.holds(page)
+    }
+
+    /// The words that steps after so many stored into, with what they hold of these words, if they are few.
+    pub(crate) fn held(&self, since: u32, words: &[u32]) -> Option<ArrayVec<Held, HELD>>
+        requires { PAGES * PAGE_WORDS ≤ length words.now }
+        ensures are { IfSome result (λ held. All (IsHeld since self.now.last words.now) held.items) }
+        ensures all { IfSome result (λ held. (place : ℕ) → since < slice_index self.now.last place → Contains held.items (held_at words.now place)) }
+    {
+        self.stores.held(since, words)
+    }
+
+    /// Some more steps have passed, in which all after `since` came again, some times. Those stored into these words.
+    pub(crate) fn pass(&mut self, since: u32, passed: u32, held: &[Held])
+        requires room { self.old.steps + passed ≤ SPAN }
+        requires again { self.old.steps ≤ since + passed }
+        requires are { All (λ word. (word.place < length self.old.last) × (since < slice_index self.old.last word.place)) held.now }
+        requires all { (place : ℕ) → since < slice_index self.old.last place → IsTrue (is_among held.now place) }
+        ensures { HasPassed PAGES since passed self.old self.new }
+    {
+        self.stores.pass(passed, self.steps, held);
+        self.destinations.pass(since, passed, self.steps);
+        self.steps += passed;
     }
 
     // The same as `note` for a step that fetched from a page that was touched before.

@@ -1,6 +1,6 @@
 //! The words that steps stored into, each with its last step, and their pages.
 
-ghost use Rattle.std.specs.Prelude.{◌≡◌, ◌+◌, ◌-◌, ◌*◌, ◌/◌, ◌^◌, ◌<◌, ◌≤◌, ◌||◌, ◌++◌, ℕ, [], IfOk, IfSome, IsTrue, false, length, slice_index, slice_index_or};
+ghost use Rattle.std.specs.Prelude.{◌≡◌, ◌+◌, ◌-◌, ◌*◌, ◌/◌, ◌^◌, ◌<◌, ◌≤◌, ◌||◌, ◌++◌, ℕ, [], All, Contains, IfOk, IfSome, IsTrue, false, length, slice_index, slice_index_or};
 ghost use Rattle.r3k_word.specs.Layout.{page_of_place};
 ghost use Rattle.r3k_word.specs.declared.layout.TheConstants.{MAX_RAM_PAGES, PAGE_WORDS};
 ghost use Rattle.r3k_pages.specs.Pages.{holds};
@@ -9,10 +9,13 @@ ghost use Rattle.r3k_machine.specs.Reports.{IsRamWord};
 ghost use Rattle.r3k_live.specs.Kept.{kept_step};
 ghost use Rattle.r3k_live.specs.Recording.{page_of_store, with_writer};
 ghost use Rattle.r3k_live.specs.Stores.{AreInBlocks, AreInPages, writers_in};
+ghost use Rattle.r3k_live.specs.Waiting.{IsHeld, IsPassedBy, come_later, held_at, is_among};
+ghost use Rattle.r3k_live.specs.declared.stores.Held.{Held};
 ghost use Rattle.r3k_live.specs.declared.stores.TheConstants.{BLOCK_WORDS, PAGE_BLOCKS};
 
 use crate::destinations::step_of;
 use crate::recorder::Written;
+use arrayvec::ArrayVec;
 use r3k_pages::PageMarks;
 use r3k_word::layout::{PAGE_BYTES, PAGE_WORDS};
 use std::alloc::{AllocError, Global};
@@ -22,6 +25,16 @@ use std::marker::Model;
 const BLOCK_WORDS: usize = 32;
 
 const PAGE_BLOCKS: usize = 32;
+
+/// A word of RAM, by its place, with what it holds.
+#[derive(Clone, Copy, Debug, Default, PartialEq, Eq)]
+pub struct Held {
+    pub place: u32,
+    pub word: u32,
+}
+
+/// How many words are held at most.
+pub const HELD: usize = 64;
 
 /// For each word of RAM the last step that stored into it, and the pages that were stored into, on a machine with `PAGES` pages of RAM.
 /// All room is taken when it is made.
@@ -106,6 +119,35 @@ impl<const PAGES: u32> Stores<PAGES> {
             }
         }
         Vec::from_slice(alloc, &written)
+    }
+
+    /// The words that steps after so many stored into, with what they hold of these words, if they are few.
+    pub fn held(&self, since: u32, words: &[u32]) -> Option<ArrayVec<Held, HELD>>
+        requires words { PAGES * PAGE_WORDS ≤ length words.now }
+        ensures are { IfSome result (λ held. All (IsHeld since self.now.last words.now) held.items) }
+        ensures all { IfSome result (λ held. (place : ℕ) → since < slice_index self.now.last place → Contains held.items (held_at words.now place)) }
+    {
+        let mut held = ArrayVec::new();
+        for page in self.dirty.pages() {
+            // No word of ROM is stored into.
+            if *page < PAGES
+                && !hold_page(&mut held, &self.last, &self.blocks, words, since, *page)
+            {
+                return None;
+            }
+        }
+        Some(held)
+    }
+
+    /// The last steps of these words come later by as many as have passed, but for those after `steps`.
+    pub fn pass(&mut self, passed: u32, steps: u32, held: &[Held])
+        requires fits { steps + passed < 2 ^ 32 }
+        requires held { All (IsPassedBy steps passed self.old.last) held.now }
+        ensures last { (place : ℕ) → slice_index self.new.last place ≡ come_later (is_among held.now place) steps passed (slice_index self.old.last place) }
+        ensures long { length self.new.last ≡ length self.old.last }
+        ensures dirty { self.new.dirty ≡ self.old.dirty }
+    {
+        come_later(&mut self.last, passed, steps, held);
     }
 
     /// The pages that were stored into.
@@ -204,5 +246,77 @@ fn forget_block(last: &mut Vec<u32>, block: usize)
     let first = block * BLOCK_WORDS;
     for place in first..first + BLOCK_WORDS {
         last[place] = 0;
+    }
+}
+
+// Adds the words of a page that have a step after so many. Says whether there was room.
+fn hold_page(
+    held: &mut ArrayVec<Held, HELD>,
+    last: &[u32],
+    blocks: &[bool],
+    words: &[u32],
+    since: u32,
+    page: u32,
+) -> bool
+    requires within { (page + 1) * PAGE_WORDS ≤ length last.now }
+    requires few { length last.now < 2 ^ 32 }
+    requires whole { length last.now ≡ length blocks.now * BLOCK_WORDS }
+    requires marked { AreInBlocks last.now blocks.now }
+    requires words { length last.now ≤ length words.now }
+    ensures are { All (IsHeld since last.now words.now) held.old.items → All (IsHeld since last.now words.now) held.new.items }
+    ensures more { (word : Held) → Contains held.old.items word → Contains held.new.items word }
+    ensures all { IsTrue result → (place : ℕ) → page_of_place place ≡ page → since < slice_index last.now place → Contains held.new.items (held_at words.now place) }
+{
+    let first = page as usize * PAGE_BLOCKS;
+    for block in first..first + PAGE_BLOCKS {
+        if blocks[block] && !hold_block(held, last, words, since, block) {
+            return false;
+        }
+    }
+    true
+}
+
+// Adds the words of a block that have a step after so many. Says whether there was room.
+fn hold_block(
+    held: &mut ArrayVec<Held, HELD>,
+    last: &[u32],
+    words: &[u32],
+    since: u32,
+    block: usize,
+) -> bool
+    requires within { (block + 1) * BLOCK_WORDS ≤ length last.now }
+    requires few { length last.now < 2 ^ 32 }
+    requires words { length last.now ≤ length words.now }
+    ensures are { All (IsHeld since last.now words.now) held.old.items → All (IsHeld since last.now words.now) held.new.items }
+    ensures more { (word : Held) → Contains held.old.items word → Contains held.new.items word }
+    ensures all { IsTrue result → (place : ℕ) → place / BLOCK_WORDS ≡ block → since < slice_index last.now place → Contains held.new.items (held_at words.now place) }
+{
+    let first = block * BLOCK_WORDS;
+    for place in first..first + BLOCK_WORDS {
+        if last[place] > since {
+            if held.is_full() {
+                return false;
+            }
+            held.push(Held {
+                place: place as u32,
+                word: words[place],
+            });
+        }
+    }
+    true
+}
+
+// The last steps of these words come later by as many as have passed, but for those after `steps`.
+fn come_later(last: &mut Vec<u32>, passed: u32, steps: u32, held: &[Held])
+    requires fits { steps + passed < 2 ^ 32 }
+    requires held { All (IsPassedBy steps passed last.old.items) held.now }
+    ensures long { length last.new.items ≡ length last.old.items }
+    ensures last { (place : ℕ) → slice_index last.new.items place ≡ come_later (is_among held.now place) steps passed (slice_index last.old.items place) }
+{
+    for word in held {
+        let place = word.place as usize;
+        if last[place] <= steps {
+            last[place] += passed;
+        }
     }
 }

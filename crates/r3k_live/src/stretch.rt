@@ -1,6 +1,6 @@
 //! Stretches of quick steps.
 
-ghost use Rattle.std.specs.Prelude.{◌≡◌, ◌+◌, ◌-◌, ◌*◌, ◌/◌, ◌^◌, ◌<◌, ◌≤◌, IsFalse, IsTrue, ℕ, [], List};
+ghost use Rattle.std.specs.Prelude.{◌≡◌, ◌+◌, ◌-◌, ◌*◌, ◌/◌, ◌^◌, ◌<◌, ◌≤◌, IfSome, IsFalse, IsTrue, ℕ, [], List};
 ghost use Rattle.input_log.specs.Event.{LogEvent};
 ghost use Rattle.r3k_word.specs.declared.layout.TheConstants.{PAGE_BYTES, PAGE_WORDS};
 ghost use Rattle.r3k_machine.specs.Flow.{IsStraight, with_flow};
@@ -15,6 +15,7 @@ ghost use Rattle.r3k_live.specs.Slots.{is_open};
 
 use crate::flat::FlatMemory;
 use crate::recorder::Recorder;
+use crate::waiting::wait;
 use input_log::Cursor;
 use r3k_machine::step::step;
 use r3k_machine::{
@@ -186,11 +187,11 @@ fn quick_steps<const PAGES: u32, const SPAN: u32>(
     }
 }
 
-// Makes quick steps in an open page that was touched before, and goes on with them from page to page, as long as these were touched
-// before. They are at most `most`, and it ends after one that comes to an address. Their ticks and falls of Random are still to come.
-// The page of the last of them is open.
+/// Makes quick steps in an open page that was touched before, and goes on with them from page to page, as long as these were touched
+/// before. They are at most `most`, and it ends after one that comes to an address. Their ticks and falls of Random are still to come.
+/// The page of the last of them is open.
 #[inline(always)]
-fn quick_pages<const PAGES: u32, const SPAN: u32>(
+pub(crate) fn quick_pages<const PAGES: u32, const SPAN: u32>(
     core: &mut Core,
     flow: &mut Flow,
     memory: &mut FlatMemory<PAGES>,
@@ -304,10 +305,49 @@ fn run_in<const PAGES: u32, const SPAN: u32>(
     made + quiet_on(core, memory, page, wanted, recorder)
 }
 
-// The same from where the machine stands, in quiet times. It makes no step where the times are not quiet, or the page was not touched
-// yet.
+/// Where quick steps may begin: the page of the PC, and how many steps the times are quiet for.
+#[derive(Clone, Copy)]
+pub(crate) struct Ready {
+    pub(crate) page: CodePage,
+    pub(crate) steps: u32,
+}
+
+/// Whether quick steps may begin where the machine stands, at most `most`: the times are quiet, and the page was touched before. It opens
+/// the page.
 #[inline(always)]
-fn stretch<const PAGES: u32, const SPAN: u32>(
+pub(crate) fn get_ready<const PAGES: u32, const SPAN: u32>(
+    core: &mut Core,
+    memory: &mut FlatMemory<PAGES>,
+    time: u64,
+    events: &Cursor,
+    most: u32,
+    recorder: &Recorder<PAGES, SPAN>,
+) -> Option<Ready>
+    ensures steps { IfSome result (λ ready. (0 < ready.steps) × (ready.steps ≤ most)) }
+    ensures may { IfSome result (λ ready. MayGoOn PAGES ready.steps ready.page core.old recorder.now) }
+    ensures page { IfSome result (λ ready. IsPage PAGES ready.page.page) }
+    ensures opened { IfSome result (λ ready. IsTrue (is_open PAGES memory.new.opened.items ready.page.page)) }
+    ensures free { IfSome result (λ ready. (log : List LogEvent) → AreLeft time events.now log → IsFreeFor ready.steps log time) }
+    ensures core { core.new ≡ core.old }
+    ensures words { memory.new.words.items ≡ memory.old.words.items }
+{
+    let quiet = core.quiet()?;
+    let steps = u64::from(most.min(quiet)).min(events.free(time)) as u32;
+    if steps == 0 {
+        return None;
+    }
+    let page = code_page(core, memory)?;
+    if !recorder.has_touched(page.page) {
+        return None;
+    }
+    memory.open_page(page.page);
+    Some(Ready { page, steps })
+}
+
+/// Makes steps from where the machine stands, in quiet times. It makes none where the times are not quiet, or the page was not touched
+/// yet.
+#[inline(always)]
+pub(crate) fn stretch<const PAGES: u32, const SPAN: u32>(
     core: &mut Core,
     memory: &mut FlatMemory<PAGES>,
     time: u64,
@@ -323,24 +363,14 @@ fn stretch<const PAGES: u32, const SPAN: u32>(
         HasGone PAGES log from start made (state_of core.old memory.old) recorder.old →
         HasGoneFor PAGES log from start stop made result recorder.old (state_of core.new memory.new) recorder.new }
 {
-    let Some(quiet) = core.quiet() else {
+    let Some(ready) = get_ready(core, memory, time, events, most, recorder) else {
         return 0;
     };
-    let free = u64::from(most.min(quiet)).min(events.free(time)) as u32;
-    if free == 0 {
-        return 0;
-    }
-    let Some(page) = code_page(core, memory) else {
-        return 0;
-    };
-    if !recorder.has_touched(page.page) {
-        return 0;
-    }
-    memory.open_page(page.page);
-    run_in(core, memory, page, free, stop, recorder)
+    run_in(core, memory, ready.page, ready.steps, stop, recorder)
 }
 
-/// Makes steps, at least one and at most `most`: a stretch, or else one step. It ends after a step that comes to an address.
+/// Makes steps, at least one and at most `most`: a stretch, and more where the machine waits after as long a stretch as this, or else one
+/// step. It ends after a step that comes to an address.
 #[inline(always)]
 pub(crate) fn advance<const PAGES: u32, const SPAN: u32>(
     core: &mut Core,
@@ -350,6 +380,7 @@ pub(crate) fn advance<const PAGES: u32, const SPAN: u32>(
     most: u32,
     stop: u64,
     recorder: &mut Recorder<PAGES, SPAN>,
+    patience: &mut u32,
 ) -> u32
     requires some { 0 < most }
     requires room { recorder.old.steps + most ≤ SPAN }
@@ -361,7 +392,13 @@ pub(crate) fn advance<const PAGES: u32, const SPAN: u32>(
         HasGoneFor PAGES log from start stop made result recorder.old (state_of core.new memory.new) recorder.new }
     ensures left { AreLeft (time + result) events.new events.old }
 {
-    let made = stretch(core, memory, time, events, most, stop, recorder);
+    let longest = most.min(*patience);
+    let made = stretch(core, memory, time, events, longest, stop, recorder);
+    if made > 0 && made == *patience && core.pc() as u64 != stop {
+        let time = time + made as u64;
+        let more = most - made;
+        return made + wait(core, memory, time, events, more, stop, recorder, patience);
+    }
     if made > 0 {
         return made;
     }

@@ -79,6 +79,7 @@ pub record Keeps (old new : Core) : Type 0 where
   pub cause : new.cop0.cause ≡ old.cop0.cause
   pub entry_hi : new.cop0.entry_hi ≡ old.cop0.entry_hi
   pub entries : new.entries ≡ old.entries
+  pub caches : new.caches ≡ old.caches
   pub leads : LeadsOn old new
 
 -- sampling leaves the registers as they are where it leaves Cause so
@@ -199,6 +200,7 @@ pub record Ages (ticks falls : ℕ) (s : State) (now later : Completion) : Type 
   pub is : now ≡ Ok outcome
   pub later_is : later ≡ Ok (outcome_aged ticks falls outcome)
   pub keeps : Keeps s.core outcome.state.core
+  pub unsent : outcome.done.sent ≡ None
 
 -- a register but Random, after falls
 read_aged : (falls : ℕ) (c : Registers) (number : ℕ) → ¬ (number ≡ RANDOM) → register_of (control.fallen_by falls c) number ≡ register_of c number
@@ -207,12 +209,12 @@ read_aged falls c number other = rw (ne_eqb number RANDOM other) refl
 pub effect_ages : (pages ticks falls : ℕ) (s : State) (page : ℕ) (effect : Effect) → StaySteady s.core.bus s.core.bus → StaySteady s.core.bus (after ticks s.core.bus)
     → IsQuickEffect pages s effect
     → Ages ticks falls s (completion_of_effect pages s page effect) (completion_of_effect pages (state_aged ticks falls s) page effect)
-effect_ages pages ticks falls s page (Write number value) now later quick = record { outcome = _; is = refl; later_is = refl; keeps = record { bus = refl; user = refl; isolated = refl; unwanted = λ still. still; cause = refl; entry_hi = refl; entries = refl; leads = record { here = refl; next = λ free. refl } } }
-effect_ages pages ticks falls s page (WriteHi value) now later quick = record { outcome = _; is = refl; later_is = refl; keeps = record { bus = refl; user = refl; isolated = refl; unwanted = λ still. still; cause = refl; entry_hi = refl; entries = refl; leads = record { here = refl; next = λ free. refl } } }
-effect_ages pages ticks falls s page (WriteLo value) now later quick = record { outcome = _; is = refl; later_is = refl; keeps = record { bus = refl; user = refl; isolated = refl; unwanted = λ still. still; cause = refl; entry_hi = refl; entries = refl; leads = record { here = refl; next = λ free. refl } } }
-effect_ages pages ticks falls s page (WriteHiLo hi lo) now later quick = record { outcome = _; is = refl; later_is = refl; keeps = record { bus = refl; user = refl; isolated = refl; unwanted = λ still. still; cause = refl; entry_hi = refl; entries = refl; leads = record { here = refl; next = λ free. refl } } }
-effect_ages pages ticks falls s page (Jump target) now later quick = record { outcome = _; is = refl; later_is = refl; keeps = record { bus = refl; user = refl; isolated = refl; unwanted = λ still. still; cause = refl; entry_hi = refl; entries = refl; leads = record { here = refl; next = λ taken. absurd (true≢false taken) } } }
-effect_ages pages ticks falls s page (JumpAndLink target number value) now later quick = record { outcome = _; is = refl; later_is = refl; keeps = record { bus = refl; user = refl; isolated = refl; unwanted = λ still. still; cause = refl; entry_hi = refl; entries = refl; leads = record { here = refl; next = λ taken. absurd (true≢false taken) } } }
+effect_ages pages ticks falls s page (Write number value) now later quick = record { outcome = _; is = refl; later_is = refl; keeps = record { bus = refl; user = refl; isolated = refl; unwanted = λ still. still; cause = refl; entry_hi = refl; entries = refl; caches = refl; leads = record { here = refl; next = λ free. refl } }; unsent = refl }
+effect_ages pages ticks falls s page (WriteHi value) now later quick = record { outcome = _; is = refl; later_is = refl; keeps = record { bus = refl; user = refl; isolated = refl; unwanted = λ still. still; cause = refl; entry_hi = refl; entries = refl; caches = refl; leads = record { here = refl; next = λ free. refl } }; unsent = refl }
+effect_ages pages ticks falls s page (WriteLo value) now later quick = record { outcome = _; is = refl; later_is = refl; keeps = record { bus = refl; user = refl; isolated = refl; unwanted = λ still. still; cause = refl; entry_hi = refl; entries = refl; caches = refl; leads = record { here = refl; next = λ free. refl } }; unsent = refl }
+effect_ages pages ticks falls s page (WriteHiLo hi lo) now later quick = record { outcome = _; is = refl; later_is = refl; keeps = record { bus = refl; user = refl; isolated = refl; unwanted = λ still. still; cause = refl; entry_hi = refl; entries = refl; caches = refl; leads = record { here = refl; next = λ free. refl } }; unsent = refl }
+effect_ages pages ticks falls s page (Jump target) now later quick = record { outcome = _; is = refl; later_is = refl; keeps = record { bus = refl; user = refl; isolated = refl; unwanted = λ still. still; cause = refl; entry_hi = refl; entries = refl; caches = refl; leads = record { here = refl; next = λ taken. absurd (true≢false taken) } }; unsent = refl }
+effect_ages pages ticks falls s page (JumpAndLink target number value) now later quick = record { outcome = _; is = refl; later_is = refl; keeps = record { bus = refl; user = refl; isolated = refl; unwanted = λ still. still; cause = refl; entry_hi = refl; entries = refl; caches = refl; leads = record { here = refl; next = λ taken. absurd (true≢false taken) } }; unsent = refl }
 effect_ages pages ticks falls s page (Trap trap) now later quick = absurd quick
 effect_ages pages ticks falls s page (Load kind number address) now later (physical, loaded, plain, is) = record {
   outcome = _;
@@ -220,7 +222,8 @@ effect_ages pages ticks falls s page (Load kind number address) now later (physi
   later_is =
       plain_load pages s.core.bus (state_aged ticks falls s) page kind number address (meaning_of_load (aged ticks falls s.core) kind address) physical loaded
       later (record { means = meaning_aged ticks falls s.core _ _ address ∙ plain.means; shared = plain.shared }) is;
-  keeps = record { bus = refl; user = refl; isolated = refl; unwanted = λ still. still; cause = refl; entry_hi = refl; entries = refl; leads = record { here = refl; next = λ free. refl } };
+  keeps = record { bus = refl; user = refl; isolated = refl; unwanted = λ still. still; cause = refl; entry_hi = refl; entries = refl; caches = refl; leads = record { here = refl; next = λ free. refl } };
+  unsent = refl;
 }
 effect_ages pages ticks falls s page (Store kind address value) now later (physical, word, plain, stands) = record {
   outcome = _;
@@ -228,18 +231,19 @@ effect_ages pages ticks falls s page (Store kind address value) now later (physi
   later_is =
       plain_store pages (state_aged ticks falls s) page kind address value (meaning_of_store (aged ticks falls s.core) kind address) physical word
       (record { means = meaning_aged ticks falls s.core _ _ address ∙ plain.means; shared = plain.shared }) stands;
-  keeps = record { bus = refl; user = refl; isolated = refl; unwanted = λ still. still; cause = refl; entry_hi = refl; entries = refl; leads = record { here = refl; next = λ free. refl } };
+  keeps = record { bus = refl; user = refl; isolated = refl; unwanted = λ still. still; cause = refl; entry_hi = refl; entries = refl; caches = refl; leads = record { here = refl; next = λ free. refl } };
+  unsent = refl;
 }
 effect_ages pages ticks falls s page (MoveFromControl number control) now later (other, usable) =
-    record { outcome = _; is = refl; later_is = rw (read_aged falls s.core.cop0 control other) refl; keeps = record { bus = refl; user = refl; isolated = refl; unwanted = λ still. still; cause = refl; entry_hi = refl; entries = refl; leads = record { here = refl; next = λ free. refl } } }
+    record { outcome = _; is = refl; later_is = rw (read_aged falls s.core.cop0 control other) refl; keeps = record { bus = refl; user = refl; isolated = refl; unwanted = λ still. still; cause = refl; entry_hi = refl; entries = refl; caches = refl; leads = record { here = refl; next = λ free. refl } }; unsent = refl }
 effect_ages pages ticks falls s page (MoveToControl control value) now later (inr (is, stays), usable) =
     subst (λ (n : ℕ). Ages ticks falls s (completion_of_effect pages s page (MoveToControl n value)) (completion_of_effect pages (state_aged ticks falls s) page (MoveToControl n value)))
     (sym is)
-    (record { outcome = _; is = refl; later_is = refl; keeps = record { bus = refl; user = stays.user; isolated = stays.isolated; unwanted = λ _. stays.unwanted; cause = refl; entry_hi = refl; entries = refl; leads = record { here = refl; next = λ free. refl } } })
+    (record { outcome = _; is = refl; later_is = refl; keeps = record { bus = refl; user = stays.user; isolated = stays.isolated; unwanted = λ _. stays.unwanted; cause = refl; entry_hi = refl; entries = refl; caches = refl; leads = record { here = refl; next = λ free. refl } }; unsent = refl })
 effect_ages pages ticks falls s page (MoveToControl control value) now later (inl is, usable) =
     subst (λ (n : ℕ). Ages ticks falls s (completion_of_effect pages s page (MoveToControl n value)) (completion_of_effect pages (state_aged ticks falls s) page (MoveToControl n value)))
     (sym is)
-    (record { outcome = _; is = refl; later_is = refl; keeps = record { bus = refl; user = refl; isolated = refl; unwanted = λ still. still; cause = refl; entry_hi = refl; entries = refl; leads = record { here = refl; next = λ free. refl } } })
+    (record { outcome = _; is = refl; later_is = refl; keeps = record { bus = refl; user = refl; isolated = refl; unwanted = λ still. still; cause = refl; entry_hi = refl; entries = refl; caches = refl; leads = record { here = refl; next = λ free. refl } }; unsent = refl })
 effect_ages pages ticks falls s page ReturnFromException now later quick = absurd quick
 effect_ages pages ticks falls s page ReadEntry now later quick = absurd quick
 effect_ages pages ticks falls s page WriteIndexedEntry now later quick = absurd quick
@@ -269,6 +273,7 @@ aged_word pages ticks falls s quick = rw (quick.usable, quick.decoded) refl
 pub record InstructionAges (pages ticks falls : ℕ) (s : State) : Type 0 where
   pub later_is : outcome_of_instruction pages (state_aged ticks falls s) ≡ outcome_aged ticks falls (outcome_of_instruction pages s)
   pub keeps : Keeps s.core (outcome_of_instruction pages s).state.core
+  pub unsent : (outcome_of_instruction pages s).done.sent ≡ None
 
 pub instruction_ages : (pages ticks falls : ℕ) (s : State) → StaySteady s.core.bus s.core.bus → StaySteady s.core.bus (after ticks s.core.bus)
     → IsQuick pages s → InstructionAges pages ticks falls s
@@ -283,6 +288,7 @@ instruction_ages pages ticks falls s is_steady stay_steady quick =
     ∙ ap (outcome_of_completion (state_aged ticks falls s) w.page) (aged_word pages ticks falls s quick ∙ ages.later_is) in record {
       later_is = later ∙ ap (outcome_aged ticks falls) (sym now);
       keeps = subst (λ (o : Outcome). Keeps s.core o.state.core) (sym now) ages.keeps;
+      unsent = ap (λ (o : Outcome). o.done.sent) now ∙ ages.unsent;
     }
 
 -- before the instruction of a quiet step there is a tick alone

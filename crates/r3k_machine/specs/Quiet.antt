@@ -138,3 +138,9 @@ pub record IsIndexIn (page : CodePage) (address index : ℕ) : Type 0 where
 pub record LeadsOn (old new : Core) : Type 0 where
   pub here : new.pc ≡ old.next_pc
   pub next : IsFalse new.delay → new.next_pc ≡ sum_of new.pc 4
+
+-- a step leaves translation entries, caches and devices as they are
+pub record LeavesRest (old new : Core) : Type 0 where
+  pub entries : new.entries ≡ old.entries
+  pub caches : new.caches ≡ old.caches
+  pub bus : new.bus ≡ old.bus

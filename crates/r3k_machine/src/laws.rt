@@ -1,6 +1,6 @@
 //! Laws of the run: nothing runs here.
 
-ghost use Rattle.std.specs.Prelude.{◌≡◌, ℕ, ◌+◌, ◌/◌, [], ◌++◌, All, Bool, IfSome, IsTrue, List, length};
+ghost use Rattle.std.specs.Prelude.{◌≡◌, ℕ, ◌+◌, ◌/◌, [], ◌++◌, All, Bool, IfSome, IsTrue, List, None, length};
 ghost use Rattle.input_log.specs.Event.{LogEvent};
 ghost use Rattle.input_log.specs.Log.{window_of};
 ghost use Rattle.r3k_word.specs.declared.layout.TheConstants.{PAGE_BYTES};
@@ -10,7 +10,7 @@ ghost use Rattle.r3k_machine.specs.Core.{Core};
 ghost use Rattle.r3k_machine.specs.State.{State};
 ghost use Rattle.r3k_machine.specs.Run.{run, trace, console_of, senders_of, last_writer, later};
 ghost use Rattle.r3k_machine.specs.Step.{next, outcome_of_instruction, outcome_of_step, ticked, report, with_fall};
-ghost use Rattle.r3k_machine.specs.Quiet.{IsCodePage, IsQuick, IsQuietFor, LeadsOn, elapsed, outcome_elapsed, state_elapsed};
+ghost use Rattle.r3k_machine.specs.Quiet.{IsCodePage, IsQuick, IsQuietFor, LeadsOn, LeavesRest, elapsed, outcome_elapsed, state_elapsed};
 ghost use Rattle.r3k_machine.specs.Reports.{IsPage};
 ghost use Rattle.r3k_machine.specs.Locality.{IsApart, IsWithPages, is_touched, touches};
 
@@ -39,7 +39,7 @@ pub fn run_laws()
 
 /// In a quiet step a tick is all that comes before the instruction. An instruction that is quick then does the same before the ticks
 /// and falls of Random of any steps as after them, so that these may come after it, and it leaves the steps quiet and the page
-/// that is run in what it is. The next instruction comes after it.
+/// that is run in what it is. The next instruction comes after it. It leaves translation entries, caches and devices, and sends nothing.
 pub fn quiet_laws()
     ensures none { (s : State) → state_elapsed 0 s ≡ s }
     ensures alone { (pages n : ℕ) (s : State) → IsQuietFor (n + 1) s.core →
@@ -52,6 +52,8 @@ pub fn quiet_laws()
     ensures stays_code { (pages : ℕ) (s : State) (page : CodePage) → IsQuick pages s → IsCodePage pages s.core page →
         IsCodePage pages (outcome_of_instruction pages s).state.core page }
     ensures leads_on { (pages : ℕ) (s : State) → IsQuick pages s → LeadsOn s.core (outcome_of_instruction pages s).state.core }
+    ensures leaves_rest { (pages : ℕ) (s : State) → IsQuick pages s → LeavesRest s.core (outcome_of_instruction pages s).state.core }
+    ensures sends_nothing { (pages : ℕ) (s : State) → IsQuick pages s → (outcome_of_instruction pages s).done.sent ≡ None }
     // After n of the steps the others are quiet, and the page is what it is.
     ensures quiet_later { (n more : ℕ) (core : Core) → IsQuietFor (n + more) core → IsQuietFor more (elapsed n core) }
     ensures code_later { (pages n : ℕ) (core : Core) (page : CodePage) → IsCodePage pages core page → IsCodePage pages (elapsed n core) page }

@@ -27,7 +27,7 @@ pub use known::{decoded, stop};
 pub use laws::{locality, quiet_laws, run_laws};
 pub use memory::Mem;
 pub use quick::{CodePage, code_page, learn, quick_step, quiet_step};
-pub use state::Core;
+pub use state::{Core, Processor};
 pub use step::Done;
 pub use target::{Destination, Target};
 pub use traced::{Access, AccessKind, RegisterWrite, Traced, follow};

@@ -1,11 +1,11 @@
 //! The state of the machine: all but the words of RAM and ROM.
 
-ghost use Rattle.std.specs.Prelude.{◌≡◌, ◌<◌, IfOk, slice_index_or};
+ghost use Rattle.std.specs.Prelude.{◌≡◌, ◌↔◌, ◌<◌, IfOk, IsTrue, slice_index_or};
 ghost use Rattle.tlb64.specs.Entries.{empty_entry};
 ghost use Rattle.r3k_machine.specs.Core.{HoldsZero};
 ghost use Rattle.r3k_machine.specs.Flow.{with_flow};
 ghost use Rattle.r3k_machine.specs.Reset.{reset_core};
-ghost use Rattle.r3k_machine.specs.SameProcessor.{is_same_processor};
+ghost use Rattle.r3k_machine.specs.SameProcessor.{is_same_processor, with_processor};
 
 use crate::caches::RunningCaches;
 use crate::flow::{DelayedLoad, Flow};
@@ -18,7 +18,7 @@ use tlb64::{Entry, Tlb};
 
 /// The small part of the processor, which is copied freely.
 #[derive(Clone, Copy, Debug)]
-pub(crate) struct Processor {
+pub struct Processor {
     pub(crate) registers: [u32; 32],
     pub(crate) hi: u32,
     pub(crate) lo: u32,
@@ -190,6 +190,20 @@ impl Core {
         ensures { self.new ≡ with_flow self.old flow }
     {
         self.processor.flow = flow;
+    }
+
+    /// Registers, PC and all else of the processor but translation entries and caches.
+    pub fn processor(&self) -> Processor
+        ensures { with_processor self.now result ≡ self.now }
+    {
+        self.processor
+    }
+
+    /// Whether these are as they were then.
+    pub fn is_at(&self, processor: &Processor) -> bool
+        ensures { IsTrue result ↔ (self.now ≡ with_processor self.now processor.now) }
+    {
+        is_same_processor(&self.processor, processor)
     }
 
     /// The devices on the bus.

@@ -17,7 +17,7 @@ pub enum Target {
 /// The registers that a step wrote, as one number: 0 for none, 1 to 31, 32 for HI, 33 for LO, and 34 for both of these.
 #[derive(Clone, Copy, Debug, PartialEq, Eq)]
 pub struct Destination {
-    number: u8,
+    number: usize,
 }
 
 impl Model for Destination {
@@ -47,7 +47,7 @@ impl Destination {
         ensures { result ≡ register }
     {
         Destination {
-            number: register.number(),
+            number: register.index(),
         }
     }
 
@@ -74,6 +74,6 @@ impl Destination {
         ensures value { result ≡ self }
         ensures within { result ≤ 34 }
     {
-        self.number as usize
+        self.number
     }
 }

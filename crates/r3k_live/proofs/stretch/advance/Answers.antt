@@ -11,15 +11,23 @@ use Rattle.r3k_live.specs.Going.{HasGone}
 use Rattle.r3k_live.specs.Living.{state_of}
 use Rattle.r3k_live.specs.Standing.{HasStood}
 use Rattle.r3k_live.proofs.Going.{left_later}
-use Rattle.r3k_live.proofs.Gone.{one_more}
+use Rattle.r3k_live.proofs.Gone.{goes_for_more, one_more}
 use Rattle.r3k_live.proofs.Stood.{begins_once, stood_more}
 use Rattle.r3k_live.proofs.stretch.advance.Goals as goal
+
+pub returns-then-pc-stop-clause-goes : goal.returns-then-pc-stop-clause-goes
+returns-then-pc-stop-clause-goes g c =
+    goes_for_more g.row.PAGES c.args.time c.args.events.now c.args.stop c.stretch-made.result c.wait.result (state_of c.args.core.now c.args.memory.now)
+    (state_of c.stretch-made.new.core c.stretch-made.new.memory) (state_of c.wait.new.core c.wait.new.memory)
+    c.args.recorder.now c.stretch-made.new.recorder c.wait.new.recorder
+    c.stretch-made.ensures.goes c.wait.ensures.goes
+    (λ here. c.if-pc-stop.true (c.pc.ensures ∙ here))
 
 pub returns-clause-goes : goal.returns-clause-goes
 returns-clause-goes g c = λ log from start made now left so_far.
     let s = state_of c.stretch-made.new.core c.stretch-made.new.memory in
     let t = state_of c.step-done.new.core c.step-done.new.memory in
-    let none : made + c.stretch-made.result ≡ made = omega (arith, c.if-made-gt0.false) in
+    let none : made + c.stretch-made.result ≡ made = omega (arith, c.if-made-gt0-2.false) in
     let stretch = c.stretch-made.ensures.goes log from start made now left so_far in
     let here = subst (λ (n : ℕ). HasGone g.row.PAGES log from start n s c.stretch-made.new.recorder) none stretch.gone in
     let events = ap (arriving log) (sym now) ∙ (sym (left c.args.time (omega arith)) ∙ sym c.next.ensures.events) in
@@ -36,7 +44,7 @@ returns-clause-goes g c = λ log from start made now left so_far.
           (begins_once g.row.PAGES log from start made)
           (λ page.
           c.stand.ensures.stood page
-          ∙ ap₂ (λ (set : List ℕ) (pc : ℕ). holds set page || nat_eq (pc / PAGE_BYTES) page) c.note.ensures.stood (c.pc.ensures ∙ ap (λ (s : State). s.core.pc) gone.state));
+          ∙ ap₂ (λ (set : List ℕ) (pc : ℕ). holds set page || nat_eq (pc / PAGE_BYTES) page) c.note.ensures.stood (c.pc-2.ensures ∙ ap (λ (s : State). s.core.pc) gone.state));
     }
 
 pub returns-clause-left : goal.returns-clause-left

@@ -26,7 +26,7 @@ returns-clause-goes g c = λ yes most address made within elsewhere may.
     } in
     goes_once pages most address c.args.page made s t c.in-Some.done c.args.recorder.now c.note_again.new.self within c.requires.here.here elsewhere after
     c.note_again.ensures.steps c.note_again.ensures.stood (c.quiet_laws.ensures.at_once pages made s quiet c.in-Some.ensures.quick) c.in-Some.ensures.ran
-    c.note_again.ensures.records c.in-Some.ensures.within.words
+    c.note_again.ensures.records c.in-Some.ensures.within.words c.in-Some.ensures.quick c.in-Some.ensures.within.stored
 
 pub returns-clause-leads : goal.returns-clause-leads
 returns-clause-leads g c = λ yes.

@@ -1,9 +1,26 @@
-use Rattle.std.proofs.Common.{◌+◌, not, sym, ap, ◌∙◌, arith}
+use Rattle.std.proofs.Common.{◌+◌, ◌-◌, not, sym, ap, ◌∙◌, arith}
 use Rattle.std.proofs.Math.Bool.{not-not}
 use Rattle.r3k_machine.specs.Flow.{with_flow}
 use Rattle.r3k_live.specs.Living.{state_of}
-use Rattle.r3k_live.proofs.Quick.{at_next, fewer_than, goes_one, word_here}
+use Rattle.r3k_live.proofs.Quick.{address_of, at_next, fewer_than, goes_nowhere, goes_one, word_here}
 use Rattle.r3k_live.proofs.stretch.step_straight.Goals as goal
+
+pub loop-index-init : goal.loop-index-init
+loop-index-init g c = record {
+  at = record {
+    goes = λ address word.
+        goes_nowhere g.row.PAGES c.args.most address c.args.page (c.args.recorder.now.steps - c.args.begun) (state_of (with_flow c.args.core.now c.args.flow.now) c.args.memory.now)
+        c.args.recorder.now (omega (arith, c.requires.begun, c.requires.made)) c.requires.may;
+    may = c.requires.may;
+    here = address_of c.args.page c.args.flow.now.pc c.args.first c.requires.may.code.within c.requires.here;
+    next = λ free. c.requires.straight.next;
+    count = omega arith;
+    low = omega arith;
+    high = c.end_of-end.ensures.first;
+  };
+  free = c.requires.straight.free;
+  opened = c.requires.opened;
+}
 
 pub returns-then-not-step_quickly-clause-goes : goal.returns-then-not-step_quickly-clause-goes
 returns-then-not-step_quickly-clause-goes g c =

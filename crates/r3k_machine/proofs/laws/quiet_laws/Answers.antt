@@ -41,6 +41,17 @@ unfolding after
 returns-clause-leads_on c = λ pages s quick.
     (instruction_ages pages 0 0 s (λ word device is. c.quiet_laws.ensures.steady s.core.bus 0 word device (omega arith) is) (λ word device is. c.quiet_laws.ensures.steady s.core.bus 0 word device (omega arith) is) quick).keeps.leads
 
+pub returns-clause-leaves_rest : goal.returns-clause-leaves_rest
+unfolding after
+returns-clause-leaves_rest c = λ pages s quick.
+    let keeps = (instruction_ages pages 0 0 s (λ word device is. c.quiet_laws.ensures.steady s.core.bus 0 word device (omega arith) is) (λ word device is. c.quiet_laws.ensures.steady s.core.bus 0 word device (omega arith) is) quick).keeps in
+    record { entries = keeps.entries; caches = keeps.caches; bus = keeps.bus }
+
+pub returns-clause-sends_nothing : goal.returns-clause-sends_nothing
+unfolding after
+returns-clause-sends_nothing c = λ pages s quick.
+    (instruction_ages pages 0 0 s (λ word device is. c.quiet_laws.ensures.steady s.core.bus 0 word device (omega arith) is) (λ word device is. c.quiet_laws.ensures.steady s.core.bus 0 word device (omega arith) is) quick).unsent
+
 pub returns-clause-quiet_later : goal.returns-clause-quiet_later
 returns-clause-quiet_later c = λ n more core quiet.
     quiet_later n more core (c.quiet_laws.ensures.stays_quiet core.bus more n (omega (arith, quiet.counts)))
