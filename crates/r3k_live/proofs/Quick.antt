@@ -1,7 +1,6 @@
 -- Quick steps of a page, one after another.
 use Rattle.std.proofs.Common.{◌≡◌, ℕ, ◌+◌, ◌-◌, ◌*◌, ◌/◌, ◌^◌, ◌<◌, ◌≤◌, ◌||◌, nat_eq, List, [], ◌∷◌, ◌++◌, IfSome, IsFalse, refl, sym, subst, ap, ◌∙◌, arith, inl, inr}
 use Rattle.std.proofs.lemmas.Bool.{cases_lt}
-use Rattle.input_log.specs.Event.{LogEvent}
 use Rattle.r3k_word.specs.Word.{sum_of}
 use Rattle.r3k_word.specs.declared.layout.TheConstants.{PAGE_BYTES, PAGE_WORDS}
 use Rattle.r3k_machine.specs.declared.quick.CodePage.{CodePage}
@@ -14,7 +13,7 @@ use Rattle.r3k_machine.specs.Core.{Core}
 use Rattle.r3k_machine.specs.Flow.{with_flow}
 use Rattle.r3k_machine.specs.Quiet.{IsIndexIn, IsQuick, LeadsOn, outcome_elapsed, state_elapsed}
 use Rattle.r3k_machine.specs.declared.flow.Flow.{Flow}
-use Rattle.r3k_live.specs.Going.{Ends, GoesOn, GoesOver, HasGone, HasGoneFor, HasGoneOn, IsFreeFor, IsWordAt, LeadsTo, MayGoOn}
+use Rattle.r3k_live.specs.Going.{Ends, GoesOn, GoesOver, HasGone, HasGoneFor, IsWordAt, LeadsTo, MayGoOn}
 use Rattle.r3k_live.specs.Recording.{Recording, Records}
 use Rattle.std.proofs.Math.Path.{ap₂}
 use Rattle.r3k_pages.specs.Pages.{holds}

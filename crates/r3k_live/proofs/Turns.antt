@@ -1,9 +1,9 @@
 -- Quick instructions that lead back to where they began come again and again.
-use Rattle.std.proofs.Common.{◌≡◌, ℕ, zero, suc, ◌+◌, ◌-◌, ◌*◌, ◌/◌, ◌<◌, ◌≤◌, ◌==◌, ◌||◌, Bool, true, false, if◌then◌else◌, nat_lt, IsFalse, IsTrue, List, [], ◌∷◌, ◌++◌, All, Contains, length, length-append, append_assoc, Option, Some, None, slice_index, refl, sym, subst, ap, ◌∙◌, arith, inl, inr, ◌⊎◌}
+use Rattle.std.proofs.Common.{◌≡◌, ℕ, zero, suc, ◌+◌, ◌-◌, ◌*◌, ◌/◌, ◌<◌, ◌≤◌, ◌==◌, ◌||◌, Bool, true, false, if◌then◌else◌, List, [], ◌∷◌, ◌++◌, All, Contains, length, length-append, append_assoc, Option, Some, None, slice_index, refl, sym, subst, ap, ◌∙◌, arith, inl, inr}
 use Rattle.std.proofs.Math.Nat.{mul-suc}
 use Rattle.std.proofs.Math.Path.{ap₂}
 use Rattle.std.specs.List.{list_any}
-use Rattle.std.proofs.lemmas.Bool.{cases_lt, cases_Bool, le-ltb, lt-ltb}
+use Rattle.std.proofs.lemmas.Bool.{cases_lt, le-ltb, lt-ltb}
 use Rattle.std.proofs.lemmas.List.{append-nil}
 use Rattle.std.proofs.lemmas.Grind.{same_number_lists}
 use Rattle.std.proofs.lemmas.Option.{none-some}
@@ -14,24 +14,20 @@ use Rattle.r3k_word.specs.Layout.{page_of_place}
 use Rattle.r3k_word.specs.declared.layout.TheConstants.{PAGE_BYTES, PAGE_WORDS}
 use Rattle.r3k_machine.specs.declared.step.Done.{Done}
 use Rattle.r3k_machine.specs.declared.target.Target.TheVariants.{Memory}
-use Rattle.r3k_machine.specs.Core.{Core}
 use Rattle.r3k_machine.specs.Locality.{is_touched, touches}
 use Rattle.r3k_machine.specs.Quiet.{IsQuick, IsQuietFor, LeavesRest, outcome_elapsed, state_elapsed}
-use Rattle.r3k_machine.specs.Reports.{IsRamWord}
 use Rattle.r3k_machine.specs.Run.{arriving, last_where, last_writer, later, run, trace, writes}
 use Rattle.r3k_machine.specs.SameProcessor.{with_processor}
 use Rattle.r3k_machine.specs.declared.state.Processor.{Processor}
 use Rattle.r3k_machine.specs.State.{State}
-use Rattle.r3k_machine.specs.Step.{Outcome, next, outcome_of_instruction, outcome_of_step, report}
+use Rattle.r3k_machine.specs.Step.{Outcome, outcome_of_instruction, outcome_of_step}
 use Rattle.r3k_machine.proofs.Splits.{where_split}
 use Rattle.r3k_pages.specs.Pages.{holds}
 use Rattle.dz_serial.specs.declared.write.Sent.{Sent}
-use Rattle.r3k_live.specs.declared.recorder.SentAt.{SentAt}
-use Rattle.r3k_live.specs.Going.{HasGone, HasGoneFor, IsFreeFor, LeadsTo, PassesBy, quick_run, quick_trace}
+use Rattle.r3k_live.specs.Going.{HasGone, HasGoneFor, IsFreeFor, LeadsTo, quick_run, quick_trace}
 use Rattle.r3k_live.specs.Kept.{kept_step}
 use Rattle.r3k_live.specs.Record.{is_dirty, sent_from, stores_in, with_sent}
 use Rattle.r3k_live.specs.Recording.{Recording, Records}
-use Rattle.r3k_live.specs.Standing.{HasStood, StandsIn}
 use Rattle.r3k_live.specs.Waiting.{HasPassed, IsHeld, held_at, passed_by}
 use Rattle.r3k_live.specs.declared.stores.Held.{Held}
 use Rattle.r3k_live.proofs.Going.{run_more, trace_more}

@@ -1,10 +1,10 @@
 -- The last step that wrote a register, from the last steps with each destination.
-use Rattle.std.proofs.Common.{◌≡◌, ℕ, zero, suc, ◌+◌, ◌<◌, ◌≤◌, ◌==◌, ◌&&◌, ◌||◌, ◌⊎◌, Bool, true, false, List, [], ◌∷◌, Option, Some, None, if◌then◌else◌, nat_le, refl, sym, ap, ◌∙◌, arith, max, inl, inr}
+use Rattle.std.proofs.Common.{◌≡◌, ℕ, zero, suc, ◌+◌, ◌<◌, ◌==◌, ◌&&◌, ◌||◌, ◌⊎◌, Bool, true, false, List, [], ◌∷◌, Option, Some, None, if◌then◌else◌, nat_le, refl, sym, ap, ◌∙◌, arith, max, inl, inr}
 use Rattle.std.proofs.Math.Path.{ap₂}
 use Rattle.std.proofs.lemmas.Bool.{and_parts, cases_Bool, leb-true}
 use Rattle.r3k_machine.specs.declared.step.Done.{Done}
 use Rattle.r3k_machine.specs.declared.target.Target.TheVariants.{Register}
-use Rattle.r3k_machine.specs.Run.{is_written, last_where, last_writer, later, writes}
+use Rattle.r3k_machine.specs.Run.{last_where, last_writer, later, writes}
 use Rattle.r3k_live.specs.Kept.{kept_step}
 
 -- tests that give the same find the same step

@@ -1,6 +1,6 @@
 -- The marks of what steps wrote (own), by which a search leaves out those that wrote nothing of the kind: the page of a word, or a number
 -- above those of all pages for a register.
-use Rattle.std.specs.Prelude.{ℕ, zero, suc, ◌+◌, ◌/◌, ◌^◌, Bool, List, [], ◌∷◌, ◌++◌, is_some, if◌then◌else◌}
+use Rattle.std.specs.Prelude.{ℕ, zero, suc, ◌+◌, ◌/◌, ◌^◌, List, [], ◌∷◌, ◌++◌, is_some, if◌then◌else◌}
 use Rattle.r3k_word.specs.declared.layout.TheConstants.{PAGE_BYTES}
 use Rattle.r3k_machine.specs.declared.step.Done.{Done}
 use Rattle.r3k_machine.specs.declared.target.Target.{Target}

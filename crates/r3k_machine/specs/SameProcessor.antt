@@ -1,5 +1,5 @@
 -- The small part of a processor (own): all that an instruction whose steps are quick changes, but for memory. And the equality of two.
-use Rattle.std.specs.Prelude.{◌≡◌, Bool, ◌&&◌, nat_eq}
+use Rattle.std.specs.Prelude.{Bool, ◌&&◌, nat_eq}
 use Rattle.std.specs.Bool.{beq}
 use Rattle.std.specs.Cmp.Lexicographic.{pointwise}
 use Rattle.cop0.specs.Same as control

@@ -1,4 +1,4 @@
-use Rattle.std.proofs.Common.{◌*◌, ◌+◌, rules, refl, arith}
+use Rattle.std.proofs.Common.{◌*◌, arith}
 use Rattle.r3k_live.specs.declared.stores.TheConstants.{BLOCK_WORDS}
 use Rattle.r3k_live.proofs.Holding.{held_none, held_one}
 use Rattle.r3k_live.proofs.stores.hold_block.Goals as goal

@@ -1,4 +1,3 @@
-use Rattle.std.proofs.Common.{◌<◌}
 use Rattle.r3k_live.proofs.Holding.{AreHeld}
 use Rattle.r3k_live.proofs.stores.hold_block.Given as goal
 

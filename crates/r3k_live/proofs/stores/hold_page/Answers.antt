@@ -1,4 +1,4 @@
-use Rattle.std.proofs.Common.{◌*◌, arith}
+use Rattle.std.proofs.Common.{◌*◌}
 use Rattle.r3k_live.specs.declared.stores.TheConstants.{BLOCK_WORDS}
 use Rattle.r3k_live.proofs.Holding.{held_block, held_unmarked}
 use Rattle.r3k_live.proofs.stores.hold_page.Goals as goal

@@ -1,7 +1,6 @@
-use Rattle.std.proofs.Common.{◌≡◌, ℕ, ◌-◌, ◌/◌, ◌||◌, List, nat_eq, sym, ap, subst, ◌∙◌, arith}
+use Rattle.std.proofs.Common.{◌≡◌, ℕ, ◌-◌, ◌/◌, ◌||◌, nat_eq, sym, ap, subst, ◌∙◌, arith}
 use Rattle.r3k_word.specs.declared.layout.TheConstants.{PAGE_BYTES}
 use Rattle.r3k_machine.specs.Flow.{with_flow}
-use Rattle.r3k_machine.specs.State.{State}
 use Rattle.r3k_pages.specs.Pages.{holds}
 use Rattle.r3k_live.specs.Going.{GoesOver}
 use Rattle.r3k_live.specs.Living.{state_of}

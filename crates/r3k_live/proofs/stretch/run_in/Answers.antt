@@ -1,9 +1,9 @@
-use Rattle.std.proofs.Common.{◌≡◌, ℕ, ◌+◌, ◌<◌, List, refl, sym, ap, subst, ◌∙◌, arith}
+use Rattle.std.proofs.Common.{◌≡◌, ℕ, ◌+◌, ◌<◌, List, sym, ap, subst, ◌∙◌, arith}
 use Rattle.r3k_machine.specs.Flow.{with_flow}
 use Rattle.r3k_machine.specs.Quiet.{IsQuietFor}
 use Rattle.r3k_machine.specs.Run.{arriving}
 use Rattle.r3k_machine.specs.State.{State}
-use Rattle.r3k_live.specs.Going.{HasGone, HasGoneFor}
+use Rattle.r3k_live.specs.Going.{HasGoneFor}
 use Rattle.r3k_live.specs.Living.{state_of}
 use Rattle.r3k_live.proofs.Gone.{gone_on}
 use Rattle.r3k_live.proofs.stretch.run_in.Goals as goal

@@ -1,4 +1,4 @@
-use Rattle.std.proofs.Common.{◌+◌, arith, subst}
+use Rattle.std.proofs.Common.{subst}
 use Rattle.r3k_live.specs.Going.{IsFreeFor}
 use Rattle.r3k_live.proofs.Gone.{no_more}
 use Rattle.r3k_live.proofs.stretch.stretch.Goals as goal

@@ -1,4 +1,4 @@
-use Rattle.std.proofs.Common.{◌≡◌, ℕ, ◌+◌, ◌*◌, ◌/◌, ◌<◌, ◌≤◌, All, Contains, List, length, slice_index, sym, subst, ap, ◌∙◌, arith}
+use Rattle.std.proofs.Common.{◌≡◌, ◌*◌, ◌/◌, ◌≤◌, All, Contains, List, sym, subst, ◌∙◌, arith}
 use Rattle.std.proofs.Math.Nat.{le-mul_of_pos_right, mul-div-le}
 use Rattle.r3k_live.specs.Waiting.{IsHeld, held_at}
 use Rattle.r3k_live.specs.declared.stores.Held.{Held}

@@ -1,4 +1,4 @@
-use Rattle.std.proofs.Common.{◌+◌, not, sym, ap, ◌∙◌}
+use Rattle.std.proofs.Common.{not, sym, ap, ◌∙◌}
 use Rattle.std.proofs.Math.Bool.{not-not}
 use Rattle.r3k_live.specs.Living.{state_of}
 use Rattle.r3k_live.proofs.Gone.{goes_for_more}

@@ -1,4 +1,4 @@
-use Rattle.std.proofs.Common.{ℕ, length, replicate, arith, inl, inr}
+use Rattle.std.proofs.Common.{ℕ, replicate, arith, inl, inr}
 use Rattle.std.proofs.lemmas.Bool.{cases_lt}
 use Rattle.std.proofs.lemmas.List.{get_or-replicate, get_or_past, length-replicate}
 use Rattle.r3k_live.proofs.destinations.Destinations.none.Goals as goal

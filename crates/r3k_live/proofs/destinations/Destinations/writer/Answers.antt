@@ -1,6 +1,6 @@
-use Rattle.std.proofs.Common.{◌≡◌, refl, ℕ, ◌≤◌, ◌<◌, ◌&&◌, ◌⊎◌, Bool, true, false, List, nat_le, slice_index, sym, ap, ◌∙◌, arith, inl, inr, max}
+use Rattle.std.proofs.Common.{◌≡◌, refl, ℕ, ◌≤◌, ◌<◌, ◌&&◌, true, false, List, nat_le, slice_index, sym, ap, ◌∙◌, arith, inl, inr, max}
 use Rattle.std.proofs.Math.Path.{ap₂}
-use Rattle.std.proofs.lemmas.Bool.{cases_Bool, and_parts, le-leb, leb-true, true≢false}
+use Rattle.std.proofs.lemmas.Bool.{cases_Bool, le-leb, leb-true}
 use Rattle.r3k_live.specs.Kept.{kept_step}
 use Rattle.r3k_live.proofs.Wrote.{no_register, one_kept, own_alone, own_or_both}
 use Rattle.r3k_live.proofs.destinations.Destinations.writer.Goals as goal

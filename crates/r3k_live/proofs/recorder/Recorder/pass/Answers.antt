@@ -1,4 +1,4 @@
-use Rattle.std.proofs.Common.{◌≡◌, ℕ, ◌+◌, ◌<◌, ◌≤◌, All, IsTrue, length, slice_index, refl, sym, subst, ap, ◌∙◌, arith}
+use Rattle.std.proofs.Common.{ℕ, ◌<◌, All, IsTrue, length, slice_index, refl, sym, subst, ap, ◌∙◌, arith}
 use Rattle.r3k_live.specs.Recording.{Recording}
 use Rattle.r3k_live.specs.Waiting.{is_among}
 use Rattle.r3k_live.proofs.Holding.{pass_all, passed_is, passed_too}

@@ -1,4 +1,4 @@
-use Rattle.std.proofs.Common.{◌≡◌, ℕ, ◌*◌, ◌<◌, List, length, slice_index, sym, ap, ◌∙◌, arith}
+use Rattle.std.proofs.Common.{◌≡◌, length, sym, ap, ◌∙◌, arith}
 use Rattle.r3k_live.specs.Stores.{Stores}
 use Rattle.r3k_live.proofs.Holding.{held_page, held_rom}
 use Rattle.r3k_live.proofs.stores.Stores.held.Goals as goal

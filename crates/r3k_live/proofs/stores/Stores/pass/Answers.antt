@@ -1,4 +1,4 @@
-use Rattle.std.proofs.Common.{◌≡◌, ℕ, ◌<◌, List, All, slice_index, sym, subst, ap, ◌∙◌}
+use Rattle.std.proofs.Common.{ℕ, ◌<◌, All, slice_index, sym, subst, ◌∙◌}
 use Rattle.r3k_live.specs.Stores.{Stores}
 use Rattle.r3k_live.specs.Waiting.{IsPassedBy}
 use Rattle.r3k_live.proofs.Holding.{had_step}

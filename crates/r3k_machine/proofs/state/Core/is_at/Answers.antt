@@ -1,10 +1,9 @@
-use Rattle.std.proofs.Common.{rules, ◌≡◌, ◌&&◌, IsTrue, true, refl, sym, ap, ◌∙◌}
+use Rattle.std.proofs.Common.{rules, ◌≡◌}
 use Rattle.tlb64.specs.Same as entries
 use Rattle.dcache.specs.Same as caches
 use Rattle.kn02_bus.specs.Same as bus
-use Rattle.r3k_machine.specs.Core.{Core}
 use Rattle.r3k_machine.specs.Same.{is_same, is_same_decides}
-use Rattle.r3k_machine.specs.SameProcessor.{is_same_processor, with_processor}
+use Rattle.r3k_machine.specs.SameProcessor.{with_processor}
 use Rattle.r3k_machine.proofs.state.Core.is_at.Goals as goal
 
 pub returns : goal.returns
