@@ -111,7 +111,8 @@ def script(of: random.Random) -> list[str]:
     for _ in range(12):
         lines += [f"goto {of.choice((of.randrange(END), 65_536 * of.randrange(1, 5), 65_536 * of.randrange(1, 5) + of.randrange(9)))}",
                   *of.sample(["regs", "cp0", "mem 0 16", "mem 0x3ff0 8", f"writer {4 * of.randrange(16)}", f"writer {0x3FE0 + 4 * of.randrange(8)}",
-                              f"trace {of.randrange(1, 20)}", f"visit {0xBFC0_0000 + 4 * of.randrange(40):#x} 9000"], k=4)]
+                              *(f"regwriter {of.choice((8, 9, 10, 11, 12, 13, 29, 31))}" for _ in range(3)),
+                              f"trace {of.randrange(1, 20)}", f"visit {0xBFC0_0000 + 4 * of.randrange(40):#x} 90000"], k=5)]
         if not of.randrange(3):
             lines.append(of.choice([f"add {of.randrange(END)} 0 {of.randrange(256)}", "del 0", f"set 1 {of.randrange(256)}",
                                     f"move 1 {of.randrange(END)}"]))
