@@ -10,7 +10,8 @@ ghost use Rattle.input_log.specs.Spelling.{Fits, IsSpelled, spelled_in, spelling
 ghost use Rattle.input_log.specs.Reading.{log_at};
 
 /// What is written is read again, what is read is a log, and in one version a log has one spelling. A window within a window is a
-/// window of the log, two that meet make one, and a window of a log is a log. An edit leaves the windows without its times.
+/// window of the log, two that meet make one, and a window of a log is a log. So is an edited log, and its windows without the
+/// times of the edit are as before, also in a list of events that is no log.
 pub fn log_laws()
     ensures read { (log : List LogEvent) → IsLog log → log_at (spelling log) ≡ Ok log }
     ensures read_in { (version : Version) (log : List LogEvent) → IsLog log → Fits version log →
@@ -28,6 +29,7 @@ pub fn log_laws()
         window_of from middle log ++ window_of middle to log ≡ window_of from to log }
     ensures later { (time from to : ℕ) (log : List LogEvent) → from ≤ time + 1 →
         later_than time (window_of from to log) ≡ window_of (time + 1) to log }
-    ensures edited { (edit : Edit) (log new : List LogEvent) → IsLog log → edited edit log ≡ Ok new →
+    ensures edited { (edit : Edit) (log new : List LogEvent) → IsLog log → edited edit log ≡ Ok new → IsLog new }
+    ensures outside { (edit : Edit) (log new : List LogEvent) → edited edit log ≡ Ok new →
         AreSameOutside (times_of edit log).0 (times_of edit log).1 log new }
 {}

@@ -1,6 +1,6 @@
 use Rattle.input_log.proofs.Logs.{log_takes, log_at_again, log_at_in}
 use Rattle.input_log.proofs.Window.{narrowed, later, whole, are_within, is_log, split}
-use Rattle.input_log.proofs.Edited.{same_outside}
+use Rattle.input_log.proofs.Edited.{is_log_still, same_outside}
 use Rattle.input_log.proofs.laws.log_laws.Goals as goal
 
 pub returns-clause-read : goal.returns-clause-read
@@ -34,4 +34,7 @@ pub returns-clause-later : goal.returns-clause-later
 returns-clause-later c = later
 
 pub returns-clause-edited : goal.returns-clause-edited
-returns-clause-edited c = same_outside
+returns-clause-edited c = is_log_still
+
+pub returns-clause-outside : goal.returns-clause-outside
+returns-clause-outside c = same_outside
