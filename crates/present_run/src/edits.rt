@@ -21,7 +21,6 @@ impl<const PAGES: u32, const SPAN: u32> Present<PAGES, SPAN> {
         ensures place { IfOk result (λ place. place ≡ event_place edit (landed_of self.old).history.log) }
     {
         log_laws();
-        let _log = self.inputs.log.events();
         let (from, last) = self.inputs.log.times_of(edit);
         let place = self.inputs.log.edit(edit)?;
         self.runs.forget(from, last);

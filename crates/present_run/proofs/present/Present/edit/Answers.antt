@@ -1,6 +1,5 @@
-use Rattle.std.proofs.Common.{List, sym, ap, subst}
+use Rattle.std.proofs.Common.{List, sym, ap}
 use Rattle.input_log.specs.Event.{LogEvent}
-use Rattle.input_log.specs.Log.{IsLog}
 use Rattle.input_log.specs.Edits.{AreSameOutside, edited, times_of}
 use Rattle.present_run.specs.Runs.{AreLandings, AreOf}
 use Rattle.present_run.specs.Landings.{positions_of}
@@ -12,7 +11,6 @@ use Rattle.present_run.proofs.present.Present.edit.Goals as goal
 pub invariant_of-self-2 : goal.invariant_of-self-2
 invariant_of-self-2 g c =
     let log = c.args.self.now.inputs.log in
-    let good = subst IsLog c.events-log.ensures.all c.events-log.ensures.log in
     let changed : AreSameOutside (times_of c.args.edit log).0 (times_of c.args.edit log).1 log c.edit.new.self =
     c.log_laws.ensures.outside c.args.edit log c.edit.new.self (c.in_ok-place.ensures {u = tt}).log in record {
       fits = c.args.self.now.fits;
