@@ -1,4 +1,5 @@
 pub use Rattle.r3k_word.specs.Layout
 pub mod Pages
+pub mod Blocks
 pub mod Groups
 pub mod Marking

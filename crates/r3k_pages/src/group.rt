@@ -122,7 +122,7 @@ fn lists(pages: &[u32], group: usize) -> bool
         .any(|page| *page as usize / GROUP_PAGES == group)
 }
 
-// A page of memory: the earlier one where it stayed, or else a copy.
+// A page of memory: the earlier one where it stayed, or else a copy, which shares the blocks that stayed.
 fn page_of<const PAGES: u32>(
     alloc: Global,
     words: &[u32],
@@ -136,12 +136,14 @@ fn page_of<const PAGES: u32>(
     requires same { IfSome previous (λ previous. SameOutside dirty.now previous.now words.now) }
     ensures { IfOk result (λ result. IsPageOf words.now page result.value) }
 {
+    let start = page * PAGE_WORDS as usize;
+    let words = &words[start..start + PAGE_WORDS as usize];
     match previous {
-        Some(previous) if !dirty.holds(page as u32) => previous.page(page).clone(),
-        _ => {
-            let start = page * PAGE_WORDS as usize;
-            Page::new(alloc, &words[start..start + PAGE_WORDS as usize])
+        None => Page::new(alloc, words, None),
+        Some(previous) if dirty.holds(page as u32) => {
+            Page::new(alloc, words, Some(previous.page(page)))
         }
+        Some(previous) => previous.page(page).clone(),
     }
 }
 

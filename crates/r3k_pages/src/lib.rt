@@ -1,6 +1,7 @@
 //! Snapshots of memory that share their pages.
 #![tactic(auto)]
 
+mod block;
 mod group;
 mod laws;
 mod page;

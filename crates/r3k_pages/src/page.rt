@@ -1,52 +1,71 @@
-//! A page of a snapshot: 1,024 words that stay as they are.
+//! A page of a snapshot: 1,024 words that stay as they are. It is kept in blocks, and pages share blocks that have the same words.
 
-ghost use Rattle.std.specs.Prelude.{◌≡◌, ◌<◌, ◌↔◌, IfOk, IsTrue, length, map, slice_set};
+ghost use Rattle.std.specs.Prelude.{◌≡◌, ◌/◌, ◌%◌, ◌<◌, ◌↔◌, ℕ, IfOk, IfSome, IsTrue, length, map, slice_index, slice_set};
 ghost use Rattle.r3k_word.specs.declared.layout.TheConstants.{PAGE_WORDS};
+ghost use Rattle.r3k_pages.specs.Blocks.{IsBlockOf, words_of};
+ghost use Rattle.r3k_pages.specs.declared.block.TheConstants.{BLOCK_WORDS};
+ghost use Rattle.r3k_pages.specs.declared.page.TheConstants.{PAGE_BLOCKS};
 ghost use Rattle.r3k_pages.specs.Groups.{is_blank};
 
+use crate::block::{BLOCK_WORDS, Block};
 use std::alloc::{AllocError, Global};
 use std::marker::Model;
 use std::rc::Rc;
 
+/// How many blocks a page has.
+pub(crate) const PAGE_BLOCKS: usize = 8;
+
 /// The words of a page.
 #[derive(Drop)]
 pub(crate) struct Page {
-    words: Vec<u32>,
-    // Whether all of them are 0.
+    blocks: Vec<Rc<Block>>,
+    // Whether it is known that all of them are 0.
     blank: bool,
 }
 
 impl Model for Page {
-    ghost use Rattle.std.specs.Prelude.{◌≡◌, List, ℕ, length};
-    ghost use Rattle.r3k_word.specs.declared.layout.TheConstants.{PAGE_WORDS};
+    ghost use Rattle.std.specs.Prelude.{◌≡◌, IsTrue, List, ℕ, length, map};
+    ghost use Rattle.r3k_pages.specs.declared.page.TheConstants.{PAGE_BLOCKS};
+    ghost use Rattle.r3k_pages.specs.Blocks.{words_of};
     ghost use Rattle.r3k_pages.specs.Groups.{is_blank};
 
     ghost Value = { List ℕ };
 
-    ghost view = { λ page. page.words.items };
+    ghost view = { λ page. words_of (map (λ block. block.value) page.blocks.items) };
 
-    ghost invariant = { λ page. (length page.words.items ≡ PAGE_WORDS) × (page.blank ≡ is_blank page.words.items) };
+    ghost invariant = { λ page. (length page.blocks.items ≡ PAGE_BLOCKS)
+        × (IsTrue page.blank → IsTrue (is_blank (words_of (map (λ block. block.value) page.blocks.items)))) };
 }
 
 impl Page {
-    /// A page with these words.
-    pub(crate) fn new(alloc: Global, words: &[u32]) -> Result<Rc<Page>, AllocError>
+    /// A page with these words. It shares the blocks of an earlier page that have the same ones.
+    pub(crate) fn new(
+        alloc: Global,
+        words: &[u32],
+        earlier: Option<&Rc<Page>>,
+    ) -> Result<Rc<Page>, AllocError>
         requires { length words.now ≡ PAGE_WORDS }
         ensures { IfOk result (λ page. page.value ≡ words.now) }
     {
-        Page::of(alloc, Vec::from_slice(alloc, words)?)
+        let mut blocks = Vec::with_capacity(alloc, PAGE_BLOCKS)?;
+        for index in 0..PAGE_BLOCKS {
+            let start = index * BLOCK_WORDS;
+            let words = &words[start..start + BLOCK_WORDS];
+            blocks.push(block_of(alloc, words, earlier, index)?)?;
+        }
+        Page::of(alloc, blocks, is_blank(words))
     }
 
-    // A page of these words.
-    fn of(alloc: Global, words: Vec<u32>) -> Result<Rc<Page>, AllocError>
-        requires { length words.items ≡ PAGE_WORDS }
-        ensures { IfOk result (λ page. page.value ≡ words.items) }
+    // A page of these blocks.
+    fn of(alloc: Global, blocks: Vec<Rc<Block>>, blank: bool) -> Result<Rc<Page>, AllocError>
+        requires blocks { length blocks.items ≡ PAGE_BLOCKS }
+        requires blank { IsTrue blank → IsTrue (is_blank (words_of (map (λ block. block.value) blocks.items))) }
+        ensures { IfOk result (λ page. page.value ≡ words_of (map (λ block. block.value) blocks.items)) }
     {
-        let blank = is_blank(&words);
-        Rc::new(alloc, Page { words, blank }).map_err(|_| AllocError)
+        Rc::new(alloc, Page { blocks, blank }).map_err(|_| AllocError)
     }
 
-    /// The page with the word at a place of it set.
+    /// The page with the word at a place of it set. It shares the other blocks.
     pub(crate) fn with_word(
         &self,
         alloc: Global,
@@ -57,9 +76,28 @@ impl Page {
         ensures set { IfOk result (λ page. page.value ≡ slice_set self.now place word) }
         ensures whole { length self.now ≡ PAGE_WORDS }
     {
-        let mut words = Vec::from_slice(alloc, &self.words)?;
-        words[place] = word;
-        Page::of(alloc, words)
+        self.whole();
+        let index = place / BLOCK_WORDS;
+        let mut blocks = shared(alloc, &self.blocks)?;
+        blocks[index] = self
+            .block(index)
+            .with_word(alloc, place % BLOCK_WORDS, word)?;
+        Page::of(alloc, blocks, false)
+    }
+
+    // The list of its words has all of a page. Nothing runs here.
+    fn whole(&self)
+        ensures { length self.now ≡ PAGE_WORDS }
+    {
+        let _blocks = &self.blocks;
+    }
+
+    // A block of the page.
+    fn block(&self, index: usize) -> &Rc<Block>
+        requires { index < PAGE_BLOCKS }
+        ensures { IsBlockOf self.now index result.now.value }
+    {
+        &self.blocks[index]
     }
 
     /// Whether another page has the same words. Of blank ones it looks at no word.
@@ -67,7 +105,17 @@ impl Page {
         ensures same { IsTrue result ↔ (self.now ≡ other.now) }
         ensures whole { (length self.now ≡ PAGE_WORDS) × (length other.now ≡ PAGE_WORDS) }
     {
-        self.is_known_same(other) || self.words == other.words
+        self.whole();
+        other.whole();
+        if self.is_known_same(other) {
+            return true;
+        }
+        for index in 0..PAGE_BLOCKS {
+            if !self.block(index).is_same(other.block(index)) {
+                return false;
+            }
+        }
+        true
     }
 
     /// Whether it is known without a look at the words that another page has the same ones: both are blank.
@@ -77,13 +125,45 @@ impl Page {
         self.blank && other.blank
     }
 
-    /// Its words.
-    pub(crate) fn words(&self) -> &[u32]
-        ensures words { result.now ≡ self.now }
-        ensures whole { length result.now ≡ PAGE_WORDS }
+    /// The word at a place of it.
+    pub(crate) fn word(&self, place: usize) -> u32
+        requires { place < PAGE_WORDS }
+        ensures { result ≡ slice_index self.now place }
     {
-        &self.words
+        self.block(place / BLOCK_WORDS).words()[place % BLOCK_WORDS]
     }
+
+    /// Sets words to those of the page.
+    pub(crate) fn copy_to(&self, words: &mut [u32])
+        requires { length words.old ≡ PAGE_WORDS }
+        ensures { words.new ≡ self.now }
+    {
+        self.whole();
+        for index in 0..PAGE_BLOCKS {
+            let start = index * BLOCK_WORDS;
+            words[start..start + BLOCK_WORDS].copy_from_slice(self.block(index).words());
+        }
+    }
+}
+
+// A block of these words: that of an earlier page, if it has the same ones, or else a new one.
+fn block_of(
+    alloc: Global,
+    words: &[u32],
+    earlier: Option<&Rc<Page>>,
+    index: usize,
+) -> Result<Rc<Block>, AllocError>
+    requires words { length words.now ≡ BLOCK_WORDS }
+    requires index { index < PAGE_BLOCKS }
+    ensures { IfOk result (λ block. block.value ≡ words.now) }
+{
+    if let Some(earlier) = earlier {
+        let block = earlier.block(index);
+        if block.words() == words {
+            return block.clone();
+        }
+    }
+    Block::new(alloc, words)
 }
 
 // Whether all words are 0.

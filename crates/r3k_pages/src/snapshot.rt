@@ -117,7 +117,7 @@ impl<const PAGES: u32> Snapshot<PAGES> {
         requires { place < word_count_of PAGES }
         ensures { result ≡ slice_index self.now place }
     {
-        self.page(page_of(place)).words()[place % PAGE_WORDS as usize]
+        self.page(page_of(place)).word(place % PAGE_WORDS as usize)
     }
 
     /// Whether a page has the same words in both.
@@ -207,7 +207,8 @@ impl<const PAGES: u32> Snapshot<PAGES> {
         // The groups are read, so that their number is known here.
         let _groups = &self.groups;
         let start = page * PAGE_WORDS as usize;
-        words[start..start + PAGE_WORDS as usize].copy_from_slice(self.page(page).words());
+        self.page(page)
+            .copy_to(&mut words[start..start + PAGE_WORDS as usize]);
     }
 
     // A group with the pages of a set taken from another snapshot.

@@ -1,0 +1,72 @@
+//! A block of a page: 128 words that stay as they are.
+
+ghost use Rattle.std.specs.Prelude.{◌≡◌, ◌<◌, ◌↔◌, IfOk, IsTrue, length, slice_set};
+ghost use Rattle.r3k_pages.specs.declared.block.TheConstants.{BLOCK_WORDS};
+
+use std::alloc::{AllocError, Global};
+use std::marker::Model;
+use std::rc::Rc;
+
+/// How many words a block has.
+pub(crate) const BLOCK_WORDS: usize = 128;
+
+/// The words of a block.
+#[derive(Drop)]
+pub(crate) struct Block {
+    words: [u32; 128],
+}
+
+impl Model for Block {
+    ghost use Rattle.std.specs.Prelude.{◌≡◌, List, ℕ, length};
+    ghost use Rattle.r3k_pages.specs.declared.block.TheConstants.{BLOCK_WORDS};
+
+    ghost Value = { List ℕ };
+
+    ghost view = { λ block. block.words };
+
+    ghost invariant = { λ block. length block.words ≡ BLOCK_WORDS };
+}
+
+impl Block {
+    /// A block with these words.
+    pub(crate) fn new(alloc: Global, words: &[u32]) -> Result<Rc<Block>, AllocError>
+        requires { length words.now ≡ BLOCK_WORDS }
+        ensures { IfOk result (λ block. block.value ≡ words.now) }
+    {
+        let mut own = [0; 128];
+        own.copy_from_slice(words);
+        Rc::new(alloc, Block { words: own }).map_err(|_| AllocError)
+    }
+
+    /// The block with the word at a place of it set.
+    pub(crate) fn with_word(
+        &self,
+        alloc: Global,
+        place: usize,
+        word: u32,
+    ) -> Result<Rc<Block>, AllocError>
+        requires { place < BLOCK_WORDS }
+        ensures set { IfOk result (λ block. block.value ≡ slice_set self.now place word) }
+        ensures whole { length self.now ≡ BLOCK_WORDS }
+    {
+        let mut words = self.words;
+        words[place] = word;
+        Rc::new(alloc, Block { words }).map_err(|_| AllocError)
+    }
+
+    /// Whether another block has the same words.
+    pub(crate) fn is_same(&self, other: &Block) -> bool
+        ensures same { IsTrue result ↔ (self.now ≡ other.now) }
+        ensures whole { (length self.now ≡ BLOCK_WORDS) × (length other.now ≡ BLOCK_WORDS) }
+    {
+        self.words == other.words
+    }
+
+    /// Its words.
+    pub(crate) fn words(&self) -> &[u32]
+        ensures words { result.now ≡ self.now }
+        ensures whole { length result.now ≡ BLOCK_WORDS }
+    {
+        &self.words
+    }
+}
