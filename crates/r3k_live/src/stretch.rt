@@ -72,29 +72,29 @@ fn step_quickly<const PAGES: u32, const SPAN: u32>(
     true
 }
 
-// The number of the word before which straight steps from a word end: within the page, not past where all steps end, and before there
-// are `most` steps after `begun`.
+// How many steps are recorded when straight steps from a word end at the latest: within the page, not past where all steps end, and before
+// there are `most` steps after `begun`.
 #[inline(always)]
-fn end_of(first: usize, begun: u32, most: u32, steps: u32, halt: usize) -> usize
+fn last_of(first: usize, begun: u32, most: u32, steps: u32, halt: usize) -> u32
     requires first { first < PAGE_WORDS }
     requires halt { halt ≤ PAGE_WORDS }
     requires begun { begun ≤ steps }
     requires made { steps ≤ begun + most }
     requires fits { begun + most < 2 ^ 32 }
-    ensures ends { Ends most begun first halt result steps }
-    ensures first { first ≤ result }
+    ensures ends { Ends most begun first halt (first + (result - steps)) steps }
+    ensures least { steps ≤ result }
 {
     let end = if first <= halt {
         halt
     } else {
         PAGE_WORDS as usize
     };
-    end.min(first + (begun + most - steps) as usize)
+    steps + ((end - first) as u32).min(begun + most - steps)
 }
 
 // Makes quick steps from word to word, up to a jump, and the step in the jump's delay slot. Says whether more may follow. `begun` steps
-// were recorded before the first one of the page, and `most` may be made in all. From step to step the compiler keeps no more than the
-// number of the word and the load slot.
+// were recorded before the first one of the page, and `most` may be made in all. The count of recorded steps is at hand after each, so it
+// also ends the loop: from step to step the compiler keeps no more than the number of the word and the load slot.
 #[inline(always)]
 fn step_straight<const PAGES: u32, const SPAN: u32>(
     core: &mut Core,
@@ -124,15 +124,15 @@ fn step_straight<const PAGES: u32, const SPAN: u32>(
     ensures straight { IsTrue result → IsStraight flow.new }
     ensures opened { IsTrue (is_open PAGES memory.new.opened.items page.page) }
 {
-    let end = end_of(first, begun, most, recorder.steps(), halt);
+    let last = last_of(first, begun, most, recorder.steps(), halt);
     let mut index = first;
-    while index < end {
+    while recorder.steps() < last {
         flow.stand_straight(page.address(index));
         if !step_quickly(core, flow, memory, page, index, recorder) {
             return false;
         }
         if flow.delay() {
-            if index + 1 >= end {
+            if recorder.steps() >= last {
                 return false;
             }
             if !step_quickly(core, flow, memory, page, index + 1, recorder) {
@@ -142,7 +142,7 @@ fn step_straight<const PAGES: u32, const SPAN: u32>(
         }
         index += 1;
     }
-    flow.stand_straight(page.address(end));
+    flow.stand_straight(page.address(index));
     false
 }
 

@@ -9,6 +9,7 @@ ghost use Rattle.r3k_machine.specs.State.{State};
 ghost use Rattle.r3k_live.specs.Going.{AreLeft, HasGone, HasGoneFor};
 ghost use Rattle.r3k_live.specs.Living.{state_of};
 ghost use Rattle.r3k_live.specs.Waiting.{HasPassed, held_at};
+ghost use Rattle.r3k_live.specs.declared.waiting.Found.TheVariants.{Back};
 
 use crate::flat::FlatMemory;
 use crate::recorder::Recorder;
@@ -18,21 +19,41 @@ use input_log::Cursor;
 use r3k_machine::{Core, Processor, quiet_laws};
 
 // The longest turn that is looked for, and how often the PC may come back to where it was with other registers.
-const LONGEST: u32 = 256;
+const LONGEST: u32 = 128;
 
 const RETURNS: u32 = 2;
 
-/// After this many steps of a stretch it is looked first whether the machine waits. Where it does not, it is looked the next time after
-/// a stretch that is longer by this factor.
+/// After how many steps of a stretch it is first looked whether the machine waits.
 pub(crate) const PATIENCE: u32 = 512;
 
+// Where it does not wait, it is looked the next time after a stretch that is longer by this factor.
 const MORE_PATIENCE: u32 = 8;
 
-// The steps of a turn, and whether it came back.
+// What was found of a turn.
+#[derive(Clone, Copy)]
+enum Found {
+    // It came back to where it began.
+    Back,
+    // It did not.
+    NotBack,
+    // The quiet times ended before that was seen.
+    NoTime,
+}
+
+// The steps of a turn, and what was found of it.
 #[derive(Clone, Copy)]
 struct Turn {
     steps: u32,
-    is_back: bool,
+    found: Found,
+}
+
+// The patience after a turn.
+fn patience_after(patience: u32, found: Found) -> u32 {
+    match found {
+        Found::Back => PATIENCE,
+        Found::NotBack => patience.saturating_mul(MORE_PATIENCE),
+        Found::NoTime => patience,
+    }
 }
 
 /// Makes steps where the machine may wait, some or none. It changes how long a stretch is before the next time.
@@ -57,12 +78,12 @@ pub(crate) fn wait<const PAGES: u32, const SPAN: u32>(
         HasGoneFor PAGES log from start stop made result recorder.old (state_of core.new memory.new) recorder.new }
 {
     let turn = go_round(core, memory, time, events, most, stop, recorder);
-    *patience = patience.saturating_mul(MORE_PATIENCE);
-    if !turn.is_back {
+    let Found::Back = turn.found else {
+        *patience = patience_after(*patience, turn.found);
         return turn.steps;
-    }
+    };
     let time = time + turn.steps as u64;
-    let more = go_round_again(
+    let again = go_round_again(
         core,
         memory,
         time,
@@ -72,10 +93,8 @@ pub(crate) fn wait<const PAGES: u32, const SPAN: u32>(
         stop,
         recorder,
     );
-    if more > turn.steps {
-        *patience = PATIENCE;
-    }
-    turn.steps + more
+    *patience = patience_after(*patience, again.found);
+    turn.steps + again.steps
 }
 
 // Makes steps, one at a time, until PC and registers are what they were, or this does not come soon.
@@ -93,8 +112,8 @@ fn go_round<const PAGES: u32, const SPAN: u32>(
     requires elsewhere { ¬ (core.old.pc ≡ stop) }
     ensures bound { result.steps ≤ most }
     ensures steps { recorder.new.steps ≡ recorder.old.steps + result.steps }
-    ensures some { IsTrue result.is_back → 0 < result.steps }
-    ensures elsewhere { IsTrue result.is_back → ¬ (core.new.pc ≡ stop) }
+    ensures some { result.found ≡ Back → 0 < result.steps }
+    ensures elsewhere { result.found ≡ Back → ¬ (core.new.pc ≡ stop) }
     ensures goes { (log : List LogEvent) (from : ℕ) (start : State) (made : ℕ) → time ≡ from + made → AreLeft time events.now log →
         HasGone PAGES log from start made (state_of core.old memory.old) recorder.old →
         HasGoneFor PAGES log from start stop made result.steps recorder.old (state_of core.new memory.new) recorder.new }
@@ -106,7 +125,8 @@ fn go_round<const PAGES: u32, const SPAN: u32>(
     while steps < most.min(LONGEST) {
         let more = stretch(core, memory, time + steps as u64, events, 1, stop, recorder);
         if more == 0 {
-            break;
+            let found = Found::NoTime;
+            return Turn { steps, found };
         }
         steps += 1;
         if core.pc() as u64 == stop {
@@ -114,10 +134,8 @@ fn go_round<const PAGES: u32, const SPAN: u32>(
         }
         if core.pc() == pc {
             if *core.registers() == registers {
-                return Turn {
-                    steps,
-                    is_back: true,
-                };
+                let found = Found::Back;
+                return Turn { steps, found };
             }
             returns += 1;
             if returns == RETURNS {
@@ -125,10 +143,8 @@ fn go_round<const PAGES: u32, const SPAN: u32>(
             }
         }
     }
-    Turn {
-        steps,
-        is_back: false,
-    }
+    let found = Found::NotBack;
+    Turn { steps, found }
 }
 
 // Makes the steps of a turn once more. If they come back to the very same state, all other turns that there is time for pass at once.
@@ -141,27 +157,32 @@ fn go_round_again<const PAGES: u32, const SPAN: u32>(
     turn: u32,
     stop: u64,
     recorder: &mut Recorder<PAGES, SPAN>,
-) -> u32
+) -> Turn
     requires room { recorder.old.steps + most ≤ SPAN }
     requires turn { 0 < turn }
     requires before { turn ≤ recorder.old.steps }
     requires elsewhere { ¬ (core.old.pc ≡ stop) }
-    ensures bound { result ≤ most }
-    ensures steps { recorder.new.steps ≡ recorder.old.steps + result }
+    ensures bound { result.steps ≤ most }
+    ensures steps { recorder.new.steps ≡ recorder.old.steps + result.steps }
     ensures goes { (log : List LogEvent) (from : ℕ) (start : State) (made : ℕ) → time ≡ from + made → AreLeft time events.now log →
         HasGone PAGES log from start made (state_of core.old memory.old) recorder.old →
-        HasGoneFor PAGES log from start stop made result recorder.old (state_of core.new memory.new) recorder.new }
+        HasGoneFor PAGES log from start stop made result.steps recorder.old (state_of core.new memory.new) recorder.new }
 {
     quiet_laws();
+    let none = Turn {
+        steps: 0,
+        found: Found::NoTime,
+    };
     let Some(mut ready) = get_ready(core, memory, time, events, most, recorder) else {
-        return 0;
+        return none;
     };
     if ready.steps < turn {
-        return 0;
+        return none;
     }
     let since = recorder.steps();
     let Some(held) = recorder.held(since - turn, memory.words()) else {
-        return 0;
+        let found = Found::NotBack;
+        return Turn { steps: 0, found };
     };
     let processor = core.processor();
     let mut flow = core.flow();
@@ -177,7 +198,8 @@ fn go_round_again<const PAGES: u32, const SPAN: u32>(
     core.set_flow(flow);
     if steps < turn {
         core.elapse(steps);
-        return steps;
+        let found = Found::NotBack;
+        return Turn { steps, found };
     }
     let more = ready.steps - turn;
     let passed = pass_turns(
@@ -191,7 +213,15 @@ fn go_round_again<const PAGES: u32, const SPAN: u32>(
         recorder,
     );
     core.elapse(turn + passed);
-    turn + passed
+    let found = if passed > 0 {
+        Found::Back
+    } else if more < turn {
+        Found::NoTime
+    } else {
+        Found::NotBack
+    };
+    let steps = turn + passed;
+    Turn { steps, found }
 }
 
 // How many steps of further turns pass at once after a turn from `since` steps on: all whole turns among `most` steps, if it came back to the

@@ -1,4 +1,4 @@
-use Rattle.std.proofs.Common.{◌-◌, IsFalse, IsTrue}
+use Rattle.std.proofs.Common.{◌+◌, ◌-◌, IsFalse, IsTrue}
 use Rattle.r3k_machine.specs.Flow.{with_flow}
 use Rattle.r3k_live.specs.Living.{state_of}
 use Rattle.r3k_live.specs.Slots.{is_open}
@@ -6,13 +6,13 @@ use Rattle.r3k_live.proofs.Quick.{AreAt}
 use Rattle.r3k_live.proofs.stretch.step_straight.Given as goal
 
 -- the steps stand at a word, which is in no delay slot
-abbrev pub invariant-loop-index : goal.invariant-loop-index
-invariant-loop-index g l = record {
-  at : AreAt g.row.PAGES l.most l.begun l.first l.halt l.end l.index l.page (state_of (with_flow l.fn.core l.fn.flow) l.fn.memory) l.fn.recorder
+abbrev pub invariant-loop-flow : goal.invariant-loop-flow
+invariant-loop-flow g l = record {
+  at : AreAt g.row.PAGES l.most l.begun l.first l.halt (l.first + (l.last - l.fn.recorder.steps)) l.index l.page (state_of (with_flow l.fn.core l.fn.flow) l.fn.memory) l.fn.recorder
       l.core l.flow l.memory.words.items l.recorder;
   free : IsFalse l.flow.delay;
   opened : IsTrue (is_open g.row.PAGES l.memory.opened.items l.page.page);
 }
 
-abbrev pub decreases-loop-index : goal.decreases-loop-index
-decreases-loop-index g l = l.end - l.index
+abbrev pub decreases-loop-flow : goal.decreases-loop-flow
+decreases-loop-flow g l = l.first + (l.last - l.fn.recorder.steps) - l.index
