@@ -1,7 +1,7 @@
 // Requests: one is under way at most. What is wanted meanwhile is put together, and of a drag only the latest place is kept.
 import {$, s, columns, say} from "./state.js";
 
-const SLOW = 30, QUICK = 12;                // milliseconds of an answer after which the next one looks at fewer places, or at more
+const SLOW = 16, QUICK = 7;                 // milliseconds of an answer after which the next one looks at fewer places, or at more
 const MOST_EDITS = 2000;                    // of one request
 const MOST_NAME = 200;                      // characters of the name of an edit
 let want = null, busy = false, resting = 0, failures = 0;
