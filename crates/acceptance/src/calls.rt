@@ -1,12 +1,13 @@
-//! The calls of std's readers and writers: one for each of ours. No clause says so, as std's traits count no calls.
+//! The calls of std's readers and writers: one for each of ours, and replies are out before the next read. No clause says so, as
+//! std's traits count no calls, and as reads and writes are reported apart.
 ghost use Rattle.std.specs.Prelude.{◌≤◌, IfOk};
 
-use crate::same::same_at;
+use crate::same::{same, same_at};
 use std::cell::Cell;
 use std::io;
 use std::io::{ErrorKind, Read, Write};
 use std::test::Fail;
-use wb_io::{Failed, FromRead, Sink, Source, ToWrite};
+use workbench::{Failed, FromRead, Kind, Options, Sink, Source, ToWrite, serve, status};
 
 // What a call of std's does: it moves at most so many bytes, or it fails.
 #[derive(Clone, Copy, Debug)]
@@ -132,5 +133,84 @@ fn one_write_for_each(rt: HostRuntime) -> Result<(), Fail> {
             same_at(&rt, &(size, does), &(got, wire.made()), &wants);
         }
     }
+    Ok(())
+}
+
+// A reader of std's that gives one piece a call, and puts down how many bytes are out at each.
+#[derive(Drop)]
+struct Watching<'a> {
+    pieces: &'a [&'static [u8]],
+    out: &'a Cell<usize>,
+    seen: Vec<usize>,
+}
+
+impl Read for Watching<'_> {
+    fn read(&mut self, buffer: &mut [u8]) -> io::Result<usize> {
+        self.seen.push(self.out.get())?;
+        let [piece, rest @ ..] = self.pieces else {
+            return Ok(0);
+        };
+        self.pieces = rest;
+        let count = buffer.len().min(piece.len());
+        buffer[..count].copy_from_slice(&piece[..count]);
+        Ok(count)
+    }
+}
+
+// A writer of std's that takes at most four bytes a call, and counts them.
+#[derive(Drop)]
+struct Out<'a> {
+    out: &'a Cell<usize>,
+}
+
+impl Write for Out<'_> {
+    fn write(&mut self, bytes: &[u8]) -> io::Result<usize> {
+        let count = bytes.len().min(4);
+        self.out.set(self.out.get().saturating_add(count));
+        Ok(count)
+    }
+
+    fn flush(&mut self) -> io::Result<()> {
+        Ok(())
+    }
+}
+
+/// The replies to the complete lines are out, whole, before the next read. Each has six bytes.
+#[test]
+fn replies_before_reads(rt: HostRuntime) -> Result<(), Fail> {
+    let alloc = rt.alloc();
+    let out = Cell::new(0);
+    let pieces: [&'static [u8]; 5] = [
+        b"pos\n",
+        b"po",
+        b"s\n\npos\npos",
+        b"\nstep",
+        b" 1\npos\npos",
+    ];
+    let mut reader = Watching {
+        pieces: &pieces,
+        out: &out,
+        seen: Vec::new(alloc),
+    };
+    let asked = Options {
+        kind: Kind::Rom,
+        size: 0,
+        log_size: 0,
+    };
+    let mut source = FromRead::new(&mut reader);
+    let mut sink = ToWrite::new(Out { out: &out });
+    let outcome = serve::<16, 64, FromRead<&mut Watching>, ToWrite<Out>>(
+        alloc,
+        asked,
+        &mut source,
+        &mut sink,
+    );
+    same(&rt, &status(&outcome), &0);
+    same(
+        &rt,
+        &reader.seen.as_slice(),
+        &[0, 6, 6, 18, 24, 36].as_slice(),
+    );
+    same(&rt, &out.get(), &42);
     Ok(())
 }
