@@ -3,7 +3,9 @@
 #![tactic(auto)]
 
 pub mod caches;
+mod numbers;
 pub mod slot;
 
 pub use caches::Caches;
+pub use numbers::cache_numbers;
 pub use slot::Slot;

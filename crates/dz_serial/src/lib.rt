@@ -5,6 +5,7 @@
 
 mod dz;
 mod line;
+mod numbers;
 mod quiet;
 mod read;
 mod registers;
@@ -14,6 +15,7 @@ mod write;
 
 pub use dz::Dz;
 pub use line::SerialLine;
+pub use numbers::dz_numbers;
 pub use quiet::quiet_laws;
 pub use registers::{CSR, MSR, RBUF, TCR};
 pub use write::Sent;

@@ -10,6 +10,7 @@ mod format;
 mod laws;
 mod limits;
 mod log;
+mod numbers;
 mod reading;
 mod writing;
 
@@ -20,5 +21,6 @@ pub use fault::{LogFault, LogKind};
 pub use laws::log_laws;
 pub use limits::{MAX_EVENTS, MAX_POSITION, MAX_TIME};
 pub use log::Log;
+pub use numbers::log_numbers;
 pub use reading::read_log;
 pub use writing::write_log;

@@ -8,10 +8,12 @@ mod equal;
 pub mod laws;
 mod lines;
 mod load;
+mod numbers;
 mod parts;
 mod region;
 mod schedule;
 mod store;
 
 pub use bus::{Bus, Lines};
+pub use numbers::bus_numbers;
 pub use region::{ClockRegister, Device, Region};

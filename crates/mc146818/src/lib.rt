@@ -6,9 +6,11 @@
 mod clock;
 mod divider;
 pub mod laws;
+mod numbers;
 mod quiet;
 pub mod registers;
 mod time;
 
 pub use clock::Clock;
+pub use numbers::clock_numbers;
 pub use quiet::quiet_laws;

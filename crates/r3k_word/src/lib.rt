@@ -8,4 +8,5 @@ pub mod bytes;
 pub mod field;
 pub mod laws;
 pub mod layout;
+pub mod numbers;
 pub mod reading;

@@ -3,8 +3,10 @@
 
 pub mod entry;
 mod kept;
+mod numbers;
 mod sets;
 pub mod tlb;
 
 pub use entry::{Entry, Found};
+pub use numbers::tlb_numbers;
 pub use tlb::Tlb;

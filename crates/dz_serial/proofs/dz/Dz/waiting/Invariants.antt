@@ -1,4 +1,4 @@
-use Rattle.std.proofs.Common.{◌≡◌, ◌≤◌, length, map, take}
+use Rattle.std.proofs.Common.{◌≡◌, map, take}
 use Rattle.dz_serial.specs.Reads.{character_word}
 use Rattle.dz_serial.proofs.dz.Dz.waiting.Given as goal
 
