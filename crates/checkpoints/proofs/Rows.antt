@@ -1,22 +1,21 @@
 -- The rows of records, after one of them changes.
-use Rattle.std.proofs.Common.{◌≡◌, ◌⊎◌, inl, inr, ℕ, zero, suc, ◌+◌, ◌-◌, ◌<◌, ◌≤◌, List, [], ◌∷◌, ◌++◌, length, get_or, set, take, drop, map, Contains, Option, Some, None, IfOk, IfSome, IsOk, IsSome, IsSomeAnd, Result, Ok, Err, slice_get, slice_index_or, slice_set, refl, sym, ap, subst, ◌∙◌, arith}
+use Rattle.std.proofs.Common.{◌≡◌, ◌⊎◌, inl, inr, ℕ, zero, suc, ◌+◌, ◌-◌, ◌<◌, ◌≤◌, List, [], ◌∷◌, ◌++◌, length, take, drop, Contains, Option, Some, None, IfOk, IfSome, IsOk, IsSome, IsSomeAnd, Result, Ok, Err, slice_get, slice_index_or, slice_set, refl, sym, ap, subst, ◌∙◌, arith}
 use Rattle.std.specs.List.{remove}
 use Rattle.std.specs.Option.{option_map, option_map_or}
 use Rattle.std.proofs.lemmas.Bool.{cases_eq, cases_lt, false≢true}
-use Rattle.std.proofs.lemmas.List.{length-map, get_or-set_same, get_or-set_other, get_or_past, map-set, map-append, take-map, drop-map, take-append-drop, length-take, length-append, length-drop, length-set}
+use Rattle.std.proofs.lemmas.List.{length-map, get_or-set_same, get_or-set_other, get_or_past, map-set, map-append, take-map, drop-map, take-append-drop, length-take, length-set}
 use Rattle.std.proofs.lemmas.List.Elements.{Contains-append_cases, Contains-append_left, Contains-append_right}
 use Rattle.std.proofs.Math.ListN.{get_or-map}
+use Rattle.std.proofs.lemmas.Option.{slice_get_within, slice_get-get_or, IfSome_then, slice_get-map}
+use Rattle.std.proofs.lemmas.List.Edits.{length-remove}
 use Rattle.span_fact.specs.Span.{Span, end_of}
 use Rattle.checkpoints.specs.Kept.{Follows, first_at, promoted, row_at}
-use Rattle.checkpoints.specs.Rows.{AreRows, IsOwnName, IsRoom, Leads, Places, Tied, records_of, rows_of, spans_of, with_next}
+use Rattle.checkpoints.specs.Rows.{AreRows, IsOwnName, IsRoom, Places, Tied, records_of, rows_of, spans_of, with_next}
 
 -- what is in a list
 pub in_cons : {A : Type 0} (x : A) (xs : List A) (r : A) → Contains (x ∷ xs) r → (x ≡ r) ⊎ Contains xs r
 in_cons x xs r (zero, within, at) = inl at
 in_cons x xs r (suc k, within, at) = inr (k, omega (arith, within), at)
-
-pub in_first : {A : Type 0} (x : A) (xs : List A) → Contains (x ∷ xs) x
-in_first x xs = (0, omega arith, refl)
 
 pub in_rest : {A : Type 0} (x : A) (xs : List A) (r : A) → Contains xs r → Contains (x ∷ xs) r
 in_rest x xs r there = let less = there.1 in (suc there.0, omega (arith, less), there.2)
@@ -50,44 +49,18 @@ in_promoted {A} place xs r there = by_cases (slice_get xs place) refl there
           | inr rest ↦ in_removed xs place r rest
         ]
 
-pub none_past : {A : Type 0} (xs : List A) (p k : ℕ) → slice_get xs p ≡ None → p ≤ k → slice_get xs k ≡ None
-none_past [] p k none past = refl
-none_past (x ∷ xs) zero k none past = absurd (let e : ⊥ = cc in e)
-none_past (x ∷ xs) (suc p) zero none past = absurd (let e : ⊥ = omega (arith, past) in e)
-none_past (x ∷ xs) (suc p) (suc k) none past = none_past xs p k none (omega (arith, past))
-
-pub some_within : {A : Type 0} (xs : List A) (p : ℕ) (s : A) → slice_get xs p ≡ Some s → p < length xs
-some_within [] p s is = absurd (let e : ⊥ = cc in e)
-some_within (x ∷ xs) zero s is = omega arith
-some_within (x ∷ xs) (suc p) s is = let less = some_within xs p s is in omega (arith, less)
-
-pub within_some : {A : Type 0} (xs : List A) (p : ℕ) (d : A) → p < length xs → slice_get xs p ≡ Some (get_or xs p d)
-within_some [] p d within = absurd (let e : ⊥ = omega (arith, within) in e)
-within_some (x ∷ xs) zero d within = refl
-within_some (x ∷ xs) (suc p) d within = within_some xs p d (omega (arith, within))
-
 -- the rows that are seen are those of the records
 pub row_of : (places : List Places) (i : ℕ) → row_at (rows_of places) i ≡ spans_of (row_at (records_of places) i)
 row_of places i = get_or-map spans_of (records_of places) i []
 
-pub span_in : (records : List Tied) (k : ℕ) → slice_get (spans_of records) k ≡ option_map (λ r. r.span) (slice_get records k)
-span_in [] k = refl
-span_in (r ∷ records) zero = refl
-span_in (r ∷ records) (suc k) = span_in records k
-
 pub span_at : (places : List Places) (i k : ℕ) → slice_get (row_at (rows_of places) i) k ≡ option_map (λ r. r.span) (slice_get (row_at (records_of places) i) k)
-span_at places i k = ap (λ (row : List Span). slice_get row k) (row_of places i) ∙ span_in (row_at (records_of places) i) k
+span_at places i k = ap (λ (row : List Span). slice_get row k) (row_of places i) ∙ slice_get-map (λ (r : Tied). r.span) (row_at (records_of places) i) k
 
 -- a row by its number
 pub row_is : (places : List Places) (i : ℕ) (p : Places) → slice_get places i ≡ Some p → row_at (records_of places) i ≡ p.records
 row_is [] i p is = absurd (let e : ⊥ = cc in e)
 row_is (q ∷ places) zero p is = ap (λ (p : Places). p.records) (let e : q ≡ p = cc in e)
 row_is (q ∷ places) (suc i) p is = row_is places i p is
-
-pub row_none : (places : List Places) (i : ℕ) → slice_get places i ≡ None → row_at (records_of places) i ≡ []
-row_none [] i none = refl
-row_none (q ∷ places) zero none = absurd (let e : ⊥ = cc in e)
-row_none (q ∷ places) (suc i) none = row_none places i none
 
 -- a row that is not empty has a place among the rows
 pub has_place : {A : Type 0} (rows : List (List A)) (i k : ℕ) → k < length (row_at rows i) → i < length rows
@@ -109,15 +82,11 @@ row_other places index i p other =
 
 -- what a list gives at an index
 pub item : {A : Type 0} (xs : List A) (i : ℕ) (x : A) → i < length xs → x ≡ slice_index_or xs i x → slice_get xs i ≡ Some x
-item xs i x within is = within_some xs i x within ∙ ap (λ x. Some x) (sym is)
+item xs i x within is = slice_get-get_or xs i x within ∙ ap (λ x. Some x) (sym is)
 
 -- what holds of what is there
 pub some_is : {A : Type 0} (o : Option A) (x : A) (P : A → Type 0) → o ≡ Some x → IfSome o P → P x
 some_is o x P is holds = subst (λ o. IfSome o P) is holds
-
-pub if_some : {A : Type 0} (o : Option A) (P Q : A → Type 0) → IfSome o P → ((x : A) → P x → Q x) → IfSome o Q
-if_some None P Q there f = tt
-if_some (Some x) P Q there f = f x there
 
 -- the record that is named next follows
 pub leads : (pages span : ℕ) (places : List Places) (valid most names index place : ℕ) (r : Tied) (name : ℕ) → AreRows pages span (records_of places) valid most names
@@ -150,16 +119,12 @@ fewer_kept pages span old new valid most names rows within long = record {
 }
 
 -- a record is used
-pub length_removed : {A : Type 0} (xs : List A) (k : ℕ) → k < length xs → length (remove xs k) + 1 ≡ length xs
-length_removed xs k within =
-    omega (arith, length-append (take k xs) (drop (suc k) xs), length-take k xs, length-drop (suc k) xs)
-
 pub length_promoted : {A : Type 0} (place : ℕ) (xs : List A) → place < length xs → length (promoted place xs) ≡ length xs
 length_promoted {A} place xs within = by_cases (slice_get xs place)
   where
     by_cases : (o : Option A) → length (option_map_or (λ s. s ∷ remove xs place) o xs) ≡ length xs
     by_cases None = refl
-    by_cases (Some s) = let long = length_removed xs place within in omega (arith, long)
+    by_cases (Some s) = let long = length-remove xs place within in omega (arith, long)
 
 -- a record is put
 pub length_put : {A : Type 0} (x : A) (most : ℕ) (xs : List A) → 0 < most → length (x ∷ take (most - 1) xs) ≤ most
@@ -184,7 +149,7 @@ put_kept pages span old new valid most names later index r rows here others numb
   ];
   fresh = λ i n there. elim (from i n there) [
     | inl is ↦ subst (λ (n : Tied). IfSome n.next (λ name. name < later)) is.1 (subst (λ (o : Option ℕ). IfSome o (λ name. name < later)) (sym none) tt)
-    | inr kept ↦ if_some n.next (λ name. name < names) (λ name. name < later) (rows.fresh i n kept) (λ name less. omega (arith, less, more))
+    | inr kept ↦ IfSome_then n.next (rows.fresh i n kept) (λ name less. omega (arith, less, more))
   ];
   follow = λ i n there next after named. elim (from i n there) [
     | inl is ↦ absurd (let e : ⊥ = cc (ap (λ (n : Tied). n.next) is.1, none, named) in e)
@@ -289,7 +254,7 @@ first_there places index some =
 -- a list after one item was set
 pub set_same : {A : Type 0} (xs : List A) (i : ℕ) (x : A) → i < length xs → slice_get (slice_set xs i x) i ≡ Some x
 set_same xs i x within =
-    within_some (slice_set xs i x) i x (omega (arith, within, length-set xs i x)) ∙ ap (λ x. Some x) (get_or-set_same xs i x x within)
+    slice_get-get_or (slice_set xs i x) i x (omega (arith, within, length-set xs i x)) ∙ ap (λ x. Some x) (get_or-set_same xs i x x within)
 
 pub set_other : {A : Type 0} (xs : List A) (i j : ℕ) (x : A) → ¬ (j ≡ i) → slice_get (slice_set xs i x) j ≡ slice_get xs j
 set_other [] i j x other = refl
@@ -305,7 +270,7 @@ room_kept places most index n p q there long room is = record {
   there = let within = is.there in omega (arith, within, length-set places index q);
   room = elim (cases_eq n index) [
     | inl same ↦
-        let within = some_within places index p there in
+        let within = slice_get_within places index p there in
         let old : ¬ (length p.records ≡ most) → length p.records < p.room =
         some_is (slice_get places n) p (λ p. ¬ (length p.records ≡ most) → length p.records < p.room) (ap (slice_get places) same ∙ there) is.room
         in
@@ -342,11 +307,11 @@ spans_promoted place records =
     by_cases : (o : Option Tied) → slice_get records place ≡ o → spans_of (promoted place records) ≡ promoted place (spans_of records)
     by_cases None is =
         ap (λ (o : Option Tied). spans_of (option_map_or (λ s. s ∷ remove records place) o records)) is
-        ∙ sym (ap (λ (o : Option Span). option_map_or (λ s. s ∷ remove (spans_of records) place) o (spans_of records)) (span_in records place ∙ ap (option_map (λ (r : Tied). r.span)) is))
+        ∙ sym (ap (λ (o : Option Span). option_map_or (λ s. s ∷ remove (spans_of records) place) o (spans_of records)) (slice_get-map (λ (r : Tied). r.span) records place ∙ ap (option_map (λ (r : Tied). r.span)) is))
     by_cases (Some s) is =
         ap (λ (o : Option Tied). spans_of (option_map_or (λ s. s ∷ remove records place) o records)) is
         ∙ (ap (λ (xs : List Span). s.span ∷ xs) removed
-        ∙ sym (ap (λ (o : Option Span). option_map_or (λ s. s ∷ remove (spans_of records) place) o (spans_of records)) (span_in records place ∙ ap (option_map (λ (r : Tied). r.span)) is)))
+        ∙ sym (ap (λ (o : Option Span). option_map_or (λ s. s ∷ remove (spans_of records) place) o (spans_of records)) (slice_get-map (λ (r : Tied). r.span) records place ∙ ap (option_map (λ (r : Tied). r.span)) is)))
 
 pub spans_put : (r : Tied) (n : ℕ) (records : List Tied) → spans_of (r ∷ take n records) ≡ r.span ∷ take n (spans_of records)
 spans_put r n records = ap (λ (xs : List Span). r.span ∷ xs) (sym (take-map (λ (r : Tied). r.span) n records))
@@ -391,7 +356,7 @@ promote_kept pages span places valid most names index place p q rows there withi
     ])
   where
     here : (i : ℕ) → i ≡ index → row_at (records_of (slice_set places index q)) i ≡ promoted place p.records
-    here i same = ap (row_at (records_of (slice_set places index q))) same ∙ (row_set places index q (some_within places index p there) ∙ is)
+    here i same = ap (row_at (records_of (slice_set places index q))) same ∙ (row_set places index q (slice_get_within places index p there) ∙ is)
 
 -- what it is that a first record follows another
 pub followed : (pages span : ℕ) (places : List Places) (index : ℕ) → Follows pages span (first_at (rows_of places) index) (first_at (rows_of places) (index + 1))
@@ -427,11 +392,6 @@ row_pushed [] p zero none = none
 row_pushed [] p (suc i) none = refl
 row_pushed (q ∷ places) p zero none = refl
 row_pushed (q ∷ places) p (suc i) none = row_pushed places p i none
-
-pub past_none : {A : Type 0} (xs : List A) (k : ℕ) → length xs ≤ k → slice_get xs k ≡ None
-past_none [] k past = refl
-past_none (x ∷ xs) zero past = absurd (let e : ⊥ = omega (arith, past) in e)
-past_none (x ∷ xs) (suc k) past = past_none xs k (omega (arith, past))
 
 pub not_both : {A E : Type 0} (r : Result A E) (e : E) → r ≡ Err e → ¬ IsOk r
 not_both {A} {E} r e is ok = false≢true (subst (λ (r : Result A E). IsOk r) is ok)

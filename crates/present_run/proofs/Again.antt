@@ -1,9 +1,11 @@
 -- Spans that go on from where one of them ends, and logs that are the same outside some times.
-use Rattle.std.proofs.Common.{◌≡◌, ℕ, zero, suc, ◌+◌, ◌-◌, ◌*◌, ◌/◌, ◌<◌, ◌≤◌, ◌⊎◌, IsSome, List, [], ◌∷◌, ◌++◌, inl, inr, length, map, Option, Some, None, slice_get, slice_index_or, slice_set, refl, sym, ap, subst, ◌∙◌, arith}
+use Rattle.std.proofs.Common.{◌≡◌, ℕ, zero, suc, ◌+◌, ◌-◌, ◌*◌, ◌/◌, ◌<◌, ◌≤◌, ◌⊎◌, List, [], ◌∷◌, ◌++◌, inl, inr, length, map, Option, Some, slice_get, slice_index_or, slice_set, refl, sym, ap, subst, ◌∙◌, arith}
 use Rattle.std.proofs.Math.Nat.{div-mul-le_self, lt-div-mul-add, mul-le-mul_right}
 use Rattle.std.proofs.Math.Path.{ap₂}
-use Rattle.std.specs.Option.{is_some}
-use Rattle.std.proofs.lemmas.Bool.{cases_eq, cases_lt, false≢true}
+use Rattle.std.specs.Option.{option_map}
+use Rattle.std.proofs.lemmas.List.{length-set, set-get_or}
+use Rattle.std.proofs.lemmas.Option.{get_or_from_slice_get, slice_get-map, slice_get_within}
+use Rattle.std.proofs.lemmas.Bool.{cases_eq, cases_lt}
 use Rattle.input_log.specs.Event.{LogEvent}
 use Rattle.input_log.specs.Edits.{AreSameOutside}
 use Rattle.r3k_image.specs.Boot.{Boot}
@@ -15,24 +17,15 @@ use Rattle.span_fact.specs.Span.{Span, end_of}
 use Rattle.present_run.specs.Ends.{AreEnds, GoesOn, IsJoined, IsJoinedFrom, IsPut}
 use Rattle.present_run.specs.Reuse.{span_from, span_of}
 use Rattle.checkpoints.specs.Kept.{Kept, first_at}
-use Rattle.present_run.specs.Index.{Agrees, Index}
+use Rattle.checkpoints.proofs.Rows.{item, set_other, set_same}
+use Rattle.present_run.specs.Index.{Agrees, Has, Index}
 use Rattle.present_run.specs.declared.frontier.Frontier.{Frontier}
-use Rattle.present_run.specs.declared.runs.Runs.{Runs}
-use Rattle.present_run.specs.Runs.{AreOf, IsKnown}
+use Rattle.present_run.specs.declared.records.SpanRecords.{SpanRecords}
+use Rattle.present_run.specs.Runs.{AreRecords, IsKnown}
 use Rattle.present_run.proofs.Known.{known_by}
-use Rattle.present_run.proofs.Next.{and_last}
 use Rattle.present_run.proofs.Spans.{ends, next_start, some_is}
 
 -- ---- a list of ends
-
-pub no_some : {A : Type 0} (x : A) → None ≡ Some x → ⊥
-no_some x is = false≢true (ap (λ (o : Option _). is_some o) is)
-
-pub within : {A : Type 0} (all : List A) (index : ℕ) (x : A) → slice_get all index ≡ Some x → index < length all
-within [] zero x is = absurd (no_some x is)
-within [] (suc index) x is = absurd (no_some x is)
-within (first ∷ rest) zero x is = omega arith
-within (first ∷ rest) (suc index) x is = let e = within rest index x is in omega (arith, e)
 
 pub at : {A : Type 0} (all : List A) (index : ℕ) → index < length all → (x : A) × (slice_get all index ≡ Some x)
 at [] index within = absurd (omega (arith, within))
@@ -41,46 +34,22 @@ at (first ∷ rest) (suc index) within = at rest index (omega (arith, within))
 
 pub got : {A : Type 0} (value : A → State) (all : List A) (index : ℕ) (end : A) → index < length all → end ≡ slice_index_or all index end
     → slice_get (map value all) index ≡ Some (value end)
-got value [] index end inside is = absurd (omega (arith, inside))
-got value (first ∷ rest) zero end inside is = ap (λ (e : _). Some (value e)) (sym is)
-got value (first ∷ rest) (suc index) end inside is = got value rest index end (omega (arith, inside)) is
+got value all index end inside is = slice_get-map value all index ∙ ap (option_map value) (item all index end inside is)
 
 pub put_in_place : (all : List State) (index : ℕ) (end : State) → index < length all → IsPut index end all (slice_set all index end)
 put_in_place all index end inside = record {
-  within = long all index inside;
-  there = there all index inside;
-  others = others all index;
-  same = same all index;
+  within = let long = length-set all index end in omega (arith, long, inside);
+  there = set_same all index end inside;
+  others = λ i other. set_other all index i end other;
+  same = λ is. ap (slice_set all index) (sym (get_or_from_slice_get all index end end is)) ∙ set-get_or all index end;
 }
-  where
-    long : (all : List State) (index : ℕ) → index < length all → index < length (slice_set all index end)
-    long [] index inside = absurd (omega (arith, inside))
-    long (first ∷ rest) zero inside = omega arith
-    long (first ∷ rest) (suc index) inside = let e = long rest index (omega (arith, inside)) in omega (arith, e)
-
-    there : (all : List State) (index : ℕ) → index < length all → slice_get (slice_set all index end) index ≡ Some end
-    there [] index inside = absurd (omega (arith, inside))
-    there (first ∷ rest) zero inside = refl
-    there (first ∷ rest) (suc index) inside = there rest index (omega (arith, inside))
-
-    others : (all : List State) (index i : ℕ) → ¬ (i ≡ index) → slice_get (slice_set all index end) i ≡ slice_get all i
-    others [] index i other = refl
-    others (first ∷ rest) zero zero other = absurd (other refl)
-    others (first ∷ rest) zero (suc i) other = refl
-    others (first ∷ rest) (suc index) zero other = refl
-    others (first ∷ rest) (suc index) (suc i) other = others rest index i (λ e. other (ap suc e))
-
-    same : (all : List State) (index : ℕ) → slice_get all index ≡ Some end → slice_set all index end ≡ all
-    same [] index is = refl
-    same (first ∷ rest) zero is = ap (λ (s : State). s ∷ rest) (sym (some_is first end is))
-    same (first ∷ rest) (suc index) is = ap (λ (l : List State). first ∷ l) (same rest index is)
 
 pub put_last : (all : List State) (end : State) → IsPut (length all) end all (all ++ end ∷ [])
 put_last all end = record {
   within = long all;
   there = there all;
   others = others all;
-  same = λ is. let e = within all (length all) end is in absurd (omega (arith, e));
+  same = λ is. let e = slice_get_within all (length all) end is in absurd (omega (arith, e));
 }
   where
     long : (all : List State) → length all < length (all ++ end ∷ [])
@@ -97,15 +66,6 @@ put_last all end = record {
     others (first ∷ rest) zero other = refl
     others (first ∷ rest) (suc i) other = others rest i (λ e. other (ap suc e))
 
-pub map_put : {A : Type 0} (value : A → State) (all : List A) (index : ℕ) (end : A) → map value (slice_set all index end) ≡ slice_set (map value all) index (value end)
-map_put value [] index end = refl
-map_put value (first ∷ rest) zero end = refl
-map_put value (first ∷ rest) (suc index) end = ap (λ (l : List State). value first ∷ l) (map_put value rest index end)
-
-pub map_last : {A : Type 0} (value : A → State) (all : List A) (end : A) → map value (all ++ end ∷ []) ≡ map value all ++ value end ∷ []
-map_last value [] end = refl
-map_last value (first ∷ rest) end = ap (λ (l : List State). value first ∷ l) (map_last value rest end)
-
 -- the ends of the spans of a run, with one more
 pub more_ends : (pages span : ℕ) (image : Boot) (log : List LogEvent) (count : ℕ) (old new : List State) (end : State) → AreEnds pages span image log count old
     → IsPut count end old new → end ≡ state_at pages image log ((count + 1) * span) → AreEnds pages span image log (count + 1) new
@@ -115,6 +75,21 @@ more_ends pages span image log count old new end are put is = record {
     | inl here ↦ subst (λ (n : ℕ). slice_get new n ≡ Some (state_at pages image log ((n + 1) * span))) (sym here) (put.there ∙ ap (λ (s : State). Some s) is)
     | inr other ↦ put.others index other ∙ are.each index (let e : index < count = omega (arith, below, other) in e)
   ];
+}
+
+-- what holds for all numbers before one, and for that one
+pub and_last : (P : ℕ → Type 0) (valid : ℕ) → ((i : ℕ) → i < valid → P i) → P valid → (i : ℕ) → i < valid + 1 → P i
+and_last P valid before here i within =
+    elim (cases_lt i valid) [
+      | inl below ↦ before i below
+      | inr above ↦ subst P (let same : valid ≡ i = omega (arith, within, above) in same) here
+    ]
+
+-- where spans end, at first
+pub no_ends : (pages span : ℕ) (image : Boot) (log : List LogEvent) (count : ℕ) (ends : List State) → count ≡ 0 → ends ≡ [] → AreEnds pages span image log count ends
+no_ends pages span image log count ends none empty = record {
+  many = omega (arith, none);
+  each = λ index within. absurd (let e : ⊥ = omega (arith, none, within) in e);
 }
 
 -- ---- spans that go on
@@ -296,36 +271,58 @@ goes_on_over pages span image log changed spans all from to valid again now inde
       | inl below ↦
           goes_on_after pages span log changed spans all from to index same (ends_after to span index some (omega (arith, after, past)))
           (goes_on pages span image log spans all valid index are joined below)
-      | inr beyond ↦ λ start end start_is end_is. absurd (let there = within all (index + 1) end end_is in let e : ⊥ = omega (arith, there, beyond, whole) in e)
+      | inr beyond ↦ λ start end start_is end_is. absurd (let there = slice_get_within all (index + 1) end end_is in let e : ⊥ = omega (arith, there, beyond, whole) in e)
     ]
 goes_on_over pages span image log changed spans all from to valid again now index some same are joined goes (inr later) after past =
     goes_on_after pages span log changed spans all from to index same (ends_after to span index some (omega (arith, after, past)))
     (goes index (omega (arith, later.0, past)) (omega (arith, later.1, past)))
 
-pub there_is : (pages span index : ℕ) (o : Option Span) (s : Span) → IsJoined pages span index o s → IsSome o
-there_is pages span index None s joined = absurd joined.near
-there_is pages span index (Some r) s joined = refl
-
 -- the same with other kept values, of the same records
-pub over_joined : {pages span : ℕ} (image : Boot) (log : List LogEvent) (runs : Runs pages span) (kept : Kept) (reports : Index) (f : Frontier pages)
-    → ((i : ℕ) → first_at kept.rows i ≡ first_at runs.kept.rows i) → kept.valid ≡ runs.kept.valid → Agrees pages span reports kept.rows
-    → IsKnown span kept.rows (λ n. state_at pages image log (n * span)) f → AreOf image log runs → AreOf image log (record runs { kept = kept; reports = reports; frontier = f })
-over_joined {pages} {span} image log runs kept reports f same valid_is agrees known of = record {
+pub over_kept : {pages span : ℕ} (image : Boot) (log : List LogEvent) (records : SpanRecords pages span) (kept : Kept) (reports : Index)
+    → ((i : ℕ) → first_at kept.rows i ≡ first_at records.kept.rows i) → kept.valid ≡ records.kept.valid → Agrees pages span reports kept.rows
+    → AreRecords image log records → AreRecords image log (record records { kept = kept; reports = reports })
+over_kept {pages} {span} image log records kept reports same valid_is agrees of = record {
   sizes = of.sizes;
   start = of.start;
-  stands = of.stands;
-  recorded = of.recorded;
   joined = λ i within.
       subst (λ (o : Option Span). IsJoined pages span i o (span_of pages span image log i)) (sym (same i)) (of.joined i (subst (λ (n : ℕ). i < n) valid_is within));
-  ends = subst (λ (n : ℕ). AreEnds pages span image log n (map (λ end. end.value) runs.ends.items)) (sym valid_is) of.ends;
+  ends = subst (λ (n : ℕ). AreEnds pages span image log n (map (λ end. end.value) records.ends.items)) (sym valid_is) of.ends;
   again = λ index first past.
-      goes_on_kept pages span log runs.kept.rows kept.rows (map (λ end. end.value) runs.ends.items) index (same (index + 1)) (of.again index first (omega (arith, valid_is, past)));
-  known = known;
+      goes_on_kept pages span log records.kept.rows kept.rows (map (λ end. end.value) records.ends.items) index (same (index + 1)) (of.again index first (omega (arith, valid_is, past)));
+  known = known_by span records.kept.rows kept.rows (λ n. state_at pages image log (n * span)) records.frontier same of.known;
   agrees = agrees;
 }
 
-pub over_kept : {pages span : ℕ} (image : Boot) (log : List LogEvent) (runs : Runs pages span) (kept : Kept) (reports : Index)
-    → ((i : ℕ) → first_at kept.rows i ≡ first_at runs.kept.rows i) → kept.valid ≡ runs.kept.valid → Agrees pages span reports kept.rows
-    → AreOf image log runs → AreOf image log (record runs { kept = kept; reports = reports })
-over_kept {pages} {span} image log runs kept reports same valid_is agrees of =
-    over_joined image log runs kept reports runs.frontier same valid_is agrees (known_by span runs.kept.rows kept.rows (λ n. state_at pages image log (n * span)) runs.frontier same of.known) of
+-- with the same ones, and what is known
+pub over_known : {pages span : ℕ} (image : Boot) (log : List LogEvent) (records : SpanRecords pages span) (kept : Kept) (f : Frontier pages) → kept ≡ records.kept
+    → IsKnown span kept.rows (λ n. state_at pages image log (n * span)) f → AreRecords image log records → AreRecords image log (record records { kept = kept; frontier = f })
+over_known {pages} {span} image log records kept f same known of =
+    subst (λ (k : Kept). IsKnown span k.rows (λ n. state_at pages image log (n * span)) f → AreRecords image log (record records { kept = k; frontier = f })) (sym same)
+    (λ known. record { sizes = of.sizes; start = of.start; joined = of.joined; ends = of.ends; again = of.again; known = known; agrees = of.agrees }) known
+
+-- and with another first record of the next span
+pub over_next : {pages span : ℕ} (image : Boot) (log : List LogEvent) (records : SpanRecords pages span) (kept : Kept) (reports : Index) (f : Frontier pages) (s : Span)
+    → ((i : ℕ) → ¬ (i ≡ records.kept.valid) → first_at kept.rows i ≡ first_at records.kept.rows i) → kept.valid ≡ records.kept.valid
+    → first_at kept.rows records.kept.valid ≡ Some s → s.index ≡ records.kept.valid → Has pages span reports s.index (Some s)
+    → ((i : ℕ) (o : Option Span) → ¬ (i ≡ s.index) → Has pages span records.reports i o → Has pages span reports i o)
+    → IsKnown span kept.rows (λ n. state_at pages image log (n * span)) f → AreRecords image log records → AreRecords image log (record records { kept = kept; reports = reports; frontier = f })
+over_next {pages} {span} image log records kept reports f s others valid_is here number there rest known of = record {
+  sizes = of.sizes;
+  start = of.start;
+  joined = λ i within.
+      let below = subst (λ (n : ℕ). i < n) valid_is within in
+      subst (λ (o : Option Span). IsJoined pages span i o (span_of pages span image log i)) (sym (others i (λ same. let e : ⊥ = omega (arith, below, same) in e))) (of.joined i below);
+  ends = subst (λ (n : ℕ). AreEnds pages span image log n (map (λ end. end.value) records.ends.items)) (sym valid_is) of.ends;
+  again = λ index first past.
+      goes_on_kept pages span log records.kept.rows kept.rows (map (λ end. end.value) records.ends.items) index
+      (others (index + 1) (λ same. let e : ⊥ = omega (arith, valid_is, past, same) in e)) (of.again index first (omega (arith, valid_is, past)));
+  known = known;
+  agrees = λ i. elim (cases_eq i records.kept.valid) [
+    | inl is ↦
+        subst (λ (o : Option Span). Has pages span reports i o) (sym (ap (first_at kept.rows) is ∙ here))
+        (subst (λ (n : ℕ). Has pages span reports n (Some s)) (number ∙ sym is) there)
+    | inr other ↦
+        subst (λ (o : Option Span). Has pages span reports i o) (sym (others i other))
+        (rest i (first_at records.kept.rows i) (λ same. other (same ∙ number)) (of.agrees i))
+  ];
+}

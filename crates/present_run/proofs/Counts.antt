@@ -1,5 +1,5 @@
 -- How many spans have no record that serves, and what steps that costs.
-use Rattle.std.proofs.Common.{◌≡◌, inl, inr, ℕ, zero, suc, ◌+◌, ◌-◌, ◌*◌, ◌<◌, ◌≤◌, List, ◌∷◌, Option, Some, None, slice_get, take, refl, sym, ap, ◌∙◌, subst, arith}
+use Rattle.std.proofs.Common.{◌≡◌, inl, inr, ℕ, zero, suc, ◌+◌, ◌-◌, ◌*◌, ◌<◌, ◌≤◌, List, ◌∷◌, Option, Some, None, slice_get, take, sym, ap, ◌∙◌, subst, arith}
 use Rattle.std.proofs.Math.Nat.{add-mul, le_trans, mul-le-mul_right}
 use Rattle.std.specs.List.{remove}
 use Rattle.std.specs.Option.{option_map_or}
@@ -110,20 +110,15 @@ first_same pages span mid new index history same serves =
     subst (λ (row : List Span). IsServing pages span new.history index (slice_get row 0)) (sym same)
     (subst (λ (h : History). IsServing pages span h index (slice_get (kept_at mid index) 0)) (sym history) serves)
 
--- a record that is there comes first
-pub first_promoted : (pages span place : ℕ) (row : List Span) (start : State) (events : List LogEvent) → IsNear pages span (slice_get row place) start events
-    → slice_get (promoted place row) 0 ≡ slice_get row place
-first_promoted pages span place row start events near = by_cases (slice_get row place) near
-  where
-    by_cases : (o : Option Span) → IsNear pages span o start events → slice_get (option_map_or (λ s. s ∷ remove row place) o row) 0 ≡ o
-    by_cases None near = absurd near
-    by_cases (Some s) near = refl
-
+-- a record that is used comes first
 pub first_used : (pages span place : ℕ) (old new : List Span) (start : State) (events : List LogEvent) → IsNear pages span (slice_get old place) start events
     → new ≡ promoted place old → IsNear pages span (slice_get new 0) start events
 first_used pages span place old new start events near is =
-    subst (λ (o : Option Span). IsNear pages span o start events)
-    (sym (ap (λ (row : List Span). slice_get row 0) is ∙ first_promoted pages span place old start events near)) near
+    subst (λ (row : List Span). IsNear pages span (slice_get row 0) start events) (sym is) (by_cases (slice_get old place) near)
+  where
+    by_cases : (o : Option Span) → IsNear pages span o start events → IsNear pages span (slice_get (option_map_or (λ s. s ∷ remove old place) o old) 0) start events
+    by_cases None near = absurd near
+    by_cases (Some s) near = near
 
 -- where a row turned, it has one that serves if it had
 pub serving_turned : (pages span : ℕ) (h : Holding) (index : ℕ) (row : List Span) → Turns pages span h index row → Serves pages span h index → HasServing pages span h.history index row

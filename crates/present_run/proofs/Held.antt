@@ -1,5 +1,5 @@
 -- States of the run that are kept.
-use Rattle.std.proofs.Common.{◌≡◌, ◌⊎◌, inl, inr, ℕ, zero, suc, ◌∷◌, length, get_or, ◌+◌, ◌*◌, ◌/◌, ◌%◌, ◌<◌, ◌≤◌, List, [], Contains, Option, Some, None, IfSome, MatchOption, nat_eq, take, Result, Ok, Err, OnOk, OnErr, refl, sym, ap, ◌∙◌, subst, arith}
+use Rattle.std.proofs.Common.{◌≡◌, ◌⊎◌, inl, inr, ℕ, zero, suc, ◌∷◌, length, get_or, ◌+◌, ◌*◌, ◌/◌, ◌%◌, ◌<◌, ◌≤◌, List, [], Contains, nat_eq, take, Result, Ok, Err, OnOk, OnErr, refl, sym, ap, ◌∙◌, subst, arith}
 use Rattle.std.proofs.Math.Nat.{le_trans}
 use Rattle.std.specs.Set.{remove_key}
 use Rattle.r3k_machine.specs.Run.{state_at}
@@ -12,6 +12,8 @@ use Rattle.present_run.specs.Runs.{AreLandings, IsLanding}
 use Rattle.present_run.proofs.Counts.{lacks_none}
 use Rattle.checkpoints.specs.Kept.{row_at}
 use Rattle.present_run.proofs.Spans.{ok_all}
+use Rattle.present_run.specs.declared.present.Present.{Present}
+use Rattle.present_run.specs.Shown.{Stays}
 
 -- nothing is kept
 pub none : {A : Type 0} (states : List A) (e : A) → states ≡ [] → ¬ Contains states e
@@ -61,11 +63,6 @@ there_are pages span count h served = record {
       omega (arith, none);
   there = served;
 }
-
--- what is found, or else what a call leaves
-pub found : {A : Type 0} (N : Type 0) (P Q : A → Type 0) (o : Option A) → MatchOption o N P → ((x : A) → P x → Q x) → IfSome o Q
-found N P Q None none f = tt
-found N P Q (Some x) there f = f x there
 
 pub on : {A E P : Type 0} (X Y : Type 0) (r : Result A E) → OnOk r X → OnErr r Y → (X → P) → (Y → P) → P
 on X Y (Ok x) ok err f g = f ok
@@ -136,3 +133,7 @@ lands_not span position states result is absent same = record {
 pub landed_over : (pages span : ℕ) (h : History) (old new : ℕ) (states : List (ℕ × State)) → old ≤ new → AreLandings pages span h old states → AreLandings pages span h new states
 landed_over pages span h old new states more all e there =
     let landing = all e there in record { is = landing.is; inside = landing.inside; joined = le_trans landing.joined more }
+
+-- what stays over two calls
+pub stays_on : {pages span : ℕ} {old mid new : Present pages span} → Stays old mid → Stays mid new → Stays old new
+stays_on a b = record { history = b.history ∙ a.history; landings = b.landings ∙ a.landings; pasts = b.pasts ∙ a.pasts }

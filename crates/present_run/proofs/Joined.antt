@@ -1,5 +1,5 @@
 -- What the joined records report together is what the run from reset reports.
-use Rattle.std.proofs.Common.{◌≡◌, ℕ, suc, ◌+◌, ◌-◌, ◌*◌, ◌<◌, ◌≤◌, ◌++◌, inl, inr, List, [], ◌∷◌, length, length-append, map, Option, Some, None, append_assoc, refl, sym, ap, subst, ◌∙◌, arith}
+use Rattle.std.proofs.Common.{◌≡◌, ℕ, suc, ◌+◌, ◌-◌, ◌*◌, ◌<◌, ◌≤◌, ◌++◌, inl, inr, List, [], ◌∷◌, length, length-append, map, Option, Some, None, refl, sym, ap, subst, ◌∙◌, arith}
 use Rattle.std.proofs.Math.Nat.{mul-le-mul_right}
 use Rattle.std.proofs.lemmas.Bool.{cases_lt}
 use Rattle.std.proofs.lemmas.List.{append-nil, length-map}
@@ -19,12 +19,11 @@ use Rattle.present_run.specs.Console.{Shows, part_of}
 use Rattle.present_run.specs.Reuse.{span_of}
 use Rattle.present_run.specs.Ends.{IsJoined}
 use Rattle.present_run.specs.Runs.{steps_between}
-use Rattle.present_run.proofs.Consoles.{part_enough}
+use Rattle.present_run.proofs.Consoles.{enough}
 use Rattle.present_run.specs.declared.sent.Shown.{Shown}
 use Rattle.present_run.proofs.Near.{same_steps}
-use Rattle.present_run.proofs.Steps.{trace_long}
 use Rattle.checkpoints.specs.Kept.{first_at}
-use Rattle.present_run.proofs.Reports.{console_front, senders_front, span_steps, trace_none, up_to_next, writer_span}
+use Rattle.present_run.proofs.Reports.{console_front, senders_front, span_steps, trace_none, up_to_next, writer_span, trace_long}
 
 -- the first n records are joined
 abbrev pub AreJoined : (pages span : ℕ) → Boot → List LogEvent → List (List Span) → ℕ → Type 0
@@ -88,13 +87,6 @@ same_console pages image log line from to before few =
     whole ∙ (ap (λ (bytes : List ℕ). front ++ bytes) (none more (omega (arith, long, few))) ∙ append-nil front)
 
 -- the part is full already
-enough : (from count : ℕ) (console more : List ℕ) → count ≤ length (part_of from count console) → part_of from count (console ++ more) ≡ part_of from count console
-enough from count console [] full = ap (part_of from count) (append-nil console)
-enough from count console (byte ∷ more) full =
-    let next = part_enough from count console byte full in
-    ap (part_of from count) (sym (append_assoc console (byte ∷ []) more))
-    ∙ (enough from count (console ++ byte ∷ []) more (subst (λ (part : List ℕ). count ≤ length part) (sym next) full) ∙ next)
-
 pub shown_enough : (pages : ℕ) (image : Boot) (log : List LogEvent) (line from count begin end : ℕ) (bytes : List ℕ) → begin ≤ end
     → bytes ≡ part_of from count (console_of line (trace_at pages image log begin)) → count ≤ length bytes
     → bytes ≡ part_of from count (console_of line (trace_at pages image log end))

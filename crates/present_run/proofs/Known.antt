@@ -1,5 +1,6 @@
 -- What is known where a span starts.
 use Rattle.std.proofs.Common.{◌≡◌, ℕ, ◌+◌, ◌*◌, IfSome, IsSomeAnd, List, Option, Some, None, refl, sym, ap, subst, ◌∙◌}
+use Rattle.std.proofs.lemmas.Option.{IfSome_then}
 use Rattle.input_log.specs.Event.{LogEvent}
 use Rattle.r3k_image.specs.Boot.{Boot}
 use Rattle.r3k_machine.specs.State.{State}
@@ -7,12 +8,10 @@ use Rattle.r3k_machine.specs.Run.{state_at}
 use Rattle.r3k_pages.specs.Pages.{SameOutside}
 use Rattle.span_fact.specs.Span.{Span, end_of}
 use Rattle.checkpoints.specs.Kept.{Follows, IsNear, NearlyApplies, first_at}
-use Rattle.present_run.specs.Ends.{IsJoined}
-use Rattle.present_run.specs.Reuse.{span_of}
+use Rattle.present_run.specs.Reuse.{IsServing, span_of}
 use Rattle.present_run.specs.Runs.{EndsAt, EndsNear, IsKnown, IsKnownAfter}
 use Rattle.present_run.specs.declared.frontier.Frontier.{Frontier}
 use Rattle.present_run.proofs.Near.{end_from}
-use Rattle.present_run.proofs.Next.{map_some}
 use Rattle.present_run.proofs.Spans.{ends, if_some}
 
 -- the start of a record, from the end of one that leads to it
@@ -28,12 +27,12 @@ tied pages span here None p s ends is start = absurd ends
 tied pages span here (Some r) p s ends is start = subst (λ (p : Option Span). Follows pages span (Some r) p) (sym is) (start ∙ sym ends)
 
 -- where a span ends whose record serves
-pub end_known : (pages span : ℕ) (image : Boot) (log : List LogEvent) (index : ℕ) (end : State) (o : Option Span) → IsJoined pages span index o (span_of pages span image log index)
-    → IfSome o (λ s. end ≡ end_of pages span (record s { start = state_at pages image log (index * span) })) → end ≡ state_at pages image log ((index + 1) * span)
-end_known pages span image log index end None joined is = absurd joined.near
-end_known pages span image log index end (Some r) joined is =
-    is ∙ (end_from pages span r (span_of pages span image log index) (state_at pages image log (index * span)) refl joined.number joined.near.same_events
-    ∙ ends pages span image log index)
+pub end_known : (pages span : ℕ) (image : Boot) (log : List LogEvent) (index : ℕ) (start end : State) (o : Option Span) → start ≡ state_at pages image log (index * span)
+    → IsServing pages span (record { image = image; log = log }) index o → IfSome o (λ s. s.index ≡ index) → IfSome o (λ s. end ≡ end_of pages span (record s { start = start }))
+    → end ≡ state_at pages image log ((index + 1) * span)
+end_known pages span image log index start end None there near number is = absurd near
+end_known pages span image log index start end (Some r) there near number is =
+    is ∙ (end_from pages span r (span_of pages span image log index) start there number near.same_events ∙ ends pages span image log index)
 
 -- a record serves with its own events
 pub own_events : (pages span : ℕ) (o : Option Span) (start : State) (events : List LogEvent) → IsNear pages span o start events
@@ -45,11 +44,11 @@ own_events pages span (Some s) start events near = record { same_events = refl; 
 pub known_by : {pages : ℕ} (span : ℕ) (old new : List (List Span)) (starts : ℕ → State) (f : Frontier pages)
     → ((i : ℕ) → first_at new i ≡ first_at old i) → IsKnown span old starts f → IsKnown span new starts f
 known_by {pages} span old new starts f same known =
-    map_some (λ n. IsKnownAfter span old n (starts (n + 1)) f) (λ n. IsKnownAfter span new n (starts (n + 1)) f) f.after
+    IfSome_then f.after known
     (λ n known. record {
       near = subst (λ (o : Option Span). EndsNear pages span o f.differing (starts (n + 1))) (sym (same n)) known.near;
       exact = λ yes. subst (λ (o : Option Span). EndsAt pages span o (starts (n + 1))) (sym (same n)) (known.exact yes);
-    }) known
+    })
 
 -- it is known after the record before the span where the run stands
 pub known_before : {pages : ℕ} (span : ℕ) (rows : List (List Span)) (starts : ℕ → State) (f : Frontier pages) (valid : ℕ) (here : State) → starts valid ≡ here

@@ -1,18 +1,15 @@
 -- Records that nearly are those of spans of the run.
-use Rattle.std.proofs.Common.{◌≡◌, ℕ, ◌+◌, ◌*◌, not, IfSome, List, [], ◌∷◌, length, slice_get, Option, None, Some, refl, sym, ap, subst, ◌∙◌}
-use Rattle.std.proofs.Math.Path.{ap₂}
+use Rattle.std.proofs.Common.{◌≡◌, ℕ, ◌+◌, ◌*◌, IfSome, IsSome, List, [], ◌∷◌, length, slice_get, Option, None, Some, refl, sym, ap, subst, ◌∙◌, arith}
+use Rattle.std.specs.List.{remove}
+use Rattle.std.specs.Option.{option_map_or}
+use Rattle.std.proofs.lemmas.Bool.{false≢true}
 use Rattle.input_log.specs.Event.{LogEvent}
 use Rattle.r3k_image.specs.Boot.{Boot}
 use Rattle.r3k_machine.specs.State.{State}
 use Rattle.r3k_machine.specs.Run.{run, state_at, trace}
-use Rattle.r3k_machine.proofs.Elsewhere.{run_elsewhere}
-use Rattle.r3k_pages.specs.Pages.{holds}
-use Rattle.r3k_live.specs.Record.{touched_pages}
-use Rattle.r3k_live.proofs.Apart.{apart_from_all}
-use Rattle.r3k_live.proofs.Overlaid.{no_page_of_both, same_on}
 use Rattle.span_fact.specs.Span.{Span, end_of, steps_of}
 use Rattle.checkpoints.specs.Kept.{IsNear, NearlyApplies, promoted}
-use Rattle.checkpoints.proofs.Near.{near_steps}
+use Rattle.checkpoints.proofs.Near.{near_cores, near_steps}
 use Rattle.present_run.specs.Reuse.{span_of}
 use Rattle.present_run.specs.Ends.{IsJoined}
 use Rattle.present_run.proofs.Spans.{ends, if_some}
@@ -40,13 +37,7 @@ same_steps pages span index o r s is number joined =
 same_core : (pages span : ℕ) (r s : Span) → NearlyApplies pages span r s.start s.events → length s.start.words ≡ length r.start.words → r.index ≡ s.index
     → (end_of pages span r).core ≡ (end_of pages span s).core
 same_core pages span r s near long number =
-    let touched = touched_pages pages (steps_of pages span r) in
-    let none = apart_from_all pages r.events (r.index * span) (λ page. not (holds touched page)) r.start span (no_page_of_both touched) in
-    let same = run_elsewhere pages r.events (r.index * span) (λ page. not (holds touched page)) r.start s.start s.start.words span
-    (same_on touched r.start s.start (sym near.same_core) long near.same_touched) none
-    in
-    sym (subst (λ (log : List LogEvent). (run pages log (s.index * span) s.start span).core ≡ (end_of pages span r).core) near.same_events
-    (subst (λ (n : ℕ). (run pages r.events (n * span) s.start span).core ≡ (end_of pages span r).core) number same.1.core))
+    sym (near_cores pages span r s.start s.events near long span (omega arith)) ∙ ap (λ (n : ℕ). (run pages s.events (n * span) s.start span).core) number
 
 pub core_after : (pages span : ℕ) (image : Boot) (log : List LogEvent) (index : ℕ) (o : Option Span) → IsJoined pages span index o (span_of pages span image log index)
     → IfSome o (λ r. (end_of pages span r).core ≡ (state_at pages image log ((index + 1) * span)).core)
@@ -77,20 +68,17 @@ is_joined pages span image log index o is =
     subst (λ (o : Option Span). IsJoined pages span index o s) (sym is)
     (record { near = record { same_events = refl; same_core = refl; same_touched = λ page held place of. refl }; number = refl; long = refl })
 
-pub same_span : (r s : Span) → r.index ≡ s.index → r.start ≡ s.start → r.events ≡ s.events → r ≡ s
-same_span r s number start events =
-    ap (λ (n : ℕ). let t : Span = record { index = n; start = r.start; events = r.events } in t) number
-    ∙ ap₂ (λ (start : State) (events : List LogEvent). let t : Span = record { index = s.index; start = start; events = events } in t) start events
+pub is_there : (pages span : ℕ) (o : Option Span) (start : State) (events : List LogEvent) → IsNear pages span o start events → IsSome o
+is_there pages span None start events near = absurd near
+is_there pages span (Some r) start events near = refl
 
--- a record that is near is there
-pub none_near : (pages span : ℕ) (o : Option Span) (start : State) (events : List LogEvent) → o ≡ None → ¬ IsNear pages span o start events
-none_near pages span o start events is near = subst (λ (o : Option Span). IsNear pages span o start events) is near
-
-pub promoted_zero : (pages span place : ℕ) (row : List Span) (start : State) (events : List LogEvent) → place ≡ 0 → IsNear pages span (slice_get row place) start events
-    → promoted place row ≡ row
-promoted_zero pages span place row start events zero near =
-    ap (λ (n : ℕ). promoted n row) zero ∙ by_cases row (subst (λ (n : ℕ). IsNear pages span (slice_get row n) start events) zero near)
+-- a record comes first
+pub promoted_zero : (place : ℕ) (row : List Span) → place ≡ 0 → IsSome (slice_get row place) → promoted place row ≡ row
+promoted_zero place row zero there = ap (λ (n : ℕ). promoted n row) zero ∙ by_cases row (subst (λ (n : ℕ). IsSome (slice_get row n)) zero there)
   where
-    by_cases : (row : List Span) → IsNear pages span (slice_get row 0) start events → promoted 0 row ≡ row
-    by_cases [] near = absurd near
-    by_cases (s ∷ rest) near = refl
+    by_cases : (row : List Span) → IsSome (slice_get row 0) → promoted 0 row ≡ row
+    by_cases [] there = absurd (false≢true there)
+    by_cases (s ∷ rest) there = refl
+
+pub first_promoted : (place : ℕ) (row : List Span) (s : Span) → slice_get row place ≡ Some s → slice_get (promoted place row) 0 ≡ Some s
+first_promoted place row s is = ap (λ (o : Option Span). slice_get (option_map_or (λ s. s ∷ remove row place) o row) 0) is

@@ -1,5 +1,5 @@
 -- An image that fits does so after a patch.
-use Rattle.std.proofs.Common.{◌≡◌, ◌≢◌, ℕ, ◌+◌, ◌-◌, ◌*◌, ◌/◌, ◌%◌, ◌<◌, ◌≤◌, ◌==◌, Bool, if◌then◌else◌, cond, ◌⊎◌, inl, inr, List, [], ◌∷◌, length, map, slice_index, slice_set, unwrap_or, Option, Some, None, Result, Ok, Err, IsSome, true, false, refl, sym, ap, subst, ◌∙◌, arith, zero-add, length-set}
+use Rattle.std.proofs.Common.{◌≡◌, ◌≢◌, ℕ, ◌+◌, ◌-◌, ◌*◌, ◌/◌, ◌%◌, ◌<◌, ◌≤◌, ◌==◌, Bool, if◌then◌else◌, cond, ◌⊎◌, inl, inr, List, length, map, slice_index, slice_set, unwrap_or, Option, Some, None, Result, Ok, Err, IsSome, true, false, refl, sym, ap, subst, ◌∙◌, arith, zero-add, length-set}
 use Rattle.std.specs.Prelude.{nat_lt, nat_le, ◌&&◌}
 use Rattle.std.specs.Ordering.{nat_cmp}
 use Rattle.std.specs.Cmp.{unsigned_tied, nat_cmp_total}
@@ -11,11 +11,10 @@ use Rattle.std.proofs.lemmas.List.{ext_get_or, get_or-set_other, get_or-set_same
 use Rattle.std.proofs.lemmas.List.FromFn.{get_or-map-range_with_len, length-map-range_with_len}
 use Rattle.std.specs.Option.{is_some}
 use Rattle.std.proofs.lemmas.Bool.{true≢false}
-use Rattle.r3k_word.specs.Layout.{address_of_place, page_of_place, place_of_word, word_count_of}
+use Rattle.r3k_word.specs.Layout.{address_of_place, place_of_word, word_count_of}
 use Rattle.r3k_word.specs.declared.layout.TheConstants.{MAX_RAM_PAGES, PAGE_BYTES, PAGE_WORDS, ROM_BYTES, ROM_START}
 use Rattle.r3k_machine.specs.Reset.{reset, reset_core, reset_word, reset_words}
 use Rattle.r3k_machine.specs.State.{State}
-use Rattle.r3k_pages.specs.Pages.{SameOutside, holds}
 use Rattle.r3k_image.specs.Boot.{Boot, FitsRam}
 use Rattle.r3k_image.specs.Patch.{patched, patched_at, patching}
 use Rattle.r3k_image.proofs.Patched.{fits_patched, patch_taken_in}
@@ -133,15 +132,6 @@ reset_patched pages address word place image few is =
 
     word_at : (f : ℕ → ℕ) (at : ℕ) → at < word_count_of pages → slice_index (map f (range_with_len 0 (word_count_of pages))) at ≡ f at
     word_at f at inside = get_or-map-range_with_len f 0 (word_count_of pages) at at 0 inside (zero-add at)
-
--- outside the page of the word all are as before
-pub set_outside : (words : List ℕ) (place word : ℕ) → SameOutside (page_of_place place ∷ []) words (slice_set words place word)
-set_outside words place word at outside =
-    sym (get_or-set_other words place at word 0
-    (λ same. true≢false (sym (held (page_of_place place)) ∙ (ap (λ (n : ℕ). holds (page_of_place place ∷ []) (page_of_place n)) (sym same) ∙ outside))))
-  where
-    held : (page : ℕ) → holds (page ∷ []) page ≡ true
-    held page = rw (eq-eqb page page refl) refl
 
 -- a word of the machine is patched
 pub taken_by_most : (pages address word place : ℕ) (old new : Boot) → pages ≤ MAX_RAM_PAGES → place_of_word pages address ≡ Some place

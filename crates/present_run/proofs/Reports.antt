@@ -1,24 +1,32 @@
 -- What the run from reset reports up to a position: by an earlier position, and the steps after it.
-use Rattle.std.proofs.Common.{◌≡◌, ℕ, suc, ◌+◌, ◌-◌, ◌*◌, ◌≤◌, ◌++◌, sym, ap, ◌∙◌, arith, zero-add, List, length, map, Option, Some, None, [], ◌∷◌, ◌<◌, Bool, if◌then◌else◌, add-zero, refl, true, false}
-use Rattle.std.specs.Option.{is_some}
-use Rattle.std.proofs.lemmas.Bool.{true≢false}
+use Rattle.std.proofs.Common.{◌≡◌, ℕ, ◌+◌, ◌-◌, ◌*◌, ◌≤◌, ◌++◌, sym, ap, ◌∙◌, arith, zero-add, List, length, map, [], add-zero}
 use Rattle.std.proofs.Math.Path.{ap₂}
 use Rattle.input_log.specs.Event.{LogEvent}
 use Rattle.input_log.specs.Log.{window_of}
 use Rattle.r3k_image.specs.Boot.{Boot}
-use Rattle.r3k_machine.specs.declared.step.Done.{Done}
 use Rattle.r3k_machine.specs.State.{State}
 use Rattle.r3k_machine.specs.declared.target.Target.{Target}
-use Rattle.r3k_machine.specs.Run.{console_of, last_writer, later, senders_of, state_at, trace, trace_at, writes}
-use Rattle.r3k_machine.proofs.Splits.{console_split, senders_split, trace_count, trace_own, writer_split}
+use Rattle.r3k_machine.specs.Run.{console_of, last_writer, later, senders_of, state_at, trace, trace_at}
+use Rattle.r3k_machine.proofs.Splits.{console_split, senders_split, trace_count, trace_own, writer_split, trace_split}
 use Rattle.r3k_live.specs.Record.{sent_from}
 use Rattle.span_fact.specs.Span.{steps_of}
 use Rattle.present_run.specs.Reuse.{span_of}
 use Rattle.present_run.specs.Runs.{steps_between}
 use Rattle.present_run.specs.Sent.{bytes_on, steps_on}
 use Rattle.present_run.proofs.Sending.{console_sent, senders_sent}
-use Rattle.present_run.proofs.Spans.{next_start, some_is}
-use Rattle.present_run.proofs.Steps.{trace_front, trace_long}
+use Rattle.present_run.proofs.Spans.{next_start}
+use Rattle.r3k_machine.specs.Reset.{reset}
+
+pub trace_long : (pages : ℕ) (image : Boot) (log : List LogEvent) (time : ℕ) → length (trace_at pages image log time) ≡ time
+trace_long pages image log time = trace_count pages log 0 (reset pages image) time
+
+-- a trace goes on from a front of it
+pub trace_front : (pages : ℕ) (image : Boot) (log : List LogEvent) (time position : ℕ) → time ≤ position
+    → trace_at pages image log position ≡ trace_at pages image log time ++ trace pages log time (state_at pages image log time) (position - time)
+trace_front pages image log time position before =
+    ap (trace pages log 0 (reset pages image)) (let e : position ≡ time + (position - time) = omega (arith, before) in e)
+    ∙ (trace_split pages log 0 (reset pages image) time (position - time)
+    ∙ ap (λ (t : ℕ). trace_at pages image log time ++ trace pages log t (state_at pages image log time) (position - time)) (zero-add time))
 
 -- the steps of a span
 pub span_steps : (pages span : ℕ) (image : Boot) (log : List LogEvent) (index : ℕ)
@@ -85,16 +93,3 @@ writer_span pages span image log target index next is =
 pub trace_none : (pages span : ℕ) (image : Boot) (log : List LogEvent) (index : ℕ) → index ≡ 0 → trace_at pages image log (index * span) ≡ []
 unfolding trace
 trace_none pages span image log index is = ap (λ (n : ℕ). trace_at pages image log (n * span)) is ∙ ap (trace_at pages image log) (let e : 0 * span ≡ 0 = omega arith in e)
-
--- a last writer is one of the steps
-here_within : (here : Bool) (k n : ℕ) → (if here then Some 0 else None) ≡ Some k → k < suc n
-here_within true k n is = (let zero_is : 0 ≡ k = some_is 0 k is in omega (arith, zero_is))
-here_within false k n is = absurd (true≢false (ap (λ (o : Option ℕ). is_some o) (sym is)))
-
-pub writer_within : (target : Target) (steps : List Done) (k : ℕ) → last_writer target steps ≡ Some k → k < length steps
-writer_within target [] k is = absurd (true≢false (ap (λ (o : Option ℕ). is_some o) (sym is)))
-writer_within target (done ∷ steps) k is = by_rest (last_writer target steps) (λ p. writer_within target steps p) is
-  where
-    by_rest : (rest : Option ℕ) → ((p : ℕ) → rest ≡ Some p → p < length steps) → later 1 rest (if writes target done then Some 0 else None) ≡ Some k → k < suc (length steps)
-    by_rest None before is = here_within (writes target done) k (length steps) is
-    by_rest (Some p) before is = omega (arith, before p refl, some_is (1 + p) k is)

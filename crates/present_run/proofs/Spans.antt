@@ -1,5 +1,5 @@
 -- The run from reset by spans.
-use Rattle.std.proofs.Common.{◌≡◌, ℕ, zero, suc, ◌≤◌, ◌==◌, None, IfSome, inl, inr, ◌+◌, ◌-◌, ◌*◌, List, Option, Some, unwrap_or, Result, Ok, Err, IfOk, MatchResult, OnErr, nat_eq, true, sym, ap, ◌∙◌, subst, arith, zero-add, refl, ◌++◌, [], ◌∷◌}
+use Rattle.std.proofs.Common.{◌≡◌, ℕ, zero, suc, ◌≤◌, ◌==◌, None, IfSome, inl, inr, ◌+◌, ◌-◌, ◌*◌, List, Option, Some, unwrap_or, Result, Ok, Err, IfOk, MatchResult, nat_eq, true, sym, ap, ◌∙◌, subst, arith, zero-add, refl, ◌++◌, [], ◌∷◌, MatchOption}
 use Rattle.std.proofs.Math.Nat.{add-mul}
 use Rattle.std.proofs.Math.Path.{ap₂}
 use Rattle.std.specs.Option.{option_eq}
@@ -15,7 +15,6 @@ use Rattle.r3k_machine.specs.Traced.{traced_at, traces_at}
 use Rattle.r3k_machine.proofs.Splits.{run_own, run_split, run_within}
 use Rattle.r3k_machine.specs.State.{State}
 use Rattle.span_fact.specs.Span.{Span, end_of}
-use Rattle.checkpoints.specs.Kept.{Follows}
 use Rattle.present_run.specs.Reuse.{span_of}
 
 pub next_start : (index span : ℕ) → (index + 1) * span ≡ index * span + span
@@ -33,12 +32,6 @@ ends pages span image log index =
     ∙ (sym (run_split pages log 0 (reset pages image) from span)
     ∙ ap (state_at pages image log) (sym (next_start index span)))))
 
-pub follow : (pages span : ℕ) (image : Boot) (log : List LogEvent) (a b : Option Span) (index : ℕ)
-    → a ≡ Some (span_of pages span image log index) → b ≡ Some (span_of pages span image log (index + 1)) → Follows pages span a b
-follow pages span image log a b index is_a is_b =
-    subst (λ (o : Option Span). Follows pages span o b) (sym is_a)
-    (subst (λ (o : Option Span). Follows pages span (Some (span_of pages span image log index)) o) (sym is_b) (sym (ends pages span image log index)))
-
 pub at_reset : (pages : ℕ) (image : Boot) (log : List LogEvent) → state_at pages image log 0 ≡ reset pages image
 unfolding run
 at_reset pages image log = refl
@@ -46,33 +39,11 @@ at_reset pages image log = refl
 pub some_is : {A : Type 0} (a b : A) → Some a ≡ Some b → a ≡ b
 some_is a b same = ap (λ (o : Option _). unwrap_or o a) same
 
--- the span after another one of the run
-pub beyond : (pages span : ℕ) (image : Boot) (log : List LogEvent) (index next : ℕ) → next ≡ index + 1 →
-    (let s : Span = record { index = next; start = end_of pages span (span_of pages span image log index); events = window_of (next * span) ((next + 1) * span) log } in s)
-    ≡ span_of pages span image log next
-beyond pages span image log index next is =
-    ap (λ (start : State). let s : Span = record { index = next; start = start; events = window_of (next * span) ((next + 1) * span) log } in s)
-    (ends pages span image log index ∙ ap (λ (n : ℕ). state_at pages image log (n * span)) (sym is))
-
-pub span_is : (pages span : ℕ) (image : Boot) (log : List LogEvent) (index valid : ℕ) (start : State) (events : List LogEvent) → index ≡ valid
-    → start ≡ state_at pages image log (valid * span) → events ≡ window_of (index * span) ((index + 1) * span) log
-    → (let s : Span = record { index = index; start = start; events = events } in s) ≡ span_of pages span image log valid
-span_is pages span image log index valid start events is start_is events_is =
+pub span_is : (pages span : ℕ) (image : Boot) (log : List LogEvent) (index : ℕ) (start : State) (events : List LogEvent)
+    → start ≡ state_at pages image log (index * span) → events ≡ window_of (index * span) ((index + 1) * span) log
+    → (let s : Span = record { index = index; start = start; events = events } in s) ≡ span_of pages span image log index
+span_is pages span image log index start events start_is events_is =
     ap₂ (λ (start : State) (events : List LogEvent). let s : Span = record { index = index; start = start; events = events } in s) start_is events_is
-    ∙ ap (λ (n : ℕ). let s : Span = record { index = n; start = state_at pages image log (valid * span); events = window_of (n * span) ((n + 1) * span) log } in s) is
-
--- what a call leaves, whether it fails or not
-pub either : {A E P : Type 0} (X : A → Type 0) (Y : Type 0) (r : Result A E) → IfOk r X → OnErr r Y → ((x : A) → X x → P) → (Y → P) → P
-either X Y (Ok x) ok err f g = f x ok
-either X Y (Err e) ok err f g = g err
-
-pub map_ok : {A E : Type 0} (P Q : A → Type 0) (r : Result A E) → ((x : A) → P x → Q x) → IfOk r P → IfOk r Q
-map_ok P Q (Ok x) f p = f x p
-map_ok P Q (Err e) f p = tt
-
-pub on_err : {A E : Type 0} (X Y : Type 0) (r : Result A E) → (X → Y) → OnErr r X → OnErr r Y
-on_err X Y (Ok x) f p = tt
-on_err X Y (Err e) f p = f p
 
 -- a copy of a pointer
 pub copied : {A E : Type 0} (P Q : A → Type 0) (X : E → Type 0) (r : Result A E) → MatchResult r P X → ((x : A) → P x → Q x) → IfOk r Q
@@ -161,3 +132,15 @@ visit_split pages image log address position (suc m) n =
           ∙ ap (λ (t : ℕ). or_after (next_visit pages image log address (suc position) m) (next_visit pages image log address t n))
           (let e : suc position + m ≡ position + suc m = omega arith in e))
     ]
+
+-- a search that is at its end
+pub visit_end : (pages : ℕ) (image : Boot) (log : List LogEvent) (address last : ℕ) → next_visit pages image log address last (last - last) ≡ None
+unfolding next_visit
+visit_end pages image log address last = ap (next_visit pages image log address last) (let e : last - last ≡ 0 = omega arith in e)
+
+pub into_some : {A : Type 0} (P : A → Type 0) (o : Option A) (x : A) → o ≡ Some x → P x → IfSome o P
+into_some P o x is p = subst (λ o. IfSome o P) (sym is) p
+
+pub match_map : {A : Type 0} {P P' : Type 0} {Q Q' : A → Type 0} (o : Option A) → (P → P') → ((x : A) → Q x → Q' x) → MatchOption o P Q → MatchOption o P' Q'
+match_map None f h is = f is
+match_map (Some x) f h is = h x is

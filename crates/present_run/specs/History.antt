@@ -5,8 +5,7 @@ use Rattle.input_log.specs.declared.event.Kind.{Kind}
 use Rattle.input_log.specs.declared.event.Kind.TheVariants.{Byte, Framing, Wire}
 use Rattle.input_log.specs.Event.{LogEvent}
 use Rattle.input_log.specs.Spelling.{kind_number}
-use Rattle.r3k_image.specs.Boot.{Boot, FitsRam, boot_code}
-use Rattle.present_run.specs.Sizes.{AreSizes}
+use Rattle.r3k_image.specs.Boot.{Boot, boot_code}
 
 pub record History : Type 0 where
   pub image : Boot
@@ -33,8 +32,3 @@ abbrev pub history_code : Coded History
 history_code =
     code_by (Boot × List LogEvent) (coded× boot_code (coded_list event_code)) (λ h. (h.image, h.log))
     (λ p. record { image = p.0; log = p.1 }) (λ _. refl)
-
--- A history of a machine with `pages` pages of RAM and spans of `span` steps: sizes in their ranges, and an image that fits.
-pub record IsHistory (pages span : ℕ) (h : History) : Type 0 where
-  pub sizes : AreSizes pages span
-  pub fits : FitsRam pages h.image

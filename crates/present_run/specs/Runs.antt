@@ -15,9 +15,11 @@ use Rattle.r3k_live.specs.Recording.{Records}
 use Rattle.present_run.specs.Index.{Agrees}
 use Rattle.present_run.specs.Ends.{AreEnds, GoesOn, IsJoined}
 use Rattle.present_run.specs.History.{History, event_code}
-use Rattle.present_run.specs.Reuse.{span_of}
+use Rattle.present_run.specs.Reuse.{Holding, span_of}
 use Rattle.present_run.specs.Sizes.{AreSizes}
 use Rattle.present_run.specs.declared.frontier.Frontier.{Frontier}
+use Rattle.present_run.specs.declared.machine.Machine.{Machine}
+use Rattle.present_run.specs.declared.records.SpanRecords.{SpanRecords}
 use Rattle.present_run.specs.declared.runs.Runs.{Runs}
 
 -- what the steps from one position up to another report
@@ -44,20 +46,37 @@ pub record IsKnownAfter {pages : ℕ} (span : ℕ) (rows : List (List Span)) (in
 abbrev pub IsKnown : {pages : ℕ} (span : ℕ) → List (List Span) → (starts : ℕ → State) → Frontier pages → Type 0
 IsKnown span rows starts f = IfSome f.after (λ index. IsKnownAfter span rows index (starts (index + 1)) f)
 
--- What is kept is of the run from reset: the start, where the machine stands, what the recorder holds, the joined records, the ends of
--- their spans, and what is known where one starts. The index has what the first records report. After these ends come those of an earlier run:
--- from `again` on, each span goes on from where the one before it ended.
-pub record AreOf {pages span : ℕ} (image : Boot) (log : List LogEvent) (runs : Runs pages span) : Type 0 where
+-- The machine is in the run from reset: where it stands, and what its recorder holds.
+pub record IsRunning {pages span : ℕ} (image : Boot) (log : List LogEvent) (machine : Machine pages span) : Type 0 where
+  pub stands : IfSome machine.at (λ position. machine.live.state ≡ state_at pages image log position)
+  pub recorded : IfSome machine.recorded (λ position. Records pages (steps_between pages image log (position / span * span) position) machine.recorder)
+
+-- What is kept of spans is of the run from reset: the start, the joined records, the ends of their spans, and what is known where one
+-- starts. The index has what the first records report. After these ends come those of an earlier run: from `again` on, each span goes on
+-- from where the one before it ended.
+pub record AreRecords {pages span : ℕ} (image : Boot) (log : List LogEvent) (records : SpanRecords pages span) : Type 0 where
   pub sizes : AreSizes pages span
-  pub start : runs.reset.value ≡ reset pages image
-  pub stands : IfSome runs.at (λ position. runs.live.state ≡ state_at pages image log position)
-  pub recorded : IfSome runs.recorded (λ position. Records pages (steps_between pages image log (position / span * span) position) runs.recorder)
-  pub joined : (index : ℕ) → index < runs.kept.valid → IsJoined pages span index (first_at runs.kept.rows index) (span_of pages span image log index)
-  pub ends : AreEnds pages span image log runs.kept.valid (map (λ end. end.value) runs.ends.items)
-  pub again : (index : ℕ) → runs.again ≤ index → runs.kept.valid ≤ index →
-      GoesOn pages span log runs.kept.rows (map (λ end. end.value) runs.ends.items) index
-  pub known : IsKnown span runs.kept.rows (λ index. state_at pages image log (index * span)) runs.frontier
-  pub agrees : Agrees pages span runs.reports runs.kept.rows
+  pub start : records.reset.value ≡ reset pages image
+  pub joined : (index : ℕ) → index < records.kept.valid → IsJoined pages span index (first_at records.kept.rows index) (span_of pages span image log index)
+  pub ends : AreEnds pages span image log records.kept.valid (map (λ end. end.value) records.ends.items)
+  pub again : (index : ℕ) → records.again ≤ index → records.kept.valid ≤ index →
+      GoesOn pages span log records.kept.rows (map (λ end. end.value) records.ends.items) index
+  pub known : IsKnown span records.kept.rows (λ index. state_at pages image log (index * span)) records.frontier
+  pub agrees : Agrees pages span records.reports records.kept.rows
+
+-- both are of one run
+pub record AreOf {pages span : ℕ} (image : Boot) (log : List LogEvent) (runs : Runs pages span) : Type 0 where
+  pub machine : IsRunning image log runs.machine
+  pub records : AreRecords image log runs.records
+
+-- what is held with a history
+abbrev pub held : {pages span : ℕ} → Boot → List LogEvent → Runs pages span → Holding
+held image log runs = record {
+  history = record { image = image; log = log };
+  rows = runs.records.kept.rows;
+  pasts = runs.records.kept.most;
+  steps = runs.machine.live.steps;
+}
 
 -- A state that is kept is that of the run at its position, inside a span. All spans before that one are joined.
 pub record IsLanding (pages span : ℕ) (h : History) (valid position : ℕ) (state : State) : Type 0 where

@@ -8,9 +8,9 @@ use Rattle.present_run.specs.declared.present.Present.{Present}
 abbrev pub landed_of : {pages span : ℕ} → Present pages span → Landed
 landed_of p = record {
   history = record { image = p.inputs.image; log = p.inputs.log };
-  rows = p.runs.kept.rows;
-  pasts = p.runs.kept.most;
-  steps = p.runs.live.steps;
+  rows = p.runs.records.kept.rows;
+  pasts = p.runs.records.kept.most;
+  steps = p.runs.machine.live.steps;
   landings = positions_of p.landings;
 }
 

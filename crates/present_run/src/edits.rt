@@ -23,7 +23,8 @@ impl<const PAGES: u32, const SPAN: u32> Present<PAGES, SPAN> {
         log_laws();
         let (from, last) = self.inputs.log.times_of(edit);
         let place = self.inputs.log.edit(edit)?;
-        self.runs.forget(from, last);
+        self.runs.machine.forget();
+        self.runs.records.forget(from, last);
         self.landings.clear();
         Ok(place)
     }
@@ -40,11 +41,12 @@ impl<const PAGES: u32, const SPAN: u32> Present<PAGES, SPAN> {
         let Some(place) = place_of(PAGES, address) else {
             return Err(Fault::NotMemory);
         };
-        let reset = self.runs.reset_with(self.alloc, place, word)?;
+        let reset = self.runs.records.reset_with(self.alloc, place, word)?;
         let Ok(()) = self.inputs.image.patch(address, word) else {
             return Err(Fault::Memory);
         };
-        self.runs.restart(reset);
+        self.runs.machine.forget();
+        self.runs.records.restart(reset);
         self.landings.clear();
         Ok(())
     }

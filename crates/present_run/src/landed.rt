@@ -23,12 +23,12 @@ impl<const PAGES: u32, const SPAN: u32> Present<PAGES, SPAN> {
         ensures lands { Lands SPAN position (landed_of self.old) (landed_of self.new) result }
     {
         if let Some((_, state)) = self.landings.nearest(position, position) {
-            let core = restored(self.alloc, self.runs.live.core(), state.core())?;
+            let core = restored(self.alloc, self.runs.machine.live.core(), state.core())?;
             self.landings.touch(position);
             return Ok(core);
         }
         self.stand(position)?;
-        let core = copied(self.alloc, self.runs.live.core())?;
+        let core = copied(self.alloc, self.runs.machine.live.core())?;
         self.land(position);
         Ok(core)
     }
@@ -48,16 +48,16 @@ impl<const PAGES: u32, const SPAN: u32> Present<PAGES, SPAN> {
             return Ok(word);
         }
         self.stand(position)?;
-        let word = self.runs.live.word(place);
+        let word = self.runs.machine.live.word(place);
         self.land(position);
         Ok(word)
     }
 
     // Keeps the state at which the machine stands, if that is inside a span. Where memory for it is refused, it is not kept.
     fn land(&mut self, position: u64)
-        requires stands { self.old.runs.at ≡ Some position }
+        requires stands { self.old.runs.machine.at ≡ Some position }
         requires none { ¬ Contains (positions_of self.old.landings) position }
-        requires joined { position / SPAN ≤ self.old.runs.kept.valid }
+        requires joined { position / SPAN ≤ self.old.runs.records.kept.valid }
         ensures same { holding_of self.new ≡ holding_of self.old }
         ensures start { position % SPAN ≡ 0 → self.new.landings ≡ self.old.landings }
         ensures positions { (positions_of self.new.landings ≡ take 8 (position ∷ positions_of self.old.landings)) ⊎ (self.new.landings ≡ self.old.landings) }
@@ -65,7 +65,7 @@ impl<const PAGES: u32, const SPAN: u32> Present<PAGES, SPAN> {
         if position % SPAN as u64 == 0 {
             return;
         }
-        if let Ok(state) = self.runs.live.keep(self.alloc) {
+        if let Ok(state) = self.runs.machine.live.keep(self.alloc) {
             let _refused = self.landings.add(position, state);
         }
     }

@@ -41,7 +41,7 @@ pub struct Present<const PAGES: u32, const SPAN: u32> {
     pub(crate) landings: Landings<PAGES>,
     ghost fits: { FitsRam PAGES inputs.image },
     ghost of: { AreOf {pages = PAGES} {span = SPAN} inputs.image inputs.log runs } by { AreOf-prop inputs.image inputs.log runs },
-    ghost landed: { AreLandings PAGES SPAN (record { image = inputs.image; log = inputs.log }) runs.kept.valid landings } by { AreLandings-prop PAGES SPAN (record { image = inputs.image; log = inputs.log }) runs.kept.valid landings },
+    ghost landed: { AreLandings PAGES SPAN (record { image = inputs.image; log = inputs.log }) runs.records.kept.valid landings } by { AreLandings-prop PAGES SPAN (record { image = inputs.image; log = inputs.log }) runs.records.kept.valid landings },
 }
 
 impl<const PAGES: u32, const SPAN: u32> Present<PAGES, SPAN> {
@@ -103,6 +103,6 @@ impl<const PAGES: u32, const SPAN: u32> Present<PAGES, SPAN> {
     pub fn steps_run(&self) -> u64
         ensures { result ≡ (landed_of self.now).steps }
     {
-        self.runs.live.steps()
+        self.runs.machine.live.steps()
     }
 }

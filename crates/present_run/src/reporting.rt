@@ -34,7 +34,7 @@ impl<const PAGES: u32, const SPAN: u32> Present<PAGES, SPAN> {
             (holding_of self.old) (holding_of self.new)) }
     {
         let index = self.record(position)?;
-        if let Some(step) = self.runs.recorder.writer(target) {
+        if let Some(step) = self.runs.machine.recorder.writer(target) {
             return Ok(Some(index * SPAN as u64 + step as u64));
         }
         Ok(self.writer_before(index, target))
@@ -60,7 +60,7 @@ impl<const PAGES: u32, const SPAN: u32> Present<PAGES, SPAN> {
     {
         let index = self.record(position)?;
         let mut shown = self.shown_before(index, line, from, count);
-        shown.take_of(line, self.runs.recorder.sent(), from, count);
+        shown.take_of(line, self.runs.machine.recorder.sent(), from, count);
         Ok(shown)
     }
 
@@ -83,7 +83,7 @@ impl<const PAGES: u32, const SPAN: u32> Present<PAGES, SPAN> {
         let index = self.record(position)?;
         match self.sought_before(index, line, place) {
             Ok(step) => Ok(Some(step)),
-            Err(left) => match seek(line, self.runs.recorder.sent(), left) {
+            Err(left) => match seek(line, self.runs.machine.recorder.sent(), left) {
                 Ok(step) => Ok(Some(index * SPAN as u64 + step as u64)),
                 Err(_) => Ok(None),
             },
@@ -94,24 +94,25 @@ impl<const PAGES: u32, const SPAN: u32> Present<PAGES, SPAN> {
 impl<const PAGES: u32, const SPAN: u32> Present<PAGES, SPAN> {
     // The last step of the first `count` spans that wrote a word or a register.
     fn writer_before(&self, count: u64, target: Target) -> Option<u64>
-        requires joined { count ≤ self.now.runs.kept.valid }
+        requires joined { count ≤ self.now.runs.records.kept.valid }
         requires near { count * SPAN ≤ max_position }
         ensures { result ≡ last_writer target (trace_at PAGES self.now.inputs.image self.now.inputs.log (count * SPAN)) }
     {
         let (index, step) = self
             .runs
+            .records
             .reports
-            .last_writer(&self.runs.kept, count, target)?;
+            .last_writer(&self.runs.records.kept, count, target)?;
         Some(index * SPAN as u64 + step as u64)
     }
 
     // The bytes that a span's steps sent, each with its step, counted from its start.
     fn sent_in(&self, index: u64) -> &[SentAt]
-        requires joined { index < self.now.runs.kept.valid }
+        requires joined { index < self.now.runs.records.kept.valid }
         ensures { result.now ≡ sent_from 0
             (steps_between PAGES self.now.inputs.image self.now.inputs.log (index * SPAN) ((index + 1) * SPAN)) }
     {
-        match self.runs.kept.first(index) {
+        match self.runs.records.kept.first(index) {
             Some(fact) => fact.sent(),
             None => &[],
         }
@@ -119,25 +120,25 @@ impl<const PAGES: u32, const SPAN: u32> Present<PAGES, SPAN> {
 
     // Which of the first `spans` spans sent the byte of a line at a place, or `spans` where they sent fewer.
     fn sender_of(&self, spans: u64, line: SerialLine, place: u64) -> u64
-        requires joined { spans ≤ self.now.runs.kept.valid }
+        requires joined { spans ≤ self.now.runs.records.kept.valid }
         ensures within { result ≤ spans }
         ensures from { length (console_of line (trace_at PAGES self.now.inputs.image self.now.inputs.log (result * SPAN))) ≤ place }
         ensures to { result < spans → place < length (console_of line (trace_at PAGES self.now.inputs.image self.now.inputs.log ((result + 1) * SPAN))) }
     {
-        self.runs.reports.find(line, place, spans)
+        self.runs.records.reports.find(line, place, spans)
     }
 
     // How many bytes of a line the first `spans` spans sent.
     fn count_of(&self, spans: u64, line: SerialLine) -> u64
-        requires joined { spans ≤ self.now.runs.kept.valid }
+        requires joined { spans ≤ self.now.runs.records.kept.valid }
         ensures { result ≡ length (console_of line (trace_at PAGES self.now.inputs.image self.now.inputs.log (spans * SPAN))) }
     {
-        self.runs.reports.count(line, spans)
+        self.runs.records.reports.count(line, spans)
     }
 
     // What is shown of the console of a line by the steps of the first `spans` spans.
     fn shown_before(&self, spans: u64, line: SerialLine, from: u64, count: usize) -> Shown
-        requires joined { spans ≤ self.now.runs.kept.valid }
+        requires joined { spans ≤ self.now.runs.records.kept.valid }
         requires near { spans * SPAN ≤ max_position }
         requires count { count ≤ 256 }
         ensures shown { Shows from count (console_of line (trace_at PAGES self.now.inputs.image self.now.inputs.log (spans * SPAN))) result }
@@ -158,7 +159,7 @@ impl<const PAGES: u32, const SPAN: u32> Present<PAGES, SPAN> {
 
     // The step that sent the byte of a line at a place, in the first `spans` spans, or how many places are left after their bytes.
     fn sought_before(&self, spans: u64, line: SerialLine, place: u64) -> Result<u64, u64>
-        requires joined { spans ≤ self.now.runs.kept.valid }
+        requires joined { spans ≤ self.now.runs.records.kept.valid }
         requires near { spans * SPAN ≤ max_position }
         ensures { Seeks (senders_of line 0 (trace_at PAGES self.now.inputs.image self.now.inputs.log (spans * SPAN))) place result }
     {

@@ -1,43 +1,29 @@
-//! What is kept of runs, and what an edit of the history makes of it.
+//! What is kept of runs: the machine, and the records of spans. A span for which no record serves is run.
 
-ghost use Rattle.std.specs.Prelude.{◌≡◌, ◌⊎◌, [], ◌<◌, ◌≤◌, IfOk, List, slice_set};
-ghost use Rattle.input_log.specs.Event.{LogEvent};
-ghost use Rattle.r3k_image.specs.Boot.{Boot};
-ghost use Rattle.r3k_word.specs.Layout.{word_count_of};
-ghost use Rattle.r3k_machine.specs.Reset.{reset};
-ghost use Rattle.input_log.specs.Edits.{AreSameOutside};
-ghost use Rattle.present_run.specs.Runs.{AreOf};
+ghost use Rattle.std.specs.Prelude.{◌≡◌, ◌+◌, ◌*◌, ◌^◌, ◌<◌, ◌≤◌, ℕ, [], IfOk, slice_get};
+ghost use Rattle.r3k_machine.specs.Run.{state_at};
+ghost use Rattle.r3k_live.specs.Living.{counted};
+ghost use Rattle.checkpoints.specs.Kept.{row_at};
+ghost use Rattle.present_run.specs.Index.{max_spans};
+ghost use Rattle.present_run.specs.Reuse.{IsServing, Reaches, Serves, Spends, Turns};
+ghost use Rattle.present_run.specs.Runs.{AreOf, held};
 ghost use Rattle.present_run.specs.Sizes.{AreSizes};
 
 use crate::frontier::Frontier;
 use crate::index::SpanIndex;
 use crate::inputs::Inputs;
-use crate::joining::share;
+use crate::machine::Machine;
+use crate::records::SpanRecords;
 use checkpoints::Kept;
 use r3k_live::{Boundary, Live, Recorder};
 use std::alloc::{AllocError, Global};
 use std::rc::Rc;
 
-/// The machine that runs, a recorder of its steps, and the records of spans, of this run and of earlier ones.
+/// The machine that runs, and the records of spans, of this run and of earlier ones.
 #[derive(Drop)]
 pub(crate) struct Runs<const PAGES: u32, const SPAN: u32> {
-    pub(crate) live: Live<PAGES>,
-    pub(crate) recorder: Recorder<PAGES, SPAN>,
-    pub(crate) kept: Kept<PAGES, SPAN>,
-    // What the first records reported, by page and by line.
-    pub(crate) reports: SpanIndex,
-    // Where the run starts, at reset.
-    pub(crate) reset: Rc<Boundary<PAGES>>,
-    // Where the machine stands in the run, if it does.
-    pub(crate) at: Option<u64>,
-    // If some: the recorder holds what the run reports up to there, from the start of that position's span on.
-    pub(crate) recorded: Option<u64>,
-    // Where each joined span ends, and after these where later spans ended in an earlier run.
-    pub(crate) ends: Vec<Rc<Boundary<PAGES>>>,
-    // The first of the later spans from which on each goes on from where the one before it ended, with the events of the log.
-    pub(crate) again: u64,
-    // What is known where the next span starts.
-    pub(crate) frontier: Frontier<PAGES>,
+    pub(crate) machine: Machine<PAGES, SPAN>,
+    pub(crate) records: SpanRecords<PAGES, SPAN>,
 }
 
 impl<const PAGES: u32, const SPAN: u32> Runs<PAGES, SPAN> {
@@ -50,84 +36,128 @@ impl<const PAGES: u32, const SPAN: u32> Runs<PAGES, SPAN> {
         requires sizes { AreSizes PAGES SPAN }
         requires pasts { 0 < pasts }
         ensures of { IfOk result (AreOf {pages = PAGES} {span = SPAN} inputs.now.image inputs.now.log) }
-        ensures rows { IfOk result (λ runs. runs.kept.rows ≡ []) }
-        ensures pasts { IfOk result (λ runs. runs.kept.most ≡ pasts) }
-        ensures steps { IfOk result (λ runs. runs.live.steps ≡ 0) }
+        ensures rows { IfOk result (λ runs. runs.records.kept.rows ≡ []) }
+        ensures pasts { IfOk result (λ runs. runs.records.kept.most ≡ pasts) }
+        ensures steps { IfOk result (λ runs. runs.machine.live.steps ≡ 0) }
     {
         let mut live = Live::new(alloc, &inputs.image)?;
         let reset = live.keep(alloc)?;
-        Ok(Runs {
+        let machine = Machine {
             live,
             recorder: Recorder::new(alloc)?,
+            at: Some(0),
+            recorded: None,
+        };
+        let records = SpanRecords {
             kept: Kept::new(alloc, pasts),
             reports: SpanIndex::new(alloc),
             reset,
-            at: Some(0),
-            recorded: None,
             ends: Vec::new(alloc),
             again: 0,
             frontier: Frontier::new(alloc)?,
-        })
+        };
+        Ok(Runs { machine, records })
     }
 
-    /// The events of the times from one to another have changed. The machine stands nowhere in the run. The spans before these
-    /// times stay joined. Once a later span ends where it ended before, those that go on from there are joined again.
-    pub(crate) fn forget(&mut self, from: u64, last: u64)
-        requires { 0 < SPAN }
-        ensures of { (image : Boot) (log changed : List LogEvent) → AreOf {pages = PAGES} {span = SPAN} image log self.old →
-            AreSameOutside from last log changed → AreOf {pages = PAGES} {span = SPAN} image changed self.new }
-        ensures rows { self.new.kept.rows ≡ self.old.kept.rows }
-        ensures pasts { self.new.kept.most ≡ self.old.kept.most }
-        ensures steps { self.new.live.steps ≡ self.old.live.steps }
+    // Joins one more span, and then those that go on from its end. A span for which no record serves is run.
+    fn extend(&mut self, alloc: Global, inputs: &Inputs) -> Result<(), AllocError>
+        requires of { AreOf {pages = PAGES} {span = SPAN} inputs.now.image inputs.now.log self.old }
+        requires time { (self.old.records.kept.valid + 1) * SPAN < 2 ^ 64 }
+        requires few { self.old.records.kept.valid < max_spans }
+        ensures of { AreOf {pages = PAGES} {span = SPAN} inputs.now.image inputs.now.log self.new }
+        ensures pasts { self.new.records.kept.most ≡ self.old.records.kept.most }
+        ensures grows { self.old.records.kept.valid ≤ self.new.records.kept.valid }
+        ensures joined { IfOk result (λ _. self.old.records.kept.valid < self.new.records.kept.valid) }
+        ensures others { (i : ℕ) → ¬ (i ≡ self.old.records.kept.valid) → row_at self.new.records.kept.rows i ≡ row_at self.old.records.kept.rows i }
+        ensures turns { Turns PAGES SPAN (held inputs.now.image inputs.now.log self.old) self.old.records.kept.valid (row_at self.new.records.kept.rows self.old.records.kept.valid) }
+        ensures free { Serves PAGES SPAN (held inputs.now.image inputs.now.log self.old) self.old.records.kept.valid →
+            self.new.machine.live.steps ≡ self.old.machine.live.steps }
+        ensures count { IfOk result (λ _. ¬ Serves PAGES SPAN (held inputs.now.image inputs.now.log self.old) self.old.records.kept.valid →
+            self.new.machine.live.steps ≡ counted self.old.machine.live.steps SPAN) }
+        ensures least { self.old.machine.live.steps ≤ self.new.machine.live.steps }
+        ensures most { self.new.machine.live.steps ≤ self.old.machine.live.steps + SPAN }
     {
-        let index = from / SPAN as u64;
-        let last = last / SPAN as u64;
-        let joined = self.kept.valid();
-        self.again = again_from(self.again, last, joined, self.ends.len() as u64);
-        self.at = None;
-        self.recorded = None;
-        self.kept.truncate_valid(index);
-        self.frontier.cut(index);
+        let index = self.records.kept.valid();
+        let start = self.records.start_of(inputs, index).clone()?;
+        match self.records.serving(inputs, &start) {
+            Some(place) => self.join_kept(alloc, inputs, &start, place),
+            None => self.run_span(alloc, inputs, start),
+        }
     }
 
-    /// Where the run starts once the image sets a word to this.
-    pub(crate) fn reset_with(
-        &self,
+    // Joins a record of the next span that serves, and then those that go on from its end.
+    fn join_kept(
+        &mut self,
         alloc: Global,
+        inputs: &Inputs,
+        start: &Boundary<PAGES>,
         place: usize,
-        word: u32,
-    ) -> Result<Rc<Boundary<PAGES>>, AllocError>
-        requires { place < word_count_of PAGES }
-        ensures { IfOk result (λ reset. reset.value ≡ record { core = self.now.reset.value.core; words = slice_set self.now.reset.value.words place word }) }
+    ) -> Result<(), AllocError>
+        requires of { AreOf {pages = PAGES} {span = SPAN} inputs.now.image inputs.now.log self.old }
+        requires start { start.now ≡ state_at PAGES inputs.now.image inputs.now.log (self.old.records.kept.valid * SPAN) }
+        requires serves { IsServing PAGES SPAN (record { image = inputs.now.image; log = inputs.now.log }) self.old.records.kept.valid (slice_get (row_at self.old.records.kept.rows self.old.records.kept.valid) place) }
+        requires few { self.old.records.kept.valid < max_spans }
+        ensures of { AreOf {pages = PAGES} {span = SPAN} inputs.now.image inputs.now.log self.new }
+        ensures pasts { self.new.records.kept.most ≡ self.old.records.kept.most }
+        ensures grows { self.old.records.kept.valid ≤ self.new.records.kept.valid }
+        ensures joined { IfOk result (λ _. self.old.records.kept.valid < self.new.records.kept.valid) }
+        ensures others { (i : ℕ) → ¬ (i ≡ self.old.records.kept.valid) → row_at self.new.records.kept.rows i ≡ row_at self.old.records.kept.rows i }
+        ensures turns { Turns PAGES SPAN (held inputs.now.image inputs.now.log self.old) self.old.records.kept.valid (row_at self.new.records.kept.rows self.old.records.kept.valid) }
+        ensures steps { self.new.machine.live.steps ≡ self.old.machine.live.steps }
     {
-        share(alloc, self.reset.with_word(alloc, place, word)?)
+        self.records.promote(inputs, place)?;
+        self.records.join_first(alloc, inputs, start)
     }
 
-    /// Starts the run anew, from another reset. No record is joined any more, and the machine stands nowhere in the run. The records
-    /// stay.
-    pub(crate) fn restart(&mut self, start: Rc<Boundary<PAGES>>)
-        ensures of { (image changed : Boot) (log : List LogEvent) → AreOf {pages = PAGES} {span = SPAN} image log self.old →
-            start.entry.value ≡ reset PAGES changed → AreOf {pages = PAGES} {span = SPAN} changed log self.new }
-        ensures rows { self.new.kept.rows ≡ self.old.kept.rows }
-        ensures pasts { self.new.kept.most ≡ self.old.kept.most }
-        ensures steps { self.new.live.steps ≡ self.old.live.steps }
+    // Runs the next span, keeps its record and joins it, and then those that go on from its end.
+    fn run_span(
+        &mut self,
+        alloc: Global,
+        inputs: &Inputs,
+        start: Rc<Boundary<PAGES>>,
+    ) -> Result<(), AllocError>
+        requires of { AreOf {pages = PAGES} {span = SPAN} inputs.now.image inputs.now.log self.old }
+        requires start { start.value ≡ state_at PAGES inputs.now.image inputs.now.log (self.old.records.kept.valid * SPAN) }
+        requires lacks { ¬ Serves PAGES SPAN (held inputs.now.image inputs.now.log self.old) self.old.records.kept.valid }
+        requires time { (self.old.records.kept.valid + 1) * SPAN < 2 ^ 64 }
+        requires few { self.old.records.kept.valid < max_spans }
+        ensures of { AreOf {pages = PAGES} {span = SPAN} inputs.now.image inputs.now.log self.new }
+        ensures pasts { self.new.records.kept.most ≡ self.old.records.kept.most }
+        ensures grows { self.old.records.kept.valid ≤ self.new.records.kept.valid }
+        ensures joined { IfOk result (λ _. self.old.records.kept.valid < self.new.records.kept.valid) }
+        ensures others { (i : ℕ) → ¬ (i ≡ self.old.records.kept.valid) → row_at self.new.records.kept.rows i ≡ row_at self.old.records.kept.rows i }
+        ensures turns { Turns PAGES SPAN (held inputs.now.image inputs.now.log self.old) self.old.records.kept.valid (row_at self.new.records.kept.rows self.old.records.kept.valid) }
+        ensures count { IfOk result (λ _. self.new.machine.live.steps ≡ counted self.old.machine.live.steps SPAN) }
+        ensures least { self.old.machine.live.steps ≤ self.new.machine.live.steps }
+        ensures most { self.new.machine.live.steps ≤ self.old.machine.live.steps + SPAN }
     {
-        self.reset = start;
-        self.frontier.cut(0);
-        self.kept.truncate_valid(0);
-        self.ends.clear();
-        self.at = None;
-        self.recorded = None;
+        let fact = self
+            .machine
+            .run_span(alloc, inputs, start, self.records.kept.valid())?;
+        let end = fact.end().clone()?;
+        self.records.keep(inputs, fact)?;
+        self.records.join(inputs, end)
     }
-}
 
-// From which span on the ends that are there go on from each other, once the events of a span have changed.
-fn again_from(again: u64, last: u64, joined: u64, ends: u64) -> u64
-    ensures last { last ≤ result }
-    ensures again { (joined ≡ ends) ⊎ ((again ≤ result) × (joined ≤ result)) }
-{
-    if joined == ends {
-        return last;
+    /// Joins all spans before one.
+    pub(crate) fn reach(
+        &mut self,
+        alloc: Global,
+        inputs: &Inputs,
+        index: u64,
+    ) -> Result<(), AllocError>
+        requires of { AreOf {pages = PAGES} {span = SPAN} inputs.now.image inputs.now.log self.old }
+        requires time { (index + 1) * SPAN < 2 ^ 64 }
+        requires few { index ≤ max_spans }
+        ensures of { AreOf {pages = PAGES} {span = SPAN} inputs.now.image inputs.now.log self.new }
+        ensures grows { self.old.records.kept.valid ≤ self.new.records.kept.valid }
+        ensures joined { IfOk result (λ _. index ≤ self.new.records.kept.valid) }
+        ensures spends { Spends PAGES SPAN index 0 (held inputs.now.image inputs.now.log self.old) (held inputs.now.image inputs.now.log self.new) }
+        ensures reaches { IfOk result (λ _. Reaches PAGES SPAN index (held inputs.now.image inputs.now.log self.old) (held inputs.now.image inputs.now.log self.new)) }
+    {
+        while self.records.kept.valid() < index {
+            self.extend(alloc, inputs)?;
+        }
+        Ok(())
     }
-    again.max(joined).max(last)
 }

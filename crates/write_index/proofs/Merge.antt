@@ -5,10 +5,10 @@ use Rattle.std.specs.Ordering.{nat_cmp}
 use Rattle.std.proofs.Math.Nat.{eq-or-lt_of_le}
 use Rattle.std.proofs.Math.ListN.{drop_of_length-le, get_or-append}
 use Rattle.std.proofs.Math.Seq.{take-length}
-use Rattle.std.proofs.lemmas.List.{append-nil, get_or-append_right, get_or-drop, length-append, length-drop, take-append-drop, take_more}
+use Rattle.std.proofs.lemmas.List.{append-nil, get_or-append_right, get_or-drop, length-append, length-drop, take-append-drop, take_all, take_more}
 use Rattle.std.proofs.lemmas.List.Kept.{AllPairs-from_increasing}
 use Rattle.std.proofs.lemmas.List.Sorted.{searched}
-use Rattle.std.proofs.lemmas.Bool.{cases_Bool, eq-eqb, eqb-true, true≢false}
+use Rattle.std.proofs.lemmas.Bool.{cases_Bool, eq-eqb, eqb-true, true≢false, cases_lt}
 use Rattle.std.proofs.lemmas.List.Folds.{list_any-append}
 use Rattle.r3k_pages.specs.Pages.{holds}
 use Rattle.write_index.specs.Pages.{IsUnion}
@@ -21,16 +21,6 @@ pub record IsMerged (a b : List ℕ) (i j : ℕ) (pages : List ℕ) : Type 0 whe
   pub under_a : (k : ℕ) → k < length pages → i < length a → slice_index pages k < slice_index a i
   pub under_b : (k : ℕ) → k < length pages → j < length b → slice_index pages k < slice_index b j
   pub union : IsUnion (take i a) (take j b) pages
-
--- which of two numbers is less
-pub before_or : (n held : ℕ) → (n < held) ⊎ (held ≤ n)
-before_or n zero = inr (omega arith)
-before_or zero (suc held) = inl (omega arith)
-before_or (suc n) (suc held) =
-    elim (before_or n held) [
-      | inl before ↦ inl (omega (arith, before))
-      | inr beyond ↦ inr (omega (arith, beyond))
-    ]
 
 -- whether a page is in a list
 pub held_at : (set : List ℕ) (page : ℕ) → holds set page ≡ true → (k : ℕ) × (k < length set) × (slice_index set k ≡ page)
@@ -68,7 +58,7 @@ searched_for xs x (Err i) up found =
     elim (cases_Bool (holds xs x)) [
       | inl held ↦
           let there = held_at xs x held in
-          absurd (elim (before_or there.0 i) [
+          absurd (elim (cases_lt there.0 i) [
             | inl before ↦ let e = at.1 there.0 before in omega (arith, e, there.2)
             | inr beyond ↦ let e = at.2 there.0 beyond there.1 in omega (arith, e, there.2)
           ])
@@ -79,13 +69,13 @@ searched_for xs x (Err i) up found =
 pub ascending_append : (xs ys : List ℕ) → IsStrictlyIncreasing xs → IsStrictlyIncreasing ys
     → ((k : ℕ) → k < length xs → 0 < length ys → slice_index xs k < slice_index ys 0) → IsStrictlyIncreasing (xs ++ ys)
 ascending_append xs ys up_xs up_ys under k within =
-    elim (before_or (k + 1) (length xs)) [
+    elim (cases_lt (k + 1) (length xs)) [
       | inl front ↦
           let e = up_xs k front in
           let here = get_or-append xs ys 0 k (omega (arith, front)) in
           let next = get_or-append xs ys 0 (k + 1) front in
           omega (arith, e, here, next)
-      | inr past ↦ elim (before_or k (length xs)) [
+      | inr past ↦ elim (cases_lt k (length xs)) [
         | inl last ↦
             let e = under k last (omega (arith, within, length-append xs ys, past, last)) in
             let here = get_or-append xs ys 0 k last in
@@ -142,14 +132,11 @@ merged_rest_a a b i j pages so_far up past = (
   λ page.
       let all = list_any-append (λ other. nat_eq other page) (take i a) (drop i a) in
       let whole = ap (λ (xs : List ℕ). holds xs page) (take-append-drop i a) in
-      let other = ap (λ (xs : List ℕ). holds xs page) (taken b j past so_far.in_b) in
+      let other = ap (λ (xs : List ℕ). holds xs page) (take_all j b past) in
       more pages (drop i a) page (holds (take i a) page) (holds (take j b) page) (so_far.union page)
       ∙ (or_last (holds (take i a) page) (holds (take j b) page) (holds (drop i a) page)
       ∙ (ap (λ (x : Bool). x || holds (take j b) page) (sym all ∙ whole) ∙ ap (λ (x : Bool). holds a page || x) other)),
 )
-  where
-    taken : (xs : List ℕ) (n : ℕ) → length xs ≤ n → n ≤ length xs → take n xs ≡ xs
-    taken xs n low high = let e : n ≡ length xs = omega (arith, low, high) in ap (λ (m : ℕ). take m xs) e ∙ take-length xs
 
 pub merged_rest_b : (a b : List ℕ) (i j : ℕ) (pages : List ℕ) → IsMerged a b i j pages → IsStrictlyIncreasing b → length a ≤ i
     → IsStrictlyIncreasing (pages ++ drop j b) × IsUnion a b (pages ++ drop j b)
@@ -164,14 +151,11 @@ merged_rest_b a b i j pages so_far up past = (
   λ page.
       let all = list_any-append (λ other. nat_eq other page) (take j b) (drop j b) in
       let whole = ap (λ (xs : List ℕ). holds xs page) (take-append-drop j b) in
-      let other = ap (λ (xs : List ℕ). holds xs page) (taken a i past so_far.in_a) in
+      let other = ap (λ (xs : List ℕ). holds xs page) (take_all i a past) in
       more pages (drop j b) page (holds (take i a) page) (holds (take j b) page) (so_far.union page)
       ∙ (or_right (holds (take i a) page) (holds (take j b) page) (holds (drop j b) page)
       ∙ (ap (λ (x : Bool). holds (take i a) page || x) (sym all ∙ whole) ∙ ap (λ (x : Bool). x || holds b page) other)),
 )
-  where
-    taken : (xs : List ℕ) (n : ℕ) → length xs ≤ n → n ≤ length xs → take n xs ≡ xs
-    taken xs n low high = let e : n ≡ length xs = omega (arith, low, high) in ap (λ (m : ℕ). take m xs) e ∙ take-length xs
 
 -- the rest of both, of which one is empty
 pub merged_rest : (a b : List ℕ) (i j : ℕ) (pages : List ℕ) → IsMerged a b i j pages → IsStrictlyIncreasing a → IsStrictlyIncreasing b
@@ -202,7 +186,7 @@ take_holds xs i page z within is =
 under_push : (pages : List ℕ) (z bound : ℕ) → ((k : ℕ) → k < length pages → slice_index pages k < z) → z < bound
     → (k : ℕ) → k < length (pages ++ z ∷ []) → slice_index (pages ++ z ∷ []) k < bound
 under_push pages z bound under less k within =
-    elim (before_or k (length pages)) [
+    elim (cases_lt k (length pages)) [
       | inl front ↦ let e = under k front in let here = get_or-append pages (z ∷ []) 0 k front in omega (arith, e, here, less)
       | inr beyond ↦
           let here = get_or-append_right pages (z ∷ []) (length pages) k 0 refl beyond in

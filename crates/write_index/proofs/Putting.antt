@@ -2,12 +2,11 @@
 use Rattle.std.proofs.Common.{◌≡◌, ℕ, zero, suc, ◌+◌, ◌*◌, ◌/◌, ◌<◌, ◌≤◌, ◌⊎◌, List, [], ◌∷◌, ◌++◌, length, length-set, take, max, Result, Ok, Err, IfOk, OnErr, slice_set, refl, sym, ap, ◌∙◌, subst, arith, inl, inr, nat_eq}
 use Rattle.std.proofs.Math.Path.{ap₂}
 use Rattle.std.proofs.Math.Seq.{take-append_seam}
-use Rattle.std.proofs.lemmas.Bool.{cases_Bool, eq-eqb, eqb-true, true≢false}
+use Rattle.std.proofs.lemmas.Bool.{cases_Bool, eq-eqb, eqb-true, true≢false, cases_lt}
 use Rattle.std.proofs.lemmas.List.{get_or-set_same, get_or-set_other, get_or-take, get_or_past, length-take}
 use Rattle.write_index.specs.Pages.{IsUnion, pages_at}
 use Rattle.write_index.specs.declared.tree.TheConstants.{LEVELS}
 use Rattle.write_index.specs.Tree.{Grown, HasRoom, IsIndex, IsLevel, IsLevelBut, IsPut, IsTree, IsTreeBut, Same, bottom}
-use Rattle.write_index.proofs.Merge.{before_or}
 
 which : (i index : ℕ) → (i ≡ index) ⊎ ¬ (i ≡ index)
 which i index =
@@ -183,14 +182,14 @@ deepened_view (suc count) old new index same = ap (λ levels. take (suc count) (
 pub others_put : (held index i : ℕ) (set : List ℕ) (old new : List (List ℕ)) → IsPut held index set old new → ¬ (i ≡ index)
     → pages_at (take (max held (index + 1)) new) i ≡ pages_at (take held old) i
 others_put held index i set old new put other =
-    elim (before_or i held) [
+    elim (cases_lt i held) [
       | inl within ↦
           let here = get_or-take held old i [] within in
           let now = get_or-take (max held (index + 1)) new i [] (omega (arith, within)) in
           now ∙ (put.kept i within other ∙ sym here)
       | inr beyond ↦
           let here = get_or_past (take held old) i [] (rw (length-take held old) (omega (arith, beyond))) in
-          elim (before_or i index) [
+          elim (cases_lt i index) [
             | inl between ↦ get_or-take (max held (index + 1)) new i [] (omega (arith, between)) ∙ (put.none i beyond between ∙ sym here)
             | inr past ↦
                 get_or_past (take (max held (index + 1)) new) i [] (rw (length-take (max held (index + 1)) new) (omega (arith, beyond, past, other)))

@@ -1,12 +1,11 @@
 -- The last span that has a page, level by level.
 use Rattle.std.proofs.Common.{◌≡◌, ℕ, zero, suc, ◌+◌, ◌*◌, ◌/◌, ◌^◌, ◌<◌, ◌≤◌, ◌⊎◌, Bool, true, false, ◌||◌, IsFalse, IsTrue, Option, None, Some, min, take, List, [], ◌∷◌, refl, sym, ap, ◌∙◌, subst, arith, inl, inr}
-use Rattle.std.proofs.lemmas.Bool.{true≢false}
+use Rattle.std.proofs.lemmas.Bool.{true≢false, cases_lt}
 use Rattle.std.proofs.Math.Nat.{pow-suc}
 use Rattle.std.proofs.lemmas.List.{get_or-take, get_or_past, length-take}
 use Rattle.r3k_pages.specs.Pages.{holds}
 use Rattle.write_index.specs.Pages.{IsLast, pages_at}
 use Rattle.write_index.specs.Tree.{IsTree, bottom}
-use Rattle.write_index.proofs.Merge.{before_or}
 
 neither : (a b : Bool) → (a || b) ≡ false → (a ≡ false) × (b ≡ false)
 neither true b is = absurd (true≢false is)
@@ -18,7 +17,7 @@ first_then false b is none = absurd (true≢false (sym is ∙ none))
 
 two : (m : ℕ) → (m ≡ 2 * (m / 2)) ⊎ (m ≡ 2 * (m / 2) + 1)
 two m =
-    elim (before_or (2 * (m / 2)) m) [
+    elim (cases_lt (2 * (m / 2)) m) [
       | inl less ↦ inr (omega (arith, less))
       | inr same ↦ inl (omega (arith, same))
     ]
@@ -30,7 +29,7 @@ NoneOdd level page end = (m : ℕ) → 2 * (end / 2) ≤ m → m < end → IsFal
 not_held : (level : List (List ℕ)) (above : List (List (List ℕ))) (end page m : ℕ) → IsTree end (level ∷ above) → NoneOdd level page end → m < end
     → (m / 2 < end / 2 → IsFalse (holds (pages_at (bottom above) (m / 2)) page)) → holds (pages_at level m) page ≡ false
 not_held level above end page m tree odd within pair =
-    elim (before_or (m / 2) (end / 2)) [
+    elim (cases_lt (m / 2) (end / 2)) [
       | inl inside ↦
           let none = neither (holds (pages_at level (2 * (m / 2))) page) (holds (pages_at level (2 * (m / 2) + 1)) page) (sym (tree.0.unions (m / 2) inside page) ∙ pair inside) in
           elim (two m) [
@@ -70,7 +69,7 @@ last_first levels level above end page pair is tree odd last second =
       omega (arith, last.0),
       first_then (holds (pages_at level (2 * pair)) page) (holds (pages_at level (2 * pair + 1)) page) (sym (here.0.unions pair last.0 page) ∙ last.1) second,
       λ m beyond within.
-          elim (before_or (2 * pair + 1) m) [
+          elim (cases_lt (2 * pair + 1) m) [
             | inl further ↦ after_pair level above end page pair m here odd last.2 further within
             | inr same ↦
                 let is : m ≡ 2 * pair + 1 = omega (arith, beyond, same) in
@@ -91,7 +90,7 @@ last_held sets held page before end found is last = go found last
     after : (from : ℕ) → ((i : ℕ) → from ≤ i → i < end → IsFalse (holds (pages_at sets i) page)) → (i : ℕ) → from ≤ i → i < before
         → IsFalse (holds (pages_at (take held sets) i) page)
     after from none i beyond within =
-        elim (before_or i held) [
+        elim (cases_lt i held) [
           | inl inside ↦ subst (λ (set : List ℕ). IsFalse (holds set page)) (sym (get_or-take held sets i [] inside)) (none i beyond (omega (arith, is, inside, within)))
           | inr past ↦ subst (λ (set : List ℕ). IsFalse (holds set page)) (sym (get_or_past (take held sets) i [] (rw (length-take held sets) (omega (arith, past))))) refl
         ]

@@ -1,8 +1,8 @@
-use Rattle.std.proofs.Common.{◌≡◌, ◌<◌, ℕ, IfOk, IfSome, List, Option, Some, inl, inr, length, slice_get, slice_set, sym, ap, subst, ◌∙◌, arith}
+use Rattle.std.proofs.Common.{◌≡◌, ◌<◌, IfSome, List, Option, inl, inr, length, slice_set, sym, ap, subst, ◌∙◌, arith}
 use Rattle.std.proofs.lemmas.Bool.{cases_eq}
 use Rattle.std.proofs.lemmas.List.{length-set}
 use Rattle.checkpoints.specs.Kept.{row_at}
-use Rattle.checkpoints.specs.Rows.{IsRoom, Places, Tied, records_of}
+use Rattle.checkpoints.specs.Rows.{Places, records_of}
 use Rattle.checkpoints.proofs.Rows.{if_ok, item, row_is, row_other, row_pushed, row_set, set_same}
 use Rattle.checkpoints.proofs.kept.make_room.Goals as goal
 

@@ -1,4 +1,4 @@
-use Rattle.std.proofs.Common.{sym, ap, refl, ◌∙◌, IfSome}
+use Rattle.std.proofs.Common.{sym, ap, refl, ◌∙◌}
 use Rattle.r3k_pages.specs.Pages.{SameOutside, holds}
 use Rattle.checkpoints.proofs.Rows.{some_is}
 use Rattle.checkpoints.proofs.kept.same_page.Goals as goal

@@ -1,6 +1,6 @@
 use Rattle.std.proofs.Common.{ℕ, List, length, sym, ap, ◌∙◌}
 use Rattle.present_run.proofs.Carry.{after_carried, end_carried, exactly, loses_by, start_carried}
-use Rattle.present_run.proofs.Spans.{map_ok}
+use Rattle.std.proofs.lemmas.Result.{IfOk-weaker}
 use Rattle.present_run.proofs.frontier.carry_to_end.Goals as goal
 
 pub returns-clause-long : goal.returns-clause-long
@@ -11,7 +11,7 @@ pub returns-clause-end : goal.returns-clause-end
 returns-clause-end g c =
     let is = end_carried g.row.PAGES g.row.SPAN c.args.fact.now c.args.start.now c.args.differing.now c.remove.new.self c.requires.near
     (loses_by c.args.differing.now _ _ _ c.touched.ensures.pages c.remove.ensures) c.requires.same (returns-clause-long g c) in
-    map_ok _ _ c.end_with.result (λ end at. at ∙ sym is) c.end_with.ensures
+    IfOk-weaker c.end_with.result _ _ (λ end at. at ∙ sym is) c.end_with.ensures
 
 pub returns-clause-start : goal.returns-clause-start
 returns-clause-start g c =

@@ -1,6 +1,5 @@
 use Rattle.std.proofs.Common.{◌≡◌, Contains, List, MatchOption, None, Some, slice_get, sym, ap, subst, ◌∙◌}
 use Rattle.std.specs.Option.{option_map}
-use Rattle.span_fact.specs.Span.{Span}
 use Rattle.checkpoints.specs.Kept.{Kept, row_at}
 use Rattle.checkpoints.specs.Rows.{Places, Tied, records_of}
 use Rattle.checkpoints.proofs.Rows.{got, span_at}

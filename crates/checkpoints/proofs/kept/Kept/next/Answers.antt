@@ -1,7 +1,8 @@
 use Rattle.std.proofs.Common.{◌≡◌, ◌+◌, IsSomeAnd, List, Some, slice_get, sym, ap, subst, ◌∙◌}
+use Rattle.std.proofs.lemmas.Option.{IfSome_then}
 use Rattle.checkpoints.specs.Kept.{Follows, Kept, first_at, row_at}
 use Rattle.checkpoints.specs.Rows.{Places, Tied, records_of}
-use Rattle.checkpoints.proofs.Rows.{if_some, leads}
+use Rattle.checkpoints.proofs.Rows.{leads}
 use Rattle.checkpoints.proofs.kept.Kept.next.Goals as goal
 
 pub returns : goal.returns
@@ -13,7 +14,7 @@ returns g c =
     let r = c.in_ok-record_at.field-0.now in
     let there : slice_get (row_at (records_of places) i) 0 ≡ Some r =
     ap (λ (places : List Places). slice_get (row_at (records_of places) i) 0) (sym c.deref.ensures.value) ∙ c.in_ok-record_at.ensures {u = tt} in
-    if_some c.place_in.result _ _ c.place_in.ensures
+    IfSome_then c.place_in.result c.place_in.ensures
     (λ place named.
     subst (λ (k : Kept). Follows pages span (first_at k.rows i) (slice_get (row_at k.rows (i + 1)) place)) c.self.view_is
     (leads pages span places c.self.inside.valid c.self.inside.most c.self.inside.names i place r c.in_ok-name.name c.self.invariant.0 there (ap (λ (r : Tied). r.next) (sym c.branch.view_is) ∙ c.in_ok-name.was {u = tt})

@@ -1,8 +1,9 @@
-use Rattle.std.proofs.Common.{◌≡◌, ◌<◌, List, Option, IfSome, Some, length, slice_get, sym, ap, subst, ◌∙◌, arith}
+use Rattle.std.proofs.Common.{◌<◌, List, length, sym, ap, subst, ◌∙◌, arith}
+use Rattle.std.proofs.lemmas.Option.{IfSome_then}
 use Rattle.span_fact.specs.Span.{Span}
 use Rattle.checkpoints.specs.Kept.{Kept, promoted, row_at}
-use Rattle.checkpoints.specs.Rows.{IsRoom, Places, Tied, records_of, rows_of, spans_of}
-use Rattle.checkpoints.proofs.Rows.{if_some, item, length_promoted, place_within, promote_kept, room_kept, row_is, row_of, row_within, seen_other, seen_set, spans_promoted}
+use Rattle.checkpoints.specs.Rows.{Tied, spans_of}
+use Rattle.checkpoints.proofs.Rows.{item, length_promoted, place_within, promote_kept, room_kept, row_is, row_of, row_within, seen_other, seen_set, spans_promoted}
 use Rattle.checkpoints.proofs.kept.Kept.promote.Goals as goal
 
 pub index_mut-requires : goal.index_mut-requires
@@ -33,7 +34,7 @@ invariant_of-self g c =
     let within = subst (λ (row : List Tied). c.args.place < length row) (row_is places c.args.index p there) at in
     let long = ap (λ (row : List Tied). length row) c.promote.ensures.records ∙ length_promoted c.args.place p.records within in (
       promote_kept g.row.PAGES g.row.SPAN places inside.valid inside.most inside.names c.args.index c.args.place p q c.self.invariant.0 there within c.promote.ensures.records,
-      if_some inside.reserved _ _ c.self.invariant.1 (λ n is. room_kept places inside.most c.args.index n p q there long c.promote.ensures.room is),
+      IfSome_then inside.reserved c.self.invariant.1 (λ n is. room_kept places inside.most c.args.index n p q there long c.promote.ensures.room is),
     )
 
 pub returns-clause-row : goal.returns-clause-row

@@ -1,4 +1,4 @@
-use Rattle.std.proofs.Common.{◌≡◌, ◌∷◌, ◌-◌, ◌<◌, ◌≤◌, ℕ, List, None, Option, Some, IsOk, length, slice_set, take, refl, sym, ap, subst, ◌∙◌, arith}
+use Rattle.std.proofs.Common.{◌≡◌, ◌∷◌, ◌-◌, ◌<◌, ◌≤◌, ℕ, List, None, Some, IsOk, length, slice_set, take, refl, sym, ap, subst, ◌∙◌, arith}
 use Rattle.span_fact.specs.Span.{Span}
 use Rattle.checkpoints.specs.Kept.{Kept, row_at}
 use Rattle.checkpoints.specs.Rows.{IsRoom, Places, Tied, records_of, rows_of, spans_of}

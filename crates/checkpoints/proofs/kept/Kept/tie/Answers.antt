@@ -1,8 +1,9 @@
-use Rattle.std.proofs.Common.{◌≡◌, ◌+◌, ◌<◌, List, Option, Some, length, slice_set, sym, ap, subst, ◌∙◌, arith}
+use Rattle.std.proofs.Common.{◌+◌, List, length, slice_set, sym, ap, subst, ◌∙◌, arith}
+use Rattle.std.proofs.lemmas.Option.{IfSome_then}
 use Rattle.span_fact.specs.Span.{Span}
 use Rattle.checkpoints.specs.Kept.{Follows, Kept, first_at, row_at}
 use Rattle.checkpoints.specs.Rows.{IsOwnName, Places, Tied, records_of, with_next}
-use Rattle.checkpoints.proofs.Rows.{followed, if_some, item, length_noted, room_kept, row_is, row_other, row_set, some_is, spans_noted, tie_kept, tied_row, tied_seen}
+use Rattle.checkpoints.proofs.Rows.{followed, item, length_noted, room_kept, row_is, row_other, row_set, tie_kept, tied_row, tied_seen}
 use Rattle.checkpoints.proofs.kept.Kept.tie.Goals as goal
 
 pub index_mut-requires : goal.index_mut-requires
@@ -30,7 +31,7 @@ invariant_of-self g c =
       tie_kept pages span (records_of places) (records_of (slice_set places i q)) inside.valid inside.most inside.names i c.in-Some.name c.self.invariant.0
           (row_set places i q within ∙ (c.note_next.ensures.records ∙ ap (with_next c.in-Some.name) (sym (row_is places i p there))))
           (λ j other. row_other places i j q other) c.if-name-self.true own (followed pages span places i follows),
-      if_some inside.reserved _ _ c.self.invariant.1
+      IfSome_then inside.reserved c.self.invariant.1
           (λ n is. room_kept places inside.most i n p q there (ap (λ (row : List Tied). length row) c.note_next.ensures.records ∙ length_noted c.in-Some.name p.records) c.note_next.ensures.room is),
     )
 

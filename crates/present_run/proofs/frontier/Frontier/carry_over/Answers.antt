@@ -8,8 +8,7 @@ use Rattle.present_run.specs.Runs.{EndsAt, EndsNear, IsKnown}
 use Rattle.present_run.specs.declared.frontier.Frontier.{Frontier}
 use Rattle.present_run.proofs.Carry.{empty}
 use Rattle.present_run.proofs.Known.{tied}
-use Rattle.present_run.proofs.Next.{into_some}
-use Rattle.present_run.proofs.Spans.{if_some}
+use Rattle.present_run.proofs.Spans.{if_some, into_some}
 use Rattle.present_run.proofs.frontier.Frontier.carry_over.Goals as goal
 
 pub carry_to_end-requires : goal.carry_to_end-requires

@@ -1,10 +1,9 @@
-use Rattle.std.proofs.Common.{◌≡◌, ℕ, ◌+◌, ◌-◌, Result, Ok, Err, IfOk, IsOk, List, ◌∷◌, take, slice_get, Option, Some, sym, ap, refl, subst, ◌∙◌, arith}
+use Rattle.std.proofs.Common.{◌≡◌, ℕ, ◌+◌, ◌-◌, Result, Ok, Err, IfOk, IsOk, List, ◌∷◌, take, slice_get, slice_index, Option, Some, sym, ap, refl, subst, ◌∙◌, arith}
 use Rattle.std.proofs.lemmas.Bool.{false≢true}
 use Rattle.r3k_machine.specs.State.{State}
 use Rattle.span_fact.specs.Span.{Span, end_of}
 use Rattle.checkpoints.specs.Kept.{Kept, first_at, row_at}
 use Rattle.present_run.specs.Runs.{EndsAt, EndsNear}
-use Rattle.present_run.proofs.Differ.{same_all}
 use Rattle.present_run.proofs.Known.{tied}
 use Rattle.present_run.proofs.frontier.Frontier.run_over.Goals as goal
 
@@ -60,6 +59,6 @@ returns-clause-known g c = λ starts ends.
     let end : starts (n + 1) ≡ end_of pages span c.args.fact = ap (λ (i : ℕ). starts (i + 1)) number ∙ ends in record {
       near =
           subst (λ (o : Option Span). EndsNear pages span o c.clear.new.self (starts (n + 1))) (sym there)
-          (same_all c.clear.new.self _ _ (ap (λ (s : State). s.words) (sym end)));
+          (λ place _. ap (λ (s : State). slice_index s.words place) (sym end));
       exact = λ _. subst (λ (o : Option Span). EndsAt pages span o (starts (n + 1))) (sym there) (sym end);
     }

@@ -3,7 +3,7 @@ use Rattle.std.proofs.lemmas.Bool.{cases_lt}
 use Rattle.span_fact.specs.Span.{Span}
 use Rattle.console_index.specs.Counts.{IsPlace, total}
 use Rattle.present_run.specs.Index.{Agrees, Index, IsSender, bytes_at, sent_below}
-use Rattle.present_run.proofs.Totals.{totals, total_most, total_rises}
+use Rattle.present_run.proofs.Totals.{totals, total_most, total_rise}
 use Rattle.present_run.proofs.index.SpanIndex.find.Goals as goal
 
 below_next : (pages span : ℕ) (spans : List (List Span)) (line i : ℕ)
@@ -24,7 +24,7 @@ among pages span index spans line place count found rest known agrees sent is =
             to = λ _. omega (arith, is.0, is.1, front, here, below_next pages span spans line found);
           }
       | inr past ↦
-          let rises = total_rises index.consoles line count found past in
+          let rises = total_rise index.consoles line count found past in
           absurd (let e : ⊥ = omega (arith, rises, sent, is.0) in e)
     ]
 

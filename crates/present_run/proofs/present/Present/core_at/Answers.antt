@@ -1,4 +1,4 @@
-use Rattle.std.proofs.Common.{arith, refl, sym, ◌/◌, ◌%◌, inl, inr, Contains, ap, ◌∙◌, subst}
+use Rattle.std.proofs.Common.{arith, refl, sym, ◌/◌, ◌%◌, Contains, ap, ◌∙◌, subst, inl, inr}
 use Rattle.present_run.specs.Landings.{positions_of}
 use Rattle.r3k_machine.specs.Run.{state_at}
 use Rattle.r3k_machine.specs.State.{State}
@@ -19,23 +19,23 @@ invariant_of-self-in-Some g c = record {
 pub returns-in-Some-clause-core : goal.returns-in-Some-clause-core
 returns-in-Some-clause-core g c =
     let now = c.args.self.now in
-    let landing = landing_here g.row.PAGES g.row.SPAN (holding_of now).history now.runs.kept.valid c.args.position c.in-Some.field-0-0 now.landings c.in-Some.state.now.value now.landed c.in-Some.ensures in
+    let landing = landing_here g.row.PAGES g.row.SPAN (holding_of now).history now.runs.records.kept.valid c.args.position c.in-Some.field-0-0 now.landings c.in-Some.state.now.value now.landed c.in-Some.ensures in
     c.in_ok-core.ensures {u = tt} ∙ (c.core-in-Some.ensures ∙ ap (λ (s : State). s.core) (c.deref.ensures ∙ landing.is))
 
 pub returns-in-Some-clause-reaches : goal.returns-in-Some-clause-reaches
 returns-in-Some-clause-reaches g c =
     let now = c.args.self.now in
     let position = c.args.position in
-    let landing = landing_here g.row.PAGES g.row.SPAN (holding_of now).history now.runs.kept.valid position c.in-Some.field-0-0 now.landings c.in-Some.state.now.value now.landed c.in-Some.ensures in
-    there_are g.row.PAGES g.row.SPAN (position / g.row.SPAN) (holding_of now) (λ i below. (now.of.joined i (omega (arith, below, landing.joined))).near)
+    let landing = landing_here g.row.PAGES g.row.SPAN (holding_of now).history now.runs.records.kept.valid position c.in-Some.field-0-0 now.landings c.in-Some.state.now.value now.landed c.in-Some.ensures in
+    there_are g.row.PAGES g.row.SPAN (position / g.row.SPAN) (holding_of now) (λ i below. (now.of.records.joined i (omega (arith, below, landing.joined))).near)
 
 pub returns-in-Some-clause-lands : goal.returns-in-Some-clause-lands
 returns-in-Some-clause-lands g c =
     let now = c.args.self.now in
     let position = c.args.position in
     let there = kept_here position c.in-Some.field-0-0 now.landings c.in-Some.state.now.value c.in-Some.ensures in
-    let landing = landing_here g.row.PAGES g.row.SPAN (holding_of now).history now.runs.kept.valid position c.in-Some.field-0-0 now.landings c.in-Some.state.now.value now.landed c.in-Some.ensures in
-    lands_there g.row.SPAN position (positions_of now.landings) now.runs.live.steps c.in_ok-core.core refl refl there landing.inside refl (c.touch.ensures.first there)
+    let landing = landing_here g.row.PAGES g.row.SPAN (holding_of now).history now.runs.records.kept.valid position c.in-Some.field-0-0 now.landings c.in-Some.state.now.value now.landed c.in-Some.ensures in
+    lands_there g.row.SPAN position (positions_of now.landings) now.runs.machine.live.steps c.in_ok-core.core refl refl there landing.inside refl (c.touch.ensures.first there)
 
 pub returns-in_err-stand-clause-lands : goal.returns-in_err-stand-clause-lands
 returns-in_err-stand-clause-lands g c =
@@ -64,7 +64,7 @@ pub returns-clause-core : goal.returns-clause-core
 returns-clause-core g c =
     (c.in_ok-core-2.ensures {u = tt})
     ∙ (c.core-2.ensures
-    ∙ (ap (λ (s : State). s.core) (if_some _ c.stand.new.self.runs.at c.args.position (c.in_ok-stand.ensures {u = tt}).stands c.stand.new.self.of.stands)
+    ∙ (ap (λ (s : State). s.core) (if_some _ c.stand.new.self.runs.machine.at c.args.position (c.in_ok-stand.ensures {u = tt}).stands c.stand.new.self.of.machine.stands)
     ∙ ap (λ (h : History). (state_at g.row.PAGES h.image h.log c.args.position).core) c.stand.ensures.stays.history))
 
 pub returns-clause-spends : goal.returns-clause-spends

@@ -14,13 +14,16 @@ invariant_of-self-2 g c =
     let changed : AreSameOutside (times_of c.args.edit log).0 (times_of c.args.edit log).1 log c.edit.new.self =
     c.log_laws.ensures.outside c.args.edit log c.edit.new.self (c.in_ok-place.ensures {u = tt}).log in record {
       fits = c.args.self.now.fits;
-      of = c.forget.ensures.of c.args.self.now.inputs.image log c.edit.new.self c.args.self.now.of (rw c.times_of-from.ensures changed);
+      of = record {
+        machine = c.forget.ensures.of c.args.self.now.inputs.image c.edit.new.self;
+        records = c.forget-2.ensures.of c.args.self.now.inputs.image log c.edit.new.self c.args.self.now.of.records (rw c.times_of-from.ensures changed);
+      };
       landed = λ e there. absurd (none _ e c.clear.ensures there);
     }
 
 pub returns-clause-log : goal.returns-clause-log
 returns-clause-log g c =
-    log_edited (edited c.args.edit) (landed_of c.args.self.now) c.edit.new.self _ _ _ _ (c.in_ok-place.ensures {u = tt}).log c.forget.ensures.rows c.forget.ensures.pasts c.forget.ensures.steps
+    log_edited (edited c.args.edit) (landed_of c.args.self.now) c.edit.new.self _ _ _ _ (c.in_ok-place.ensures {u = tt}).log c.forget-2.ensures.rows c.forget-2.ensures.pasts c.forget.ensures.steps
     (ap positions_of c.clear.ensures)
 
 -- a refused edit leaves the log
@@ -30,5 +33,5 @@ invariant_of-self g c =
     let same = (c.in_err-place.ensures {u = tt}).log.0 in record {
       fits = now.fits;
       of = subst (λ (log : List LogEvent). AreOf {pages = g.row.PAGES} {span = g.row.SPAN} now.inputs.image log now.runs) (sym same) now.of;
-      landed = subst (λ (log : List LogEvent). AreLandings g.row.PAGES g.row.SPAN (record { image = now.inputs.image; log = log }) now.runs.kept.valid now.landings) (sym same) now.landed;
+      landed = subst (λ (log : List LogEvent). AreLandings g.row.PAGES g.row.SPAN (record { image = now.inputs.image; log = log }) now.runs.records.kept.valid now.landings) (sym same) now.landed;
     }

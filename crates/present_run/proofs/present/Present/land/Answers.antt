@@ -9,10 +9,10 @@ pub invariant_of-self-clause-landed : goal.invariant_of-self-clause-landed
 invariant_of-self-clause-landed g c = λ e there.
     let now = c.args.self.now in
     let position = c.args.position in
-    let is = (c.in-Ok.ensures {u = tt}).kept ∙ if_some _ now.runs.at position c.requires.stands now.of.stands in
+    let is = (c.in-Ok.ensures {u = tt}).kept ∙ if_some _ now.runs.machine.at position c.requires.stands now.of.machine.stands in
     on _ _ c.add-refused.result c.add-refused.ensures.among c.add-refused.ensures.same
     (λ among. elim (among e there) [
-      | inl new ↦ new_landing g.row.PAGES g.row.SPAN (holding_of now).history now.runs.kept.valid position e c.requires.joined c.if-position-eq0.false (new ∙ ap (λ (s : State). (position, s)) is)
+      | inl new ↦ new_landing g.row.PAGES g.row.SPAN (holding_of now).history now.runs.records.kept.valid position e c.requires.joined c.if-position-eq0.false (new ∙ ap (λ (s : State). (position, s)) is)
       | inr old ↦ now.landed e old
     ])
     (λ same. now.landed e (subst (λ l. Contains l e) same there))

@@ -11,4 +11,4 @@ pub returns-clause-served : goal.returns-clause-served
 returns-clause-served g c = λ position there index below.
     let state = held_by c.args.self.now.landings position there in
     let landing = c.args.self.now.landed (position, state.0) state.1 in
-    (c.args.self.now.of.joined index (omega (arith, below, landing.joined))).near
+    (c.args.self.now.of.records.joined index (omega (arith, below, landing.joined))).near

@@ -1,12 +1,13 @@
-use Rattle.std.proofs.Common.{◌≡◌, ◌+◌, ◌-◌, ◌/◌, ◌%◌, ap, ◌∙◌}
+use Rattle.std.proofs.Common.{◌+◌, ◌-◌, ◌/◌, ◌%◌, ap, ◌∙◌}
 use Rattle.r3k_machine.specs.Run.{next_visit}
 use Rattle.present_run.specs.History.{History}
 use Rattle.present_run.specs.Reuse.{Reaches}
 use Rattle.present_run.specs.Shown.{holding_of}
 use Rattle.present_run.proofs.Counts.{reaches_more, spends_rest}
-use Rattle.present_run.proofs.Spans.{map_ok, ok_all}
-use Rattle.present_run.proofs.Stays.{stays_on}
+use Rattle.std.proofs.lemmas.Result.{IfOk-weaker}
+use Rattle.present_run.proofs.Spans.{ok_all}
 use Rattle.present_run.proofs.present.Present.next_visit.Goals as goal
+use Rattle.present_run.proofs.Held.{stays_on}
 
 pub returns-clause-spends : goal.returns-clause-spends
 returns-clause-spends g c =
@@ -23,9 +24,7 @@ returns-clause-reaches g c =
 
 pub returns-clause-found : goal.returns-clause-found
 returns-clause-found g c =
-    map_ok (λ found. found ≡ next_visit g.row.PAGES c.reach.new.self.inputs.image c.reach.new.self.inputs.log c.args.address c.args.position (c.args.last - c.args.position))
-    (λ found. found ≡ next_visit g.row.PAGES c.args.self.now.inputs.image c.args.self.now.inputs.log c.args.address c.args.position (c.args.last - c.args.position))
-    c.visit.result
+    IfOk-weaker c.visit.result _ _
     (λ found is. is ∙ ap (λ (h : History). next_visit g.row.PAGES h.image h.log c.args.address c.args.position (c.args.last - c.args.position)) c.reach.ensures.stays.history)
     c.visit.ensures.found
 

@@ -12,7 +12,7 @@ returns-in-Some g c =
     let image = c.args.self.now.inputs.image in
     let log = c.args.self.now.inputs.log in
     let index = c.args.index in
-    let joined = c.args.self.now.of.joined index c.requires.joined in
+    let joined = c.args.self.now.of.records.joined index c.requires.joined in
     let is = (c.in-Some.ensures {u = tt}).fact in
     c.sent.ensures
     ∙ ap (sent_from 0) (same_steps pages span index _ c.in-Some.fact.now (span_of pages span image log index) is refl joined ∙ span_steps pages span image log index)

@@ -3,13 +3,13 @@ use Rattle.std.proofs.Math.Nat.{div-mul-le_self, lt-div-mul-add, mod-eq-sub-div-
 use Rattle.present_run.specs.Reuse.{Reaches}
 use Rattle.present_run.specs.Shown.{holding_of}
 use Rattle.present_run.proofs.Spans.{ok_all}
-use Rattle.present_run.proofs.Stays.{stays_on}
 use Rattle.present_run.proofs.Counts.{reaches_more, spends_rest}
 use Rattle.present_run.proofs.present.Present.stand.Goals as goal
+use Rattle.present_run.proofs.Held.{stays_on}
 
 pub stand_at-requires : goal.stand_at-requires
 stand_at-requires g c =
-    let some : 0 < g.row.SPAN = omega (arith, c.args.self.now.of.sizes.least_span) in
+    let some : 0 < g.row.SPAN = omega (arith, c.args.self.now.of.records.sizes.least_span) in
     let high = lt-div-mul-add {a = c.args.position} {b = g.row.SPAN} some in (
       omega arith,
       (λ elsewhere. (c.in_ok-reach.ensures {u = tt}).joined, (div-mul-le_self c.args.position g.row.SPAN, (omega (arith, high), omega (arith, c.requires.position)))),
@@ -38,5 +38,5 @@ returns-clause-stays g c = let stays = stays_on c.reach.ensures.stays c.stand_at
 
 pub returns-clause-joined : goal.returns-clause-joined
 returns-clause-joined g c =
-    ok_all c.stand_at.result (c.args.position / g.row.SPAN ≤ c.stand_at.new.self.runs.kept.valid)
+    ok_all c.stand_at.result (c.args.position / g.row.SPAN ≤ c.stand_at.new.self.runs.records.kept.valid)
     (omega (arith, (c.in_ok-reach.ensures {u = tt}).joined, c.stand_at.ensures.valid))

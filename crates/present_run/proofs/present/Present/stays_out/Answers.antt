@@ -15,9 +15,9 @@ not_of false none = refl
 pub returns-in-Some : goal.returns-in-Some
 returns-in-Some g c =
     let index = c.args.index in
-    let below : index < c.args.self.now.runs.kept.valid = omega (arith, c.if-index-valid.true, c.valid.ensures) in
-    let both = stands_too g.row.PAGES g.row.SPAN index c.args.self.now.inputs.image c.args.self.now.inputs.log (first_at c.args.self.now.runs.kept.rows index)
-    c.in-Some.fact.now c.args.page (c.in-Some.ensures {u = tt}).fact (c.args.self.now.of.joined index below) in (
+    let below : index < c.args.self.now.runs.records.kept.valid = omega (arith, c.if-index-valid.true, c.valid.ensures) in
+    let both = stands_too g.row.PAGES g.row.SPAN index c.args.self.now.inputs.image c.args.self.now.inputs.log (first_at c.args.self.now.runs.records.kept.rows index)
+    c.in-Some.fact.now c.args.page (c.in-Some.ensures {u = tt}).fact (c.args.self.now.of.records.joined index below) in (
       λ off. (below, λ stands. not_both c.stands_in.result off (c.stands_in.ensures.1 (both.1 stands))),
       λ out. not_of c.stands_in.result (λ on. out.1 (both.0 (c.stands_in.ensures.0 on))),
     )

@@ -1,8 +1,9 @@
 use Rattle.std.proofs.Common.{ℕ, ◌++◌, List, take, sym, ap, subst, ◌∙◌, arith}
+use Rattle.std.proofs.lemmas.List.{take_all}
 use Rattle.r3k_live.specs.declared.recorder.SentAt.{SentAt}
 use Rattle.present_run.specs.Console.{Shows, with_byte}
 use Rattle.present_run.specs.Sent.{bytes_on}
-use Rattle.present_run.proofs.Consoles.{bytes_more, take_past}
+use Rattle.present_run.proofs.Consoles.{bytes_more}
 use Rattle.present_run.proofs.Sending.{item_taken}
 use Rattle.present_run.proofs.sent.Shown.take_of.Goals as goal
 
@@ -27,4 +28,4 @@ pub returns-clause-shows : goal.returns-clause-shows
 returns-clause-shows c =
     λ console was.
     subst (λ (front : List SentAt). Shows c.args.from c.args.count (console ++ bytes_on c.args.line front) c.loop-one.self)
-    (take_past c.args.sent.now c.loop-one.one-index (omega (arith, c.loop-one-test.false))) (c.loop-one.invariant.shows console was)
+    (take_all c.loop-one.one-index c.args.sent.now (omega (arith, c.loop-one-test.false))) (c.loop-one.invariant.shows console was)
