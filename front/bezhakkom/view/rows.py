@@ -122,15 +122,24 @@ class View:
         """The steps of a column."""
         return max(1, (self.end - self.begin) // self.columns)
 
+    @property
+    def apart(self) -> int:
+        """The steps between samples."""
+        return -(-(self.end - self.begin) // self.samples)
+
+    @property
+    def is_far(self) -> bool:
+        """Whether samples are so far apart that they begin spans, where nothing is run for them."""
+        return self.apart > SPAN // 4
+
     def positions(self, most: int = EXACT) -> List[int]:
-        """Positions to look at: all, or samples. Where these are far apart they begin spans, where nothing is run for them."""
-        begin, end = self.begin, self.end
-        if end - begin <= most:
-            return list(range(begin, end))
-        found = (begin + (end - begin) * number // self.samples for number in range(self.samples))
-        if end - begin > self.samples * SPAN // 4:
-            found = (max(begin, position // SPAN * SPAN) for position in found)
-        return sorted(set(found))
+        """Positions to look at: all, or samples."""
+        if self.end - self.begin <= most:
+            return list(range(self.begin, self.end))
+        found = range(self.begin, self.end, self.apart)
+        if self.is_far:
+            return sorted({max(self.begin, position // SPAN * SPAN) for position in found})
+        return list(found)
 
     def is_exact(self, most: int = EXACT) -> bool:
         return self.end - self.begin <= most
@@ -283,8 +292,8 @@ def functions(past: Past, view: View, name: Callable[[int], str]) -> Row:
     """In which function the PC is: at all positions in view, or at samples."""
     positions, known = view.positions(), past.known.counters
     lack = [it for it in positions if it not in known]
-    if view.is_exact():
-        for lines in (yield list(of_counters(lack))):
+    if view.is_exact() or not view.is_far:
+        for lines in (yield list(of_counters(lack, 1 if view.is_exact() else view.apart))):
             known.update(replies.timed(lines))
     else:
         answered = yield [(at, "regs") for at in lack]
