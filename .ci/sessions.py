@@ -1,5 +1,6 @@
 #!/usr/bin/env python3
-"""The sessions that stand in the repository: those of examples/, of docs/USING.md and of bench/stored, each with its replies.
+"""The sessions that stand in the repository: those of examples/, of docs/USING.md and of bench/stored, and two of this file that are too
+long for a test of a crate: one far along a run, and one of a long log. Each has its replies.
 
     .ci/sessions.py
 
@@ -8,6 +9,7 @@ is silent where replies, faults and statuses are those that stand here. The stat
 """
 import hashlib
 import re
+import struct
 import subprocess
 import sys
 from pathlib import Path
@@ -44,6 +46,103 @@ def sessions():
     yield "random", "The random images of `bench/stored`.", list(map(stored, sorted(ROOT.glob("bench/stored/*.img"))))
 
 
+# Waits in a loop of two steps, from step 12 on. Where external line 0 rises, in step 4,294,967,296, the first whose number takes more
+# than 32 bits, the interrupt is taken. The handler's three steps follow: it sets r6, stores it and sends it. Then it waits again.
+WAITS = b"""\
+        lui r1, 0xbff0                  # the board's CSR: external line 0 may interrupt
+        lui r2, 0x0001
+        sw r2, 0(r1)
+        lui r3, 0xbfe0                  # the serial part: the scanner is on, and line 0 may send
+        addiu r4, r0, 1
+        sw r4, 16(r3)
+        addiu r4, r0, 0x20
+        sw r4, 0(r3)
+        lui r8, 0xa000
+        lui r2, 0x0040
+        ori r2, r2, 0x0401
+        mtc0 r2, c12                    # Status: BEV, the board's interrupt line, IEc
+wait:
+        j wait
+        sll r0, r0, 0
+        .org 0x1fc00180
+        addiu r6, r0, 0x41
+        sw r6, 0x100(r8)
+        sw r6, 24(r3)                   # TDR
+hold:
+        j hold
+        sll r0, r0, 0
+"""
+
+FAR = [
+    ("wire 4294967296 0 1", "event 0"),
+    ("goto 4294967400", "pos 4294967400"),
+    ("writer 0x100", "writer 4294967298"),
+    ("regwriter 6", "regwriter 4294967297"),
+    ("find 0 0", "find 4294967299"),
+    ("console 0 0 8", "console 0 1 41"),
+    ("mem 0x100 1", "0x00000100 0x00000041"),
+    ("goto 4294967299", "pos 4294967299"),
+    ("find 0 0", "error 8 NotFound"),
+    ("mem 0x100 1", "0x00000100 0x00000041"),
+    ("back 1", "pos 4294967298"),
+    ("writer 0x100", "writer never"),
+    ("mem 0x100 1", "0x00000100 0x00000000"),
+    ("visit 0xbfc0018c 2", "pos 4294967300"),
+]
+
+
+# To the echo program comes byte N, the low byte of N, in step 1000 + 100 N, on line 0. A turn of its loop takes 11 steps, and one begins
+# with step 9. A turn reads the byte that came up to its first step, and sends it 8 steps later.
+BYTES = 5000
+
+
+def comes(number):
+    return 1000 + 100 * number
+
+
+def goes(number):
+    return 9 + -(-(comes(number) - 9) // 11) * 11 + 8
+
+
+LONG_LOG = b"R3KLOG1\n" + struct.pack("<I", BYTES) + b"".join(struct.pack("<IBB", comes(it), 0, it % 256) for it in range(BYTES))
+
+# The last event is deleted and comes back with another byte; one in the middle gets another byte, another time, and others are erased.
+LONG = [
+    ("log 4095 3", "log 5000\n4095 410500 0 0xff\n4096 410600 0 0x00\n4097 410700 0 0x01"),
+    ("goto 600000", "pos 600000"),
+    ("console 0 0 256", "console 0 5000 " + bytes(range(256)).hex()),
+    ("console 0 4094 5", "console 0 5000 feff000102"),
+    ("console 0 4998 5", "console 0 5000 8687"),
+    *((f"find 0 {it}", f"find {goes(it)}") for it in (0, 4095, 4096, 4097, 4999)),
+    ("find 0 5000", "error 8 NotFound"),
+    ("del 4999", "log 4999"),
+    ("console 0 4998 5", "console 0 4999 86"),
+    ("add 500900 0 0x5a", "event 4999"),
+    ("console 0 4998 5", "console 0 5000 865a"),
+    ("set 4096 0xee", "event 4096"),
+    ("console 0 4095 3", "console 0 5000 ffee01"),
+    ("move 4097 550000", "event 4999"),
+    ("console 0 4096 2", "console 0 5000 ee02"),
+    ("console 0 4998 2", "console 0 5000 5a01"),
+    ("erase 1100 500900", "log 3"),
+    ("log 0 4", "log 3\n0 1000 0 0x00\n1 500900 0 0x5a\n2 550000 0 0x01"),
+    ("console 0 0 8", "console 0 3 005a01"),
+]
+
+
+def dialogue(lines):
+    """The script and the replies of lines with theirs."""
+    return tuple("".join(it + "\n" for it in those).encode() for those in zip(*lines))
+
+
+def played_sessions():
+    """The sessions by where they stand: of each the kind of its image, the image, the log, the script and the replies."""
+    for name, _, those in sessions():
+        yield name, [(kind(image), image.read_bytes(), *rest) for image, *rest in those]
+    yield "far along a run", [("source", WAITS, b"", *dialogue(FAR))]
+    yield "a long log", [("source", (ROOT / "examples/echo/boot.s").read_bytes(), LONG_LOG, *dialogue(LONG))]
+
+
 # An image of 32 bytes that sets no word.
 EMPTY = b"R3KIMG1\n\x10\0\0\0\x01\0\0\0\0\0\0\0\0\0\x01\x01\x01\0\x20\x06\0\0\0\0"
 
@@ -73,10 +172,9 @@ def about():
 
 def played():
     """What is wrong with the replies of the program."""
-    for name, _, those in sessions():
-        for number, (image, log, script, replies) in enumerate(those, 1):
-            boot = image.read_bytes()
-            words = ["--kind", kind(image), "--size", str(len(boot)), "--log", str(len(log))]
+    for name, those in played_sessions():
+        for number, (kind_of_image, boot, log, script, replies) in enumerate(those, 1):
+            words = ["--kind", kind_of_image, "--size", str(len(boot)), "--log", str(len(log))]
             ran = subprocess.run([ROOT / "bin/r3kwb", *words], input=boot + log + script, capture_output=True)
             if (ran.returncode, ran.stdout, ran.stderr) != (0, replies, b""):
                 lines = zip([*ran.stdout.splitlines(), b""], [*replies.splitlines(), b""])

@@ -109,6 +109,47 @@ fn version_of_an_edited_log(rt: HostRuntime) -> Result<(), Fail> {
     Ok(())
 }
 
+// 5,000 events, of which event N is in step N, are read, edited and written. By hand: an event that is added in step 4097 comes to place
+// 4098, after which each event is one place further. That of step 4499 moves from place 4500 to the place after that of step 4096. Of
+// the 405 steps from 4095 on, 406 events are erased. What has a framing error then is written in version two, and read again.
+#[test]
+fn five_thousand_events(rt: HostRuntime) -> Result<(), Fail> {
+    let bytes = event_a_step(rt.alloc())?;
+    let mut log = read_log(rt.alloc(), &bytes)?;
+    writes(&rt, &log, &bytes)?;
+    has_events(
+        &rt,
+        log.window(4095, 4097),
+        "4095 Byte 0 255, 4096 Byte 0 0",
+    )?;
+    let places = (log.add(4097, 0, 7)?, log.move_to(4500, 4096)?);
+    same(&rt, &places, &(4098, 4097));
+    let moved = "4096 Byte 0 0, 4096 Byte 0 147, 4097 Byte 0 1, 4097 Byte 0 7";
+    has_events(&rt, log.window(4096, 4098), moved)?;
+    log.erase(4095, 4500)?;
+    log.ferr(4499, 3, 1)?;
+    log.set(4094, 9)?;
+    log.del(0)?;
+    same(&rt, &log.events().len(), &4595);
+    let around = "4093 Byte 0 253, 4094 Byte 0 9, 4499 Framing 3 1, 4500 Byte 0 148";
+    has_events(&rt, log.window(4093, 4501), around)?;
+    let written = write_log(rt.alloc(), &log)?;
+    let again = read_log(rt.alloc(), &written)?;
+    same(&rt, &again.events(), &log.events());
+    Ok(())
+}
+
+// In each of the steps from 0 to 4,999 line 0 gets the step's low byte.
+fn event_a_step(alloc: Global) -> Result<Vec<u8>, AllocError> {
+    let mut bytes = b"R3KLOG1\n\x88\x13\0\0".to_vec(alloc)?;
+    for step in 0..5000u32 {
+        let time = step.to_le_bytes();
+        bytes.extend_from_slice(&time)?;
+        bytes.extend_from_slice(&[0, time[0]])?;
+    }
+    Ok(bytes)
+}
+
 #[test]
 fn too_few_bytes_and_too_many(rt: HostRuntime) -> Result<(), Fail> {
     for bytes in [ONE.as_slice(), &THREE, &FRAMING, &MIXED] {

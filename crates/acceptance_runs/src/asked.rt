@@ -68,6 +68,10 @@ impl<const PAGES: u32, const SPAN: u32> Asked<PAGES, SPAN> {
                 }
                 answered(alloc, self.timeline.writer_at(*position, address))
             }
+            ("regwriter", [position, register]) => {
+                let register = u8::try_from(*register)?;
+                answered(alloc, self.timeline.register_writer_at(*position, register))
+            }
             ("next", [position, address, limit]) => {
                 let address = u32::try_from(*address)?;
                 answered(alloc, self.timeline.next_pc(*position, address, *limit))

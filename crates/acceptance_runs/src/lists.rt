@@ -44,6 +44,7 @@ use std::test::Fail;
 ///
 ///     costs = N, costs-at-most N = B  how many steps were run since the last one of these
 ///     writer P A = Step S             what wrote the word at an address last before a position: or `Image`, or `Never`
+///     regwriter P R = S               the step that wrote a register last before a position: 32 is HI, 33 is LO
 ///     word P A = W, pc P = A          a word, and the PC
 ///     next P A N = Q                  where the PC is at an address next, in N steps at most
 ///     trace P N = C                   how many steps are followed from a position on, where N are asked for

@@ -146,6 +146,20 @@ $ going on
 word 100 0x100 = 0, costs = 100, word 100 0x100 = 0, costs = 0, word 110 0x100 = 0, costs = 10, word 109 0x100 = 0
 costs-at-most 45 = true, word 64 0x100 = 0, costs = 0
 
+$ reports inside a span
+# What steps reported up to a position inside a span is at hand until the position is another: what was sent, and who wrote words and
+# registers. By hand: the 27th turn begins in step 295, which loads r6. Step 297 stores it, and step 298 shifts it into r7. Steps 1 and 2
+# wrote r8 and r4, and none wrote r2.
+--
+console 300 = 0, costs = 300, console 300 = 0, sender 300 0 0 = NotFound, writer 300 0x100 = Step 297, writer 300 0x104 = Never
+regwriter 300 6 = 295, regwriter 300 7 = 298, regwriter 300 8 = 1, regwriter 300 4 = 2, regwriter 300 2 = NotFound, costs = 0
+# Elsewhere in the span it runs the steps from the start of the span on, also where it stood at that position before.
+regwriter 297 6 = 295, costs = 41, regwriter 297 7 = 287, writer 297 0x100 = Step 286, console 297 = 0, costs = 0
+writer 300 0x100 = Step 297, costs = 44, regwriter 300 34 = Range, regwriter 1099511627776 6 = TooFar, costs = 0
+# A byte of step 290 is read in step 295 and sent in step 303; the turn stores 0 in step 301.
+add 290 0x41, sender 310 0 0 = 303, costs = 54, sender 310 0 0 = 303, console 310 = 1 0x41, writer 310 0x104 = Step 301
+regwriter 310 6 = 306, costs = 0
+
 $ refusals cost nothing
 # What is refused before it is asked runs no step.
 --
