@@ -18,32 +18,24 @@ ROOT = Path(__file__).resolve().parent.parent
 PROGRAM = ROOT / "crates/r3kwb/out/r3kwb"
 
 
-def kind(image):
-    return {".img": "image", ".s": "source"}.get(image.suffix, "rom")
+def booted(image):
+    """The kind of an image, and its bytes."""
+    return {".img": "image", ".s": "source"}.get(image.suffix, "rom"), image.read_bytes()
+
+
+def read(*files):
+    """What files have; none has nothing."""
+    return (it.read_bytes() if it.exists() else b"" for it in files)
 
 
 def typed(page):
-    """The image, the log, the script and the replies of each session of a page: an indented block that starts bin/wb."""
+    """The sessions of a page, each an indented block that starts bin/wb."""
     for block in re.findall(r"(?m)^    \$ bin/wb (?:--log (\S+) )?(\S+)\n((?:    .*\n)*)", page):
         lines = [it[4:] for it in block[2].splitlines()]
         script = "".join(it[2:] + "\n" for it in lines if it.startswith("> "))
         replies = "".join(it + "\n" for it in lines if not it.startswith("> "))
         log = (ROOT / block[0]).read_bytes() if block[0] else b""
-        yield ROOT / block[1], log, script.encode(), replies.encode()
-
-
-def stored(image):
-    return image, *(image.with_suffix(it).read_bytes() for it in (".log", ".script", ".expected"))
-
-
-def sessions():
-    """The sessions by where they stand: a name, what it is the name of, and the image, the log, the script and the replies of each."""
-    for image in sorted(ROOT.glob("examples/*/boot.s")):
-        log, script, replies = (it.read_bytes() if it.exists() else b"" for it in map(image.with_name, ("log", "script", "expected")))
-        name = image.parent.name
-        yield name.replace("-", "_"), f"The example `{name}`.", [(image, log, script, replies)]
-    yield "using", "The sessions of `docs/USING.md`.", list(typed((ROOT / "docs/USING.md").read_text()))
-    yield "random", "The random images of `bench/stored`.", list(map(stored, sorted(ROOT.glob("bench/stored/*.img"))))
+        yield *booted(ROOT / block[1]), log, script.encode(), replies.encode()
 
 
 # Waits in a loop of two steps, from step 12 on. Where external line 0 rises, in step 4,294,967,296, the first whose number takes more
@@ -135,12 +127,15 @@ def dialogue(lines):
     return tuple("".join(it + "\n" for it in those).encode() for those in zip(*lines))
 
 
-def played_sessions():
+def sessions():
     """The sessions by where they stand: of each the kind of its image, the image, the log, the script and the replies."""
-    for name, _, those in sessions():
-        yield name, [(kind(image), image.read_bytes(), *rest) for image, *rest in those]
+    for image in sorted(ROOT.glob("examples/*/boot.s")):
+        yield image.parent.name, [(*booted(image), *read(*map(image.with_name, ("log", "script", "expected"))))]
+    yield "docs/USING.md", typed((ROOT / "docs/USING.md").read_text())
+    stored = sorted(ROOT.glob("bench/stored/*.img"))
+    yield "bench/stored", [(*booted(it), *read(*map(it.with_suffix, (".log", ".script", ".expected")))) for it in stored]
     yield "far along a run", [("source", WAITS, b"", *dialogue(FAR))]
-    yield "a long log", [("source", (ROOT / "examples/echo/boot.s").read_bytes(), LONG_LOG, *dialogue(LONG))]
+    yield "a long log", [(*booted(ROOT / "examples/echo/boot.s"), LONG_LOG, *dialogue(LONG))]
 
 
 # An image of 32 bytes that sets no word.
@@ -172,9 +167,9 @@ def about():
 
 def played():
     """What is wrong with the replies of the program."""
-    for name, those in played_sessions():
-        for number, (kind_of_image, boot, log, script, replies) in enumerate(those, 1):
-            words = ["--kind", kind_of_image, "--size", str(len(boot)), "--log", str(len(log))]
+    for name, those in sessions():
+        for number, (kind, boot, log, script, replies) in enumerate(those, 1):
+            words = ["--kind", kind, "--size", str(len(boot)), "--log", str(len(log))]
             ran = subprocess.run([ROOT / "bin/r3kwb", *words], input=boot + log + script, capture_output=True)
             if (ran.returncode, ran.stdout, ran.stderr) != (0, replies, b""):
                 lines = zip([*ran.stdout.splitlines(), b""], [*replies.splitlines(), b""])

@@ -1,25 +1,7 @@
 //! Moves, and queries of the processor: the worked examples, and values by hand.
 use crate::programs::ZEROS;
-use crate::served::{answers, run_image, says};
-use std::alloc::Global;
-use std::process::Abort;
-use std::str;
+use crate::served::{answers, says};
 use std::test::Fail;
-
-/// Compares what the program writes for an image of a kind, a log and a script with the replies wanted.
-pub fn holds(
-    rt: &impl Abort,
-    alloc: Global,
-    kind: &str,
-    image: &[u8],
-    log: &[u8],
-    script: &[u8],
-    want: &[u8],
-) -> Result<(), Fail> {
-    let run = run_image::<2048, 65_536>(alloc, kind, image, log, script, 4096)?;
-    run.is(rt, str::from_utf8(want)?, "", 0);
-    Ok(())
-}
 
 /// Positions are 0 to 1099511627775, in whole numbers, and a refused move stays where it is.
 #[test]

@@ -1,4 +1,4 @@
-//! Tests of the whole program: the worked examples, by name, its examples and pages, and hostile input.
+//! Tests of the whole program: the worked examples, by name, and hostile input.
 #![tactic(auto)]
 
 #[cfg(test)]
@@ -9,8 +9,6 @@ mod command_line;
 mod commands;
 #[cfg(test)]
 mod edits;
-#[cfg(test)]
-mod examples;
 #[cfg(test)]
 mod exceptions;
 #[cfg(test)]
