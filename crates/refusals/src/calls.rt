@@ -24,6 +24,7 @@ enum Call {
     Assemble,
     Timeline,
     Follow,
+    RegisterWriter,
     Session,
     Serve,
     Options,
@@ -32,7 +33,7 @@ enum Call {
     Record,
 }
 
-const CALLS: [(Call, &[u8]); 16] = [
+const CALLS: [(Call, &[u8]); 17] = [
     (Call::ReadImage, b"read_image"),
     (Call::RawRom, b"raw_rom"),
     (Call::WriteImage, b"write_image"),
@@ -43,6 +44,7 @@ const CALLS: [(Call, &[u8]); 16] = [
     (Call::Assemble, b"assemble"),
     (Call::Timeline, b"Timeline::new"),
     (Call::Follow, b"Timeline::follow"),
+    (Call::RegisterWriter, b"Timeline::register_writer_at"),
     (Call::Session, b"Session::new"),
     (Call::Serve, b"serve"),
     (Call::Options, b"options"),
@@ -119,6 +121,7 @@ fn made<const PAGES: u32, const SPAN: u32, W: Sink>(
         Call::Assemble => show_assembled(alloc, name, show),
         Call::Timeline => show_timeline::<PAGES, SPAN, W>(alloc, name, show),
         Call::Follow => show_followed::<PAGES, SPAN, W>(alloc, name, show),
+        Call::RegisterWriter => show_register_writer::<PAGES, SPAN, W>(alloc, name, show),
         Call::Session => show_session::<PAGES, SPAN, W>(alloc, name, show),
         Call::Serve => show_served::<PAGES, SPAN, W>(alloc, name, show),
         Call::Options => show_options(alloc, name, &["r3kwb", "--log", "18"], show),
@@ -209,6 +212,24 @@ fn show_followed<const PAGES: u32, const SPAN: u32, W: Sink>(
         show.text(name);
         show.bytes(b"", &step.pc.to_be_bytes());
     }
+    Ok(())
+}
+
+// Shows which step wrote r2 last before the third step of a third span: that of its load.
+fn show_register_writer<const PAGES: u32, const SPAN: u32, W: Sink>(
+    alloc: Global,
+    name: &[u8],
+    show: &mut Show<W>,
+) -> Result<(), RunFault>
+    requires sizes { AreSizes PAGES SPAN }
+{
+    let image = read_image(alloc, &LOAD_SLOT)?;
+    let log = read_log(alloc, LOG)?;
+    let mut made = Timeline::<PAGES, SPAN>::new(alloc, image, log)?;
+    let Ok(step) = made.register_writer_at(130, 2) else {
+        return Err(RunFault::Memory);
+    };
+    show.number(name, step);
     Ok(())
 }
 
