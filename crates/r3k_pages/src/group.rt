@@ -122,13 +122,15 @@ fn lists(pages: &[u32], group: usize) -> bool
         .any(|page| *page as usize / GROUP_PAGES == group)
 }
 
-// A page of memory: the earlier one where it stayed, or else a copy, which shares the blocks that stayed.
+// A page of memory: the earlier one where it stayed, or else a copy, which shares the blocks that stayed. Where there is no earlier one, it
+// shares those of the page before it that are the same, as most are blank.
 fn page_of<const PAGES: u32>(
     alloc: Global,
     words: &[u32],
     previous: Option<&Snapshot<PAGES>>,
     dirty: &PageMarks<PAGES>,
     page: usize,
+    before: Option<&Rc<Page>>,
 ) -> Result<Rc<Page>, AllocError>
     requires pages { PAGES ≤ MAX_RAM_PAGES }
     requires whole { length words.now ≡ word_count_of PAGES }
@@ -139,7 +141,7 @@ fn page_of<const PAGES: u32>(
     let start = page * PAGE_WORDS as usize;
     let words = &words[start..start + PAGE_WORDS as usize];
     match previous {
-        None => Page::new(alloc, words, None),
+        None => Page::new(alloc, words, before),
         Some(previous) if dirty.holds(page as u32) => {
             Page::new(alloc, words, Some(previous.page(page)))
         }
@@ -186,7 +188,8 @@ fn copied_group<const PAGES: u32>(
     let mut pages = Vec::with_capacity(alloc, GROUP_PAGES)?;
     for index in 0..GROUP_PAGES {
         let page = (group * GROUP_PAGES + index).min(last);
-        pages.push(page_of(alloc, words, previous, dirty, page)?)?;
+        let made = page_of(alloc, words, previous, dirty, page, pages.last())?;
+        pages.push(made)?;
     }
     Group::new(alloc, pages)
 }
