@@ -18,10 +18,17 @@ const CLOCK_LINE: u32 = 1 << 11;
 /// The serial line among the board's.
 const SERIAL_ENABLE: u32 = 1 << 7;
 
-/// What a raw ROM has: the ticks that a byte takes, the ticks of a second, and the first registers of the clock.
-const BYTE_TIME: u64 = 16;
-const SECOND: u32 = 8192;
-const START: [u8; 12] = [0, 0, 0, 0, 0, 0, 1, 1, 1, 0, 0x20, 6];
+/// What an image says of the board: the ticks that a byte takes, those of a unit of the clock, of which a second has 8192, and the first
+/// registers of the clock.
+#[derive(Clone, Copy)]
+pub struct Board {
+    pub byte_time: u32,
+    pub unit: u32,
+    pub clock: [u8; 12],
+}
+
+/// The board of a raw ROM.
+pub const PLAIN: Board = Board { byte_time: 16, unit: 1, clock: [0, 0, 0, 0, 0, 0, 1, 1, 1, 0, 0x20, 6] };
 
 pub struct Devices {
     serial: Serial,
@@ -30,8 +37,8 @@ pub struct Devices {
 }
 
 impl Devices {
-    pub fn new() -> Devices {
-        Devices { serial: Serial::default(), clock: Clock::new(), enables: 0 }
+    pub fn new(board: Board) -> Devices {
+        Devices { serial: Serial::new(board.byte_time.into()), clock: Clock::new(board), enables: 0 }
     }
 
     /// The bits of Cause in a tick, which is not after the one that is due.
@@ -87,8 +94,8 @@ const MSE: u32 = 1 << 5;
 const CLR: u32 = 1 << 4;
 const MAINT: u32 = 1 << 3;
 
-#[derive(Default)]
 struct Serial {
+    byte_time: u64,
     /// TIE, RIE, MSE and MAINT.
     control: u32,
     /// TRDY and TLINE.
@@ -102,6 +109,10 @@ struct Serial {
 }
 
 impl Serial {
+    fn new(byte_time: u64) -> Serial {
+        Serial { byte_time, control: 0, ready: false, ready_line: 0, last_served: 0, sends: 0, free: [0; 4] }
+    }
+
     fn waits(&self) -> bool {
         self.control & MSE != 0 && !self.ready
     }
@@ -142,7 +153,7 @@ impl Serial {
     fn write(&mut self, offset: u32, value: u32, mask: u32, tick: u64) {
         let covers_low = mask & 0xFF != 0;
         match offset {
-            0 if value & CLR != 0 => *self = Serial::default(),
+            0 if value & CLR != 0 => *self = Serial::new(self.byte_time),
             0 => {
                 let writes = mask & (TIE | RIE | MSE | MAINT);
                 self.control = self.control & !writes | value & writes;
@@ -153,7 +164,7 @@ impl Serial {
                 self.ready &= self.may_send(self.ready_line);
             }
             24 if covers_low && self.ready => {
-                self.free[self.ready_line] = tick + BYTE_TIME;
+                self.free[self.ready_line] = tick + self.byte_time;
                 self.last_served = self.ready_line;
                 self.ready = false;
             }
@@ -187,6 +198,7 @@ const AF: u8 = 1 << 5;
 const UF: u8 = 1 << 4;
 
 struct Clock {
+    unit: u32,
     /// The tick that the divider is of.
     tick: u64,
     divider: u32,
@@ -195,10 +207,14 @@ struct Clock {
 }
 
 impl Clock {
-    fn new() -> Clock {
+    fn new(board: Board) -> Clock {
         let mut registers = [0; 64];
-        registers[..START.len()].copy_from_slice(&START);
-        Clock { tick: 0, divider: 0, registers }
+        registers[..12].copy_from_slice(&board.clock);
+        Clock { unit: board.unit, tick: 0, divider: 0, registers }
+    }
+
+    fn second(&self) -> u32 {
+        8192 * self.unit
     }
 
     fn runs(&self) -> bool {
@@ -213,14 +229,14 @@ impl Clock {
     fn period(&self) -> Option<u32> {
         match self.registers[A] & 0xF {
             0 => None,
-            rate @ (1 | 2) => Some(16 << rate),
-            rate => Some(1 << (rate - 3)),
+            rate @ (1 | 2) => Some(16 * self.unit << rate),
+            rate => Some(self.unit << (rate - 3)),
         }
     }
 
     /// The tick of the end of a second, or of a periodic flag that is not set yet.
     fn due(&self) -> u64 {
-        let second = SECOND - self.divider;
+        let second = self.second() - self.divider;
         let flag = self.period().filter(|_| self.registers[C] & PF == 0).map(|it| it - self.divider % it);
         let count = flag.map_or(second, |flag| second.min(flag));
         if self.runs() { self.tick + u64::from(count) } else { u64::MAX }
@@ -233,7 +249,7 @@ impl Clock {
         if count == 0 || !self.runs() {
             return;
         }
-        self.divider = (self.divider + count) % SECOND;
+        self.divider = (self.divider + count) % self.second();
         if self.period().is_some_and(|period| self.divider % period == 0) {
             self.registers[C] |= PF;
         }
@@ -247,7 +263,7 @@ impl Clock {
     }
 
     fn read(&mut self, register: usize) -> u8 {
-        let near = self.runs() && self.updates() && self.divider >= SECOND - 2;
+        let near = self.runs() && self.updates() && self.divider >= 8190 * self.unit;
         let request = if self.line() { IRQF } else { 0 };
         match register {
             A => self.registers[A] | if near { UIP } else { 0 },

@@ -1,11 +1,10 @@
 //! A fast interpreter of the same processor, in ordinary Rust, to compare the proved program's speed with: one
 //! `match` over opcode and function, and memory in one vector.
 //!
-//! It has all instructions, and keeps what it last looked up in the translation entries. There is no isolated cache, and
-//! no byte arrives at the serial lines.
+//! It has all instructions, and keeps what it last looked up in the translation entries. No byte arrives at the serial lines.
 //!
-//! `fast ROM STEPS` runs STEPS steps from reset and writes what the commands `goto STEPS` and `regs` reply. The speed
-//! goes to standard error.
+//! `fast IMAGE STEPS` runs STEPS steps of a raw ROM or an image from reset and writes what the commands `goto STEPS` and `regs` reply. The
+//! speed goes to standard error.
 
 mod devices;
 
@@ -13,13 +12,17 @@ use std::error::Error;
 use std::time::Instant;
 use std::{env, fs};
 
-use devices::{Devices, LINES};
+use devices::{Board, Devices, LINES, PLAIN};
 
 const RAM_WORDS: usize = 2048 * 1024;
 const ROM_WORDS: usize = 64 * 1024;
 const ROM: u32 = 0x1FC0_0000;
+const MAGIC: &[u8] = b"R3KIMG1\n";
+/// How many words an isolated cache has.
+const SLOTS: usize = 16_384;
 
 const KSEG0: u32 = 0x8000_0000;
+const KSEG1: u32 = 0xA000_0000;
 const KSEG2: u32 = 0xC000_0000;
 
 // Registers of coprocessor 0.
@@ -38,6 +41,9 @@ const PRID: usize = 15;
 const CU0: u32 = 1 << 28;
 const BEV: u32 = 1 << 22;
 const TS: u32 = 1 << 21;
+const MISSED: u32 = 1 << 19;
+const SWAPPED: u32 = 1 << 17;
+const ISOLATED: u32 = 1 << 16;
 const INTERRUPTS: u32 = 0xFF00;
 const USER: u32 = 1 << 1;
 const ENABLE: u32 = 1;
@@ -45,6 +51,7 @@ const ENABLE: u32 = 1;
 // Fields of EntryHi and bits of EntryLo.
 const PAGE: u32 = 0xFFFF_F000;
 const PROCESS: u32 = 0x0000_0FC0;
+const UNCACHED: u32 = 1 << 11;
 const DIRTY: u32 = 1 << 10;
 const VALID: u32 = 1 << 9;
 const GLOBAL: u32 = 1 << 8;
@@ -115,9 +122,44 @@ fn write_mask(register: usize) -> u32 {
         2 => 0xFFFF_FF00,
         4 => 0xFFE0_0000,
         10 => 0xFFFF_FFC0,
-        STATUS => 0x1044_FF3F,
+        STATUS => 0x1047_FF3F,
         CAUSE => 0x0000_0300,
         _ => 0,
+    }
+}
+
+/// A slot of an isolated cache.
+#[derive(Clone, Copy, Default)]
+struct Slot {
+    word: u32,
+    tag: u32,
+    valid: bool,
+}
+
+/// What is booted: the words that it sets, by their physical addresses, and the board.
+struct Image {
+    words: Vec<(u32, u32)>,
+    board: Board,
+}
+
+impl Image {
+    /// An image of the project's format, or else a raw ROM.
+    fn read(bytes: &[u8]) -> Option<Image> {
+        let word = |bytes: &[u8]| bytes.iter().rev().fold(0, |word, &byte| word << 8 | u32::from(byte));
+        let Some(rest) = bytes.strip_prefix(MAGIC) else {
+            return Some(Image { words: (ROM..).step_by(4).zip(bytes.chunks(4).map(word)).collect(), board: PLAIN });
+        };
+        let (constants, rest) = rest.split_at_checked(24)?;
+        let board = Board { byte_time: word(&constants[..4]), unit: word(&constants[4..8]), clock: constants[8..20].try_into().ok()? };
+        let mut numbers = rest.chunks(4).map(word);
+        let mut words = Vec::new();
+        for _ in 0..word(&constants[20..]) {
+            let (address, count) = (numbers.next()?, numbers.next()?);
+            for place in 0..count {
+                words.push((address + 4 * place, numbers.next()?));
+            }
+        }
+        Some(Image { words, board })
     }
 }
 
@@ -137,6 +179,8 @@ struct Machine {
     kept: [Kept; 16],
     /// RAM, then ROM.
     words: Vec<u32>,
+    /// The two arrays of the isolated cache.
+    caches: [Vec<Slot>; 2],
     devices: Devices,
     /// The ticks so far, and the one in which the devices are looked at next.
     tick: u64,
@@ -193,18 +237,18 @@ fn place(physical: u32) -> Option<usize> {
 }
 
 impl Machine {
-    fn new(rom: &[u8]) -> Machine {
+    fn new(image: &Image) -> Machine {
         let mut words = vec![0; RAM_WORDS + ROM_WORDS];
-        for (word, bytes) in words[RAM_WORDS..].iter_mut().zip(rom.chunks(4)) {
-            let mut padded = [0; 4];
-            padded[..bytes.len()].copy_from_slice(bytes);
-            *word = u32::from_le_bytes(padded);
+        for &(address, word) in &image.words {
+            if let Some(place) = place(address) {
+                words[place] = word;
+            }
         }
         let mut control = [0; 32];
         control[RANDOM] = 63 << 8;
         control[STATUS] = BEV;
         control[PRID] = 0x220;
-        let devices = Devices::new();
+        let devices = Devices::new(image.board);
         Machine {
             registers: [0; 32],
             hi: 0,
@@ -217,6 +261,7 @@ impl Machine {
             entries: [(0, 0); 64],
             kept: [NOTHING; 16],
             words,
+            caches: [vec![Slot::default(); SLOTS], vec![Slot::default(); SLOTS]],
             due: devices.due(0),
             devices,
             tick: 0,
@@ -361,6 +406,9 @@ impl Machine {
     #[inline]
     fn load(&mut self, address: u32, low: u32) -> Result<u32, Exception> {
         let physical = self.physical(address, low, Use::Load)?;
+        if self.control[STATUS] & ISOLATED != 0 && self.is_cached(address) {
+            return Ok(self.load_isolated(physical));
+        }
         match place(physical) {
             Some(place) => Ok(self.words[place]),
             None => self.load_device(physical),
@@ -376,10 +424,47 @@ impl Machine {
         Ok(word)
     }
 
+    /// Whether accesses to an address, which is translated, go to the isolated cache.
+    #[cold]
+    fn is_cached(&self, address: u32) -> bool {
+        if (KSEG0..KSEG2).contains(&address) {
+            return address < KSEG1;
+        }
+        self.find(address & PAGE | self.control[ENTRY_HI] & PROCESS).is_some_and(|(index, _)| self.entries[index].1 & UNCACHED == 0)
+    }
+
+    fn slot(&mut self, physical: u32) -> &mut Slot {
+        let second = self.control[STATUS] & SWAPPED != 0;
+        &mut self.caches[usize::from(second)][(physical / 4) as usize % SLOTS]
+    }
+
+    #[cold]
+    fn load_isolated(&mut self, physical: u32) -> u32 {
+        let slot = *self.slot(physical);
+        let hits = slot.valid && slot.tag == physical >> 16;
+        let status = &mut self.control[STATUS];
+        *status = *status & !MISSED | if hits { 0 } else { MISSED };
+        slot.word
+    }
+
+    #[cold]
+    fn store_isolated(&mut self, physical: u32, value: u32, is_word: bool) {
+        let slot = self.slot(physical);
+        if is_word {
+            *slot = Slot { word: value, tag: physical >> 16, valid: true };
+        } else {
+            slot.valid = false;
+        }
+    }
+
     /// Stores the bytes of a mask. What is neither RAM nor a device drops them.
     #[inline]
     fn store(&mut self, address: u32, low: u32, value: u32, mask: u32) -> Result<(), Exception> {
         let physical = self.physical(address, low, Use::Store)?;
+        if self.control[STATUS] & ISOLATED != 0 && self.is_cached(address) {
+            self.store_isolated(physical, value, low == 3);
+            return Ok(());
+        }
         match self.words[..RAM_WORDS].get_mut((physical / 4) as usize) {
             Some(word) => *word = *word & !mask | value & mask,
             None => self.store_device(physical, value, mask),
@@ -569,9 +654,10 @@ fn or_overflow(value: Option<i32>) -> Result<u32, Exception> {
 
 fn main() -> Result<(), Box<dyn Error>> {
     let mut arguments = env::args().skip(1);
-    let rom = fs::read(arguments.next().ok_or("usage: fast ROM STEPS")?)?;
-    let steps: u64 = arguments.next().ok_or("usage: fast ROM STEPS")?.parse()?;
-    let mut machine = Machine::new(&rom);
+    let usage = "usage: fast IMAGE STEPS";
+    let bytes = fs::read(arguments.next().ok_or(usage)?)?;
+    let steps: u64 = arguments.next().ok_or(usage)?.parse()?;
+    let mut machine = Machine::new(&Image::read(&bytes).ok_or("the image ends too early")?);
     let begun = Instant::now();
     for _ in 0..steps {
         machine.step();

@@ -5,10 +5,10 @@ from typing import Iterable, Iterator, Sequence, Tuple
 
 from . import replies
 from .driver import Driver
+from .instruction import has_slot, is_late
 from .limits import FINDS, PCS
 from .replies import Registers
 from .tracing import Traced
-from .whatif.needs import has_slot, is_late
 
 
 def replies_at(driver: Driver, positions: Iterable[int], command: str) -> list[list[str]]:

@@ -7,10 +7,11 @@ from typing import Dict, Iterator, List, Optional, Tuple
 
 from .. import replies, tracing
 from ..driver import Driver
+from ..instruction import ALL, Turn, immediate, is_late, is_status_write, rs, rt, turn_of
 from ..limits import GREATEST_POSITION, HI, TRACED
 from ..replies import Registers
 from ..tracing import Traced
-from .needs import ALL, Turn, immediate, is_late, is_status_write, rs, rt, turn_of, written
+from .needs import written
 
 SIZE = TRACED
 _MOST = 16  # blocks that are asked for together, where those after them were asked for

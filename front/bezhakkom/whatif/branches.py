@@ -5,7 +5,7 @@ from __future__ import annotations
 
 from typing import Callable, Dict, FrozenSet, List, Optional, Set
 
-from . import needs
+from .. import instruction
 
 _MOST = 1 << 16  # instructions of one function that are looked at
 
@@ -47,10 +47,10 @@ class Branches:
 
 
 def _ways(at: int, word: int) -> List[int]:
-    if needs.is_jump(word):
-        return [] if needs.is_jump_by_register(word) else [needs.target(at, word)]
-    behind = at + (8 if needs.has_slot(word) else 4) & needs.ALL
-    return [needs.target(at, word), behind] if needs.is_branch(word) else [behind]
+    if instruction.is_jump(word):
+        return [] if instruction.is_jump_by_register(word) else [instruction.target(at, word)]
+    behind = at + (8 if instruction.has_slot(word) else 4) & instruction.ALL
+    return [instruction.target(at, word), behind] if instruction.is_branch(word) else [behind]
 
 
 def _decided(following: Dict[int, List[int]]) -> Dict[int, FrozenSet[int]]:

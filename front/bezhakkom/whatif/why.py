@@ -10,9 +10,10 @@ from enum import Enum
 from heapq import heappop, heappush
 from typing import Dict, List, Optional, Tuple, Union
 
-from .. import expressions, replies, tracing
+from .. import expressions, instruction, replies, tracing
 from ..driver import Driver
 from ..errors import STOPPED, Problem
+from ..instruction import ALL, Turn
 from ..limits import HI, LO, RAM, ROM, WORDS
 from ..log import Event, Kind
 from ..replies import Writer
@@ -21,7 +22,6 @@ from ..tracing import Traced
 from . import needs
 from .blocks import SIZE, Blocks
 from .branches import Branches
-from .needs import ALL, Turn
 from .pasts import Question, kept
 from .questions import Register, Sent, Word
 
@@ -275,8 +275,8 @@ class _Slice:
                 self._want_registers(node, needs.decided(word), Role.VALUE)
             if node.bits:
                 self._want_operands(node, word)
-        if (self._address or step.exception) and needs.code(word) in needs.LOADS | needs.STORES:
-            self._want_registers(node, {needs.rs(word): ALL}, Role.ADDRESS)
+        if (self._address or step.exception) and instruction.code(word) in instruction.LOADS | instruction.STORES:
+            self._want_registers(node, {instruction.rs(word): ALL}, Role.ADDRESS)
         if step.exception == 0:
             node.links.append(Link(Role.CONTROL, End(Origin.INTERRUPT)))
         elif self._control:
@@ -289,13 +289,13 @@ class _Slice:
                 self._want_register(_Wish(node.links, role, bits), register, number, number)
 
     def _want_operands(self, node: Node, word: int) -> None:
-        number, major = node.step.step, needs.code(word)
-        if major in needs.LOADS:
+        number, major = node.step.step, instruction.code(word)
+        if major in instruction.LOADS:
             self._want_loaded(node, word)
-        elif needs.is_control_read(word):
+        elif instruction.is_control_read(word):
             node.links.append(Link(Role.VALUE, End(Origin.CONTROL, word >> 11 & 31)))
-        elif major in needs.STORES:
-            self._want_registers(node, {needs.rt(word): node.bits}, Role.VALUE)
+        elif major in instruction.STORES:
+            self._want_registers(node, {instruction.rt(word): node.bits}, Role.VALUE)
         else:
             block = self._blocks.of(number)
             self._want_registers(node, needs.needs(word, node.bits, lambda register: block.value(register, number)), Role.VALUE)
@@ -315,7 +315,7 @@ class _Slice:
             node.links.append(Link(Role.VALUE, End(Origin.DEVICE, access.address)))
         if stays:
             # What the load before it gets lands first.
-            self._want_register(_Wish(node.links, Role.VALUE, stays), needs.rt(word), number, number + 1)
+            self._want_register(_Wish(node.links, Role.VALUE, stays), instruction.rt(word), number, number + 1)
 
     def _byte(self, number: int) -> int:
         """The byte of its word that a load or store begins at."""
@@ -364,7 +364,7 @@ class _Slice:
 
     def _is_slot(self, number: int) -> bool:
         before, block = self._blocks.of(number - 1), self._blocks.of(number)
-        return (number - 1 not in before.exceptions and needs.has_slot(before.word(number - 1))
+        return (number - 1 not in before.exceptions and instruction.has_slot(before.word(number - 1))
                 and block.counter(number) == before.counter(number - 1) + 4)
 
     def _fetch(self, address: int) -> Optional[int]:
