@@ -36,7 +36,7 @@ enum Found {
     Back,
     // It did not.
     NotBack,
-    // The quiet times ended before that was seen.
+    // The quiet times ended before it came round once more.
     NoTime,
 }
 
@@ -125,8 +125,7 @@ fn go_round<const PAGES: u32, const SPAN: u32>(
     while steps < most.min(LONGEST) {
         let more = stretch(core, memory, time + steps as u64, events, 1, stop, recorder);
         if more == 0 {
-            let found = Found::NoTime;
-            return Turn { steps, found };
+            break;
         }
         steps += 1;
         if core.pc() as u64 == stop {

@@ -1,4 +1,4 @@
-use Rattle.std.proofs.Common.{List, sym, ap}
+use Rattle.std.proofs.Common.{List, sym, ap, subst}
 use Rattle.input_log.specs.Event.{LogEvent}
 use Rattle.input_log.specs.Edits.{AreSameOutside, edited, times_of}
 use Rattle.present_run.specs.Runs.{AreLandings, AreOf}
