@@ -43,6 +43,10 @@ class Page(unittest.TestCase):
         shown = re.findall(r"(?m)^    (.*)$", PAGE.partition("## A test")[2].partition("    $ bin/wb")[0])
         self.assertEqual(shown, script[-len(shown):])
 
+    def test_the_script_passes_where_the_count_is_checked(self) -> None:
+        ended = outside.run(["shell", "--strict", "examples/loader/checked.elf", "examples/loader/check.wb"])
+        self.assertEqual((ended.stderr, ended.returncode), (b"", 0))
+
     def test_the_walk_is_that_of_the_example(self) -> None:
         walk = [it for it in (ROOT / "examples/loader/walk").read_text().splitlines() if not it.startswith("#")]
         self.assertEqual([it[2:] for it in sessions()[1] if it.startswith("> ")], walk)
