@@ -36,12 +36,18 @@ class Page(unittest.TestCase):
                 else:
                     ended = outside.run(words)
                     self.assertEqual((ended.stdout + ended.stderr).decode().splitlines(), lines)
-                    self.assertEqual(ended.returncode, 5 if "loader.elf" in start and "--strict" in start else 0)
+                    self.assertEqual(ended.returncode, 0)
 
     def test_the_script_is_that_of_the_example(self) -> None:
+        """Its end stands on the page, and below it how it ends with the fault."""
+        shown, _, below = PAGE.partition("## A test")[2].partition("\n## ")[0].partition("`bin/wb shell --strict")
         script = (ROOT / "examples/loader/check.wb").read_text().splitlines()
-        shown = re.findall(r"(?m)^    (.*)$", PAGE.partition("## A test")[2].partition("    $ bin/wb")[0])
-        self.assertEqual(shown, script[-len(shown):])
+        lines = re.findall(r"(?m)^    (.*)$", shown)
+        self.assertEqual(lines, script[-len(lines):])
+        ended = outside.run(["shell", "--strict", "examples/loader/loader.elf", "examples/loader/check.wb"])
+        lines = re.findall(r"(?m)^    (.*)$", below)
+        self.assertEqual((ended.stdout + ended.stderr).decode().splitlines()[-len(lines):], lines)
+        self.assertEqual(ended.returncode, 5)
 
     def test_the_script_passes_where_the_count_is_checked(self) -> None:
         ended = outside.run(["shell", "--strict", "examples/loader/checked.elf", "examples/loader/check.wb"])
