@@ -142,7 +142,7 @@ class Login(GdbTest):
                    "0x80001004 <session+0x4>: 0x726f7461  |ator|")
 
     def test_what_is_typed_and_expected(self) -> None:
-        # The positions are those of the shell's session in docs/USING.md.
+        # The positions are those of docs/USING.md and docs/LIBRARY.md.
         lines = batch(self.IMAGE, "wb expect 'password: '", POSITION, "wb type 'sesame\\r'", "wb exp 'Welcome'", POSITION,
                       "wb expect 'Sorry'", POSITION, "wb undo", "wb undo", "wb expect nothing")
         self.holds(lines, "at 355", "7 bytes for line 0, from step 355 to step 6,355, 1,000 steps apart", "at 6684", "at 6684",

@@ -1,6 +1,6 @@
 """The stub, packet by packet, without gdb.
 
-The words of the programs were assembled by hand or are those of the worked examples in docs/USING.md, and so are the
+The words of the programs were assembled by hand or are those of the worked examples in examples/, and so are the
 values."""
 from __future__ import annotations
 

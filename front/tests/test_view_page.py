@@ -256,7 +256,7 @@ class Page(unittest.TestCase):
     def test_why(self) -> None:
         """Why the length is -1 is a list of steps: each link goes to its step, an event is selected, and an edit ends the list. A word, a
         register and a byte that was sent are asked for by a click, and anything by its name."""
-        steps = [40_024, 40_023, 40_021, 30_024, 30_023, 30_021, 20_031, 20_030, 20_021, 372]  # as docs/DEBUGGING.md counts them
+        steps = [40_024, 40_023, 40_021, 30_024, 30_023, 30_021, 20_031, 20_030, 20_021, 372]  # docs/DEBUGGING.md has the first four
         rows = "[...document.querySelectorAll('#why [data-step]')].map(it => +it.dataset.step)"
         name = "document.getElementById('why-name').textContent"
         with self.page("--to", "131072", *LOGIN):

@@ -78,7 +78,7 @@ class Said(unittest.TestCase):
         self.assertEqual([(it["came_true"], it["values"]) for it in found["outcomes"]], [(False, [65, 66]), (True, [67])])
 
     def test_when(self) -> None:
-        # The byte is stored in step 77 and shows from position 78 on, as docs/USING.md has it.
+        # The byte is stored in step 77, of the turn that begins at step 75 (examples/echo/README.md), and shows from position 78 on.
         self.assertEqual(said("goto 256", "when 0xa0000100 == 0x8041"), [
             "0xa0000100 == 0x8041 holds first at step 78, after step 77, loop+0x8, 179 steps ago: sw r6, 256(r8)"])
         self.assertEqual(said("goto 256", "when 0xa0000100==0x1234"), ["up to step 256 it does not hold that 0xa0000100==0x1234"])

@@ -29,23 +29,26 @@ class Page(unittest.TestCase):
         for start, *lines in sessions():
             words = shlex.split(start)[2:]
             with self.subTest(start):
-                if any(it.startswith("> ") for it in lines):
-                    typed = tuple(it[2:] for it in lines if it.startswith("> "))
-                    done = shell(*words[1:], "--echo", lines=typed)
-                    self.assertEqual(done.stdout.splitlines(), lines)
-                else:
-                    ended = outside.run(words)
-                    self.assertEqual((ended.stdout + ended.stderr).decode().splitlines(), lines)
-                    self.assertEqual(ended.returncode, 5 if "loader.elf" in start and "--strict" in start else 0)
+                typed = tuple(it[2:] for it in lines if it.startswith("> "))
+                done = shell(*words[1:], "--echo", lines=typed)
+                self.assertEqual(done.stdout.splitlines(), lines)
 
     def test_the_script_is_that_of_the_example(self) -> None:
+        """Its end stands on the page. With the fault it fails at its last line."""
         script = (ROOT / "examples/loader/check.wb").read_text().splitlines()
-        shown = re.findall(r"(?m)^    (.*)$", PAGE.partition("## A test")[2].partition("    $ bin/wb")[0])
+        shown = re.findall(r"(?m)^    (.*)$", PAGE.partition("## A test")[2].partition("\n## ")[0])
         self.assertEqual(shown, script[-len(shown):])
+        ended = outside.run(["shell", "--strict", "examples/loader/loader.elf", "examples/loader/check.wb"])
+        self.assertEqual(ended.stderr.decode().splitlines()[-1], f"bin/wb: examples/loader/check.wb:{len(script)}: {script[-1]}")
+        self.assertEqual(ended.returncode, 5)
+
+    def test_the_script_passes_where_the_count_is_checked(self) -> None:
+        ended = outside.run(["shell", "--strict", "examples/loader/checked.elf", "examples/loader/check.wb"])
+        self.assertEqual((ended.stderr, ended.returncode), (b"", 0))
 
     def test_the_walk_is_that_of_the_example(self) -> None:
         walk = [it for it in (ROOT / "examples/loader/walk").read_text().splitlines() if not it.startswith("#")]
-        self.assertEqual([it[2:] for it in sessions()[1] if it.startswith("> ")], walk)
+        self.assertEqual([it[2:] for it in sessions()[0] if it.startswith("> ")], walk)
 
     def test_the_table(self) -> None:
         table = set(re.findall(r"(?m)^\| `(\w+)", PAGE))
