@@ -175,6 +175,7 @@ Numbers may be expressions without blanks: wb writer &session.length, wb goto $p
         line = line or "help"
         name, *words = line.split()
         name = whole(name)
+        before_quit.forget()
         if name in OF_PLACES and words:
             line = " ".join([name, as_place(words[0], name == "hits"), *words[1:]])
         elif name not in AS_THEY_ARE and not QUOTES.intersection(line) and not (name == "writer" and REGISTER.fullmatch(" ".join(words))):
@@ -280,6 +281,7 @@ The log and all else stay, and the run is at position 0."""
         name = os.path.abspath(line.strip()) if line.strip() else present
         if name is None:
             raise gdb.GdbError("load wants a file: load FILE")
+        before_quit.forget()
         asked("goto 0")
         gdb.write(asked(f"load {name}"))
         if name == present:
@@ -305,10 +307,14 @@ class BeforeRun(gdb.Command):
 
 
 class BeforeQuit(gdb.Command):
-    """Says what was edited and is not saved, before gdb quits. A second `quit` leaves without it."""
+    """Says what was edited and is not saved, before gdb quits. A second `quit` leaves without it. After a command that may edit or save it
+    is said again."""
 
     def __init__(self) -> None:
         super().__init__("before-quit", gdb.COMMAND_OBSCURE)
+        self._said = ""
+
+    def forget(self) -> None:
         self._said = ""
 
     def invoke(self, line: str, from_terminal: bool) -> None:
@@ -340,7 +346,7 @@ Workbench()
 CatchException()
 Load()
 BeforeRun()
-BeforeQuit()
+before_quit = BeforeQuit()
 name_the_jump()
 hook("hook-quit", "before-quit")
 hook("hookpost-file", "python name_the_jump()")
@@ -351,5 +357,6 @@ for move in MOVES:
     hook(f"hook-{move}", "before-run")
 gdb.prompt_hook = prompt
 gdb.events.memory_changed.connect(lambda event: flush())
+gdb.events.memory_changed.connect(lambda event: before_quit.forget())
 gdb.events.cont.connect(lambda event: ctrl_c.begin())
 gdb.events.stop.connect(ctrl_c.stopped)

@@ -184,6 +184,13 @@ class Shell(unittest.TestCase):
         terminal.type(b"\x04")
         terminal.until(b"not saved: the log")
         terminal.until(b"> ")
+        # What is edited after that is told too.
+        terminal.type(b"add 6 0 2\r")
+        terminal.until(b"event 1")
+        terminal.until(b"> ")
+        terminal.type(b"quit\r")
+        terminal.until(b"not saved: the log")
+        terminal.until(b"> ")
         terminal.type(b"quit\r")
         self.assertEqual(terminal.end(), 0)
 

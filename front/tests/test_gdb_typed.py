@@ -119,6 +119,9 @@ class Typed(unittest.TestCase):
         self.type(terminal, "wb add 1,000 0 65", "quit")
         shown = terminal.until(b"`quit` again leaves without it.")
         self.assertIn(b"not saved: the log (wb save-log FILE)", shown)
+        # What is edited after that is told too.
+        self.type(terminal, "wb add 1,001 0 66", "quit")
+        terminal.until(b"`quit` again leaves without it.")
         self.type(terminal, "quit")
         self.assertEqual(terminal.end(), 0)
 

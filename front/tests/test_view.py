@@ -513,20 +513,23 @@ class Line(unittest.TestCase):
             self.assertIn(reason, str(caught.exception))
 
     def test_ctrl_c(self) -> None:
-        """It ends the server. Where edits are not saved it says so first, and a second one ends it."""
+        """It ends the server. Where edits are not saved it says so first, and a second one ends it, unless there was another edit."""
         words = [sys.executable, str(ROOT / "front/bezhakkom"), "view", *LOGIN]
-        edit = {"number": 1, "do": "delete", "id": 0, "gesture": 1}
-        for edits, said in ([], ""), ([edit], "bin/wb: there are edits that are not saved: the page saves them, and Ctrl-C again drops them\n"):
+        deleted = [[{"number": it, "do": "delete", "id": it, "gesture": it}] for it in (1, 2)]
+        warning = "bin/wb: there are edits that are not saved: the page saves them, and Ctrl-C again drops them\n"
+        for made in [], deleted:
             with subprocess.Popen(words, stdin=subprocess.DEVNULL, stdout=subprocess.PIPE, stderr=subprocess.PIPE, text=True) as process:
                 assert process.stdout and process.stderr
                 address = process.stdout.readline().strip()
-                request = urllib.request.Request(f"{address}ask", json.dumps({"edits": edits}).encode(),
-                                                 {"Content-Type": "application/json", "Origin": address[:address.index("/", 8)]})
-                with urllib.request.urlopen(request, timeout=300) as reply:
-                    self.assertEqual(json.load(reply)["state"]["unsaved"], bool(edits))
-                process.send_signal(signal.SIGINT)
-                if edits:
-                    self.assertEqual(process.stderr.readline(), said)
+                for edits in made or [[]]:
+                    request = urllib.request.Request(f"{address}ask", json.dumps({"edits": edits}).encode(),
+                                                     {"Content-Type": "application/json", "Origin": address[:address.index("/", 8)]})
+                    with urllib.request.urlopen(request, timeout=300) as reply:
+                        self.assertEqual(json.load(reply)["state"]["unsaved"], bool(edits))
+                    process.send_signal(signal.SIGINT)
+                    if edits:
+                        self.assertEqual(process.stderr.readline(), warning)
+                if made:
                     process.send_signal(signal.SIGINT)
                 self.assertEqual((process.stderr.read(), process.wait(300)), ("", 0))
 

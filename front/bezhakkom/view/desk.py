@@ -93,8 +93,10 @@ class Desk:
             if self._other:
                 self._other.driver.close()
 
-    def is_unsaved(self) -> bool:
-        return tuple(self._now.log) != self._saved
+    def unsaved(self) -> Optional[Tuple[Event, ...]]:
+        """The log, where it is not saved."""
+        log = tuple(self._now.log)
+        return log if log != self._saved else None
 
     def interrupt(self) -> None:
         """Ends what takes long."""
@@ -148,7 +150,7 @@ class Desk:
         return {"image": os.path.basename(driver.image.name), "end": self.end, "cursor": self._cursor, "words": [it.name for it in self.words],
                 "events": len(self._now.log), "undo": self._done[-1].made_by if self._done else None,
                 "redo": self._undone[-1].made_by if self._undone else None, "kept": list(self._kept), "against": self._shown,
-                "unsaved": self.is_unsaved()}
+                "unsaved": self.unsaved() is not None}
 
     def _asked(self, ask: Fields, reply: Dict[str, Any]) -> None:
         """All that a request asks after its edits."""
