@@ -275,6 +275,12 @@ class Pasts(unittest.TestCase):
             for _ in range(2):
                 self.assertEqual(hand.ask(edits=[edit])["state"]["events"], 11)
 
+    def test_two_pages_number_their_edits(self) -> None:
+        with laid_out(*LOGIN) as desk:
+            replies = [desk.answer(Fields({"page": page, "edits": [{"number": 1, "do": "delete", "id": identity, "gesture": identity + 1}]}))
+                       for identity, page in enumerate(("one", "two"))]
+            self.assertEqual([(it["edit"], it["state"]["events"]) for it in replies], [(1, 9), (1, 8)])
+
     def test_kept_pasts(self) -> None:
         image, log = brute.image("login/login.elf"), brute.log_of("login")
         without = brute.without(log, 2)
@@ -493,6 +499,14 @@ class Left(unittest.TestCase):
             self.assertIsNotNone(server._leaving)
             self.assertEqual(posted(server, {}).status, 200)
             self.assertIsNone(server._leaving)
+        with laid_out(*LOGIN) as desk, served(desk) as server, mock.patch("bezhakkom.view.server.LEAVE", 3600):
+            # Two pages. The server ends with the last of them.
+            for page in "one", "two":
+                posted(server, {"page": page})
+            posted(server, {"page": "one"}, name="left")
+            self.assertIsNone(server._leaving)
+            posted(server, {"page": "two"}, name="left")
+            self.assertIsNotNone(server._leaving)
         with laid_out(*LOGIN) as desk:
             server = Server(desk)
             thread = threading.Thread(target=server.serve_forever, args=(0.02,))

@@ -81,7 +81,7 @@ class Desk:
         self._done: List[State] = []
         self._undone: List[State] = []
         self._gesture: Optional[int] = None  # that is under way
-        self._edit = 0  # the number of the last edit
+        self._edit: Dict[str, int] = {}  # the number of the last edit of each page
         self._saved: Tuple[Event, ...] = tuple(driver.log)
         self._sweep: Optional[Tuple[Any, Sweep]] = None
         driver.wants_stop = lambda: self._stop
@@ -135,7 +135,7 @@ class Desk:
                 self._asked(ask, reply)
             except Interrupted:
                 reply["problem"] = INTERRUPTED
-            reply["edit"] = self._edit
+            reply["edit"] = self._edit.get(ask.text("page", ""), 0)
             reply["state"] = self._state()
             costs = [asker.cost for asker in self._askers()]
             reply["cost"] = {"questions": sum(it.questions for it in costs), "batches": sum(it.batches for it in costs),
@@ -278,11 +278,12 @@ class Desk:
     def _edits(self, ask: Fields, reply: Dict[str, Any]) -> None:
         """Makes edits. One that was made already, as the reply to it was lost, is not made again. Those of one gesture are one step of
         undo."""
+        page = ask.text("page", "")
         for edit in ask.parts("edits", MOST_EDITS):
             number = edit.number("number", 1, GREATEST_ID)
-            if number <= self._edit:
+            if number <= self._edit.get(page, 0):
                 continue
-            self._edit = number
+            self._edit[page] = number
             try:
                 self._make(edit)
             except (Problem, Interrupted) as problem:
