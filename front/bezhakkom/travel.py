@@ -35,7 +35,7 @@ class Reason(Enum):
     BREAKPOINT = "a breakpoint"
     WATCH = "a watch"
     STEPPED = "the end of a step"
-    BEGIN = "the begin of the run"
+    BEGIN = "the beginning of the run"
     END = "the greatest position"
     LIMIT = "the position to which it was to go"
     IDLE = "nothing sent, and nothing to come"
