@@ -1,4 +1,5 @@
-"""Names of addresses, and back, and their source lines. kseg0 and kseg1 addresses of one physical word have the same names."""
+"""Names of addresses, and back, and their source lines. kseg0 and kseg1 addresses of one physical word have the same names. Others have
+none of these: a small number is no address of a kernel that stands at 0x80000000."""
 from __future__ import annotations
 
 from bisect import bisect_right
@@ -6,7 +7,7 @@ from typing import Iterable, Optional
 
 from . import elf
 from .initial import Source
-from .elf import Symbol, physical_of
+from .elf import Symbol
 from .image import Image
 from .limits import ROM
 from .lines import Lines
@@ -24,7 +25,7 @@ class Symbols:
         at: dict[int, Symbol] = {}
         for symbol in sorted(symbols, key=lambda it: (_ORDER[it.kind], not it.size, it.name)):
             self._by_name.setdefault(symbol.name, symbol)
-            at.setdefault(physical_of(symbol.address), symbol)
+            at.setdefault(_in_kseg0(symbol.address), symbol)
         self._starts = sorted(at)
         self._sorted = [at[it] for it in self._starts]
 
@@ -35,11 +36,11 @@ class Symbols:
 
     def at(self, address: int) -> Optional[tuple[Symbol, int]]:
         """The symbol that an address belongs to, and how far the address is beyond its start."""
-        physical = physical_of(address)
-        place = bisect_right(self._starts, physical) - 1
+        address = _in_kseg0(address)
+        place = bisect_right(self._starts, address) - 1
         if place < 0:
             return None
-        symbol, distance = self._sorted[place], physical - self._starts[place]
+        symbol, distance = self._sorted[place], address - self._starts[place]
         return (symbol, distance) if distance < (symbol.size or _UNSIZED) else None
 
     def name(self, address: int) -> str:
@@ -58,6 +59,11 @@ class Symbols:
     def names(self) -> list[str]:
         """All names, in order."""
         return sorted(self._by_name)
+
+
+def _in_kseg0(address: int) -> int:
+    """The address of kseg0 for one of kseg1; others are taken as they are."""
+    return address & ~0x2000_0000 if 0xA000_0000 <= address < 0xC000_0000 else address
 
 
 # A symbol without a size reaches to the next one, but not beyond this many bytes.

@@ -285,6 +285,13 @@ class Habits(unittest.TestCase):
                 ("stepi 2", "step 2"), ("monitor goto 5", "goto 5"), ("disassemble main", "dis main"), ("disas main", "dis main"), ("set 0 'x'", "set 0 'x'")):
             self.assertEqual(translated(line), wanted, line)
 
+    def test_a_small_number_is_no_address_of_a_kernel(self) -> None:
+        """`done` stands six words after 0x80010000."""
+        talk = Talk("user-mode", log=False)
+        self.addCleanup(talk.driver.close)
+        self.assertEqual(talk("print done", "print 0xa001001c", "print 0x10018"), [
+            "done = 0x80010018  2,147,549,208  <done>", "0xa001001c = 0xa001001c  2,684,420,124  <done+0x4>", "0x10018 = 0x00010018  65,560"])
+
     def test_registers_as_assembler_has_them(self) -> None:
         talk = Talk("login", "login.elf", log=False)
         self.addCleanup(talk.driver.close)
