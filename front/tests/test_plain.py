@@ -50,6 +50,7 @@ class Plain(InFolder):
                 (["--json", "--"], b"", missing, 2),
                 (["none"], b"", "bin/wb: there is no file none\n", 2),
                 ([rom, "none"], b"", "bin/wb: there is no file none\n", 2),
+                (["sehll", rom], b"", "bin/wb: there is no file sehll, and no command of that name; is `shell` meant?\n", 2),
                 (["--log", "none", rom], b"", "bin/wb: there is no file none\n", 2),
                 (["."], b"", "bin/wb: . is no file that can be read\n", 2),
                 ([bad], b"", "r3kwb: error 9 BadImage Short\nbin/wb: that is x.img, taken as kind image\n", 1),
