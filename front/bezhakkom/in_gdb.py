@@ -283,7 +283,8 @@ The log and all else stay, and the run is at position 0."""
             raise gdb.GdbError("load wants a file: load FILE")
         before_quit.forget()
         asked("goto 0")
-        gdb.write(asked(f"load {name}"))
+        quote = '"' if "'" in name else "'"
+        gdb.write(asked(f"load {quote}{name}{quote}"))
         if name == present:
             gdb.execute(f"file {name}", to_string=True)
         flush()
