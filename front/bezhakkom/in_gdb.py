@@ -283,10 +283,11 @@ The log and all else stay, and the run is at position 0."""
             raise gdb.GdbError("load wants a file: load FILE")
         before_quit.forget()
         asked("goto 0")
-        quote = '"' if "'" in name else "'"
-        gdb.write(asked(f"load {quote}{name}{quote}"))
+        quote = '"' if "'" in name else "'"  # a name may have blanks
+        quoted = f"{quote}{name}{quote}"
+        gdb.write(asked(f"load {quoted}"))
         if name == present:
-            gdb.execute(f"file {name}", to_string=True)
+            gdb.execute(f"file {quoted}", to_string=True)
         flush()
 
 

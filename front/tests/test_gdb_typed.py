@@ -153,7 +153,7 @@ class Kernel(unittest.TestCase):
         folder = tempfile.TemporaryDirectory()
         self.addCleanup(folder.cleanup)
         self.folder = Path(folder.name)
-        self.elf = str(self.folder / "kernel.elf")
+        self.elf = str(self.folder / "a kernel.elf")
         self.build(1)
 
     def build(self, step: int) -> None:
@@ -167,7 +167,7 @@ class Kernel(unittest.TestCase):
         return debugger.run([debugger.WB, "gdb", self.elf, *debugger.PLAIN, "-batch", *words]).splitlines()
 
     def test_the_jump_at_reset_has_a_name(self) -> None:
-        shown = "\n".join(self.gdb("stepi", f"file {self.elf}", "stepi", "info all-registers"))
+        shown = "\n".join(self.gdb("stepi", f"file '{self.elf}'", "stepi", "info all-registers"))
         self.assertEqual(shown.count("a jump to its entry 0x80010000 was put there"), 1)
         self.assertEqual(re.findall(r"0xbfc0000\w in reset", shown), [f"0xbfc0000{at} in reset" for at in "048"])
         self.assertNotIn("find the start of the function", shown)
@@ -180,7 +180,7 @@ class Kernel(unittest.TestCase):
         terminal.type(b"starti 46\nprint $r8\n")  # the fourth jump's step, the one before the loop, and 40 steps of it
         terminal.until(b"$1 = 11\r")
         self.build(3)
-        terminal.type(f"file {self.elf}\nload\n".encode())
+        terminal.type(f"file '{self.elf}'\nload\n".encode())
         self.assertIn(b"1 word of the image changed", terminal.until(b"(0) "))
         terminal.type(b"starti 46\nprint $r8\nquit\n")
         terminal.until(b"$2 = 33\r")
