@@ -2,6 +2,7 @@
 none of these: a small number is no address of a kernel that stands at 0x80000000."""
 from __future__ import annotations
 
+import re
 from bisect import bisect_right
 from typing import Iterable, Optional
 
@@ -11,6 +12,10 @@ from .elf import Symbol
 from .image import Image
 from .limits import ROM
 from .lines import Lines
+
+_BRANCHES = frozenset("beq bne bltz bgez bltzal bgezal blez bgtz".split())
+_JUMPS = frozenset(("j", "jal"))
+_TARGET = re.compile(r"0x[0-9a-f]{8}$")
 
 # Of several names of one address the first of these kinds is shown.
 _ORDER = {"func": 0, "object": 1, "other": 2}
@@ -50,6 +55,24 @@ class Symbols:
             return ""
         symbol, distance = found
         return f"{symbol.name}+{distance:#x}" if distance else symbol.name
+
+    def address_and_name(self, address: int) -> str:
+        """`0xbfc00078 <main+0x78>`."""
+        name = self.name(address)
+        return f"{address:#010x} <{name}>" if name else f"{address:#010x}"
+
+    def retargeted(self, address: int, physical: int, text: str) -> str:
+        """The text of an instruction, whose target the program counted from the physical address, at its virtual address."""
+        name = text.partition(" ")[0]
+        found = _TARGET.search(text)
+        if not found or name not in _BRANCHES | _JUMPS:
+            return text
+        target = int(found[0], 16)
+        if name in _JUMPS:
+            target = (address + 4) & 0xF000_0000 | target & 0x0FFF_FFFF
+        else:
+            target = (target - physical + address) & 0xFFFF_FFFF
+        return text[:found.start()] + self.address_and_name(target)
 
     def line(self, address: int) -> str:
         """`login.c:44`, or the empty text where no source line is known."""

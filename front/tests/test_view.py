@@ -208,6 +208,12 @@ class Rows(unittest.TestCase):
             self.assertIsNone(shown["state"]["undo"])
             viewed.check(self, image, log, shown["now"], [LENGTH], exact=False)
 
+    def test_targets_are_virtual(self) -> None:
+        """The branch that tells a backspace is the one of the worked example of `why`."""
+        with laid_out(*LOGIN) as desk:
+            listed = Hand(desk).ask(view=view(40_000, 40_400), cursor=40_017)["cursor"]["listed"]
+        self.assertEqual([it for it in listed if it[3]], [[0xBFC0_0284, "read_line+0x5c", "beq r2, r3, 0xbfc00244 <read_line+0x1c>", True]])
+
     def test_many_bytes_in_one_step(self) -> None:
         with laid_out(*DRIVER) as desk:
             shown = Hand(desk).ask(view=view(0, SPAN))["now"]["events"]
