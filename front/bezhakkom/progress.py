@@ -66,7 +66,8 @@ class TerminalProgress:
 
 def progress(position: int, begin: int, end: Optional[int], speed: float) -> str:
     """How far a run is, and at which speed in steps a second."""
-    shown = f"position {position:,}, {speed / 1e6:.0f} million steps a second"
+    of_speed = f"{speed / 1e6:.0f} million" if speed >= 1e6 else f"{speed:,.0f}"
+    shown = f"position {position:,}, {of_speed} steps a second"
     if end is None or end == begin:
         return shown
     left = f", {abs(end - position) / speed:.0f} s left" if speed else ""
