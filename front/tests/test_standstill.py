@@ -7,6 +7,7 @@ from typing import Optional, Sequence
 
 from bezhakkom import ticks, travel
 from bezhakkom.driver import Driver
+from bezhakkom.expecting import until_sent
 from bezhakkom.limits import GREATEST_POSITION
 from bezhakkom.log import Event, Kind
 from bezhakkom.replies import memory, registers
@@ -40,6 +41,10 @@ COUNT, COUNT_IN_MEMORY = [0x277B0001], [0x3C1BA000, 0x8F7A0100, 0, 0x275A0001, 0
 # sw r2, 256(r29); beq r0, r0, back; nop
 ALARM_LOOP = [0x3C08BFE8, 0x24090005, 0xAD090004, 0x24090026, 0xAD09002C, *HEARS_CLOCK, 0x3C1DA000, 0x24020007, 0xAFA20100, 0x1000FFFE, 0]
 ALARM_LOOP += [0] * (0x180 // 4 - len(ALARM_LOOP))
+# The serial part is on, and line 0 may send: addiu r2, r0, 1; sw r2, 16(r1); the alarm, in each minute of each hour: addiu r9, r0, 0xc0;
+# sw r9, 12(r8); sw r9, 20(r8); and the loop
+ALARM_SENDS = [*SERIAL_ON, 0x24020001, 0xAC220010, *ALARM_LOOP[:8], 0x240900C0, 0xAD09000C, 0xAD090014, *END]
+ALARM_SENDS += [0] * (0x180 // 4 - len(ALARM_SENDS))
 TICKING = [*TICKS, *HEARS_CLOCK, *END]
 TICKING += [0] * (0x180 // 4 - len(TICKING))
 
@@ -235,6 +240,17 @@ class Stands(unittest.TestCase):
         for begin in 45_000, 70_000:
             driver.goto(begin)
             self.assertEqual([travel.backward(driver, Stops(watches={watch}), lambda: False).position for _ in range(3)], [*changes[::-1], 10])
+
+    def test_an_alarm_is_expected(self) -> None:
+        """The handler sends an A in second 5 of each minute. Up to a step that is named it is waited for: the fourth comes 185 seconds
+        after reset, each of 8,192 steps."""
+        driver = self.driver([*ALARM_SENDS, 0x3C1ABFE0, 0x241B0041, 0xAF5B0018, *HANDLER])
+        self.assertIsNone(until_sent(driver, 0, 0, b"AAAA", 3_000_000, 0))
+        self.assertIn(driver.position, range(1_515_520, 1_515_560))
+        silence = until_sent(driver, 0, 4, b"A", 2_000_000, 0)
+        self.assertEqual((silence and silence.why, driver.position), ("that was looked for up to step 2,000,000", 2_000_000))
+        silence = until_sent(driver, 0, 4, b"B", GREATEST_POSITION, 0)
+        self.assertIn("only an alarm of the clock can leave", silence.why if silence else "")
 
     def test_ticks(self) -> None:
         """A second has 8,192 steps and 16 ticks. Where the handler counts nothing each second is as the one before."""
