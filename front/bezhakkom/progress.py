@@ -5,6 +5,9 @@ import sys
 import time
 from typing import Optional, Protocol
 
+# Names in the environment of gdb and of its stub the terminal that gdb has.
+TERMINAL = "BEZHAKKOM_TERMINAL"
+
 # A run that takes less is not worth a line.
 _PATIENCE = 1.0
 _INTERVAL = 0.2

@@ -102,6 +102,13 @@ class Typed(unittest.TestCase):
         terminal.press(b"starti 9\nwb log 0 2\n", b"step 5, line 0, 0x41")
         self.assertEqual(terminal.leave(b"quit\n"), 0)
 
+    def test_a_long_answer_shows_how_far_it_is(self) -> None:
+        terminal = self.gdb("--log", "examples/driver/log", "examples/driver/boot.s")
+        self.begin(terminal, "wb goto 1000000000000")
+        terminal.until(b"% of the way")
+        self.interrupt(terminal)
+        self.assertEqual(terminal.leave(b"quit\n"), 0)
+
     def test_ctrl_c_ends_loops_of_gdb(self) -> None:
         """Once pressed it ends the step, and the loop or the user's command with it."""
         terminal = self.gdb("--log", "examples/driver/log", "examples/driver/boot.s")
