@@ -18,11 +18,12 @@ MOVES += ["until", "advance"]
 REFUSED = "refused: "  # begins what the stub says where it can't do a thing
 
 QUOTES = frozenset("'\"")
+COMPARED = re.compile(r"[=<>!]")
 NUMBER = re.compile(r"\d[\w,]*")
 IN_GROUPS = re.compile(r"(?<![\w.,])\d{1,3}(?:,\d{3})+(?![\w,])")
 WITHOUT_NUMBER = (gdb.TYPE_CODE_ARRAY, gdb.TYPE_CODE_STRUCT, gdb.TYPE_CODE_UNION, gdb.TYPE_CODE_FUNC)
 REGISTER = re.compile(r"\$[a-z]\w*")  # of `writer`, which then means the register and not the word that it points to
-OF_PLACES = ("hits", "why")  # the first of their words is mostly a place
+OF_PLACES = ("causes", "hits", "when", "why")  # the first of their words is mostly a place
 OF_WORDS = ("dis", "mem", "patch", "stores", "visit", "where", "writer")  # their numbers have 32 bits, also those that gdb shows below 0
 
 
@@ -130,8 +131,8 @@ def as_number(word: str, of_words: bool) -> str:
 
 def as_place(word: str, of_code: bool) -> str:
     """A word that may be the stub's: an expression that begins with & is gdb's, and of code a line and the number of a breakpoint."""
-    if word.startswith("&"):
-        return as_number(word, True)
+    if word.startswith("&") and not COMPARED.search(word):
+        return f"{int(as_number(word, True)):#x}"
     stop = next((it for it in gdb.breakpoints() if of_code and str(it.number) == word), None)
     where = stop.location if stop else word if of_code and ":" in word and not word.startswith("p:") else None
     if stop and stop.condition:
