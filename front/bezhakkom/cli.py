@@ -1,6 +1,7 @@
 """`bin/wb`: which front end an argument line asks for, and how each ends."""
 from __future__ import annotations
 
+import difflib
 import importlib
 import io
 import os
@@ -24,6 +25,10 @@ def main(arguments: Sequence[str]) -> int:
     if rest and rest[0] in COMMANDS:
         name = rest.pop(0)
     try:
+        if name == "plain" and rest and rest[0].isalpha() and not os.path.exists(rest[0]):
+            meant = difflib.get_close_matches(rest[0], COMMANDS, 1)
+            if meant:
+                raise Problem(f"there is no file {rest[0]}, and no command of that name; is `{meant[0]}` meant?")
         try:
             status = importlib.import_module(f".{_MODULES.get(name, name)}", __package__).main(rest)
         except Shown as shown:

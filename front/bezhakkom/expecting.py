@@ -48,7 +48,8 @@ def until_sent(driver: Driver, line: int, first: int, text: bytes, end: int, idl
             driver.goto(driver.find(line, first + place + len(text) - 1) + 1)
             return None
         still = standstill(driver)
-        if still:
+        # Where an end is named an alarm is waited for up to there.
+        if still and (still.kind is not Standstill.ALARM or end == GREATEST_POSITION):
             return Silence(f"at step {driver.position:,} the program {still.kind.value}", sent)
         if idleness.is_over():
             if ticks.period(driver):

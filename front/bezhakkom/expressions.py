@@ -18,9 +18,10 @@ from .symbols import Symbols
 REGISTERS = ("zero at v0 v1 a0 a1 a2 a3 t0 t1 t2 t3 t4 t5 t6 t7 "
              "s0 s1 s2 s3 s4 s5 s6 s7 t8 t9 k0 k1 gp sp fp ra").split()
 _NUMBERS = {name: number for number, name in enumerate(REGISTERS)}
-_NUMBERS.update({f"r{number}": number for number in range(32)}, s8=30)
+_NUMBERS.update({f"{sign}{number}": number for sign in "r$" for number in range(32)}, s8=30)
 
-_TERM = re.compile(r"0x[0-9a-fA-F]+|[0-9]{1,3}(?:,[0-9]{3})+(?![0-9,])|[0-9]+(?![0-9,])|'(?:[^'\\]|\\.)+'|[&$]?[A-Za-z_.][\w.$]*")
+_TERM = re.compile(r"0x[0-9a-fA-F]+|[0-9]{1,3}(?:,[0-9]{3})+(?![0-9,])|[0-9]+(?![0-9,])|'(?:[^'\\]|\\.)+'"
+                   r"|[&$]?[A-Za-z_.][\w.$]*|\$[0-9]+(?!\w)")
 _OPENED = re.compile(r"(byte|half|)\[")
 _PART = re.compile(r"[&*]*([A-Za-z_]\w*)(?:\.|->|\[)[\w.\[\]>-]*")
 _SIZES = {"byte": 1, "half": 2, "": 4}
@@ -39,7 +40,7 @@ A name is a symbol if there is one, or else a register; $NAME is always the regi
 
 def register_number(word: str) -> Optional[int]:
     """The number of a register of the processor, by one of its names."""
-    return _NUMBERS.get(word.lstrip("$"))
+    return _NUMBERS.get(word, _NUMBERS.get(word.lstrip("$")))
 
 
 def written(word: str) -> int:
@@ -196,7 +197,7 @@ def _number(term: str, driver: Driver, symbols: Symbols) -> int:
     address = symbols.address(name) if term[0] != "$" else None
     if address is not None:
         return address
-    register = _register(name, driver) if term[0] != "&" else None
+    register = _register(term if term in _NUMBERS else name, driver) if term[0] != "&" else None
     if register is None:
         name = shortened(name)
         raise Problem(f"there is no symbol and no register {name}" if term[0] not in "&$" else

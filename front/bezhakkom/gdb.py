@@ -9,6 +9,7 @@ import subprocess
 import sys
 import tempfile
 from argparse import REMAINDER
+from contextlib import suppress
 from pathlib import Path
 from typing import Sequence
 
@@ -20,6 +21,7 @@ from .image import Image
 from .limits import RESET_PC
 from .installed import NAME, PACKAGE
 from .program import build
+from .progress import TERMINAL
 from .symbol_file import KSEG0
 from .symbols import symbols_of
 
@@ -75,6 +77,9 @@ def main(arguments: Sequence[str]) -> int:
         words += ["-ex", "python stops.make()"]
         presses = Path(folder, "interrupts")
         environment = {**os.environ, JUMP: _jump(image, Path(folder)), interrupts.VARIABLE: str(presses)}
+        if progress:
+            with suppress(OSError):  # a terminal may have no name here
+                environment[TERMINAL] = os.ttyname(sys.stdout.fileno())
         # A Ctrl-C is gdb's, and is noted for the stub.
         signal.signal(signal.SIGINT, lambda number, frame: interrupts.note(presses))
         return subprocess.call([*words, *arguments[count:]], env=environment)

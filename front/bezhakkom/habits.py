@@ -9,7 +9,7 @@ from .installed import NAME
 
 # Names of gdb's for commands of the shell.
 _NAMES = {"stepi": "step", "reverse-stepi": "back", "reverse-step": "back", "hbreak": "break", "advance": "visit",
-          "disassemble": "dis", "cont": "continue", "fg": "continue", "exit": "quit"}
+          "disassemble": "dis", "disas": "dis", "cont": "continue", "fg": "continue", "exit": "quit"}
 
 _CALLS = "the shell goes by instructions: `visit pc+8` at a call goes on to where it returns, and `step` goes into it"
 _RETURNS = "`visit ra` goes on to where the function returns to, as long as ra holds that"
@@ -58,6 +58,8 @@ def translated(line: str) -> str:
         name, rest = "print", printed[1]
     if name in ("break", "b", "hbreak", "watch", "print", "p"):
         return f"{_NAMES.get(name, name)} {_place(name, rest)}".strip()
+    if line == "where":
+        raise Problem(f"{_STACK}; `where A` shows where an address leads")
     if name in _INSTEAD:
         raise Problem(_INSTEAD[name])
     return f"{_NAMES[name]} {rest}".strip() if name in _NAMES else line

@@ -16,6 +16,9 @@ KINDS = ("rom", "image", "source", "elf")
 
 IMAGE, RAW_ROM = Form("image", (MAGIC,)), Form("raw ROM")
 
+# What text does not have.
+_NO_TEXT = re.compile(rb"[^\t\n\r\f\x20-\x7e\x80-\xff]")
+
 # What GNU as understands and the source of this project does not have.
 _GNU = re.compile(rb"^\s*(?:\.(?:text|data|bss|section|globa?l|set|align|p2align|ent|asciiz?|asciz|space|byte|half|equ|include)\b"
                   rb"|#\s*include\b|\w+\s+.*\$\w+)", re.MULTILINE)
@@ -57,7 +60,11 @@ def kind_of(name: str, content: bytes) -> str:
         raise Problem(f"{name} is source for a C preprocessor and GNU as. {HOW_TO_LINK}")
     if name.endswith(".img"):
         return "image"
-    return "source" if name.endswith(".s") else "rom"
+    if name.endswith(".s"):
+        return "source"
+    if b"\n" in content and not _NO_TEXT.search(content):
+        raise Problem(f"{name} is text, and no image; --kind source boots a source whose name does not end in .s, and --kind rom any bytes")
+    return "rom"
 
 
 HOW_TO_LINK = ("Make an ELF of it, and boot that: mipsel-linux-gnu-gcc -march=r3000 -mfp32 -mno-abicalls -fno-pic -nostdlib "

@@ -18,11 +18,12 @@ MOVES += ["until", "advance"]
 REFUSED = "refused: "  # begins what the stub says where it can't do a thing
 
 QUOTES = frozenset("'\"")
+COMPARED = re.compile(r"[=<>!]")
 NUMBER = re.compile(r"\d[\w,]*")
 IN_GROUPS = re.compile(r"(?<![\w.,])\d{1,3}(?:,\d{3})+(?![\w,])")
 WITHOUT_NUMBER = (gdb.TYPE_CODE_ARRAY, gdb.TYPE_CODE_STRUCT, gdb.TYPE_CODE_UNION, gdb.TYPE_CODE_FUNC)
 REGISTER = re.compile(r"\$[a-z]\w*")  # of `writer`, which then means the register and not the word that it points to
-OF_PLACES = ("hits", "why")  # the first of their words is mostly a place
+OF_PLACES = ("causes", "hits", "when", "why")  # the first of their words is mostly a place
 OF_WORDS = ("dis", "mem", "patch", "stores", "visit", "where", "writer")  # their numbers have 32 bits, also those that gdb shows below 0
 
 
@@ -130,8 +131,8 @@ def as_number(word: str, of_words: bool) -> str:
 
 def as_place(word: str, of_code: bool) -> str:
     """A word that may be the stub's: an expression that begins with & is gdb's, and of code a line and the number of a breakpoint."""
-    if word.startswith("&"):
-        return as_number(word, True)
+    if word.startswith("&") and not COMPARED.search(word):
+        return f"{int(as_number(word, True)):#x}"
     stop = next((it for it in gdb.breakpoints() if of_code and str(it.number) == word), None)
     where = stop.location if stop else word if of_code and ":" in word and not word.startswith("p:") else None
     if stop and stop.condition:
@@ -175,6 +176,7 @@ Numbers may be expressions without blanks: wb writer &session.length, wb goto $p
         line = line or "help"
         name, *words = line.split()
         name = whole(name)
+        before_quit.forget()
         if name in OF_PLACES and words:
             line = " ".join([name, as_place(words[0], name == "hits"), *words[1:]])
         elif name not in AS_THEY_ARE and not QUOTES.intersection(line) and not (name == "writer" and REGISTER.fullmatch(" ".join(words))):
@@ -280,10 +282,13 @@ The log and all else stay, and the run is at position 0."""
         name = os.path.abspath(line.strip()) if line.strip() else present
         if name is None:
             raise gdb.GdbError("load wants a file: load FILE")
+        before_quit.forget()
         asked("goto 0")
-        gdb.write(asked(f"load {name}"))
+        quote = '"' if "'" in name else "'"  # a name may have blanks
+        quoted = f"{quote}{name}{quote}"
+        gdb.write(asked(f"load {quoted}"))
         if name == present:
-            gdb.execute(f"file {name}", to_string=True)
+            gdb.execute(f"file {quoted}", to_string=True)
         flush()
 
 
@@ -305,10 +310,14 @@ class BeforeRun(gdb.Command):
 
 
 class BeforeQuit(gdb.Command):
-    """Says what was edited and is not saved, before gdb quits. A second `quit` leaves without it."""
+    """Says what was edited and is not saved, before gdb quits. A second `quit` leaves without it. After a command that may edit or save it
+    is said again."""
 
     def __init__(self) -> None:
         super().__init__("before-quit", gdb.COMMAND_OBSCURE)
+        self._said = ""
+
+    def forget(self) -> None:
         self._said = ""
 
     def invoke(self, line: str, from_terminal: bool) -> None:
@@ -340,7 +349,7 @@ Workbench()
 CatchException()
 Load()
 BeforeRun()
-BeforeQuit()
+before_quit = BeforeQuit()
 name_the_jump()
 hook("hook-quit", "before-quit")
 hook("hookpost-file", "python name_the_jump()")
@@ -351,5 +360,6 @@ for move in MOVES:
     hook(f"hook-{move}", "before-run")
 gdb.prompt_hook = prompt
 gdb.events.memory_changed.connect(lambda event: flush())
+gdb.events.memory_changed.connect(lambda event: before_quit.forget())
 gdb.events.cont.connect(lambda event: ctrl_c.begin())
 gdb.events.stop.connect(ctrl_c.stopped)

@@ -1,6 +1,8 @@
 """Runs and steps both ways as gdb asks for them, and the replies that say where they stopped."""
 from __future__ import annotations
 
+import os
+from contextlib import suppress
 from dataclasses import replace
 from typing import Callable
 
@@ -9,7 +11,7 @@ from .driver import Driver
 from .errors import Interrupted, Problem
 from .interrupts import Interrupts
 from .limits import GREATEST_POSITION
-from .progress import TerminalProgress
+from .progress import TERMINAL, TerminalProgress
 from .rsp import PACKET_BYTES, Link
 from .travel import Reason, Stop, Stops
 
@@ -175,14 +177,19 @@ class Motion:
 
 
 class _Console:
-    """The debugger's console as a stream. It takes text only while a run goes on."""
+    """The debugger's console as a stream, while a run goes on. While a line of `monitor` is answered, which gdb shows when that ends, it is
+    the terminal that gdb has."""
 
     def __init__(self, motion: Motion) -> None:
         self._motion = motion
+        self._terminal = os.environ.get(TERMINAL)
 
     def write(self, text: str) -> None:
         if self._motion.is_moving:
             self._motion.write(text.encode())
+        elif self._terminal:
+            with suppress(OSError), open(self._terminal, "w") as terminal:
+                terminal.write(text)
 
     def flush(self) -> None:
         pass

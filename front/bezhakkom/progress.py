@@ -5,6 +5,9 @@ import sys
 import time
 from typing import Optional, Protocol
 
+# Names in the environment of gdb and of its stub the terminal that gdb has.
+TERMINAL = "BEZHAKKOM_TERMINAL"
+
 # A run that takes less is not worth a line.
 _PATIENCE = 1.0
 _INTERVAL = 0.2
@@ -66,7 +69,8 @@ class TerminalProgress:
 
 def progress(position: int, begin: int, end: Optional[int], speed: float) -> str:
     """How far a run is, and at which speed in steps a second."""
-    shown = f"position {position:,}, {speed / 1e6:.0f} million steps a second"
+    of_speed = f"{speed / 1e6:.0f} million" if speed >= 1e6 else f"{speed:,.0f}"
+    shown = f"position {position:,}, {of_speed} steps a second"
     if end is None or end == begin:
         return shown
     left = f", {abs(end - position) / speed:.0f} s left" if speed else ""

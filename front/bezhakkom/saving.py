@@ -38,10 +38,17 @@ def save(name: str, content: bytes, form: Form, force: bool = False, how: str = 
         raise Problem(f"{name} can't be written: {error.strerror}") from None
 
 
+def name_of(word: str) -> str:
+    """The name of a file that a word of a line is. One with blanks stands between quotes, and `~` begins the user's folder."""
+    if len(word) > 2 and word[0] == word[-1] and word[0] in "'\"":
+        return word[1:-1]
+    return os.path.expanduser(word)
+
+
 def is_forced(words: Sequence[str]) -> bool:
     """Whether `force` stands after the name of a file. Nothing else may stand there."""
     if list(words) not in ([], [FORCE_WORD]):
-        raise Problem(f"after the name of a file may stand `{FORCE_WORD}` alone; a name has no blanks here")
+        raise Problem(f"after the name of a file may stand `{FORCE_WORD}` alone; a name with blanks stands between quotes")
     return bool(words)
 
 

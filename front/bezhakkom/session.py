@@ -1,7 +1,6 @@
 """What the shell knows while it runs: the driver, symbols, stops and edits; and how steps and addresses are shown to people."""
 from __future__ import annotations
 
-import re
 from contextlib import contextmanager
 from dataclasses import dataclass, field
 from typing import Callable, Iterator, Optional
@@ -15,10 +14,6 @@ from .log import Event
 from .saved import Origin, lines_of_edit
 from .symbols import Symbols
 from .travel import Watch
-
-_BRANCHES = frozenset("beq bne bltz bgez bltzal bgezal blez bgtz".split())
-_JUMPS = frozenset(("j", "jal"))
-_TARGET = re.compile(r"0x[0-9a-f]{8}$")
 
 
 @dataclass(frozen=True)
@@ -98,8 +93,7 @@ class Session:
 
     def address(self, address: int) -> str:
         """`0xbfc00078 <main+0x78>`."""
-        name = self.symbols.name(address)
-        return f"{address:#010x} <{name}>" if name else f"{address:#010x}"
+        return self.symbols.address_and_name(address)
 
     def place(self, address: int) -> str:
         """`main+0x78`, or the address where it has no name."""
@@ -118,20 +112,7 @@ class Session:
         line = self.driver.ask(f"dis {physical & ~3} 1")[0]
         if line.startswith("error"):
             return "no instruction can be fetched here"
-        return self.retargeted(address, physical, line.split(None, 2)[2])
-
-    def retargeted(self, address: int, physical: int, text: str) -> str:
-        """The text of an instruction, whose target the program counted from the physical address, at its virtual address."""
-        name = text.partition(" ")[0]
-        found = _TARGET.search(text)
-        if not found or name not in _BRANCHES | _JUMPS:
-            return text
-        target = int(found[0], 16)
-        if name in _JUMPS:
-            target = (address + 4) & 0xF000_0000 | target & 0x0FFF_FFFF
-        else:
-            target = (target - physical + address) & 0xFFFF_FFFF
-        return text[:found.start()] + self.address(target)
+        return self.symbols.retargeted(address, physical, line.split(None, 2)[2])
 
     def step(self, step: int, with_line: bool = False) -> str:
         """`step 40,017, main+0x78, 1,001 steps ago: sw r2, 0(r3)`, as seen from the position, or with the source line."""

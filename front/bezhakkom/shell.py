@@ -55,7 +55,7 @@ class Shell:
     def __init__(self, session: Session) -> None:
         self._session = session
         self._left = False
-        self._warned = False
+        self._warned: object = None  # the log and the patches that were said to be unsaved
 
     def open(self, commands: Sequence[str]) -> None:
         """Runs the lines of a session. What they show is not shown again; those that fail are."""
@@ -135,11 +135,12 @@ class Shell:
             run(self._session, line)
 
     def _quit(self) -> None:
-        """Leaves. With unsaved edits on a terminal, it takes a second `quit`."""
-        unsaved = self._session.unsaved()
-        if unsaved and sys.stdin.isatty() and not self._warned:
+        """Leaves. With unsaved edits on a terminal, it takes a second `quit`. Edits that were made since then are said again."""
+        driver, unsaved = self._session.driver, self._session.unsaved()
+        edited = list(driver.log), list(driver.patches)
+        if unsaved and sys.stdin.isatty() and self._warned != edited:
             self._session.tell(f"not saved: {', '.join(unsaved)}; `quit` again leaves without them")
-            self._warned = True
+            self._warned = edited
         else:
             self._left = True
 

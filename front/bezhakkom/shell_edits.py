@@ -3,6 +3,7 @@ from __future__ import annotations
 
 import os
 import re
+import shlex
 
 from . import log as logs
 from . import reloading, saved
@@ -16,7 +17,7 @@ from .installed import NAME
 from .limits import GREATEST_POSITION
 from .log import Kind, unquoted
 from .replies import refusal_of
-from .saving import is_forced, save
+from .saving import is_forced, name_of, save
 from .session import Paused, Session, counted
 
 _TEXT = re.compile(r"""'(?:[^'\\]|\\.)+'|"(?:[^"\\]|\\.)+\"""")
@@ -165,22 +166,23 @@ def _line_and_text(session: Session, words: list[str], usage: str) -> tuple[int,
 
 @command("save-log FILE [force]", "saves the log, with all edits; `force` overwrites a file that is no log", FILES)
 def save_log(session: Session, words: list[str]) -> None:
-    save(words[0], logs.write(session.driver.log), logs.LOG, is_forced(words[1:]), f"save-log {words[0]} force")
+    save(name_of(words[0]), logs.write(session.driver.log), logs.LOG, is_forced(words[1:]), f"save-log {words[0]} force")
     session.saved_log = list(session.driver.log)
     session.tell(f"{counted(len(session.driver.log), 'event')} saved in {words[0]}")
 
 
 @command("save-image FILE [force]", "saves the image, with all patches: a name that ends in .img, or a raw ROM", FILES)
 def save_image(session: Session, words: list[str]) -> None:
-    form, content = file_for(words[0], session.driver.boot())
-    save(words[0], content, form, is_forced(words[1:]), f"save-image {words[0]} force")
+    name = name_of(words[0])
+    form, content = file_for(name, session.driver.boot())
+    save(name, content, form, is_forced(words[1:]), f"save-image {words[0]} force")
     session.saved_patches = list(session.driver.patches)
     session.tell(f"{counted(len(content), 'byte')} saved in {words[0]}")
 
 
 @command("load [FILE]", "starts the machine with an ELF, or with the present one built anew; the log stays", FILES, edits=True)
 def load(session: Session, words: list[str]) -> None:
-    name = words[0] if words else session.driver.image.name
+    name = name_of(words[0]) if words else session.driver.image.name
     session.tell(f"{counted(reloading.load(session, name), 'word')} of the image changed by {name}")
     session.saved_patches = list(session.driver.patches)
 
@@ -190,14 +192,15 @@ def load(session: Session, words: list[str]) -> None:
 def save_(session: Session, words: list[str]) -> None:
     if session.origin is None:
         raise Problem("a session is saved by what has opened an image")
-    name, *rest = words
+    word, *rest = words
+    name = name_of(word)
     is_whole = "whole" in rest[:1]
     events = session.edits[0].log if session.edits else session.driver.log
     folder = os.path.dirname(os.path.abspath(name))
     text = saved.text_of(session.origin, folder, events, session.made_again(), is_whole)
-    save(name, text.encode("utf-8", "surrogateescape"), saved.FORM, is_forced(rest[is_whole:]), f"save {name} force")
+    save(name, text.encode("utf-8", "surrogateescape"), saved.FORM, is_forced(rest[is_whole:]), f"save {word} force")
     session.saved_log, session.saved_patches = list(session.driver.log), list(session.driver.patches)
-    session.tell(f"the session is saved in {name}; `{NAME} shell {name}` opens it")
+    session.tell(f"the session is saved in {name}; `{NAME} shell {shlex.quote(name)}` opens it")
 
 
 @command("gdb [STOP] ..", "keeps a stop of gdb's for a session that gdb opens, or shows those that are kept; `gdb none` drops them", FILES)

@@ -9,7 +9,7 @@ from .driver import Driver
 from .errors import STOPPED, Problem
 from .exceptions import NAMES, TEXTS, Catch
 from .limits import GREATEST_POSITION, RAM, ROM, TRACED
-from .saving import FORCE_WORD, Form, is_forced, save
+from .saving import FORCE_WORD, Form, is_forced, name_of, save
 from .session import Session, counted
 from .step_lines import StepLines
 from .tracing import Traced, read
@@ -34,10 +34,10 @@ def trace(session: Session, words: list[str]) -> None:
         for line in lines:
             session.tell(line)
         return
-    forced, first = is_forced(to[1:]), session.driver.position
+    name, forced, first = name_of(to[0]), is_forced(to[1:]), session.driver.position
     heading = f"{_BEGIN}{first:,} to {first + count - 1:,} do"
-    save(to[0], "\n".join([heading, *lines, ""]).encode(), _FORM, forced, FORCE_WORD)
-    session.tell(f"{to[0]} has {counted(count, 'step')}")
+    save(name, "\n".join([heading, *lines, ""]).encode(), _FORM, forced, FORCE_WORD)
+    session.tell(f"{name} has {counted(count, 'step')}")
 
 
 @command("io [C]", f"shows which of the next C steps, or {_IO_STEPS:,}, load from devices or store into them", STEPS)

@@ -121,7 +121,7 @@ def dis(session: Session, words: list[str]) -> None:
         for line in session.driver.value(f"dis {physical} {size}"):
             _, word, text = line.split(None, 2)
             mark = "=>" if at == pc else "  "
-            session.tell(f"{mark} {session.address(at)}: {word}  {session.retargeted(at, physical, text)}")
+            session.tell(f"{mark} {session.address(at)}: {word}  {session.symbols.retargeted(at, physical, text)}")
             at, physical = at + 4, physical + 4
 
 

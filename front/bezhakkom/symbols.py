@@ -1,15 +1,21 @@
-"""Names of addresses, and back, and their source lines. kseg0 and kseg1 addresses of one physical word have the same names."""
+"""Names of addresses, and back, and their source lines. kseg0 and kseg1 addresses of one physical word have the same names. Others have
+none of these: a small number is no address of a kernel that stands at 0x80000000."""
 from __future__ import annotations
 
+import re
 from bisect import bisect_right
 from typing import Iterable, Optional
 
 from . import elf
 from .initial import Source
-from .elf import Symbol, physical_of
+from .elf import Symbol
 from .image import Image
 from .limits import ROM
 from .lines import Lines
+
+_BRANCHES = frozenset("beq bne bltz bgez bltzal bgezal blez bgtz".split())
+_JUMPS = frozenset(("j", "jal"))
+_TARGET = re.compile(r"0x[0-9a-f]{8}$")
 
 # Of several names of one address the first of these kinds is shown.
 _ORDER = {"func": 0, "object": 1, "other": 2}
@@ -24,7 +30,7 @@ class Symbols:
         at: dict[int, Symbol] = {}
         for symbol in sorted(symbols, key=lambda it: (_ORDER[it.kind], not it.size, it.name)):
             self._by_name.setdefault(symbol.name, symbol)
-            at.setdefault(physical_of(symbol.address), symbol)
+            at.setdefault(_in_kseg0(symbol.address), symbol)
         self._starts = sorted(at)
         self._sorted = [at[it] for it in self._starts]
 
@@ -35,11 +41,11 @@ class Symbols:
 
     def at(self, address: int) -> Optional[tuple[Symbol, int]]:
         """The symbol that an address belongs to, and how far the address is beyond its start."""
-        physical = physical_of(address)
-        place = bisect_right(self._starts, physical) - 1
+        address = _in_kseg0(address)
+        place = bisect_right(self._starts, address) - 1
         if place < 0:
             return None
-        symbol, distance = self._sorted[place], physical - self._starts[place]
+        symbol, distance = self._sorted[place], address - self._starts[place]
         return (symbol, distance) if distance < (symbol.size or _UNSIZED) else None
 
     def name(self, address: int) -> str:
@@ -50,6 +56,24 @@ class Symbols:
         symbol, distance = found
         return f"{symbol.name}+{distance:#x}" if distance else symbol.name
 
+    def address_and_name(self, address: int) -> str:
+        """`0xbfc00078 <main+0x78>`."""
+        name = self.name(address)
+        return f"{address:#010x} <{name}>" if name else f"{address:#010x}"
+
+    def retargeted(self, address: int, physical: int, text: str) -> str:
+        """The text of an instruction, whose target the program counted from the physical address, at its virtual address."""
+        name = text.partition(" ")[0]
+        found = _TARGET.search(text)
+        if not found or name not in _BRANCHES | _JUMPS:
+            return text
+        target = int(found[0], 16)
+        if name in _JUMPS:
+            target = (address + 4) & 0xF000_0000 | target & 0x0FFF_FFFF
+        else:
+            target = (target - physical + address) & 0xFFFF_FFFF
+        return text[:found.start()] + self.address_and_name(target)
+
     def line(self, address: int) -> str:
         """`login.c:44`, or the empty text where no source line is known."""
         found = self.lines.at(address)
@@ -58,6 +82,11 @@ class Symbols:
     def names(self) -> list[str]:
         """All names, in order."""
         return sorted(self._by_name)
+
+
+def _in_kseg0(address: int) -> int:
+    """The address of kseg0 for one of kseg1; others are taken as they are."""
+    return address & ~0x2000_0000 if 0xA000_0000 <= address < 0xC000_0000 else address
 
 
 # A symbol without a size reaches to the next one, but not beyond this many bytes.

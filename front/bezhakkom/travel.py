@@ -12,7 +12,7 @@ from .driver import Driver
 from .errors import Interrupted
 from .idle import IDLE_STEPS, Idleness
 from .limits import GREATEST_POSITION, VISIT_STEPS
-from .standstill import TURN, Quiet, Standstill, quiet, standstill
+from .standstill import TURN, VECTORS, Quiet, Standstill, quiet, standstill
 
 # A run goes in pieces. After each one `pause` is called, and may end the run.
 FIRST_PIECE = 1 << 16
@@ -35,7 +35,7 @@ class Reason(Enum):
     BREAKPOINT = "a breakpoint"
     WATCH = "a watch"
     STEPPED = "the end of a step"
-    BEGIN = "the begin of the run"
+    BEGIN = "the beginning of the run"
     END = "the greatest position"
     LIMIT = "the position to which it was to go"
     IDLE = "nothing sent, and nothing to come"
@@ -257,8 +257,17 @@ def _first_change(driver: Driver, watch: Watch, start: int, end: int) -> tuple[O
             return start, start
         driver.goto(start)
         still = quiet(driver, QUIET_TURN) if idle in QUIET_AFTER else None
-        start = min(still.end, end) if still and not still.turn else start + 1
+        start = _left(driver, still, end) if still and not still.turn else start + 1
     return None, start
+
+
+def _left(driver: Driver, still: Quiet, end: int) -> int:
+    """Up to where a loop that stands still from the position on goes round, at most up to an end."""
+    end = min(still.end, end)
+    if still.kind is not Standstill.ALARM:
+        return end
+    # An alarm leaves its loop and comes back to it.
+    return search.next_visit(driver, VECTORS, end - driver.position) or end
 
 
 def _last_change(driver: Driver, watch: Watch, lowest: int, end: int, pause: Pause) -> Optional[int]:
@@ -275,7 +284,8 @@ def _last_change(driver: Driver, watch: Watch, lowest: int, end: int, pause: Pau
         driver.goto(end)
         still = quiet(driver, QUIET_TURN) if idle % IDLE_STORES in QUIET_AFTER else None
         if still and not still.turn:
-            end = _begin(driver, lowest, still, QUIET_TURN)
+            left = search.last_visit(driver, VECTORS, lowest) if still.kind is Standstill.ALARM else None
+            end = _begin(driver, lowest if left is None else left, still, QUIET_TURN)
         if pause():
             raise Interrupted
     raise AssertionError("a run has a begin")

@@ -12,6 +12,7 @@ from pathlib import Path
 from bezhakkom import loading
 from bezhakkom import log as logs
 from bezhakkom.log import Event, Kind
+from bezhakkom.progress import progress
 from front.tests.support import ROOT, needs_kinds
 from front.tests.terminal import Terminal
 
@@ -165,6 +166,12 @@ def kill_program(terminal: Terminal) -> None:
     os.kill(int(children[0]), signal.SIGKILL)
 
 
+class Speed(unittest.TestCase):
+    def test_a_slow_run_has_a_speed(self) -> None:
+        self.assertEqual(progress(250_000, 0, None, 250_000.4), "position 250,000, 250,000 steps a second")
+        self.assertEqual(progress(3_000_000, 0, 6_000_000, 1.5e6), "position 3,000,000, 2 million steps a second, 50% of the way, 2 s left")
+
+
 class Shell(unittest.TestCase):
     def start(self, *arguments: str) -> Terminal:
         folder = tempfile.TemporaryDirectory()
@@ -182,6 +189,13 @@ class Shell(unittest.TestCase):
         terminal.until(b"event 0")
         terminal.until(b"> ")
         terminal.type(b"\x04")
+        terminal.until(b"not saved: the log")
+        terminal.until(b"> ")
+        # What is edited after that is told too.
+        terminal.type(b"add 6 0 2\r")
+        terminal.until(b"event 1")
+        terminal.until(b"> ")
+        terminal.type(b"quit\r")
         terminal.until(b"not saved: the log")
         terminal.until(b"> ")
         terminal.type(b"quit\r")

@@ -171,7 +171,8 @@ class Kinds(unittest.TestCase):
             self.assertEqual(kind_of(name, content), kind)
 
     def test_refused(self) -> None:
-        for name, content, said in (("x", b"R3KLOG1\n", "--log x IMAGE"), ("x", b"", "--kind rom"), ("x.S", b"?", "gcc")):
+        for name, content, said in (("x", b"R3KLOG1\n", "--log x IMAGE"), ("x", b"", "--kind rom"), ("x.S", b"?", "gcc"),
+                                    ("Makefile", b"all:\n\ttrue\n", "is text, and no image")):
             with self.assertRaisesRegex(Problem, said):
                 kind_of(name, content)
 

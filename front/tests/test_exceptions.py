@@ -99,7 +99,7 @@ class InTheShell(unittest.TestCase):
         self.assertEqual(self.said("catch exception", "continue"), first)
         self.assertEqual(self.said("catch exception", "continue", "continue")[0], "1: exception ov, overflow, in step 51, copy+0x34")
         self.assertEqual(self.said("catch exception", "goto 50", "reverse-continue"), first)
-        self.assertEqual(self.said("catch exception ov", "goto 50", "reverse-continue")[0], "that is the begin of the run")
+        self.assertEqual(self.said("catch exception ov", "goto 50", "reverse-continue")[0], "that is the beginning of the run")
         self.assertEqual(self.said("catch exception ov", "stops"), ["1: exceptions: overflow"])
         self.assertEqual(self.said("catch exception ov", "delete 1", "stops"),
                          ["there are none; `break A`, `watch A` and `catch exception` make one"])

@@ -102,6 +102,13 @@ class Typed(unittest.TestCase):
         terminal.press(b"starti 9\nwb log 0 2\n", b"step 5, line 0, 0x41")
         self.assertEqual(terminal.leave(b"quit\n"), 0)
 
+    def test_a_long_answer_shows_how_far_it_is(self) -> None:
+        terminal = self.gdb("--log", "examples/driver/log", "examples/driver/boot.s")
+        self.begin(terminal, "wb goto 1000000000000")
+        terminal.until(b"% of the way")
+        self.interrupt(terminal)
+        self.assertEqual(terminal.leave(b"quit\n"), 0)
+
     def test_ctrl_c_ends_loops_of_gdb(self) -> None:
         """Once pressed it ends the step, and the loop or the user's command with it."""
         terminal = self.gdb("--log", "examples/driver/log", "examples/driver/boot.s")
@@ -119,6 +126,9 @@ class Typed(unittest.TestCase):
         self.type(terminal, "wb add 1,000 0 65", "quit")
         shown = terminal.until(b"`quit` again leaves without it.")
         self.assertIn(b"not saved: the log (wb save-log FILE)", shown)
+        # What is edited after that is told too.
+        self.type(terminal, "wb add 1,001 0 66", "quit")
+        terminal.until(b"`quit` again leaves without it.")
         self.type(terminal, "quit")
         self.assertEqual(terminal.end(), 0)
 
@@ -150,7 +160,7 @@ class Kernel(unittest.TestCase):
         folder = tempfile.TemporaryDirectory()
         self.addCleanup(folder.cleanup)
         self.folder = Path(folder.name)
-        self.elf = str(self.folder / "kernel.elf")
+        self.elf = str(self.folder / "a kernel.elf")
         self.build(1)
 
     def build(self, step: int) -> None:
@@ -164,7 +174,7 @@ class Kernel(unittest.TestCase):
         return debugger.run([debugger.WB, "gdb", self.elf, *debugger.PLAIN, "-batch", *words]).splitlines()
 
     def test_the_jump_at_reset_has_a_name(self) -> None:
-        shown = "\n".join(self.gdb("stepi", f"file {self.elf}", "stepi", "info all-registers"))
+        shown = "\n".join(self.gdb("stepi", f"file '{self.elf}'", "stepi", "info all-registers"))
         self.assertEqual(shown.count("a jump to its entry 0x80010000 was put there"), 1)
         self.assertEqual(re.findall(r"0xbfc0000\w in reset", shown), [f"0xbfc0000{at} in reset" for at in "048"])
         self.assertNotIn("find the start of the function", shown)
@@ -177,7 +187,7 @@ class Kernel(unittest.TestCase):
         terminal.type(b"starti 46\nprint $r8\n")  # the fourth jump's step, the one before the loop, and 40 steps of it
         terminal.until(b"$1 = 11\r")
         self.build(3)
-        terminal.type(f"file {self.elf}\nload\n".encode())
+        terminal.type(f"file '{self.elf}'\nload\n".encode())
         self.assertIn(b"1 word of the image changed", terminal.until(b"(0) "))
         terminal.type(b"starti 46\nprint $r8\nquit\n")
         terminal.until(b"$2 = 33\r")

@@ -7,6 +7,7 @@ import lzma
 import os
 import pty
 import select
+import shutil
 import signal
 import subprocess
 import tempfile
@@ -50,6 +51,7 @@ class Plain(InFolder):
                 (["--json", "--"], b"", missing, 2),
                 (["none"], b"", "bin/wb: there is no file none\n", 2),
                 ([rom, "none"], b"", "bin/wb: there is no file none\n", 2),
+                (["sehll", rom], b"", "bin/wb: there is no file sehll, and no command of that name; is `shell` meant?\n", 2),
                 (["--log", "none", rom], b"", "bin/wb: there is no file none\n", 2),
                 (["."], b"", "bin/wb: . is no file that can be read\n", 2),
                 ([bad], b"", "r3kwb: error 9 BadImage Short\nbin/wb: that is x.img, taken as kind image\n", 1),
@@ -250,6 +252,21 @@ class Typed(unittest.TestCase):
         done = subprocess.run(f"yes pos | head -100000 | {WB} examples/echo/boot.s | head -1", shell=True,
                               capture_output=True, cwd=ROOT)
         self.assertEqual((done.stdout, done.stderr), (b"pos 0\n", b"r3kwb: error 12 WriteFault\n"))
+
+
+class Sources(unittest.TestCase):
+    def test_other_sources(self) -> None:
+        """Where the sources are not those of the shipped program, that it is made anew is said first, and how to do without."""
+        with tempfile.TemporaryDirectory() as folder:
+            root = Path(folder)
+            for name, content in (("bin/r3kwb.xz", ""), ("bin/r3kwb.txt", "sources 0\n"), ("crates.txt", "r3kwb:\n"), ("crates/r3kwb/src/main.rt", "")):
+                (root / name).parent.mkdir(parents=True, exist_ok=True)
+                (root / name).write_text(content)
+            shutil.copy(ROOT / "bin/r3kwb", root / "bin")
+            # As if `rt` were not installed.
+            done = subprocess.run(["bin/r3kwb"], cwd=root, env={"PATH": "/usr/bin:/bin"}, stdin=subprocess.DEVNULL, capture_output=True, text=True)
+        self.assertEqual(done.returncode, 70)
+        self.assertRegex(done.stderr, "proved and built here, which takes up to an hour. .* WB_PROGRAM=FILE bin/wb")
 
 
 if __name__ == "__main__":

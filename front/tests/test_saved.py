@@ -1,12 +1,14 @@
 """Sessions in a file: what is saved is opened again, in each front end."""
 from __future__ import annotations
 
+import os
 import re
 import shutil
 import subprocess
 import tempfile
 import unittest
 from pathlib import Path
+from unittest import mock
 
 from bezhakkom import gdb_stops, saved
 from bezhakkom.log import Event
@@ -62,6 +64,19 @@ class Saved(unittest.TestCase):
                      "wb patch 0x1fc00358 0x24040001", "goto 55,555", "watch session+0x8 1", "break receive", "idle 7,000,000"):
             self.assertIn(f"\n{line}\n", text)
         self.assertNotIn("'z'", text)
+
+    def test_names_with_blanks(self) -> None:
+        """Such a name stands between quotes, and `~` begins the user's folder."""
+        there = self.folder / "a b"
+        there.mkdir()
+        lines = (f"save '{there}/c d'", f'save-log "{there}/e f"', f"compare '{there}/e f'", f"trace 2 to '{there}/g h'",
+                 f"save-image '{there}/i j.img'", f"load '{there}/i j.img'", "save ~/k")
+        with mock.patch.dict(os.environ, HOME=str(there)):
+            said = shell(LOGIN, lines=lines).stdout.splitlines()
+        self.assertEqual(said[0], f"the session is saved in {there}/c d; `bin/wb shell '{there}/c d'` opens it")
+        self.assertIn(f"0 words of the image changed by {there}/i j.img", said)
+        self.assertEqual(sorted(it.name for it in there.iterdir()), ["c d", "e f", "g h", "i j.img", "k"])
+        self.assertEqual(shell(f"{there}/c d", lines=("pos",)).stdout, "step 0, start: lui r29, 0x8001\n")
 
     def test_one_whole_is_opened_elsewhere(self) -> None:
         before = self.save("whole")

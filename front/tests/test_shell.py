@@ -70,7 +70,7 @@ class Echo(unittest.TestCase):
             "step 78, loop+0xc: sll r7, r6, 16"])
         self.assertEqual(talk("c"), ["1: breakpoint at 0xbfc01018 <loop+0x18>", "step 81, loop+0x18: sw r0, 260(r8)"])
         self.assertEqual(talk("reverse-continue")[-1], "step 77, loop+0x8: sw r6, 256(r8)")
-        self.assertEqual(talk("rc"), ["that is the begin of the run", "step 0, 0xbfc00000: lui r1, 0xbfe0"])
+        self.assertEqual(talk("rc"), ["that is the beginning of the run", "step 0, 0xbfc00000: lui r1, 0xbfe0"])
         self.assertEqual(talk("delete 2", "stops"), ["1: breakpoint at 0xbfc01018 <loop+0x18>"])
         self.assertEqual(talk("delete 2"), ["there is no stop 2; `stops` lists them"])
         self.assertEqual(talk("c", "c")[1::2], ["step 81, loop+0x18: sw r0, 260(r8)", "step 213, loop+0x18: sw r0, 260(r8)"])
@@ -282,8 +282,23 @@ class Habits(unittest.TestCase):
                 ("x/4wx 0x80001000", "mem 0x80001000 4"), ("x /2g sp", "mem sp 4"), ("x/9xb sp", "mem sp 3"), ("x/3h sp", "mem sp 2"),
                 ("x/8i $pc", "dis $pc 8"), ("x/s session", "mem session 4"), ("x sp 2", "x sp 2"), ("p $pc", "p $pc"),
                 ("p/x $pc", "print $pc"), ("p *main", "p [main]"), ("print *(char*)main", "print byte[main]"),
-                ("stepi 2", "step 2"), ("monitor goto 5", "goto 5"), ("disassemble main", "dis main"), ("set 0 'x'", "set 0 'x'")):
+                ("stepi 2", "step 2"), ("monitor goto 5", "goto 5"), ("disassemble main", "dis main"), ("disas main", "dis main"), ("set 0 'x'", "set 0 'x'")):
             self.assertEqual(translated(line), wanted, line)
+
+    def test_a_small_number_is_no_address_of_a_kernel(self) -> None:
+        """`done` stands six words after 0x80010000."""
+        talk = Talk("user-mode", log=False)
+        self.addCleanup(talk.driver.close)
+        self.assertEqual(talk("print done", "print 0xa001001c", "print 0x10018"), [
+            "done = 0x80010018  2,147,549,208  <done>", "0xa001001c = 0xa001001c  2,684,420,124  <done+0x4>", "0x10018 = 0x00010018  65,560"])
+
+    def test_registers_as_assembler_has_them(self) -> None:
+        talk = Talk("login", "login.elf", log=False)
+        self.addCleanup(talk.driver.close)
+        # `la $sp, stack_top` is the first two instructions.
+        self.assertEqual(talk("goto 2", "print $29", "reg $29", "print r29-$29+$0", "writer $29", "print $32", "why $29")[:7], [
+            "step 2, start+0x8: lui r8, 0xbfc0", "$29 = 0x80011000  2,147,553,280  <stack_top>", "sp = 0x80011000  2,147,553,280  <stack_top>",
+            "r29-$29+$0 = 0x00000000  0", "step 1, start+0x4, 1 step ago: addiu r29, r29, 4096", "there is no register 32", "sp at step 2: 0x80011000 <stack_top>   from 1"])
 
     def test_lines_that_have_none(self) -> None:
         talk = Talk("login", "login.elf", log=False)
@@ -292,7 +307,7 @@ class Habits(unittest.TestCase):
                 ("watch session.length", "is C, whose types the shell does not know. session is at 0x80001000 of 36 bytes: .* print "
                  "&session.length"),
                 ("watch session->user", "session\\+4, and for `watch` its size"), ("p session[3]", "session is at 0x80001000"),
-                ("bt", "`bin/wb gdb` has `bt`"), ("next", "`visit pc\\+8` at a call"), ("finish", "`visit ra`"), ("run", "`goto 0`"),
+                ("bt", "`bin/wb gdb` has `bt`"), ("where", "`bin/wb gdb` has `bt`"), ("next", "`visit pc\\+8` at a call"), ("finish", "`visit ra`"), ("run", "`goto 0`"),
                 ("list", "no source lines"), ("info locals", "`info` of registers"), ("break login.c:42", "is a line"),
                 ("break main if v0 == 1", "no conditions"), ("set var x = 1", "`patch A W`"), ("tbreak main", "`bin/wb gdb` has them")):
             self.assertRegex(talk(line)[0], said, line)
@@ -303,7 +318,7 @@ class Habits(unittest.TestCase):
         self.assertEqual(talk("b *main+4", "c", "x/2i $pc", "p *start", "info b", "rc", "si"), [
             "1: breakpoint at 0xbfc00358 <main+0x4>", "1: breakpoint at 0xbfc00358 <main+0x4>", "step 113, main+0x4: sw r31, 20(r29)",
             "=> 0xbfc00358 <main+0x4>: 0xafbf0014  sw r31, 20(r29)", "   0xbfc0035c <main+0x8>: 0x3c02bfe0  lui r2, 0xbfe0",
-            "[start] = 0x3c1d8001  1,008,566,273", "1: breakpoint at 0xbfc00358 <main+0x4>", "that is the begin of the run",
+            "[start] = 0x3c1d8001  1,008,566,273", "1: breakpoint at 0xbfc00358 <main+0x4>", "that is the beginning of the run",
             "step 0, start: lui r29, 0x8001", "step 1, start+0x4: addiu r29, r29, 4096"])
 
 

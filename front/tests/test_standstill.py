@@ -7,6 +7,7 @@ from typing import Optional, Sequence
 
 from bezhakkom import ticks, travel
 from bezhakkom.driver import Driver
+from bezhakkom.expecting import until_sent
 from bezhakkom.limits import GREATEST_POSITION
 from bezhakkom.log import Event, Kind
 from bezhakkom.replies import memory, registers
@@ -14,7 +15,7 @@ from bezhakkom.standstill import Quiet, Standstill, quiet, standstill
 from bezhakkom.states import followed, registers_at
 from front.tests import brute
 from front.tests.support import DATA, immediate, needs_kinds, random_rom, rom, start
-from bezhakkom.travel import Reason, Stops
+from bezhakkom.travel import Reason, Stops, Watch
 
 STEPS = 600
 LOOKED_AT = 100
@@ -36,6 +37,14 @@ TICKS = [0x3C08BFE8, 0x2409002C, 0xAD090028, 0x24090046, 0xAD09002C]
 # lui r26, 0xbfe8; lw r26, 48(r26); mfc0 r26, c14; nop; jr r26; rfe
 HANDLER = [0x3C1ABFE8, 0x8F5A0030, 0x401A7000, 0, 0x03400008, 0x42000010]
 COUNT, COUNT_IN_MEMORY = [0x277B0001], [0x3C1BA000, 0x8F7A0100, 0, 0x275A0001, 0xAF7A0100, 0]  # r27; the word at 0x100
+# lui r8, 0xbfe8; addiu r9, r0, 5; sw r9, 4(r8); addiu r9, r0, 0x26; sw r9, 44(r8): an alarm; lui r29, 0xa000; addiu r2, r0, 7;
+# sw r2, 256(r29); beq r0, r0, back; nop
+ALARM_LOOP = [0x3C08BFE8, 0x24090005, 0xAD090004, 0x24090026, 0xAD09002C, *HEARS_CLOCK, 0x3C1DA000, 0x24020007, 0xAFA20100, 0x1000FFFE, 0]
+ALARM_LOOP += [0] * (0x180 // 4 - len(ALARM_LOOP))
+# The serial part is on, and line 0 may send: addiu r2, r0, 1; sw r2, 16(r1); the alarm, in each minute of each hour: addiu r9, r0, 0xc0;
+# sw r9, 12(r8); sw r9, 20(r8); and the loop
+ALARM_SENDS = [*SERIAL_ON, 0x24020001, 0xAC220010, *ALARM_LOOP[:8], 0x240900C0, 0xAD09000C, 0xAD090014, *END]
+ALARM_SENDS += [0] * (0x180 // 4 - len(ALARM_SENDS))
 TICKING = [*TICKS, *HEARS_CLOCK, *END]
 TICKING += [0] * (0x180 // 4 - len(TICKING))
 
@@ -215,6 +224,33 @@ class Stands(unittest.TestCase):
         # A run that began in such a loop goes on, for the alarm, up to where it pauses.
         stop = travel.forward(driver, Stops(idle=100_000), lambda: False)
         self.assertEqual((stop.reason, stop.position, stop.steps), (Reason.ALARM, 100_020, 8192))
+
+    def test_what_an_alarm_stores_is_not_passed_over(self) -> None:
+        """In its loop the program stores 7 again and again. Once, when the clock comes to second 5, which is in step 40,959, the handler
+        stores 0 over it. Watches stop at that store, and at the next one of the loop."""
+        watch = Watch(0xA000_0100, 4, 0x100)
+        driver = self.driver([*ALARM_LOOP, 0xAFA00100, *HANDLER])
+        words = [memory(lines)[0] for lines in driver.values([it for at in range(40_940, 41_000) for it in (f"goto {at}", "mem 0x100 1")])[1::2]]
+        changes = [40_940 + at for at in range(len(words) - 1) if words[at] != words[at + 1]]
+        self.assertEqual(len(changes), 2)
+        for begin in 100, 20_000:
+            driver.goto(begin)
+            stop = travel.forward(driver, Stops(watches={watch}), lambda: False)
+            self.assertEqual((stop.reason, stop.position), (Reason.WATCH, changes[0]))
+        for begin in 45_000, 70_000:
+            driver.goto(begin)
+            self.assertEqual([travel.backward(driver, Stops(watches={watch}), lambda: False).position for _ in range(3)], [*changes[::-1], 10])
+
+    def test_an_alarm_is_expected(self) -> None:
+        """The handler sends an A in second 5 of each minute. Up to a step that is named it is waited for: the fourth comes 185 seconds
+        after reset, each of 8,192 steps."""
+        driver = self.driver([*ALARM_SENDS, 0x3C1ABFE0, 0x241B0041, 0xAF5B0018, *HANDLER])
+        self.assertIsNone(until_sent(driver, 0, 0, b"AAAA", 3_000_000, 0))
+        self.assertIn(driver.position, range(1_515_520, 1_515_560))
+        silence = until_sent(driver, 0, 4, b"A", 2_000_000, 0)
+        self.assertEqual((silence and silence.why, driver.position), ("that was looked for up to step 2,000,000", 2_000_000))
+        silence = until_sent(driver, 0, 4, b"B", GREATEST_POSITION, 0)
+        self.assertIn("only an alarm of the clock can leave", silence.why if silence else "")
 
     def test_ticks(self) -> None:
         """A second has 8,192 steps and 16 ticks. Where the handler counts nothing each second is as the one before."""

@@ -208,6 +208,12 @@ class Rows(unittest.TestCase):
             self.assertIsNone(shown["state"]["undo"])
             viewed.check(self, image, log, shown["now"], [LENGTH], exact=False)
 
+    def test_targets_are_virtual(self) -> None:
+        """The branch that tells a backspace is the one of the worked example of `why`."""
+        with laid_out(*LOGIN) as desk:
+            listed = Hand(desk).ask(view=view(40_000, 40_400), cursor=40_017)["cursor"]["listed"]
+        self.assertEqual([it for it in listed if it[3]], [[0xBFC0_0284, "read_line+0x5c", "beq r2, r3, 0xbfc00244 <read_line+0x1c>", True]])
+
     def test_many_bytes_in_one_step(self) -> None:
         with laid_out(*DRIVER) as desk:
             shown = Hand(desk).ask(view=view(0, SPAN))["now"]["events"]
@@ -274,6 +280,12 @@ class Pasts(unittest.TestCase):
             edit = hand.edit("add", id=70, time=5, line=0, byte=65)
             for _ in range(2):
                 self.assertEqual(hand.ask(edits=[edit])["state"]["events"], 11)
+
+    def test_two_pages_number_their_edits(self) -> None:
+        with laid_out(*LOGIN) as desk:
+            replies = [desk.answer(Fields({"page": page, "edits": [{"number": 1, "do": "delete", "id": identity, "gesture": identity + 1}]}))
+                       for identity, page in enumerate(("one", "two"))]
+            self.assertEqual([(it["edit"], it["state"]["events"]) for it in replies], [(1, 9), (1, 8)])
 
     def test_kept_pasts(self) -> None:
         image, log = brute.image("login/login.elf"), brute.log_of("login")
@@ -493,6 +505,14 @@ class Left(unittest.TestCase):
             self.assertIsNotNone(server._leaving)
             self.assertEqual(posted(server, {}).status, 200)
             self.assertIsNone(server._leaving)
+        with laid_out(*LOGIN) as desk, served(desk) as server, mock.patch("bezhakkom.view.server.LEAVE", 3600):
+            # Two pages. The server ends with the last of them.
+            for page in "one", "two":
+                posted(server, {"page": page})
+            posted(server, {"page": "one"}, name="left")
+            self.assertIsNone(server._leaving)
+            posted(server, {"page": "two"}, name="left")
+            self.assertIsNotNone(server._leaving)
         with laid_out(*LOGIN) as desk:
             server = Server(desk)
             thread = threading.Thread(target=server.serve_forever, args=(0.02,))
@@ -513,20 +533,23 @@ class Line(unittest.TestCase):
             self.assertIn(reason, str(caught.exception))
 
     def test_ctrl_c(self) -> None:
-        """It ends the server. Where edits are not saved it says so first, and a second one ends it."""
+        """It ends the server. Where edits are not saved it says so first, and a second one ends it, unless there was another edit."""
         words = [sys.executable, str(ROOT / "front/bezhakkom"), "view", *LOGIN]
-        edit = {"number": 1, "do": "delete", "id": 0, "gesture": 1}
-        for edits, said in ([], ""), ([edit], "bin/wb: there are edits that are not saved: the page saves them, and Ctrl-C again drops them\n"):
+        deleted = [[{"number": it, "do": "delete", "id": it, "gesture": it}] for it in (1, 2)]
+        warning = "bin/wb: there are edits that are not saved: the page saves them, and Ctrl-C again drops them\n"
+        for made in [], deleted:
             with subprocess.Popen(words, stdin=subprocess.DEVNULL, stdout=subprocess.PIPE, stderr=subprocess.PIPE, text=True) as process:
                 assert process.stdout and process.stderr
                 address = process.stdout.readline().strip()
-                request = urllib.request.Request(f"{address}ask", json.dumps({"edits": edits}).encode(),
-                                                 {"Content-Type": "application/json", "Origin": address[:address.index("/", 8)]})
-                with urllib.request.urlopen(request, timeout=300) as reply:
-                    self.assertEqual(json.load(reply)["state"]["unsaved"], bool(edits))
-                process.send_signal(signal.SIGINT)
-                if edits:
-                    self.assertEqual(process.stderr.readline(), said)
+                for edits in made or [[]]:
+                    request = urllib.request.Request(f"{address}ask", json.dumps({"edits": edits}).encode(),
+                                                     {"Content-Type": "application/json", "Origin": address[:address.index("/", 8)]})
+                    with urllib.request.urlopen(request, timeout=300) as reply:
+                        self.assertEqual(json.load(reply)["state"]["unsaved"], bool(edits))
+                    process.send_signal(signal.SIGINT)
+                    if edits:
+                        self.assertEqual(process.stderr.readline(), warning)
+                if made:
                     process.send_signal(signal.SIGINT)
                 self.assertEqual((process.stderr.read(), process.wait(300)), ("", 0))
 

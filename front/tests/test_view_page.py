@@ -375,6 +375,15 @@ class Page(unittest.TestCase):
             self.assertGreater(moved[1], 45_000)
             self.check("login/login.elf", brute.moved(log, 2, moved[1]), [LENGTH])
 
+    def test_labels_stand_apart(self) -> None:
+        """The main loop of the driver counts in a word, so that each sample of it has another value. A letter takes some 7 pixels."""
+        with self.page(*DRIVER[:2], "--words", "0xa000100c", DRIVER[-1]):
+            texts = ElementTree.fromstring(self.browser.later(viewed.PICTURE)).iter("{http://www.w3.org/2000/svg}text")
+            labels = [(float(it.attrib["x"]), str(it.text)) for it in texts if "store" in it.attrib["class"].split()]
+        self.assertGreater(len(labels), 5)
+        for (x, text), (following, _) in zip(labels, labels[1:]):
+            self.assertGreater(following, x + 7 * len(text))
+
     def test_saving(self) -> None:
         """The log is saved by its key and read back; the picture is SVG, and the page that is saved has no script."""
         with self.page(*LOGIN):

@@ -380,8 +380,11 @@ class Said(unittest.TestCase):
 
     def test_in_gdb(self) -> None:
         debugger.needed()
-        shown = debugger.batch("login/login.elf", "wb goto 40025", "wb why &session.length", "wb why $v1 at 40024 steps 1", log="login/log")
+        shown = debugger.batch("login/login.elf", "wb goto 40025", "wb why &session.length", "wb why $v1 at 40024 steps 1", "wb causes &session.length",
+                               "wb when &session.length == 1", log="login/log")
         self.assertIn("10 steps, no event", shown)
+        self.assertIn("session+0x20 at step 40,025: 0xffffffff", shown)
+        self.assertIn("0x80001020 == 1 holds first at step 20,032, after step 20,031, read_line+0x94 (login.c:48), 19,994 steps ago: sw r3, 32(r4)", shown)
         self.assertIn("v1 at step 40,024: 0xffffffff   from 40,023", shown)
 
 

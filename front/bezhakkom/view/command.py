@@ -80,16 +80,17 @@ def end_of(driver: Driver, wanted: Optional[int]) -> int:
 
 
 def serve(desk: Desk, port: int, is_opened: bool) -> None:
-    """Serves the page until it is left, or Ctrl-C. Where edits are not saved it takes a second one."""
+    """Serves the page until it is left, or Ctrl-C. Where edits are not saved it takes a second one before the next edit."""
     server = Server(desk, port)
-    is_warned = False
+    warned: object = None  # the log that was said to be unsaved
 
     def press(number: int, frame: Any) -> None:
-        nonlocal is_warned
-        if is_warned or not desk.is_unsaved():
+        nonlocal warned
+        log = desk.unsaved()
+        if log is None or log == warned:
             threading.Thread(target=server.shutdown, daemon=True).start()  # it waits for the loop that this signal is in
             return
-        is_warned = True
+        warned = log
         loading.say("there are edits that are not saved: the page saves them, and Ctrl-C again drops them")
 
     before = signal.signal(signal.SIGINT, press)

@@ -81,7 +81,7 @@ class Desk:
         self._done: List[State] = []
         self._undone: List[State] = []
         self._gesture: Optional[int] = None  # that is under way
-        self._edit = 0  # the number of the last edit
+        self._edit: Dict[str, int] = {}  # the number of the last edit of each page
         self._saved: Tuple[Event, ...] = tuple(driver.log)
         self._sweep: Optional[Tuple[Any, Sweep]] = None
         driver.wants_stop = lambda: self._stop
@@ -93,8 +93,10 @@ class Desk:
             if self._other:
                 self._other.driver.close()
 
-    def is_unsaved(self) -> bool:
-        return tuple(self._now.log) != self._saved
+    def unsaved(self) -> Optional[Tuple[Event, ...]]:
+        """The log, where it is not saved."""
+        log = tuple(self._now.log)
+        return log if log != self._saved else None
 
     def interrupt(self) -> None:
         """Ends what takes long."""
@@ -133,7 +135,7 @@ class Desk:
                 self._asked(ask, reply)
             except Interrupted:
                 reply["problem"] = INTERRUPTED
-            reply["edit"] = self._edit
+            reply["edit"] = self._edit.get(ask.text("page", ""), 0)
             reply["state"] = self._state()
             costs = [asker.cost for asker in self._askers()]
             reply["cost"] = {"questions": sum(it.questions for it in costs), "batches": sum(it.batches for it in costs),
@@ -148,7 +150,7 @@ class Desk:
         return {"image": os.path.basename(driver.image.name), "end": self.end, "cursor": self._cursor, "words": [it.name for it in self.words],
                 "events": len(self._now.log), "undo": self._done[-1].made_by if self._done else None,
                 "redo": self._undone[-1].made_by if self._undone else None, "kept": list(self._kept), "against": self._shown,
-                "unsaved": self.is_unsaved()}
+                "unsaved": self.unsaved() is not None}
 
     def _asked(self, ask: Fields, reply: Dict[str, Any]) -> None:
         """All that a request asks after its edits."""
@@ -276,11 +278,12 @@ class Desk:
     def _edits(self, ask: Fields, reply: Dict[str, Any]) -> None:
         """Makes edits. One that was made already, as the reply to it was lost, is not made again. Those of one gesture are one step of
         undo."""
+        page = ask.text("page", "")
         for edit in ask.parts("edits", MOST_EDITS):
             number = edit.number("number", 1, GREATEST_ID)
-            if number <= self._edit:
+            if number <= self._edit.get(page, 0):
                 continue
-            self._edit = number
+            self._edit[page] = number
             try:
                 self._make(edit)
             except (Problem, Interrupted) as problem:

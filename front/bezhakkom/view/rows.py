@@ -351,7 +351,7 @@ def cursor(past: Past, position: int, words: Sequence[int], symbols: Symbols) ->
         for line in lines:
             place, content, shown = line.split(None, 2)
             at = (state.pc + int(place, 16) - physical) & 0xFFFF_FFFF
-            listed.append([at, symbols.name(at), shown, int(place, 16) == physical])
+            listed.append([at, symbols.name(at), symbols.retargeted(at, int(place, 16), shown), int(place, 16) == physical])
             if int(place, 16) == physical and (code(int(content, 16)) in LOADS or code(int(content, 16)) in STORES):
                 accessed = address(int(content, 16), state)
     found = yield from counts(past, [position])

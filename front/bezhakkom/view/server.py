@@ -52,17 +52,23 @@ class Server(ThreadingHTTPServer):
         self.host = f"{HOST}:{self.server_address[1]}"
         self.origin = f"http://{self.host}"
         self.address = f"{self.origin}/{self.token}/"
+        self._pages: set[str] = set()  # that have asked, and are not closed
         self._leaving: Optional[threading.Timer] = None
 
-    def came(self) -> None:
-        """The page is there, perhaps again."""
+    def came(self, page: Optional[str] = None) -> None:
+        """A page is there, perhaps again."""
+        if page is not None:
+            self._pages.add(page)
         if self._leaving:
             self._leaving.cancel()
             self._leaving = None
 
-    def left(self) -> None:
-        """The page was closed or is loaded anew."""
+    def left(self, page: str) -> None:
+        """A page was closed or is loaded anew. The server ends with the last one."""
+        self._pages.discard(page)
         self.came()
+        if self._pages:
+            return
         self._leaving = threading.Timer(LEAVE, self.shutdown)
         self._leaving.daemon = True
         self._leaving.start()
@@ -109,17 +115,18 @@ class _Handler(BaseHTTPRequestHandler):
         content = self.rfile.read(int(size[0]))
         if len(content) < int(size[0]):
             return self._refuse(400)
-        if name == LEFT:
-            self.server.left()
-            return self._send(204, "text/plain", b"")
         if name == STOP:
             self.server.desk.interrupt()
             return self._send(204, "text/plain", b"")
-        self.server.came()
         try:
             ask = Fields(json.loads(content))
+            page = ask.text("page", "")
         except (ValueError, RecursionError, Problem):
             return self._refuse(400)
+        if name == LEFT:
+            self.server.left(page)
+            return self._send(204, "text/plain", b"")
+        self.server.came(page)
         self._send(200, "application/json", json.dumps(self._answer(ask), separators=(",", ":")).encode())
 
     def _answer(self, ask: Fields) -> Any:

@@ -10,7 +10,7 @@ from .. import loading, saved
 from ..commands import BEFORE, WHAT_IF, command
 from ..errors import Problem
 from ..log import Event, changes
-from ..saving import FORCE_WORD, save
+from ..saving import FORCE_WORD, name_of, save
 from ..session import Session
 from . import compare as comparing
 from . import futures as futures_of
@@ -142,7 +142,7 @@ def compare(session: Session, words: list[str]) -> None:
 
 
 def _log(session: Session, name: str) -> List[Event]:
-    return session.logs[name] if name in session.logs else logs.read(loading.content_of(name), name)
+    return session.logs[name] if name in session.logs else logs.read(loading.content_of(name_of(name)), name)
 
 
 _WHEN = "when ADDRESS OP VALUE [at N] [--json]"
@@ -185,7 +185,7 @@ _FUZZ = f"fuzz FROM until CONDITION [seed S] [steps N] [tries N] [save FILE [for
 def fuzz(session: Session, words: list[str]) -> None:
     line = Words(session, words, _FUZZ, "until", "seed", "steps", "tries", "save", FORCE_WORD)
     seed, tries = line.number_after("seed", 1), line.number_after("tries", _TRIES)
-    file, until = line.after("save") or f"crash-{seed}.session", line.following("until")
+    file, until = name_of(line.after("save") or f"crash-{seed}.session"), line.following("until")
     steps, is_forced = line.number_after("steps", 0), line.has(FORCE_WORD)
     if not until or len(line.rest) != 1:
         raise line.problem("a position and a condition are wanted")

@@ -103,7 +103,8 @@ class Words:
             return f"byte {place:,} of line {line}", Sent(line, place)
         register = None if session.symbols.address(name) is not None else _register(name)
         if register:
-            return name.lstrip("$"), register
+            shown = name.lstrip("$")
+            return register.name if shown.isdigit() else shown, register
         address, physical = session.word_at(name)
         return session.place(address), Word(physical)
 
@@ -157,8 +158,8 @@ class Words:
 
 
 def _register(name: str) -> Optional[Register]:
-    name = name.lstrip("$")
     number = register_number(name)
+    name = name.lstrip("$")
     if number is not None:
         return Register(expressions.REGISTERS[number], number)
     if name in CONTROL_NAMES:

@@ -6,6 +6,7 @@ const MOST_EDITS = 2000;                    // of one request
 const MOST_NAME = 200;                      // characters of the name of an edit
 let want = null, busy = false, resting = 0, failures = 0;
 let numbers = 0, edits = 0, pasts = 0;
+const page = `${Math.random()}`;            // tells this page from others of the same desk: each numbers its own edits
 let unsent = [], sent = [];                 // edits that no reply has confirmed
 let draw = () => {}, settled = () => {};
 export const timings = [];                  // of each answered hand movement, for the measures
@@ -42,6 +43,7 @@ export function ask(part, began) {
 
 function body(wanted) {
   const {waiting, began, draw, ghost, ...made} = wanted;
+  made.page = page;
   made.number = ++numbers;
   made.edits = sent = [...sent, ...unsent.splice(0, Math.max(0, MOST_EDITS - sent.length))];
   made.cursor = s.cursor;
@@ -58,7 +60,7 @@ async function post(name, content) {
   return name === "ask" ? reply.json() : null;
 }
 export const stop = () => post("stop", {}).catch(() => {});
-export const leave = () => post("left", {}).catch(() => {});
+export const leave = () => post("left", {page}).catch(() => {});
 
 async function pump() {
   busy = true;

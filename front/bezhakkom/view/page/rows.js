@@ -199,24 +199,29 @@ function word(pen, row, it, isGhost) {
   const color = isGhost ? "ghost" : "store", values = [...it.samples, ...it.stores].map(([, value]) => value);
   const low = Math.min(...values.map(signed)), high = Math.max(...values.map(signed));
   const y = value => row.y + ROW - 7 - (high > low ? (signed(value) - low) / (high - low) : 0) * (ROW - 20) + (isGhost ? 2 : 0);
-  let before = null, seen = null;
+  let before = null, seen = null, free = -1e9;
+  const label = (x, value) => {
+    if (isGhost || x <= free) return;
+    const text = brief(value);
+    pen.text(x + 3, row.y + 7, text, color, "fixed"); free = x + 7 * text.length + 8;
+  };
   for (const [at, value] of it.samples) if (at <= it.exact) {
     if (seen !== null) pen.path([[X(seen[0]), y(seen[1])], [X(at), y(value)]], color, 1, [1, 3]);
     pen.rect(X(at) - 1, y(value) - 1, 3, 3, color);
-    if (seen !== null && seen[1] !== value && !isGhost) pen.text(X(at) + 3, row.y + 7, brief(value), color, "fixed");
+    if (seen !== null && seen[1] !== value) label(X(at), value);
     seen = [at, value]; before = value;
   }
   // What the word held before its first store in view stands in the samples, or is what the first sample says.
   if (!isGhost && it.exact > s.view.begin && !s.live) pen.hatch(LEFT, row.y + ROW - 8, X(Math.min(it.exact, s.view.end)) - LEFT, 5, "rule", false);
   if (it.exact >= s.view.end) return;
   const points = [];
-  let x = X(it.exact), value = before === null ? null : before, free = -1e9;
+  let x = X(it.exact), value = before === null ? null : before;
   for (const [step, held] of it.stores) {
     if (value !== null) points.push([x, y(value)], [X(step), y(value)]);
     x = X(step); value = held;
     points.push([x, y(value)]);
     pen.rect(x, y(value) - 3, 1.5, 6, color);
-    if (!isGhost && x > free) { const text = brief(value); pen.text(x + 3, row.y + 7, text, color, "fixed"); free = x + 7 * text.length + 8; }
+    label(x, value);
   }
   if (value === null) value = it.samples.length ? it.samples[it.samples.length - 1][1] : 0;
   points.push([x, y(value)], [LEFT + columns(), y(value)]);
