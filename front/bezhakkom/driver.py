@@ -21,8 +21,8 @@ from .limits import CONSOLE_BYTES, GREATEST_POSITION, READS, SPAN, STORES, TRACE
 from .log import ADDS, Event, Kind, changes
 from .log import write as write_log
 from .progress import TerminalProgress
-from .program import WINDOW, Program, Stop, reads_of
-from .protocol import COMMANDS, command_of
+from .program import Program, Stop, reads_of
+from .protocol import COMMANDS, command_of, lines_after
 from .replies import Registers, Where, Writer, number_of, words_of
 from .tracing import Traced
 from .visits import Visits
@@ -47,8 +47,6 @@ class Driver:
         self.report = report
         # Asked in each turn: true to end it, as Ctrl-C does.
         self.wants_stop: Callable[[], bool] = lambda: False
-        # The most commands under way. With more of them quick ones take less time, and a turn is ended later.
-        self.window = WINDOW
         self._most_reads = most_reads
         self._original: Optional[Boot] = None
         self._boot: Optional[Boot] = None
@@ -162,6 +160,27 @@ class Driver:
             assert refusal
             raise explained(refusal)
         return text[len(told):-len(told)]
+
+    def answers(self, questions: Sequence[tuple[int, str]]) -> list[list[str]]:
+        """The replies to questions in the order of their positions, in far less time than `values` takes. None of them is an edit, or moves.
+        The position stays."""
+        begin = last = questions[0][0]
+        commands = []
+        for position, question in questions:
+            if position != last:
+                commands.append(f"goto {position}")
+                last = position
+            commands.append(question)
+        with self.long_run():
+            self._run_ahead(last)
+            lines = self.text(begin, commands).decode().split("\n")
+        found, at = [], 0
+        for command in commands:
+            end = at + 1 + lines_after(command, lines[at])
+            if not command.startswith("goto "):
+                found.append(lines[at:end])
+            at = end
+        return found
 
     def where(self, virtual: int) -> Where:
         return replies.where(self.value(f"where {virtual}"))
@@ -300,7 +319,7 @@ class Driver:
         """The replies to commands, with the position that the program has after each."""
         count = 0
         with self._in_step() as stop:
-            for reply in program.turn(commands, stop, self.window):
+            for reply in program.turn(commands, stop):
                 found = command_of(words_of(commands[count]))
                 if found and found.shows_position and not replies.is_refusal(reply[0]):
                     program.position = replies.last_number(reply)

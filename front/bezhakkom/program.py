@@ -20,7 +20,7 @@ from .protocol import has_reply, lines_after
 # What is shipped, by checksums.
 SHIPPED = (PACKAGE if IS_INSTALLED else REPOSITORY / "bin") / "r3kwb.txt"
 
-# The most commands under way, where no other number is given. All of these are answered before a turn can end.
+# The most commands under way. All of these are answered before a turn can end.
 WINDOW = 64
 
 # For replies that nobody has taken yet. Linux's F_SETPIPE_SZ has a name in Python from 3.10 on.
@@ -86,8 +86,8 @@ class Program:
         # How many reads of its input the program may have made at most: one for each write, and for each full piece.
         self.reads = reads_of(content + log)
 
-    def turn(self, commands: Sequence[str], stop: Stop, window: int = WINDOW) -> Iterator[list[str]]:
-        """The replies to commands, one by one, of which so many are under way. It ends early, in step, where it is to stop."""
+    def turn(self, commands: Sequence[str], stop: Stop) -> Iterator[list[str]]:
+        """The replies to commands, one by one, of which some are under way. It ends early, in step, where it is to stop."""
         under_way: deque[str] = deque()
         sent = 0
         while sent < len(commands) or under_way:
@@ -97,7 +97,7 @@ class Program:
                 raise Ended("the program was ended")
             if wish and not under_way:
                 return
-            while not wish and sent < len(commands) and len(under_way) < window:
+            while not wish and sent < len(commands) and len(under_way) < WINDOW:
                 self._put(commands[sent])
                 under_way.append(commands[sent])
                 sent += 1

@@ -26,11 +26,11 @@ def counters_at(driver: Driver, positions: range) -> list[int]:
     return [counter for lines in driver.values(asked)[1::2] for _, counter in replies.timed(lines)]
 
 
-def of_counters(positions: Sequence[int], apart: int = 1) -> Iterator[Tuple[int, str]]:
-    """Questions for the PC at positions in ascending order, each with its own position: those that stand so many steps apart are asked for
+def of_counters(positions: Sequence[int]) -> Iterator[Tuple[int, str]]:
+    """Questions for the PC at positions in ascending order, each with its own position: those that follow one another are asked for
     together. The run is gone along once more for them than for what else is asked there."""
-    for it in stretches(positions, PCS, apart):
-        yield it.start, f"pcs {apart} {len(it)}"
+    for it in stretches(positions, PCS):
+        yield it.start, f"pcs 1 {len(it)}"
 
 
 def of_steps(line: int, places: Sequence[int]) -> Iterator[str]:
@@ -39,14 +39,14 @@ def of_steps(line: int, places: Sequence[int]) -> Iterator[str]:
         yield f"finds {line} {it.start} {len(it)}"
 
 
-def stretches(numbers: Sequence[int], most: int, apart: int = 1) -> Iterator[range]:
-    """Numbers in ascending order, as ranges of at most so many that stand so far apart."""
+def stretches(numbers: Sequence[int], most: int) -> Iterator[range]:
+    """Numbers in ascending order, as ranges of at most so many that follow one another."""
     at = 0
     while at < len(numbers):
         end = at + 1
-        while end < len(numbers) and end - at < most and numbers[end] == numbers[end - 1] + apart:
+        while end < len(numbers) and end - at < most and numbers[end] == numbers[end - 1] + 1:
             end += 1
-        yield range(numbers[at], numbers[end - 1] + 1, apart)
+        yield range(numbers[at], numbers[end - 1] + 1)
         at = end
 
 

@@ -55,8 +55,13 @@ def read(line: str) -> Traced:
                   pair("register", "value"), pair("hi", "lo"), access, pair("line", "byte"), bool(found["ts"]), number("code"))
 
 
+def pc_of(line: str) -> int:
+    """Where the step is alone, in far less time."""
+    return int(line.split(None, 3)[2], 16)
+
+
 def value(line: str) -> dict[str, Any]:
-    """The same as a value of JSON, with those parts that there are."""
+    """What a line of a reply says as a value of JSON, with those parts that there are."""
     return value_of(read(line))
 
 

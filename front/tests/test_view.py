@@ -234,15 +234,17 @@ class Costs(unittest.TestCase):
         with laid_out("--to", "10000000", *LOGIN) as desk:
             hand = Hand(desk)
             for window in (view(0, 2 * SPAN), view(0, desk.end), view(39_900, 40_300)):
-                first = hand.ask(view=window, cursor=40_024)["cost"]
-                self.assertLessEqual(first["batches"], 6)
-                self.assertLessEqual(first["questions"], 1_000)
-                self.assertEqual(hand.ask(view=window, cursor=40_024)["cost"]["questions"], 4)  # registers, the word, instructions
-                costs = [hand.ask(view=window, cursor=40_024, live=True, edits=[
-                    hand.edit("change", id=2, time=40_000 + 900 * turn, byte=8, again=turn > 0)])["cost"] for turn in range(1, 8)]
-                hand.ask(edits=[hand.edit("undo")])
-                self.assertLessEqual(max(it["batches"] for it in costs[1:]), 4, costs)
-                self.assertLessEqual(max(it["questions"] for it in costs), 600, costs)
+                for cursor in (40_024, 60_000, desk.end):  # before what is dragged, between, and after it
+                    first = hand.ask(view=window, cursor=cursor)["cost"]
+                    self.assertLessEqual(first["batches"], 4)
+                    self.assertLessEqual(first["questions"], 250)
+                    self.assertEqual(hand.ask(view=window, cursor=cursor)["cost"]["questions"], 0)
+                    costs = [hand.ask(view=window, cursor=cursor, live=True, edits=[
+                        hand.edit("change", id=2, time=40_100 + 900 * turn, byte=8, again=turn > 0)])["cost"] for turn in range(1, 8)]
+                    hand.ask(edits=[hand.edit("undo")])
+                    self.assertLessEqual(costs[0]["batches"], 2)
+                    self.assertLessEqual(max(it["batches"] for it in costs[1:]), 1, costs)
+                    self.assertLessEqual(max(it["questions"] for it in costs), 250, costs)
 
     def test_to_and_fro(self) -> None:
         """Where many pasts are kept, an event that goes to and fro between two steps asks no more than at first."""

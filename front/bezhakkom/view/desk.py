@@ -154,7 +154,7 @@ class Desk:
 
     def _asked(self, ask: Fields, reply: Dict[str, Any]) -> None:
         """All that a request asks after its edits."""
-        self._in_step(ask.has("view") and not any(map(ask.has, ("words", "jump", "sweep", "causes", "why", "save", "rest"))))
+        self._in_step()
         if ask.has("end"):
             self.end = min(-(-ask.number("end", SPAN) // SPAN) * SPAN, GREATEST_POSITION // SPAN * SPAN)
         if ask.has("words"):
@@ -179,7 +179,7 @@ class Desk:
             reply["more"] = self._rest(self._view(ask.part("view"), True, self._driver), ask.flag("ghost"))
         view = self._view(ask.part("view"), live, self._driver)
         near = position <= view.until
-        asked = [rows.cursor(self._now, position, [it.place for it in self.words], self._symbols)] if near else []
+        asked = [rows.cursor(self._now, position, [it.place for it in self.words], self._symbols, view.until, self._asker.hints)] if near else []
         *first, marks, text, functions, words = self._asker.run([*asked, *self._rows(self._now, view, position, self._asker)])
         if near:
             reply["cursor"] = self._with_source(first[0])
@@ -202,7 +202,7 @@ class Desk:
 
     def _rows(self, past: Past, view: View, position: int, asker: Asker) -> List[rows.Row]:
         return [rows.sent(past, view, asker.hints), rows.text(past, view, position),
-                self._functions(past, view), _together([rows.word(past, it.place, view) for it in self.words])]
+                self._functions(past, view), rows.together([rows.word(past, it.place, view) for it in self.words])]
 
     def _drawn(self, past: Past, view: View, marks: Any, text: Any, functions: Any, words: Any) -> Dict[str, Any]:
         events, whole = _in_view(past, view)
@@ -263,17 +263,13 @@ class Desk:
             if self._driver.patches:
                 image = Image(image.name, "image", self._driver.boot().write(), image.elves)
             self._other = Asker(Driver.start(image, past.log))
-        self._other.lead = changes(self._other.driver.log, past.log)
-        if self._other.lead:
-            self._other.with_lead()
+        _give(self._other.driver, past)
         return self._other
 
-    def _in_step(self, is_drawn_next: bool = False) -> None:
-        """Gives the program the log as it stands: at once, or with the questions of what is drawn."""
-        self._asker.lead = changes(self._driver.log, self._now.log)
-        if not is_drawn_next and self._asker.lead:
-            with undisturbed(self._driver):
-                self._asker.with_lead()
+    def _in_step(self) -> None:
+        """Gives the program the log as it stands."""
+        with undisturbed(self._driver):
+            _give(self._driver, self._now)
 
     def _edits(self, ask: Fields, reply: Dict[str, Any]) -> None:
         """Makes edits. One that was made already, as the reply to it was lost, is not made again. Those of one gesture are one step of
@@ -518,26 +514,10 @@ class Desk:
         return saved.text_of(opened.origin, os.getcwd(), self._log_at_first, lines, True)
 
 
-def _together(those: Sequence[rows.Row]) -> rows.Row:
-    """Several rows as one: what they ask, in the same turns."""
-    values: List[Any] = [None] * len(those)
-    waiting: List[Tuple[int, rows.Row, List[rows.Question]]] = []
-
-    def go_on(number: int, row: rows.Row, answered: Any) -> None:
-        try:
-            waiting.append((number, row, row.send(answered)))
-        except StopIteration as end:
-            values[number] = end.value
-
-    for number, row in enumerate(those):
-        go_on(number, row, None)
-    while waiting:
-        asked, waiting = waiting, []
-        answered = yield [it for _, _, questions in asked for it in questions]
-        for number, row, questions in asked:
-            mine, answered = answered[:len(questions)], answered[len(questions):]
-            go_on(number, row, mine)
-    return values
+def _give(driver: Driver, past: Past) -> None:
+    """Makes the log of a program that of a past."""
+    driver.values(changes(driver.log, past.log))
+    del driver.journal[:]
 
 
 def _in_view(past: Past, view: View) -> Tuple[List[List[int]], int]:

@@ -7,6 +7,7 @@ from typing import Dict, List, Optional, Sequence, Tuple
 from ..errors import Problem
 from ..limits import CONSOLE_BYTES, LINES, MOST_EVENTS
 from ..log import Event
+from ..replies import Registers
 
 _MOST_KNOWN = 1 << 16  # facts of one kind that are kept
 
@@ -26,6 +27,17 @@ class Visited:
         return Visited(tuple(it for it in self.positions if it <= position), min(self.upto, position))
 
 
+@dataclass(frozen=True)
+class Machine:
+    """The processor at a position, the physical address that its PC leads to, and the instructions around that as the program shows them."""
+
+    position: int
+    state: Registers
+    control: Dict[str, int]
+    place: int
+    listed: List[str]
+
+
 @dataclass
 class Known:
     """What was answered, all of it of one run: by line, and by the physical address of a word. A writer of -1 is none."""
@@ -37,6 +49,7 @@ class Known:
     writers: Dict[int, Dict[int, int]] = field(default_factory=dict)  # of a word before a position
     counters: Dict[int, int] = field(default_factory=dict)  # the PC at a position
     visits: Dict[Tuple[int, int], Visited] = field(default_factory=dict)  # of an address, from a position on
+    machine: Optional[Machine] = None  # at the position at which it was looked at last
 
     def before(self, time: int) -> Known:
         """What stays known where events of a step and later ones are changed. That shows from the next position on."""
@@ -50,6 +63,7 @@ class Known:
         made.values = {word: _upto(those, time) for word, those in self.values.items()}
         made.writers = {word: _upto(those, time) for word, those in self.writers.items()}
         made.counters = _upto(self.counters, time)
+        made.machine = self.machine if self.machine and self.machine.position <= time else None
         made.visits = {key: it.before(time) for key, it in self.visits.items() if key[1] <= time}
         return made
 

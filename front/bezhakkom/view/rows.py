@@ -8,14 +8,13 @@ from __future__ import annotations
 from dataclasses import dataclass, field
 from typing import Any, Callable, Dict, Generator, Iterable, List, Optional, Sequence, Set, Tuple
 
-from .. import replies
+from .. import replies, tracing
 from ..driver import Driver, unmapped
 from ..instruction import LOADS, STORES, address, code
 from ..limits import CONSOLE_BYTES, LINES, RAM, RESET_PC, ROM, SPAN, VISIT_STEPS
-from ..program import WINDOW
 from ..states import of_counters, of_steps
 from ..symbols import Symbols
-from .past import Past, Visited
+from .past import Machine, Past, Visited
 
 Question = Tuple[int, str]
 Row = Generator[List[Question], List[List[str]], Any]
@@ -45,66 +44,30 @@ class Asker:
     """Asks the questions of rows of one driver."""
 
     driver: Driver
-    lead: List[str] = field(default_factory=list)  # edits that are made before what is asked next
     cost: Cost = field(default_factory=Cost)
     hints: Dict[Any, Any] = field(default_factory=dict)  # what a row found the last time, which an edit mostly leaves near
 
     def run(self, rows: Sequence[Row]) -> List[Any]:
         """The values of rows."""
-        values: List[Any] = [None] * len(rows)
-        wanted: Dict[int, List[Question]] = {}
-        for number, row in enumerate(rows):
-            self._go_on(row, number, None, wanted, values)
-        while wanted:
-            answered = self._asked([it for those in wanted.values() for it in those])
-            asked, wanted = wanted, {}
-            for number, those in asked.items():
-                mine, answered = answered[:len(those)], answered[len(those):]
-                self._go_on(rows[number], number, mine, wanted, values)
-        return values
-
-    def _go_on(self, row: Row, number: int, answered: Any, wanted: Dict[int, List[Question]], values: List[Any]) -> None:
+        row = together(rows)
         try:
-            those = row.send(answered)
-            while not those:
-                those = row.send([])
-            wanted[number] = those
+            asked = next(row)
+            while True:
+                asked = row.send(self._asked(asked))
         except StopIteration as end:
-            values[number] = end.value
+            return list(end.value)
 
     def _asked(self, questions: Sequence[Question]) -> List[List[str]]:
         """The replies to questions, in one batch. A question that stands there twice is asked once."""
-        places: Dict[Question, int] = {}
-        commands: List[str] = []
-        last = -1
-        for question in sorted(set(questions)):
-            position, command = question
-            if position != last:
-                commands.append(f"goto {position}")
-                last = position
-            places[question] = len(commands)
-            commands.append(command)
-            if command.startswith("visit "):
-                last = -1
-        self.driver.window = len(self.lead) + len(commands)
-        answered = self.with_lead(commands)
-        self.cost.questions += len(places)
+        asked = sorted(set(questions))
+        if any(command.startswith("visit ") for _, command in asked):  # it leads elsewhere, or is refused
+            answered = self.driver.ask_all([it for position, command in asked for it in (f"goto {position}", command)])[1::2]
+        else:
+            answered = self.driver.answers(asked)
+        self.cost.questions += len(asked)
         self.cost.batches += 1
-        return [answered[places[it]] for it in questions]
-
-    def with_lead(self, commands: Sequence[str] = ()) -> List[List[str]]:
-        """The replies to commands, before which the edits are made."""
-        lead, self.lead = self.lead, []
-        try:
-            answered = self.driver.ask_all([*lead, *commands])
-        finally:
-            self.driver.window = WINDOW
-        for command, lines in zip(lead, answered):
-            refusal = replies.refusal_of(command, lines)
-            if refusal:
-                raise refusal
-        del self.driver.journal[:]
-        return answered[len(lead):]
+        found = dict(zip(asked, answered))
+        return [found[it] for it in questions]
 
 
 @dataclass(frozen=True)
@@ -145,34 +108,67 @@ class View:
         return self.end - self.begin <= most
 
 
-def counts(past: Past, positions: Iterable[int]) -> Row:
-    """How many bytes each line had sent before some positions."""
-    wanted = sorted(set(positions))
-    known = past.known.counts
-    lack = [(line, at) for at in wanted for line in range(LINES) if at not in known[line]]
-    answered = yield [(at, f"console {line} 0 1") for line, at in lack]
+def together(those: Sequence[Row]) -> Row:
+    """Several rows as one: what they ask, in the same turns."""
+    values: List[Any] = [None] * len(those)
+    waiting: List[Tuple[int, Row, List[Question]]] = []
+
+    def go_on(number: int, row: Row, answered: Any) -> None:
+        try:
+            while not (questions := row.send(answered)):
+                answered = []
+            waiting.append((number, row, questions))
+        except StopIteration as end:
+            values[number] = end.value
+
+    for number, row in enumerate(those):
+        go_on(number, row, None)
+    while waiting:
+        asked, waiting = waiting, []
+        answered = yield [it for _, _, questions in asked for it in questions]
+        for number, row, questions in asked:
+            mine, answered = answered[:len(questions)], answered[len(questions):]
+            go_on(number, row, mine)
+    return values
+
+
+def counts(past: Past, positions: Iterable[int], until: int = -1) -> Row:
+    """How many bytes each line had sent before some positions. At `until` what it sent after what is known of it is asked together with
+    how much that is."""
+    wanted, known = sorted({*positions}), past.known
+    lack = [(line, at) for at in wanted for line in range(LINES) if at not in known.counts[line]]
+    pieces = {line: _first_unknown(known.text[line]) for line, at in lack if at == until}
+    answered = yield [(at, f"console {line} {pieces[line] * CONSOLE_BYTES} {CONSOLE_BYTES}" if at == until else f"console {line} 0 1")
+                      for line, at in lack]
     for (line, at), lines in zip(lack, answered):
-        known[line][at] = replies.console(lines)[0]
-    return {at: [known[line][at] for line in range(LINES)] for at in wanted}
+        known.counts[line][at], content = replies.console(lines)
+        if at == until and content:
+            known.text[line][pieces[line]] = content
+    return {at: [known.counts[line][at] for line in range(LINES)] for at in wanted}
+
+
+def steps(past: Past, until: int, places: Iterable[Tuple[int, int]]) -> Row:
+    """Sees to it that the steps are known which sent bytes, by line and place."""
+    lack: List[Set[int]] = [set() for _ in range(LINES)]
+    for line, place in places:
+        if place not in past.known.steps[line]:
+            lack[line].add(place)
+    asked = [(line, question) for line in range(LINES) for question in of_steps(line, sorted(lack[line]))]
+    answered = yield [(until, question) for _, question in asked]
+    for (line, _), lines in zip(asked, answered):
+        past.known.steps[line].update(replies.timed(lines))
 
 
 def sent(past: Past, view: View, hints: Dict[Any, Any]) -> Row:
     """Of each line, places of bytes with the steps that sent them. The bytes between two of them stand within a column, or all of them are
     there. And how many were sent before the view, in it, and in all."""
-    known, key = past.known, ("sent", view.begin, view.end, view.columns)
-    asked = _of_steps(past, hints.get(key, ()))
-    ends = (view.begin, view.end, view.until)
-    lack = [(line, at) for at in sorted(set(ends)) for line in range(LINES) if at not in known.counts[line]]
-    answered = yield [*((at, f"console {line} 0 1") for line, at in lack), *((view.until, question) for _, question in asked)]
-    for (line, at), lines in zip(lack, answered):
-        known.counts[line][at] = replies.console(lines)[0]
-    _note_steps(past, asked, answered[len(lack):])
-    low, high, whole = ([known.counts[line][at] for line in range(LINES)] for at in ends)
+    known, key, ends = past.known, ("sent", view.begin, view.end, view.columns), (view.begin, view.end, view.until)
+    counted, _ = yield from together([counts(past, ends, view.until), steps(past, view.until, hints.get(key, ()))])
+    low, high, whole = (counted[at] for at in ends)
     shown: List[Set[int]] = [set() for _ in range(LINES)]
     work = [(line, low[line], high[line] - 1) for line in range(LINES) if high[line] > low[line]]
     while work:
-        asked = _of_steps(past, [(line, place) for line, first, last in work for place in (first, last)])
-        _note_steps(past, asked, (yield [(view.until, question) for _, question in asked]))
+        yield from steps(past, view.until, [(line, place) for line, first, last in work for place in (first, last)])
         more = []
         for line, first, last in work:
             shown[line].update((first, last))
@@ -187,37 +183,14 @@ def sent(past: Past, view: View, hints: Dict[Any, Any]) -> Row:
              "whole": whole[line]} for line in range(LINES)]
 
 
-def _of_steps(past: Past, places: Iterable[Tuple[int, int]]) -> List[Tuple[int, str]]:
-    """Questions, each with its line, for the steps of bytes by line and place, as far as they are not known."""
-    lack: List[Set[int]] = [set() for _ in range(LINES)]
-    for line, place in places:
-        if place not in past.known.steps[line]:
-            lack[line].add(place)
-    return [(line, question) for line in range(LINES) for question in of_steps(line, sorted(lack[line]))]
-
-
-def _note_steps(past: Past, asked: Sequence[Tuple[int, str]], answered: Sequence[List[str]]) -> None:
-    for (line, _), lines in zip(asked, answered):
-        past.known.steps[line].update(replies.timed(lines))
-
-
 def text(past: Past, view: View, cursor: int) -> Row:
     """Of each line, what it sent: all up to `until`, or where that is long, what is near the cursor and what is in view. Parts are
     [place, text]."""
     here = min(cursor, view.until)
-    known = past.known
-    # What a line sent after what is known of it is asked together with how much that is.
-    nearest = [_first_unknown(pieces) for pieces in known.text]
-    lack = [(line, at) for at in sorted({view.begin, view.end, here, view.until}) for line in range(LINES) if at not in known.counts[line]]
-    answered = yield [(at, f"console {line} {nearest[line] * CONSOLE_BYTES} {CONSOLE_BYTES}" if at == view.until else f"console {line} 0 1")
-                      for line, at in lack]
-    for (line, at), lines in zip(lack, answered):
-        known.counts[line][at], content = replies.console(lines)
-        if at == view.until and content:
-            known.text[line][nearest[line]] = content
+    counted = yield from counts(past, (view.begin, view.end, here, view.until), view.until)
     asked, parts = [], []
     for line in range(LINES):
-        whole, before, low, high = (known.counts[line][at] for at in (view.until, here, view.begin, view.end))
+        whole, before, low, high = (counted[at][line] for at in (view.until, here, view.begin, view.end))
         ranges = [range(max(0, min(before + TEXT // 4, whole) - TEXT), min(whole, max(before + TEXT // 4, TEXT)))]
         if high - low <= LABELLED and not (low >= ranges[0].start and high <= ranges[0].stop):
             ranges.append(range(low, high))
@@ -251,19 +224,24 @@ def _text_of(past: Past, line: int, places: range) -> str:
 def word(past: Past, place: int, view: View) -> Row:
     """The values of a word at samples, and the stores into it that are known: of each column the last one, with what the word holds after
     it, back from the view's end to position `exact`. Before that there are only samples."""
-    values = past.known.values.setdefault(place, {})
     writers = past.known.writers.setdefault(place, {})
-    exact, stores, lack = _chain(values, writers, view)
+    exact, stores = _chain(writers, view)
     positions = [view.begin, *(it for it in view.positions(0) if view.begin < it < exact), view.end]
-    missing = [*(it for it in positions if it not in values), *(it for it in lack if it not in positions)]
-    answered = yield [(at, f"mem {place} 1") for at in missing]
-    for at, lines in zip(missing, answered):
-        values[at] = replies.memory(lines)[0]
-    return {"samples": [[at, values[at]] for at in positions], "stores": [[step, values[step + 1]] for step in stores], "exact": exact}
+    held = yield from values(past, place, [*positions, *(step + 1 for step in stores)])
+    return {"samples": [[at, held[at]] for at in positions], "stores": [[step, held[step + 1]] for step in stores], "exact": exact}
 
 
-def _chain(values: Dict[int, int], writers: Dict[int, int], view: View) -> Tuple[int, List[int], List[int]]:
-    """From which position on the stores are known, those stores, and the positions after them whose values are not known."""
+def values(past: Past, place: int, positions: Iterable[int]) -> Row:
+    """What a word holds at positions, and at others as far as that is known."""
+    known = past.known.values.setdefault(place, {})
+    lack = sorted({at for at in positions if at not in known})
+    for at, lines in zip(lack, (yield [(at, f"mem {place} 1") for at in lack])):
+        known[at] = replies.memory(lines)[0]
+    return known
+
+
+def _chain(writers: Dict[int, int], view: View) -> Tuple[int, List[int]]:
+    """From which position on the stores are known, and those stores."""
     at, stores = view.end, []
     while at > view.begin and at in writers:
         step = writers[at]
@@ -273,13 +251,13 @@ def _chain(values: Dict[int, int], writers: Dict[int, int], view: View) -> Tuple
         stores.append(step)
         at = max(view.begin, view.begin + (step - view.begin) // view.width * view.width)
     stores.reverse()
-    return at, stores, [step + 1 for step in stores if step + 1 not in values]
+    return at, stores
 
 
 def followed(past: Past, place: int, view: View) -> Row:
     """Follows the stores into a word back by one column. Whether there are more to follow."""
     writers = past.known.writers.setdefault(place, {})
-    at, stores, _ = _chain(past.known.values.setdefault(place, {}), writers, view)
+    at, stores = _chain(writers, view)
     if at <= view.begin or len(stores) >= MOST_STORES:
         return False
     lines, = yield [(at, f"writer {place}")]
@@ -292,15 +270,17 @@ def functions(past: Past, view: View, name: Callable[[int], str]) -> Row:
     """In which function the PC is: at all positions in view, or at samples."""
     positions, known = view.positions(), past.known.counters
     lack = [it for it in positions if it not in known]
-    if view.is_exact() or not view.is_far:
-        for lines in (yield list(of_counters(lack, 1 if view.is_exact() else view.apart))):
-            known.update(replies.timed(lines))
+    # At the start of a span the machine stands as it was kept, and stays so. Elsewhere it goes on by a step, which takes less time than to
+    # keep the state there.
+    if view.is_exact():
+        asked = list(of_counters(lack))
     else:
-        answered = yield [(at, "regs") for at in lack]
-        known.update((at, int(lines[0].split()[1], 16)) for at, lines in zip(lack, answered))
+        asked = [(at, "pcs 1 1" if view.is_far else "trace 1") for at in lack]
+    for (at, question), lines in zip(asked, (yield asked)):
+        known.update([(at, tracing.pc_of(lines[0]))] if question == "trace 1" else replies.timed(lines))
     names: Dict[str, int] = {}
-    runs = [[at, names.setdefault(name(known[at]), len(names))] for at in positions]
-    return {"names": list(names), "at": runs, "exact": view.is_exact()}
+    numbers = {counter: names.setdefault(name(counter), len(names)) for counter in dict.fromkeys(known[at] for at in positions)}
+    return {"names": list(names), "at": [[at, numbers[known[at]]] for at in positions], "exact": view.is_exact()}
 
 
 def entered(past: Past, address: int, view: View) -> Row:
@@ -335,28 +315,45 @@ def function_of(symbols: Symbols, counter: int) -> str:
     return found[0].name if found else f"{counter // UNNAMED * UNNAMED:#010x}"
 
 
-def cursor(past: Past, position: int, words: Sequence[int], symbols: Symbols) -> Row:
+def cursor(past: Past, position: int, words: Sequence[int], symbols: Symbols, until: int, hints: Dict[Any, Any]) -> Row:
     """What the machine holds at a position: registers, words, and the instructions around the next one."""
-    regs, control, *memory = yield [(position, "regs"), (position, "cp0"), *((position, f"mem {it} 1") for it in words)]
-    state = replies.registers(regs)
-    physical = unmapped(state.pc)
-    if physical is None:
-        lines, = yield [(position, f"where {state.pc}")]
-        physical = replies.where(lines).physical
-    listed, accessed = [], None
-    part = next((it for it in (RAM, ROM) if physical is not None and physical in it and not physical % 4), None)
-    if part is not None and physical is not None:
-        first = max(part.start, physical - 4 * BEFORE)
-        lines = (yield [(position, f"dis {first} {min(SHOWN, (part.stop - first) // 4)}")])[0]
-        for line in lines:
-            place, content, shown = line.split(None, 2)
-            at = (state.pc + int(place, 16) - physical) & 0xFFFF_FFFF
-            listed.append([at, symbols.name(at), symbols.retargeted(at, int(place, 16), shown), int(place, 16) == physical])
-            if int(place, 16) == physical and (code(int(content, 16)) in LOADS or code(int(content, 16)) in STORES):
-                accessed = address(int(content, 16), state)
-    found = yield from counts(past, [position])
+    machine, held, found = yield from together([
+        _machine(past, position, hints), together([values(past, it, [position]) for it in words]), counts(past, [position], until)])
+    state, listed, accessed = machine.state, [], None
+    for line in machine.listed:
+        place, content, shown = line.split(None, 2)
+        at = (state.pc + int(place, 16) - machine.place) & 0xFFFF_FFFF
+        listed.append([at, symbols.name(at), symbols.retargeted(at, int(place, 16), shown), int(place, 16) == machine.place])
+        if int(place, 16) == machine.place and (code(int(content, 16)) in LOADS or code(int(content, 16)) in STORES):
+            accessed = address(int(content, 16), state)
     return {"position": position, "pc": state.pc, "name": symbols.name(state.pc), "registers": state.general, "next": state.next_pc,
-            "hi": state.hi, "lo": state.lo, "delay": state.delay, "load": state.load, "control": replies.control(control),
-            "listed": listed, "sent": found[position], "words": [replies.memory(it)[0] for it in memory],
+            "hi": state.hi, "lo": state.lo, "delay": state.delay, "load": state.load, "control": machine.control,
+            "listed": listed, "sent": found[position], "words": [it[position] for it in held],
             "accessed": accessed, "accessed_name": None if accessed is None else symbols.name(accessed) or f"{accessed:#010x}"}
 
+
+def _machine(past: Past, position: int, hints: Dict[Any, Any]) -> Row:
+    """The processor at a position, and the instructions around the next one. They are asked for together where the last ones were."""
+    known = past.known
+    if known.machine is None or known.machine.position != position:
+        guess = hints.get("around")
+        regs, control, *listed = yield [(position, it) for it in ("regs", "cp0", guess) if it]
+        state = replies.registers(regs)
+        place = unmapped(state.pc)
+        if place is None:
+            lines, = yield [(position, f"where {state.pc}")]
+            place = replies.where(lines).physical
+        around = hints["around"] = _around(place)
+        if around != guess:
+            listed = yield [(position, around)] if around else []
+        known.machine = Machine(position, state, replies.control(control), place or 0, listed[0] if listed else [])
+    return known.machine
+
+
+def _around(place: Optional[int]) -> Optional[str]:
+    """What is asked for the instructions around one, where there is memory."""
+    part = next((it for it in (RAM, ROM) if place is not None and place in it and not place % 4), None)
+    if part is None or place is None:
+        return None
+    first = max(part.start, place - 4 * BEFORE)
+    return f"dis {first} {min(SHOWN, (part.stop - first) // 4)}"
