@@ -13,6 +13,7 @@ from typing import Any, Optional
 from ..errors import Problem, Unexpected
 from .desk import Desk
 from .fields import Fields
+from .link import Link, accepted
 
 HOST = "127.0.0.1"
 MOST_BYTES = 1 << 20  # of a request
@@ -24,6 +25,7 @@ KINDS = {"html": "text/html; charset=utf-8", "js": "text/javascript; charset=utf
 FILES = {it.name: KINDS[it.suffix[1:]] for it in sorted(PAGE.iterdir()) if it.suffix[1:] in KINDS}
 FIRST = "page.html"
 ASK, STOP, LEFT = "ask", "stop", "left"  # what is posted
+LINK = "link"  # over which is asked too
 
 HEADERS = {
     "Cache-Control": "no-store",
@@ -93,7 +95,9 @@ class _Handler(BaseHTTPRequestHandler):
 
     def do_GET(self) -> None:
         name = self._name()
-        if name is None or not self._is_own(("same-origin", "none"), False):
+        if name == LINK and self._is_own(("same-origin",), True) and self._wants_link():
+            self._answer_over_link()
+        elif name is None or not self._is_own(("same-origin", "none"), False):
             self._refuse(404)
         elif (name or FIRST) in FILES:
             self.server.came()
@@ -119,23 +123,53 @@ class _Handler(BaseHTTPRequestHandler):
             self.server.desk.interrupt()
             return self._send(204, "text/plain", b"")
         try:
-            ask = Fields(json.loads(content))
-            page = ask.text("page", "")
-        except (ValueError, RecursionError, Problem):
+            ask = self._read(content)
+        except Problem:
             return self._refuse(400)
         if name == LEFT:
-            self.server.left(page)
+            self.server.left(ask.text("page", ""))
             return self._send(204, "text/plain", b"")
-        self.server.came(page)
-        self._send(200, "application/json", json.dumps(self._answer(ask), separators=(",", ":")).encode())
+        self._send(200, "application/json", self._answer(ask))
 
-    def _answer(self, ask: Fields) -> Any:
+    def _read(self, content: bytes) -> Fields:
+        try:
+            ask = Fields(json.loads(content))
+        except (ValueError, RecursionError):
+            raise Problem("that is no JSON") from None
+        ask.text("page", "")
+        return ask
+
+    def _answer(self, ask: Fields) -> bytes:
+        self.server.came(ask.text("page", ""))
+        return json.dumps(self._answered(ask), separators=(",", ":")).encode()
+
+    def _answered(self, ask: Fields) -> Any:
         try:
             return self.server.desk.answer(ask)
         except Problem as problem:
             return {"problem": str(problem)}
         except Exception as error:
             return {"problem": str(Unexpected(error))}
+
+    def _wants_link(self) -> bool:
+        return (self.headers.get_all("Upgrade") == ["websocket"] and self.headers.get_all("Sec-WebSocket-Version") == ["13"]
+                and len(self.headers.get_all("Sec-WebSocket-Key") or []) == 1)
+
+    def _answer_over_link(self) -> None:
+        """Answers what is asked until the page ends the link."""
+        self.close_connection = True
+        self.send_response(101)
+        for name, value in {"Upgrade": "websocket", "Connection": "Upgrade", "Sec-WebSocket-Accept": accepted(self.headers["Sec-WebSocket-Key"])}.items():
+            self.send_header(name, value)
+        self.end_headers()
+        self.wfile.flush()
+        self.connection.settimeout(None)  # a page may be silent for long
+        link = Link(self.rfile, self.wfile, MOST_BYTES)
+        try:
+            while (content := link.receive()) is not None:
+                link.send(self._answer(self._read(content)))
+        except (Problem, ConnectionError):
+            pass  # what is no question ends the link
 
     def _name(self) -> Optional[str]:
         """The part of the path after the token, or None where the token is another one."""

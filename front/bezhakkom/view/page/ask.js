@@ -1,7 +1,7 @@
 // Requests: one is under way at most. What is wanted meanwhile is put together, and of a drag only the latest place is kept.
-import {$, s, columns, say} from "./state.js";
+import {$, s, measure, say} from "./state.js";
 
-const SLOW = 16, QUICK = 7;                 // milliseconds of an answer after which the next one looks at fewer places, or at more
+const SLOW = 10, QUICK = 5;                 // milliseconds of an answer after which the next one looks at fewer places, or at more
 const MOST_EDITS = 2000;                    // of one request
 const MOST_NAME = 200;                      // characters of the name of an edit
 let want = null, busy = false, resting = 0, failures = 0;
@@ -48,7 +48,7 @@ function body(wanted) {
   made.edits = sent = [...sent, ...unsent.splice(0, Math.max(0, MOST_EDITS - sent.length))];
   made.cursor = s.cursor;
   if (draw) {
-    made.view = {begin: Math.round(s.view.begin), end: Math.round(s.view.end), columns: columns(), samples: s.samples};
+    made.view = {begin: Math.round(s.view.begin), end: Math.round(s.view.end), columns: measure(), samples: s.samples};
     made.ghost = s.showGhost && (!!ghost || !made.live);
   }
   return made;
@@ -59,6 +59,22 @@ async function post(name, content) {
   if (!reply.ok) throw new Error(`the server refuses: ${reply.status}`);
   return name === "ask" ? reply.json() : null;
 }
+
+// Over a link an answer takes some milliseconds less. As long as there is none it is asked by requests.
+let link = null, underWay = null;
+function connect() {
+  const made = new WebSocket(new URL("link", location.href).href.replace("http", "ws"));
+  made.onopen = () => { link = made; };
+  made.onmessage = event => underWay.resolve(JSON.parse(event.data));
+  made.onclose = () => {
+    if (link !== made) return;
+    link = null;
+    if (underWay) underWay.reject(new Error("the link is broken"));
+    setTimeout(connect, 1000);
+  };
+}
+connect();
+const asked = content => link ? new Promise((resolve, reject) => { underWay = {resolve, reject}; link.send(JSON.stringify(content)); }) : post("ask", content);
 export const stop = () => post("stop", {}).catch(() => {});
 export const leave = () => post("left", {page}).catch(() => {});
 
@@ -69,7 +85,7 @@ async function pump() {
   const made = body(wanted);
   let reply;
   try {
-    reply = await post("ask", made);
+    reply = await asked(made);
     failures = 0;
   } catch (error) {
     busy = false;
@@ -86,16 +102,17 @@ async function pump() {
     edits = Math.max(edits, reply.edit);
   }
   take(reply, made);
+  // What is wanted next is under way while this is drawn.
+  busy = false;
+  if (unsent.length) ask({draw: true, live: true}); else if (want) pump();
   draw(reply);
   if (wanted.began) {
     const timing = {live: made.live, edits: made.edits.length, wait: begun - wanted.began, net: got - begun, draw: performance.now() - got, ...reply.cost};
     timings.push(timing);
     requestAnimationFrame(() => { const after = new MessageChannel(); after.port1.onmessage = () => timing.paint = performance.now() - wanted.began; after.port2.postMessage(0); });
   }
-  busy = false;
   for (const resolve of wanted.waiting) resolve(reply);
-  if (unsent.length) ask({draw: true, live: true});
-  if (want) return busy || pump();
+  if (busy || want) return;
   if (made.view && (made.live || reply.more)) resting = setTimeout(() => { resting = 0; if (!busy) ask({draw: true, rest: true, ghost: true}); }, made.live ? 150 : 0);
   else if (made.view && !made.rest) resting = setTimeout(() => { resting = 0; if (!busy) ask({draw: true, rest: true, ghost: true}); }, 0);
   else if (made.rest) settled();

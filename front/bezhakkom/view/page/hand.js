@@ -1,7 +1,7 @@
 // The hand: events are dragged, turned, typed, taken out and put in; the cursor and the view are moved.
 import {$, s, FRAMING, WIRE, bytesOf, columns, find, number, perPixel, say, shown, what} from "./state.js";
 import {ask, edit} from "./ask.js";
-import {HEAD, S, draw, handle, near, rowAt, rows} from "./rows.js";
+import {HEAD, S, draw, drawSoon, handle, near, rowAt, rows} from "./rows.js";
 import {panes} from "./panes.js";
 import * as sweeps from "./sweep.js";
 
@@ -66,9 +66,8 @@ export function undo(name) {
 // Dragging
 
 function tip(event, text) {
-  const box = $("stage").getBoundingClientRect();
   $("tip").hidden = false; $("tip").textContent = text;
-  $("tip").style.left = Math.min(event.clientX - box.left + 12, box.width - 220) + "px"; $("tip").style.top = event.clientY - box.top + 18 + "px";
+  $("tip").style.left = Math.min(event.clientX + 12, innerWidth - 220) + "px"; $("tip").style.top = event.clientY + 18 + "px";
 }
 const noTip = () => { $("tip").hidden = true; };
 
@@ -85,7 +84,10 @@ $("events").addEventListener("pointerdown", event => {
   draw(); panes();
 });
 
-$("events").addEventListener("pointermove", event => {
+// A movement is asked about as it comes, and not when the next frame begins.
+const MOVE = "onpointerrawupdate" in window ? "pointerrawupdate" : "pointermove";
+
+$("events").addEventListener(MOVE, event => {
   const drag = s.drag;
   if (!drag || drag.kind !== "event") return;
   const fine = event.shiftKey;
@@ -96,10 +98,10 @@ $("events").addEventListener("pointermove", event => {
   if (!drag.moved && by === 0 || by === drag.last) return;
   drag.moved = true; drag.last = by;
   const one = drag.from.get(drag.id);
-  tip(event, `step ${number(one[1] + by)} (${by >= 0 ? "+" : ""}${number(by)})`);
   const name = drag.from.size > 1 ? `move ${drag.from.size} events` : `move ${what(one)}`;
   for (const [id, it] of drag.from) change(id, it[1] + by, it[3], drag.gesture, name, event.timeStamp);
-  draw();
+  tip(event, `step ${number(one[1] + by)} (${by >= 0 ? "+" : ""}${number(by)})`);
+  drawSoon();
 });
 for (const name of ["pointerup", "pointercancel"]) $("events").addEventListener(name, () => { s.drag = null; noTip(); });
 

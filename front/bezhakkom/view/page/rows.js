@@ -1,5 +1,5 @@
 // The rows of the run: where they stand, how they are drawn, and the handles of events on them.
-import {$, s, WIRE, FRAMING, columns, hex, number, shown, shownText, what} from "./state.js";
+import {$, s, WIRE, FRAMING, columns, hex, measure, number, shown, shownText, what} from "./state.js";
 import {CanvasPen, colors} from "./pen.js";
 import {difference} from "./panes.js";
 
@@ -29,6 +29,7 @@ const beside = () => s.showGhost ? s.ghost : null;
 const colorOf = outcome => SHADES[outcome % SHADES.length];
 
 export function layout() {
+  measure();
   const now = s.now, ghost = beside(), made = [];
   const lines = new Set(now.lines), wires = new Set([...now.wires, ...(ghost ? ghost.wires : [])]);
   if (ghost) for (const line of ghost.lines) lines.add(line);
@@ -70,7 +71,12 @@ function functionRows(now, ghost) {
   return rows;
 }
 
+// What is under the hand is drawn once in a frame, or with the reply that comes before it.
+let frame = 0;
+export const drawSoon = () => { frame = frame || requestAnimationFrame(draw); };
+
 export function draw() {
+  cancelAnimationFrame(frame); frame = 0;
   if (!s.now || !s.state) return;
   const canvas = $("canvas"), height = layout(), ratio = devicePixelRatio || 1, width = canvas.clientWidth, g = canvas.getContext("2d");
   if (canvas.width !== Math.round(width * ratio) || canvas.height !== Math.round(height * ratio)) {

@@ -15,7 +15,8 @@ export const s = {
 const ESCAPES = {8: "\\b", 9: "\\t", 10: "\\n", 13: "\\r", 27: "\\e", 92: "\\\\"};
 export const shown = byte => ESCAPES[byte] || (byte >= 32 && byte < 127 ? String.fromCharCode(byte) : "\\x" + byte.toString(16).padStart(2, "0"));
 export const shownText = text => Array.from(text, it => shown(it.charCodeAt(0))).join("");
-export const number = value => value.toLocaleString("en");
+const FORMAT = new Intl.NumberFormat("en");
+export const number = value => FORMAT.format(value);
 export const hex = (word, digits = 8) => "0x" + (word >>> 0).toString(16).padStart(digits, "0");
 export const WIRE = 2, FRAMING = 1;
 
@@ -35,6 +36,9 @@ export function what(event) {
 }
 
 export const find = id => s.now && s.now.events.find(it => it[0] === id);
-export const columns = () => Math.max(16, (s.width || $("canvas").clientWidth) - 270);
+// The room for steps is measured once for all that is drawn: to ask for a width amid changes lays the page out anew.
+let room = 16;
+export const measure = () => room = Math.max(16, (s.width || $("canvas").clientWidth) - 270);
+export const columns = () => room;
 export const perPixel = () => (s.view.end - s.view.begin) / columns();
 export const say = text => { if ($("said").textContent !== text) $("said").textContent = text; };
