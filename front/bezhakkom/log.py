@@ -113,17 +113,23 @@ def write(events: Sequence[Event]) -> bytes:
 
 def changes(now: Sequence[Event], wanted: Sequence[Event]) -> list[str]:
     """The commands that make one log of another."""
-    begin = 0
-    while begin < min(len(now), len(wanted)) and now[begin] == wanted[begin]:
-        begin += 1
-    end = 0
-    while end < min(len(now), len(wanted)) - begin and now[-1 - end] == wanted[-1 - end]:
-        end += 1
+    begin = _alike(now, wanted)
+    end = _alike(reversed(now[begin:]), reversed(wanted[begin:]))
     # An event is added after all of its time, so those of the same time after it are added anew too.
     while 0 < end < len(wanted) - begin and wanted[-end].time == wanted[-end - 1].time:
         end -= 1
     added = [it.command for it in wanted[begin:len(wanted) - end]]
     return [f"del {begin}"] * (len(now) - end - begin) + added
+
+
+def _alike(one: Iterable[Event], two: Iterable[Event]) -> int:
+    """How many of the first events are the same."""
+    count = 0
+    for first, second in zip(one, two):
+        if first is not second and first != second:  # mostly they are one and the same, which is seen in far less time
+            break
+        count += 1
+    return count
 
 
 # The text: a line for bytes that arrive at one serial line at equal gaps, `TIME LINE 'BYTES' [GAP] [framing]`, and one for each

@@ -273,6 +273,34 @@ class Costs(unittest.TestCase):
             self.assertFalse(hand.rested(view=part)["more"])
             self.assertEqual(desk._driver.made, desk.end)
 
+    def test_many_pieces_show_their_rows_now_and_then(self) -> None:
+        with laid_out("--to", "100000000", *LOGIN) as desk, mock.patch("bezhakkom.view.desk.GLANCE", 3600):
+            hand, part = Hand(desk), view(0, 2 * SPAN)
+            hand.ask(view=part, live=True)
+            shown = [hand.ask(view=part, rest=True)]
+            while shown[-1]["more"]:
+                shown.append(hand.ask(view=part, rest=True))
+            self.assertGreater(len(shown), 1)
+            self.assertEqual(["now" in it for it in shown], [False] * (len(shown) - 1) + [True])
+
+    def test_many_events(self) -> None:
+        """Of 5,000 events some of each line are shown. Where one is dragged, no more than that one is changed in the program."""
+        log = [Event(1_000 + 20 * at, at % 4, 65) for at in range(5_000)]
+        with tempfile.TemporaryDirectory() as folder:
+            Path(folder, "log").write_bytes(logs.write(log))
+            with laid_out("--log", f"{folder}/log", str(ROOT / "examples/echo/boot.s")) as desk:
+                hand, asked = Hand(desk), mock.Mock(wraps=desk._driver.ask_all)
+                whole = hand.ask(view=view(0, 2 * SPAN))["now"]
+                self.assertTrue(whole["thinned"])
+                self.assertLessEqual(len(whole["events"]), 3_000)
+                self.assertEqual({it[2] for it in whole["events"]}, {0, 1, 2, 3})
+                with mock.patch.object(desk._driver, "ask_all", asked):
+                    shown = hand.ask(view=view(0, SPAN), live=True, edits=[hand.edit("change", id=2_000, time=41_003, byte=66)])["now"]
+                self.assertEqual(asked.call_args_list[0].args[0], ["del 2000", "add 41003 0 66"])
+                self.assertTrue(shown["thinned"])
+                part = hand.ask(view=view(41_000, 41_100))["now"]
+                self.assertEqual([it[:4] for it in part["events"]], [[2_000, 41_003, 0, 66], *([at, 1_000 + 20 * at, at % 4, 65] for at in range(2_001, 2_006))])
+
 
 class Pasts(unittest.TestCase):
     def test_edits_are_made_once(self) -> None:

@@ -36,6 +36,7 @@ from .sweep import Sweep
 from .sweep import changes as changes_of
 
 PIECE = 0.03  # seconds of what is asked while the hand rests
+GLANCE = 0.3  # seconds between two answers with rows in that time
 REACH = 8 * SPAN  # steps that are run between two looks at the clock
 MOST_SHOWN = 1_500  # events in view that are shown one by one
 MOST_EDITS, MOST_TRIED, MOST_WORDS, MOST_KEPT = 4_096, 512, 16, 64
@@ -84,6 +85,7 @@ class Desk:
         self._edit: Dict[str, int] = {}  # the number of the last edit of each page
         self._saved: Tuple[Event, ...] = tuple(driver.log)
         self._sweep: Optional[Tuple[Any, Sweep]] = None
+        self._drawn_at = 0.0  # when rows were given last
         driver.wants_stop = lambda: self._stop
 
     def close(self) -> None:
@@ -177,6 +179,9 @@ class Desk:
         live = ask.flag("live")
         if ask.flag("rest"):
             reply["more"] = self._rest(self._view(ask.part("view"), True, self._driver), ask.flag("ghost"))
+            if reply["more"] and time.perf_counter() < self._drawn_at + GLANCE:
+                return
+        self._drawn_at = time.perf_counter()
         view = self._view(ask.part("view"), live, self._driver)
         near = position <= view.until
         asked = [rows.cursor(self._now, position, [it.place for it in self.words], self._symbols, view.until, self._asker.hints)] if near else []
@@ -206,11 +211,11 @@ class Desk:
 
     def _drawn(self, past: Past, view: View, marks: Any, text: Any, functions: Any, words: Any) -> Dict[str, Any]:
         events, whole = _in_view(past, view)
+        used = {(it.kind == Kind.WIRE, it.line) for it in past.log}
         return {"begin": view.begin, "end": view.end, "until": view.until, "sent": marks, "text": text, "functions": functions,
                 "visits": {name: rows.visits(past, it, view) for name, it in self._entries(functions).items()},
                 "words": words, "events": events, "thinned": len(events) < whole, "levels": _levels(past, view.begin),
-                "lines": sorted({it.line for it in past.log if it.kind != Kind.WIRE}),
-                "wires": sorted({it.line for it in past.log if it.kind == Kind.WIRE})}
+                "lines": sorted(line for is_wire, line in used if not is_wire), "wires": sorted(line for is_wire, line in used if is_wire)}
 
     def _with_source(self, cursor: Dict[str, Any]) -> Dict[str, Any]:
         line = self._lines.at(cursor["pc"])
@@ -522,17 +527,18 @@ def _give(driver: Driver, past: Past) -> None:
 
 def _in_view(past: Past, view: View) -> Tuple[List[List[int]], int]:
     """The events in view: number, step, line, value and kind. Of very many, the last of each column and line; and how many there are."""
-    found = [[identity, it.time, it.line, it.byte, int(it.kind)] for identity, it in zip(past.ids, past.log) if view.begin <= it.time <= view.end]
-    if len(found) <= MOST_SHOWN:
-        return found, len(found)
-    apart = max(1, (view.end - view.begin) // MOST_SHOWN)
-    thinned = {(it[1] // apart, it[2], it[4] == Kind.WIRE): it for it in found}
-    return sorted(thinned.values(), key=lambda it: it[1])[:2 * MOST_SHOWN], len(found)
+    first, end = past.upto(view.begin - 1), past.upto(view.end)
+    found = list(zip(past.ids[first:end], past.log[first:end]))
+    if len(found) > MOST_SHOWN:
+        apart = max(1, (view.end - view.begin) // MOST_SHOWN)
+        thinned = {(it.time // apart, it.line, it.kind == Kind.WIRE): (identity, it) for identity, it in found}
+        found = sorted(thinned.values(), key=lambda it: it[1].time)[:2 * MOST_SHOWN]
+    return [[identity, it.time, it.line, it.byte, int(it.kind)] for identity, it in found], end - first
 
 
 def _levels(past: Past, begin: int) -> Dict[int, int]:
     """The level of each external line before a step."""
-    return {it.line: it.byte for it in past.log if it.kind == Kind.WIRE and it.time < begin}
+    return {it.line: it.byte for it in past.log[:past.upto(begin - 1)] if it.kind == Kind.WIRE}
 
 
 def _same(past: Past, log: Sequence[Event]) -> List[int]:

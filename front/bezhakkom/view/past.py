@@ -161,12 +161,17 @@ class Past:
         del self.log[index], self.ids[index]
 
     def _put(self, identity: int, event: Event) -> None:
+        place = self.upto(event.time)
+        self.log.insert(place, event)
+        self.ids.insert(place, identity)
+
+    def upto(self, time: int) -> int:
+        """How many events come in a step or before it."""
         low, high = 0, len(self.log)
         while low < high:
             middle = (low + high) // 2
-            low, high = (low, middle) if event.time < self.log[middle].time else (middle + 1, high)
-        self.log.insert(low, event)
-        self.ids.insert(low, identity)
+            low, high = (low, middle) if time < self.log[middle].time else (middle + 1, high)
+        return low
 
 
 def first_difference(one: Sequence[Event], two: Sequence[Event]) -> Optional[int]:

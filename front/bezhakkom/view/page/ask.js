@@ -105,7 +105,7 @@ async function pump() {
   // What is wanted next is under way while this is drawn.
   busy = false;
   if (unsent.length) ask({draw: true, live: true}); else if (want) pump();
-  draw(reply);
+  if (!reply.more || reply.now) draw();
   if (wanted.began) {
     const timing = {live: made.live, edits: made.edits.length, wait: begun - wanted.began, net: got - begun, draw: performance.now() - got, ...reply.cost};
     timings.push(timing);
