@@ -5,7 +5,7 @@ from contextlib import contextmanager
 from dataclasses import dataclass, field
 from typing import Callable, Iterator, Optional
 
-from . import expressions, gdb_stops, places
+from . import expressions, gdb_stops, places, saved
 from .driver import Driver
 from .errors import Problem
 from .exceptions import Catch
@@ -167,6 +167,12 @@ class Session:
             lines.append(self._stop_again(*parts) if parts else f"gdb {stop}")
         settings = (("idle", self.idle, IDLE_STEPS), ("limit", self.limit, 0))
         return lines + [f"{name} {value:,}" for name, value, usual in settings if value != usual]
+
+    def text(self, folder: str, is_whole: bool) -> str:
+        """A file of the session in a folder, with the image packed in or not."""
+        if self.origin is None:
+            raise Problem("a session is saved by what has opened an image")
+        return saved.text_of(self.origin, folder, self.edits[0].log if self.edits else self.driver.log, self.made_again(), is_whole)
 
     def _stop_again(self, address: int, size: Optional[int]) -> str:
         return f"break {self._named(address)}" if size is None else f"watch {self._named(address)} {size}"

@@ -190,14 +190,10 @@ def load(session: Session, words: list[str]) -> None:
 @command("save FILE [whole] [force]", "saves the session: image, log, edits, stops and position; `whole` packs the image in",
          FILES)
 def save_(session: Session, words: list[str]) -> None:
-    if session.origin is None:
-        raise Problem("a session is saved by what has opened an image")
     word, *rest = words
     name = name_of(word)
     is_whole = "whole" in rest[:1]
-    events = session.edits[0].log if session.edits else session.driver.log
-    folder = os.path.dirname(os.path.abspath(name))
-    text = saved.text_of(session.origin, folder, events, session.made_again(), is_whole)
+    text = session.text(os.path.dirname(os.path.abspath(name)), is_whole)
     save(name, text.encode("utf-8", "surrogateescape"), saved.FORM, is_forced(rest[is_whole:]), f"save {word} force")
     session.saved_log, session.saved_patches = list(session.driver.log), list(session.driver.patches)
     session.tell(f"the session is saved in {name}; `{NAME} shell {shlex.quote(name)}` opens it")

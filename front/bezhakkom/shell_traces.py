@@ -62,6 +62,7 @@ def stores(session: Session, words: list[str]) -> None:
         session.tell(f"no step before this position stored at {session.address(address)}")
 
 
+_MOST_LISTED = 1_000  # of hits, where no number is given
 _HITS = "hits A [last C], where A is an address, the number of a breakpoint or a catch, or `exception [KIND]`"
 
 
@@ -85,8 +86,11 @@ def hits(session: Session, words: list[str]) -> None:
         is_ended = True
     found.sort()
     session.tell(f"{name}, up to step {driver.position:,}: {len(found):,}" + (", and Ctrl-C came before all were found" if is_ended else ""))
-    for line in _exceptions(session, found) if isinstance(stop, Catch) else (f"step {it:,}" for it in found):
+    listed = found if most is not None else found[:_MOST_LISTED]
+    for line in _exceptions(session, listed) if isinstance(stop, Catch) else (f"step {it:,}" for it in listed):
         session.tell(f"  {line}")
+    if len(listed) < len(found):
+        session.tell(f"  and {len(found) - len(listed):,} later ones: `hits {' '.join(words)} last C` lists as many as C says")
 
 
 def _hits(driver: Driver, places: list[int], conditions: Conditions, most: Optional[int]) -> Iterator[int]:

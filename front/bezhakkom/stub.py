@@ -8,7 +8,7 @@ import signal
 import sys
 from typing import Callable, Optional, Sequence
 
-from . import elf, gdb_stops, listening, loading, memory, monitor, places, saved, target, through
+from . import elf, gdb_stops, listening, loading, memory, monitor, places, rescue, saved, target, through
 from .arguments import Parser
 from .errors import Interrupted, Problem, Unexpected
 from .gdb_stops import MOST_WATCHED
@@ -405,13 +405,14 @@ def main(arguments: Sequence[str]) -> int:
     with saved.opened(loading.Opening.of(line, line.image)) as found, loading.running(found.opening) as driver:
         session = Session(driver, symbols_of(driver.image), origin=found.origin, saved_log=list(driver.log))
         open_session(session, found.commands)
-        if where is not None:
-            _listen(session, where, whole)
-            return 0
-        stub = Stub(session, Link(sys.stdin.fileno(), sys.stdout.fileno()), exceptions_whole=whole)
-        if line.progress:
-            stub.show_progress()
-        stub.serve()
+        with rescue.kept(lambda: session.text(os.getcwd(), True) if session.unsaved() else None):
+            if where is not None:
+                _listen(session, where, whole)
+                return 0
+            stub = Stub(session, Link(sys.stdin.fileno(), sys.stdout.fileno()), exceptions_whole=whole)
+            if line.progress:
+                stub.show_progress()
+            stub.serve()
     return 0
 
 

@@ -115,6 +115,13 @@ class InTheShell(unittest.TestCase):
         self.assertEqual(self.said("break 0x80000080", "goto 51", "hits 1"), ["visits of 0x80000080, up to step 51: 1", "  step 34"])
         self.assertEqual(self.said("goto 52", "hits 0x80000080 last 9"), ["visits of 0x80000080, up to step 52: 2", "  step 34", "  step 52"])
         self.assertEqual(self.said("hits 0xbfc00000"), ["visits of 0xbfc00000, up to step 0: 1", "  step 0"])
+        # The loop of the echo program takes 11 steps, from step 9 on.
+        echo = (str(ROOT / "examples/echo/boot.s"),)
+        shown = self.said("goto 20,000", "hits loop", files=echo)
+        self.assertEqual((shown[0], len(shown)), ("visits of loop, up to step 20,000: 1,818", 1_002))
+        self.assertEqual(shown[-2:], ["  step 10,998", "  and 818 later ones: `hits loop last C` lists as many as C says"])
+        shown = self.said("goto 20,000", "hits loop last 1500", files=echo)
+        self.assertEqual((len(shown), shown[-1]), (1_501, "  step 19,996"))
 
     def test_a_session(self) -> None:
         """The shell finds its catches in a session again, and gdb has them as breakpoints."""

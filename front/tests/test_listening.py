@@ -8,8 +8,9 @@ import socket
 import subprocess
 import unittest
 
-from bezhakkom import listening
+from bezhakkom import listening, saved
 from bezhakkom.errors import Problem
+from bezhakkom.loading import Opening
 from front.tests.support import ROOT
 from front.tests.wire import packed
 
@@ -81,6 +82,19 @@ class Listening(unittest.TestCase):
                 self.assertEqual("not saved: the image (save-image FILE)" in rest, connected)
                 if not connected:
                     self.setUp()
+
+    def test_sigterm_keeps_what_is_not_saved(self) -> None:
+        connection = self.connect()
+        self.assertEqual(self.ask(connection, "Mbfc00004,1:02"), "OK")
+        connection.sendall(packed(b"Z0,bfc00100,4") + packed(b"c"))
+        os.killpg(self.stub.pid, signal.SIGTERM)
+        rest = self.stub.communicate(timeout=PATIENCE)[1]
+        found = re.fullmatch(r"bin/wb: ended by SIGTERM: what was not saved is in (\S+), which `bin/wb shell` opens\n", rest)
+        assert found, rest
+        self.addCleanup(os.unlink, found[1])
+        with saved.running(Opening((found[1],))) as driver:
+            self.assertEqual([place for place, _ in driver.patches], [0x1FC0_0004])
+            self.assertEqual(driver.shown(0x1FC0_0004, 1)[-3:-1], b"02")
 
     def test_a_port_that_is_taken(self) -> None:
         where = f"127.0.0.1:{self.address[1]}"

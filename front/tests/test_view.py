@@ -583,6 +583,28 @@ class Line(unittest.TestCase):
                     process.send_signal(signal.SIGINT)
                 self.assertEqual((process.stderr.read(), process.wait(300)), ("", 0))
 
+    def test_sigterm_keeps_what_is_not_saved(self) -> None:
+        """As a session in a file, whose name is said. Where all is saved nothing is."""
+        words = [sys.executable, str(ROOT / "front/bezhakkom"), "view", *LOGIN]
+        for number, edits in ((signal.SIGTERM, [{"number": 1, "do": "delete", "id": 2, "gesture": 1}]), (signal.SIGHUP, [])):
+            with subprocess.Popen(words, stdin=subprocess.DEVNULL, stdout=subprocess.PIPE, stderr=subprocess.PIPE, text=True) as process:
+                assert process.stdout and process.stderr
+                address = process.stdout.readline().strip()
+                request = urllib.request.Request(f"{address}ask", json.dumps({"edits": edits}).encode(),
+                                                 {"Content-Type": "application/json", "Origin": address[:address.index("/", 8)]})
+                urllib.request.urlopen(request, timeout=300).close()
+                process.send_signal(number)
+                said, status = process.stderr.read(), process.wait(300)
+            self.assertEqual(status, 128 + number)
+            if edits:
+                name = said.partition(" is in ")[2].partition(",")[0]
+                self.addCleanup(Path(name).unlink)
+                self.assertEqual(said, f"bin/wb: ended by SIGTERM: what was not saved is in {name}, which `bin/wb shell` opens\n")
+                with saved.running(Opening((name,))) as driver:
+                    self.assertEqual(driver.log, brute.without(brute.log_of("login"), 2))
+            else:
+                self.assertEqual(said, "")
+
     def test_wires(self) -> None:
         needs_kinds(self)
         with laid_out(*BUTTON) as desk:

@@ -8,7 +8,7 @@ from argparse import Namespace
 from contextlib import contextmanager
 from typing import Any, Iterator, Optional, Sequence
 
-from .. import loading, saved
+from .. import loading, rescue, saved
 from ..arguments import Parser, natural
 from ..driver import Driver
 from ..errors import Problem
@@ -51,7 +51,7 @@ def main(arguments: Sequence[str]) -> int:
     line = parser().read(arguments)
     if not 0 <= line.port < 65_536:
         raise Problem("--port wants a number from 0 to 65,535")
-    with laid_out(line) as desk:
+    with laid_out(line) as desk, rescue.kept(desk.unsaved_session):
         serve(desk, line.port, line.open)
     return 0
 

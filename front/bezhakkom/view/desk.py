@@ -100,6 +100,10 @@ class Desk:
         log = tuple(self._now.log)
         return log if log != self._saved else None
 
+    def unsaved_session(self) -> Optional[str]:
+        """A session of it, where it is not saved."""
+        return None if self.unsaved() is None else self._session_text(self._cursor)
+
     def interrupt(self) -> None:
         """Ends what takes long."""
         self._stop = True
