@@ -26,6 +26,7 @@ from bezhakkom.log import Event, Kind
 from bezhakkom.states import registers_at
 from bezhakkom.symbols import symbols_of
 from bezhakkom.view.fields import Fields
+from bezhakkom.view.rows import SAMPLES, View
 from bezhakkom.view.server import FILES, MOST_BYTES, Server
 from bezhakkom.whatif import why as reasons
 from bezhakkom.whatif.questions import Register, Sent, Word
@@ -245,6 +246,14 @@ class Costs(unittest.TestCase):
                     self.assertLessEqual(costs[0]["batches"], 2)
                     self.assertLessEqual(max(it["batches"] for it in costs[1:]), 1, costs)
                     self.assertLessEqual(max(it["questions"] for it in costs), 250, costs)
+
+    def test_fewer_samples_are_some_of_all(self) -> None:
+        """What was looked at at rest is not asked again for fewer samples, unless these alone are so far apart that they begin spans."""
+        for begin, end in (0, SPAN), (77, 100_003), (5, 9_999_999):
+            for samples in (12, 24, 48):
+                some, every = (View(begin, end, 900, it, end) for it in (samples, SAMPLES))
+                self.assertLessEqual({*some.positions()}, {*every.positions()})
+                self.assertLessEqual(len(some.positions()), samples)
 
     def test_to_and_fro(self) -> None:
         """Where many pasts are kept, an event that goes to and fro between two steps asks no more than at first."""

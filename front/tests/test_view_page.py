@@ -7,6 +7,7 @@ import unittest
 from contextlib import contextmanager
 from pathlib import Path
 from typing import Any, Iterator, Sequence
+from unittest import mock
 from xml.etree import ElementTree
 
 from bezhakkom import log as logs
@@ -16,7 +17,7 @@ from front.tests import browser as browsers
 from front.tests import brute, viewed
 from front.tests.browser import Browser, to
 from front.tests.support import needs_kinds
-from front.tests.viewed import BUTTON, DRIVER, LOGIN, READY, laid_out, served
+from front.tests.viewed import BUTTON, DRIVER, LOGIN, READY, Hand, laid_out, served
 
 SEED = 78
 LENGTH = 0x1020
@@ -96,12 +97,14 @@ class Page(unittest.TestCase):
         with self.page(*LOGIN):
             self.check("login/login.elf", log, [LENGTH])
             for wait in (16, 0):
+                self.browser.run("window.bezhakkom.s.samples = 12")  # as if the guest were slow
                 x, y = self.place(2)
                 self.browser.drag(x, y, [(x + 5 * it, y) for it in range(1, 25)], wait)
                 moved = next(it for it in self.shown()["now"]["events"] if it[0] == 2)
                 self.assertGreater(moved[1], 60_000)
                 self.check("login/login.elf", brute.moved(log, 2, moved[1]), [LENGTH])
                 self.assertEqual(viewed.events_of(self.shown()["ghost"]["events"]), log)
+                self.assertEqual(len(self.shown()["now"]["functions"]["at"]), 96)  # at rest all places are looked at
                 self.assertRegex(self.browser.run("return document.getElementById('said').textContent"), "^Line 0 sends '.*' where the other past sends '")
                 self.browser.keys("z", held=["Control"])
                 self.check("login/login.elf", log, [LENGTH])
@@ -374,6 +377,37 @@ class Page(unittest.TestCase):
             moved = next(it for it in self.shown()["now"]["events"] if it[0] == 2)
             self.assertGreater(moved[1], 45_000)
             self.check("login/login.elf", brute.moved(log, 2, moved[1]), [LENGTH])
+
+    def test_the_link(self) -> None:
+        """The page asks over a link. Where that breaks, no edit is lost or made twice, and there is another one."""
+        asked = "performance.getEntriesByType('resource').filter(it => it.name.endsWith('/ask')).length"
+        log = brute.log_of("login")
+        with self.page(*LOGIN):
+            count = self.browser.run(f"return {asked}")
+            self.key_on(2, "Right")
+            self.rest()
+            self.assertEqual(self.browser.run(f"return {asked}"), count)
+            broken = mock.Mock(side_effect=ConnectionError)
+            with mock.patch("bezhakkom.view.server.Link.send", broken):
+                self.key_on(2, "Right", "Right")
+                self.assertEqual(self.log(), brute.moved(log, 2, log[2].time + 3))
+            self.assertEqual(broken.call_count, 1)
+            self.assertGreater(self.browser.run(f"return {asked}"), count)
+            self.browser.until(lambda: self.posts_nothing(asked))
+            self.check("login/login.elf", brute.moved(log, 2, log[2].time + 3), [LENGTH])
+
+    def posts_nothing(self, asked: str) -> bool:
+        count = self.browser.run(f"return {asked}")
+        self.browser.run("window.bezhakkom.ask({})")
+        self.rest()
+        return bool(self.browser.run(f"return {asked}") == count)
+
+    def test_another_page(self) -> None:
+        """What was edited on another page is shown when one comes back to this one."""
+        with self.page(*LOGIN):
+            Hand(self.desk).ask(page="other", edits=[Hand(self.desk).edit("delete", id=2)])
+            self.browser.run("window.dispatchEvent(new Event('focus'))")
+            self.check("login/login.elf", brute.without(brute.log_of("login"), 2), [LENGTH])
 
     def test_labels_stand_apart(self) -> None:
         """The main loop of the driver counts in a word, so that each sample of it has another value. A letter takes some 7 pixels."""

@@ -207,7 +207,7 @@ class Desk:
         until = min(self.end, -(-end // SPAN) * SPAN)
         if not live:
             until = max(until, min(self.end, driver.made // SPAN * SPAN))
-        return View(begin, end, fields.number("columns", 16, 8_192), fields.number("samples", 4, 1_024, rows.SAMPLES), until)
+        return View(begin, end, fields.number("columns", 16, 8_192), fields.number("samples", 4, rows.SAMPLES, rows.SAMPLES), until)
 
     def _rows(self, past: Past, view: View, position: int, asker: Asker) -> List[rows.Row]:
         return [rows.sent(past, view, asker.hints), rows.text(past, view, position),

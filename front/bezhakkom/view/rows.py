@@ -87,8 +87,8 @@ class View:
 
     @property
     def apart(self) -> int:
-        """The steps between samples."""
-        return -(-(self.end - self.begin) // self.samples)
+        """The steps between samples. Fewer samples are some of those that are asked for at rest."""
+        return -(-(self.end - self.begin) // SAMPLES) * (SAMPLES // self.samples)
 
     @property
     def is_far(self) -> bool:

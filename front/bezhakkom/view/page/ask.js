@@ -2,6 +2,7 @@
 import {$, s, measure, say} from "./state.js";
 
 const SLOW = 10, QUICK = 5;                 // milliseconds of an answer after which the next one looks at fewer places, or at more
+const SAMPLES = 96, LEAST = 12;             // places that are looked at, at rest and at least while the hand moves
 const MOST_EDITS = 2000;                    // of one request
 const MOST_NAME = 200;                      // characters of the name of an edit
 let want = null, busy = false, resting = 0, failures = 0;
@@ -48,7 +49,7 @@ function body(wanted) {
   made.edits = sent = [...sent, ...unsent.splice(0, Math.max(0, MOST_EDITS - sent.length))];
   made.cursor = s.cursor;
   if (draw) {
-    made.view = {begin: Math.round(s.view.begin), end: Math.round(s.view.end), columns: measure(), samples: s.samples};
+    made.view = {begin: Math.round(s.view.begin), end: Math.round(s.view.end), columns: measure(), samples: made.live ? s.samples : SAMPLES};
     made.ghost = s.showGhost && (!!ghost || !made.live);
   }
   return made;
@@ -132,6 +133,6 @@ function take(reply, made) {
   if (reply.cursor && reply.cursor_at !== undefined) s.at = reply.cursor;
   // A guest that is slow is looked at in fewer places, as the hand comes first.
   if (made.live && made.edits.length && reply.cost)
-    s.samples = reply.cost.milliseconds > SLOW ? Math.max(12, s.samples >> 1) : reply.cost.milliseconds < QUICK ? Math.min(96, s.samples * 2) : s.samples;
+    s.samples = reply.cost.milliseconds > SLOW ? Math.max(LEAST, s.samples >> 1) : reply.cost.milliseconds < QUICK ? Math.min(SAMPLES, s.samples * 2) : s.samples;
   if (reply.problem) say(reply.problem);
 }

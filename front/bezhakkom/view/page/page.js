@@ -94,6 +94,7 @@ Object.assign(hand.commands, {
 matchMedia("(prefers-color-scheme: dark)").addEventListener("change", () => { readColors(); draw(); });
 addEventListener("resize", () => { draw(); ask({draw: true, live: true, ghost: true}); });
 addEventListener("beforeunload", event => { if (s.state && s.state.unsaved) event.preventDefault(); });
+addEventListener("focus", () => { if (s.now) ask({draw: true, live: true, ghost: true}); });  // another page may have edited since
 addEventListener("pagehide", leave);
 addEventListener("pageshow", event => { if (event.persisted) ask({draw: true}); });
 

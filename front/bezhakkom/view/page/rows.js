@@ -122,7 +122,7 @@ function note(row) {
   if (row.kind === "word") return at && at.words[row.word] !== undefined ? hex(at.words[row.word]) : "";
   const visits = row.kind === "function" ? s.now.visits[row.name] : null;
   if (visits && visits[1] && !s.now.functions.exact) return `entered ${visits[0].length === 1 ? "once" : `${visits[0].length} times`}`;
-  if (row.kind === "function" || row.kind === "others") return `${(100 * row.share).toFixed(1)} % of ${s.now.functions.exact ? "steps" : "samples"}`;
+  if (row.kind === "function" || row.kind === "others") return `${row.share === 1 ? 100 : (100 * row.share).toFixed(1)} % of ${s.now.functions.exact ? "steps" : "samples"}`;
   return "";
 }
 

@@ -14,8 +14,7 @@ const WIDTH = 1100;
 
 // The picture of what is in view, at a width of its own, with what came of the last change below it.
 export async function picture() {
-  const samples = s.samples;
-  s.width = WIDTH; s.samples = 96;
+  s.width = WIDTH;
   try {
     while ((await ask({draw: true, rest: true, ghost: true})).more);
     const pen = new SvgPen(), told = outcome(), rows = layout(), lines = [...(s.sweep ? legend() : []), ...(told ? [told] : [])];
@@ -23,7 +22,7 @@ export async function picture() {
     lines.forEach((it, at) => pen.text(24, rows + 12 + 18 * at, it, "ink", "fixed"));
     return pen.svg(WIDTH, rows + 18 * lines.length + 8, LIGHT, DARK);
   } finally {
-    s.width = null; s.samples = samples;
+    s.width = null;
     ask({draw: true, rest: true, ghost: true});
   }
 }
