@@ -1,7 +1,7 @@
 // The hand: events are dragged, turned, typed, taken out and put in; the cursor and the view are moved.
 import {$, s, FRAMING, WIRE, bytesOf, columns, find, number, perPixel, say, shown, what} from "./state.js";
 import {ask, edit} from "./ask.js";
-import {HEAD, S, draw, drawSoon, handle, near, rowAt, rows} from "./rows.js";
+import {HEAD, S, draw, handle, handlesSoon, near, rowAt, rows} from "./rows.js";
 import {panes} from "./panes.js";
 import * as sweeps from "./sweep.js";
 
@@ -101,7 +101,7 @@ $("events").addEventListener(MOVE, event => {
   const name = drag.from.size > 1 ? `move ${drag.from.size} events` : `move ${what(one)}`;
   for (const [id, it] of drag.from) change(id, it[1] + by, it[3], drag.gesture, name, event.timeStamp);
   tip(event, `step ${number(one[1] + by)} (${by >= 0 ? "+" : ""}${number(by)})`);
-  drawSoon();
+  handlesSoon();
 });
 for (const name of ["pointerup", "pointercancel"]) $("events").addEventListener(name, () => { s.drag = null; noTip(); });
 
@@ -115,7 +115,7 @@ $("events").addEventListener("focusin", event => {
 function turn(it, by, event) {
   const most = it[4] === WIRE ? 1 : 255, byte = Math.max(0, Math.min(most, it[3] + by));
   if (byte !== it[3]) change(it[0], it[1], byte, inBurst(`value ${it[0]}`, event.timeStamp), `turn ${what(it)}`, event.timeStamp);
-  draw();
+  handlesSoon();
   return byte;
 }
 
@@ -292,7 +292,7 @@ function onEvent(it, event) {
     const by = (key === "ArrowRight" ? 1 : -1) * (event.shiftKey ? 10 * Math.max(1, Math.round(perPixel())) : 1);
     const least = Math.min(...all.map(one => one[1])), of = inBurst(`move ${[...s.selected]}`, event.timeStamp);
     for (const one of all) change(one[0], one[1] + Math.max(-least, by), one[3], of, all.length > 1 ? `move ${all.length} events` : `move ${what(one)}`, event.timeStamp);
-    draw();
+    handlesSoon();
   } else if (key === "ArrowUp" || key === "ArrowDown") { done(); turn(it, (key === "ArrowUp" ? 1 : -1) * (event.shiftKey ? 16 : 1), event); }
   else if (key === "Delete" || key === "Backspace") { done(); remove(s.selected.has(it[0]) ? [...s.selected] : [it[0]], event.timeStamp); }
   else if (key === "Escape") { done(); s.selected.clear(); canvas.focus(); draw(); }
@@ -303,6 +303,6 @@ function onEvent(it, event) {
     if (byte < 0) return;
     if (!isWire) lastByte = byte;
     change(it[0], it[1], byte, gesture(), `set ${what(it)} to '${key}'`, event.timeStamp);
-    draw();
+    handlesSoon();
   }
 }

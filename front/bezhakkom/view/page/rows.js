@@ -71,12 +71,7 @@ function functionRows(now, ghost) {
   return rows;
 }
 
-// What is under the hand is drawn once in a frame, or with the reply that comes before it.
-let frame = 0;
-export const drawSoon = () => { frame = frame || requestAnimationFrame(draw); };
-
 export function draw() {
-  cancelAnimationFrame(frame); frame = 0;
   if (!s.now || !s.state) return;
   const canvas = $("canvas"), height = layout(), ratio = devicePixelRatio || 1, width = canvas.clientWidth, g = canvas.getContext("2d");
   if (canvas.width !== Math.round(width * ratio) || canvas.height !== Math.round(height * ratio)) {
@@ -310,8 +305,12 @@ function whyButton(row) {
 }
 
 // Handles of events: real elements, which have focus, names and values. Those of one step fan out.
+// As long as no reply has come they alone move, once in a frame.
 const handleOf = new Map();
+let frame = 0;
+export const handlesSoon = () => { frame = frame || requestAnimationFrame(handles); };
 export function handles() {
+  cancelAnimationFrame(frame); frame = 0;
   const box = $("events"), live = new Set();
   for (const row of rows) {
     if (row.kind !== "in" && row.kind !== "wire") continue;
@@ -357,9 +356,10 @@ function place(box, row, event, x, width, together) {
 // Tab goes through events in the order of time.
 let orderKey = "";
 function inOrder(box) {
+  if (s.drag) return;
   const sorted = [...handleOf.values()].sort((a, b) => a.getAttribute("aria-valuenow") - b.getAttribute("aria-valuenow"));
   const key = sorted.map(it => it.dataset.id).join();
-  if (key === orderKey || s.drag) return;
+  if (key === orderKey) return;
   orderKey = key;
   const focused = document.activeElement;
   sorted.forEach((it, at) => { if (box.children[at] !== it) box.insertBefore(it, box.children[at] || null); });
