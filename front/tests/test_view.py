@@ -73,6 +73,7 @@ class Refusals(unittest.TestCase):
                 self.assertEqual(reply.status, 200, name)
                 policy = reply.headers["Content-Security-Policy"]
                 self.assertIn("default-src 'none'", policy)
+                self.assertIn(f"connect-src 'self' ws://{server.host};", policy)
                 self.assertNotIn("unsafe", policy)
                 self.assertEqual((reply.headers["X-Content-Type-Options"], reply.headers["Cross-Origin-Resource-Policy"]),
                                  ("nosniff", "same-origin"))

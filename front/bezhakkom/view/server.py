@@ -29,7 +29,7 @@ LINK = "link"  # over which is asked too
 
 HEADERS = {
     "Cache-Control": "no-store",
-    "Content-Security-Policy": "default-src 'none'; script-src 'self'; style-src 'self'; connect-src 'self'; img-src 'self' data:; "
+    "Content-Security-Policy": "default-src 'none'; script-src 'self'; style-src 'self'; connect-src 'self' ws://{host}; img-src 'self' data:; "
                                "base-uri 'none'; form-action 'none'; frame-ancestors 'none'",
     "Cross-Origin-Opener-Policy": "same-origin",
     "Cross-Origin-Resource-Policy": "same-origin",
@@ -193,7 +193,7 @@ class _Handler(BaseHTTPRequestHandler):
     def _send(self, status: int, kind: str, content: bytes) -> None:
         self.send_response(status)
         for name, value in HEADERS.items():
-            self.send_header(name, value)
+            self.send_header(name, value.format(host=self.server.host))
         if status != 204:
             self.send_header("Content-Type", kind)
             self.send_header("Content-Length", str(len(content)))
