@@ -102,10 +102,10 @@ near 0 0 = false false, record 0 0, put, near 0 0 = true true, near 1 0 = false 
 # The receiver is not on yet: nothing comes of this byte, but the events differ.
 byte 5 0 0x41, near 0 0 = false false
 
-$ tied records
-# Two spans, one after the other, are tied until either is put anew.
+$ linked records
+# Two spans, one after the other, are linked until either is put anew.
 --
-tie, ties = 0, record 0 0, put, ties, records = 0 1, tie, ties = 0, record 1 1, put, ties, records = 0 1
+link, links = 0, record 0 0, put, links, records = 0 1, link, links = 0, record 1 1, put, links, records = 0 1
 
 $ greatest count
 # The count of steps stays at its greatest value, 18446744073709551615. No public call can make a machine that has made that many.

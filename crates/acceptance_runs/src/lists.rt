@@ -37,7 +37,7 @@ use std::test::Fail;
 ///     poke P Q W            a place with the word at place Q of memory set
 ///     near I P G .. = B B   whether the record of span I is taken at a place with the events, and whether it nearly applies there, where
 ///                           these pages are said to differ, beside those that do
-///     tie, ties = I ..      keeps the first two records from reset on, and ties them; the records that are tied to the next one
+///     link, links = I ..    keeps the first two records from reset on, and links them; the records that are linked to the next one
 ///     counted N M = S       the sum of two counts of steps
 ///
 /// Of a timeline of no events:

@@ -115,7 +115,7 @@ impl<const PAGES: u32, const SPAN: u32> Running<PAGES, SPAN> {
                 self.fact = Some(fact);
             }
             ("put", []) => self.put(alloc)?,
-            ("tie", []) => self.tie(alloc)?,
+            ("link", []) => self.link(alloc)?,
             ("join", []) => self.join()?,
             ("truncate", [index]) => self.kept.truncate_valid(*index),
             _ => return self.reports(alloc, name, numbers),
@@ -181,7 +181,7 @@ impl<const PAGES: u32, const SPAN: u32> Running<PAGES, SPAN> {
                 }
                 shown(alloc, &steps)?
             }
-            ("records" | "ties", []) => shown(alloc, &self.spans(alloc, name, 0)?)?,
+            ("records" | "links", []) => shown(alloc, &self.spans(alloc, name, 0)?)?,
             ("taken", [place]) => shown(alloc, &self.spans(alloc, name, *place)?)?,
             ("valid", []) => shown(alloc, &self.kept.valid())?,
             ("near", [index, place, pages @ ..]) => {
@@ -346,21 +346,21 @@ impl<const PAGES: u32, const SPAN: u32> Running<PAGES, SPAN> {
         Ok(shown(alloc, &(self.kept.valid(), records, taken))?)
     }
 
-    // Keeps the first two records from reset on, and ties them.
-    fn tie(&mut self, alloc: Global) -> Result<(), Fail> {
+    // Keeps the first two records from reset on, and links them.
+    fn link(&mut self, alloc: Global) -> Result<(), Fail> {
         let start = self.place(0)?;
         let zero = self.record(alloc, start, 0)?;
         let one = self.record(alloc, zero.end().clone()?, 1)?;
         self.kept.put(zero)?;
         self.kept.put(one)?;
         if self.kept.next(0).is_some() {
-            return Err("tied before".into());
+            return Err("linked before".into());
         }
-        self.kept.tie(0);
+        self.kept.link(0);
         Ok(())
     }
 
-    // The spans of the first 72, and the last one that there can be, that have a record, or one that is taken, or one that is tied.
+    // The spans of the first 72, and the last one that there can be, that have a record, or one that is taken, or one that is linked.
     fn spans(&self, alloc: Global, name: &str, start: u64) -> Result<Vec<u64>, Fail> {
         let start = self.place(start)?;
         let mut found = Vec::new(alloc);

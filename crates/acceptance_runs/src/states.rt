@@ -9,7 +9,7 @@ fn states_inside_spans(rt: HostRuntime) -> Result<(), Fail> {
 }
 
 const LISTS: &str = "
-$ keeps no landings
+$ keeps no recent states
 # A second query of the state at a position inside a span runs no step; it would if no state were kept. By hand: a turn begins at
 # position 97, and another at 64.
 --

@@ -10,7 +10,7 @@ use Rattle.std.proofs.lemmas.Option.{slice_get_within, slice_get-get_or, IfSome_
 use Rattle.std.proofs.lemmas.List.Edits.{length-remove}
 use Rattle.span_fact.specs.Span.{Span, end_of}
 use Rattle.checkpoints.specs.Kept.{Follows, first_at, promoted, row_at}
-use Rattle.checkpoints.specs.Rows.{AreRows, IsOwnName, IsRoom, Places, Tied, records_of, rows_of, spans_of, with_next}
+use Rattle.checkpoints.specs.Rows.{AreRows, IsOwnName, IsRoom, Places, Linked, records_of, rows_of, spans_of, with_next}
 
 -- what is in a list
 pub in_cons : {A : Type 0} (x : A) (xs : List A) (r : A) → Contains (x ∷ xs) r → (x ≡ r) ⊎ Contains xs r
@@ -54,7 +54,7 @@ pub row_of : (places : List Places) (i : ℕ) → row_at (rows_of places) i ≡ 
 row_of places i = get_or-map spans_of (records_of places) i []
 
 pub span_at : (places : List Places) (i k : ℕ) → slice_get (row_at (rows_of places) i) k ≡ option_map (λ r. r.span) (slice_get (row_at (records_of places) i) k)
-span_at places i k = ap (λ (row : List Span). slice_get row k) (row_of places i) ∙ slice_get-map (λ (r : Tied). r.span) (row_at (records_of places) i) k
+span_at places i k = ap (λ (row : List Span). slice_get row k) (row_of places i) ∙ slice_get-map (λ (r : Linked). r.span) (row_at (records_of places) i) k
 
 -- a row by its number
 pub row_is : (places : List Places) (i : ℕ) (p : Places) → slice_get places i ≡ Some p → row_at (records_of places) i ≡ p.records
@@ -89,7 +89,7 @@ pub some_is : {A : Type 0} (o : Option A) (x : A) (P : A → Type 0) → o ≡ S
 some_is o x P is holds = subst (λ o. IfSome o P) is holds
 
 -- the record that is named next follows
-pub leads : (pages span : ℕ) (places : List Places) (valid most names index place : ℕ) (r : Tied) (name : ℕ) → AreRows pages span (records_of places) valid most names
+pub leads : (pages span : ℕ) (places : List Places) (valid most names index place : ℕ) (r : Linked) (name : ℕ) → AreRows pages span (records_of places) valid most names
     → slice_get (row_at (records_of places) index) 0 ≡ Some r → r.next ≡ Some name
     → IsSomeAnd (slice_get (row_at (records_of places) (index + 1)) place) (λ n. n.name ≡ name)
     → Follows pages span (first_at (rows_of places) index) (slice_get (row_at (rows_of places) (index + 1)) place)
@@ -99,15 +99,15 @@ leads pages span places valid most names index place r name rows there next name
     (subst (λ (o : Option Span). Follows pages span (Some r.span) o) (sym (span_at places (index + 1) place))
     (by_cases (slice_get (row_at (records_of places) (index + 1)) place) refl named))
   where
-    by_cases : (o : Option Tied) → slice_get (row_at (records_of places) (index + 1)) place ≡ o → IsSomeAnd o (λ n. n.name ≡ name)
+    by_cases : (o : Option Linked) → slice_get (row_at (records_of places) (index + 1)) place ≡ o → IsSomeAnd o (λ n. n.name ≡ name)
         → Follows pages span (Some r.span) (option_map (λ r. r.span) o)
     by_cases None is named = absurd named
     by_cases (Some n) is named =
         rows.follow index r (got (row_at (records_of places) index) 0 r there) n (got (row_at (records_of places) (index + 1)) place n is) (next ∙ ap (λ (n : ℕ). Some n) (sym named))
 
 -- rows of which none has a record more
-pub fewer_kept : (pages span : ℕ) (old new : List (List Tied)) (valid most names : ℕ) → AreRows pages span old valid most names
-    → ((i : ℕ) (r : Tied) → Contains (row_at new i) r → Contains (row_at old i) r) → ((i : ℕ) → length (row_at new i) ≡ length (row_at old i))
+pub fewer_kept : (pages span : ℕ) (old new : List (List Linked)) (valid most names : ℕ) → AreRows pages span old valid most names
+    → ((i : ℕ) (r : Linked) → Contains (row_at new i) r → Contains (row_at old i) r) → ((i : ℕ) → length (row_at new i) ≡ length (row_at old i))
     → AreRows pages span new valid most names
 fewer_kept pages span old new valid most names rows within long = record {
   some = rows.some;
@@ -130,49 +130,49 @@ length_promoted {A} place xs within = by_cases (slice_get xs place)
 pub length_put : {A : Type 0} (x : A) (most : ℕ) (xs : List A) → 0 < most → length (x ∷ take (most - 1) xs) ≤ most
 length_put x most xs some = omega (arith, length-take (most - 1) xs, some)
 
-pub put_kept : (pages span : ℕ) (old new : List (List Tied)) (valid most names later index : ℕ) (r : Tied) → AreRows pages span old valid most names
+pub put_kept : (pages span : ℕ) (old new : List (List Linked)) (valid most names later index : ℕ) (r : Linked) → AreRows pages span old valid most names
     → row_at new index ≡ r ∷ take (most - 1) (row_at old index) → ((i : ℕ) → ¬ (i ≡ index) → row_at new i ≡ row_at old i)
     → r.span.index ≡ index → r.name ≡ names → r.next ≡ None → names ≤ later → AreRows pages span new valid most later
 put_kept pages span old new valid most names later index r rows here others number name none more = record {
   some = rows.some;
   numbers = λ i n there. elim (from i n there) [
-    | inl is ↦ ap (λ (n : Tied). n.span.index) (sym is.1) ∙ (number ∙ sym is.0)
+    | inl is ↦ ap (λ (n : Linked). n.span.index) (sym is.1) ∙ (number ∙ sym is.0)
     | inr kept ↦ rows.numbers i n kept
   ];
   joined = λ i below. elim (cases_eq i index) [
-    | inl is ↦ subst (λ (row : List Tied). 0 < length row) (sym (ap (row_at new) is ∙ here)) (omega arith)
-    | inr other ↦ subst (λ (row : List Tied). 0 < length row) (sym (others i other)) (rows.joined i below)
+    | inl is ↦ subst (λ (row : List Linked). 0 < length row) (sym (ap (row_at new) is ∙ here)) (omega arith)
+    | inr other ↦ subst (λ (row : List Linked). 0 < length row) (sym (others i other)) (rows.joined i below)
   ];
   few = λ i. elim (cases_eq i index) [
-    | inl is ↦ subst (λ (row : List Tied). length row ≤ most) (sym (ap (row_at new) is ∙ here)) (length_put r most (row_at old index) rows.some)
-    | inr other ↦ subst (λ (row : List Tied). length row ≤ most) (sym (others i other)) (rows.few i)
+    | inl is ↦ subst (λ (row : List Linked). length row ≤ most) (sym (ap (row_at new) is ∙ here)) (length_put r most (row_at old index) rows.some)
+    | inr other ↦ subst (λ (row : List Linked). length row ≤ most) (sym (others i other)) (rows.few i)
   ];
   fresh = λ i n there. elim (from i n there) [
-    | inl is ↦ subst (λ (n : Tied). IfSome n.next (λ name. name < later)) is.1 (subst (λ (o : Option ℕ). IfSome o (λ name. name < later)) (sym none) tt)
+    | inl is ↦ subst (λ (n : Linked). IfSome n.next (λ name. name < later)) is.1 (subst (λ (o : Option ℕ). IfSome o (λ name. name < later)) (sym none) tt)
     | inr kept ↦ IfSome_then n.next (rows.fresh i n kept) (λ name less. omega (arith, less, more))
   ];
   follow = λ i n there next after named. elim (from i n there) [
-    | inl is ↦ absurd (let e : ⊥ = cc (ap (λ (n : Tied). n.next) is.1, none, named) in e)
+    | inl is ↦ absurd (let e : ⊥ = cc (ap (λ (n : Linked). n.next) is.1, none, named) in e)
     | inr kept ↦ elim (from (i + 1) next after) [
       | inl is ↦ absurd (let less : next.name < names = some_is n.next next.name (λ name. name < names) named (rows.fresh i n kept) in
-          omega (arith, less, ap (λ (n : Tied). n.name) is.1, name))
+          omega (arith, less, ap (λ (n : Linked). n.name) is.1, name))
       | inr later_kept ↦ rows.follow i n kept next later_kept named
     ]
   ];
 }
   where
-    from : (i : ℕ) (n : Tied) → Contains (row_at new i) n → ((i ≡ index) × (r ≡ n)) ⊎ Contains (row_at old i) n
+    from : (i : ℕ) (n : Linked) → Contains (row_at new i) n → ((i ≡ index) × (r ≡ n)) ⊎ Contains (row_at old i) n
     from i n there = elim (cases_eq i index) [
-      | inl is ↦ elim (in_cons r (take (most - 1) (row_at old index)) n (subst (λ (row : List Tied). Contains row n) (ap (row_at new) is ∙ here) there)) [
+      | inl is ↦ elim (in_cons r (take (most - 1) (row_at old index)) n (subst (λ (row : List Linked). Contains row n) (ap (row_at new) is ∙ here) there)) [
         | inl same ↦ inl (is, same)
         | inr rest ↦ inr (subst (λ (j : ℕ). Contains (row_at old j) n) (sym is) (in_take (most - 1) (row_at old index) n rest))
       ]
-      | inr other ↦ inr (subst (λ (row : List Tied). Contains row n) (others i other) there)
+      | inr other ↦ inr (subst (λ (row : List Linked). Contains row n) (others i other) there)
     ]
 
 -- what the first record leads to is noted
-in_noted : (name : ℕ) (xs : List Tied) (n : Tied) → Contains (with_next name xs) n
-    → ((r : Tied) × (slice_get xs 0 ≡ Some r) × (record r { next = Some name } ≡ n)) ⊎ Contains xs n
+in_noted : (name : ℕ) (xs : List Linked) (n : Linked) → Contains (with_next name xs) n
+    → ((r : Linked) × (slice_get xs 0 ≡ Some r) × (record r { next = Some name } ≡ n)) ⊎ Contains xs n
 in_noted name [] n there = inr there
 in_noted name (r ∷ xs) n there =
     elim (in_cons (record r { next = Some name }) xs n there) [
@@ -180,66 +180,66 @@ in_noted name (r ∷ xs) n there =
       | inr rest ↦ inr (in_rest r xs n rest)
     ]
 
-pub length_noted : (name : ℕ) (xs : List Tied) → length (with_next name xs) ≡ length xs
+pub length_noted : (name : ℕ) (xs : List Linked) → length (with_next name xs) ≡ length xs
 length_noted name [] = refl
 length_noted name (r ∷ xs) = refl
 
-pub spans_noted : (name : ℕ) (xs : List Tied) → spans_of (with_next name xs) ≡ spans_of xs
+pub spans_noted : (name : ℕ) (xs : List Linked) → spans_of (with_next name xs) ≡ spans_of xs
 spans_noted name [] = refl
 spans_noted name (r ∷ xs) = refl
 
-pub tie_kept : (pages span : ℕ) (old new : List (List Tied)) (valid most names index name : ℕ) → AreRows pages span old valid most names
+pub tie_kept : (pages span : ℕ) (old new : List (List Linked)) (valid most names index name : ℕ) → AreRows pages span old valid most names
     → row_at new index ≡ with_next name (row_at old index) → ((i : ℕ) → ¬ (i ≡ index) → row_at new i ≡ row_at old i)
     → name < names → IsOwnName (row_at old (index + 1)) name
-    → ((a b : Tied) → slice_get (row_at old index) 0 ≡ Some a → slice_get (row_at old (index + 1)) 0 ≡ Some b → b.span.start ≡ end_of pages span a.span)
+    → ((a b : Linked) → slice_get (row_at old index) 0 ≡ Some a → slice_get (row_at old (index + 1)) 0 ≡ Some b → b.span.start ≡ end_of pages span a.span)
     → AreRows pages span new valid most names
 tie_kept pages span old new valid most names index name rows here others less own follows = record {
   some = rows.some;
   numbers = λ i n there. elim (from i n there) [
-    | inl is ↦ ap (λ (n : Tied). n.span.index) (sym is.1.2) ∙ (rows.numbers index is.1.0 (got (row_at old index) 0 is.1.0 is.1.1) ∙ sym is.0)
+    | inl is ↦ ap (λ (n : Linked). n.span.index) (sym is.1.2) ∙ (rows.numbers index is.1.0 (got (row_at old index) 0 is.1.0 is.1.1) ∙ sym is.0)
     | inr kept ↦ rows.numbers i n kept
   ];
   joined = λ i below. let some = rows.joined i below in let same = long i in omega (arith, some, same);
   few = λ i. let few = rows.few i in let same = long i in omega (arith, few, same);
   fresh = λ i n there. elim (from i n there) [
-    | inl is ↦ subst (λ (n : Tied). IfSome n.next (λ name. name < names)) is.1.2 less
+    | inl is ↦ subst (λ (n : Linked). IfSome n.next (λ name. name < names)) is.1.2 less
     | inr kept ↦ rows.fresh i n kept
   ];
   follow = λ i n there next after named.
-      let next_kept : (m : Tied) × Contains (row_at old (i + 1)) m × (m.name ≡ next.name) × (m.span ≡ next.span) = was (i + 1) next after in
+      let next_kept : (m : Linked) × Contains (row_at old (i + 1)) m × (m.name ≡ next.name) × (m.span ≡ next.span) = was (i + 1) next after in
       elim (from i n there) [
         | inl is ↦
             let r = is.1.0 in
             let m = next_kept.0 in
-            let mine : name ≡ next.name = (let e : Some name ≡ Some next.name = (ap (λ (n : Tied). n.next) is.1.2 ∙ named) in cc) in
+            let mine : name ≡ next.name = (let e : Some name ≡ Some next.name = (ap (λ (n : Linked). n.next) is.1.2 ∙ named) in cc) in
             let first : slice_get (row_at old (index + 1)) 0 ≡ Some m =
             own m (subst (λ (j : ℕ). Contains (row_at old (j + 1)) m) is.0 next_kept.1) (next_kept.2 ∙ sym mine) in
-            ap (λ (s : Span). s.start) (sym next_kept.3) ∙ (follows r m is.1.1 first ∙ ap (λ (n : Tied). end_of pages span n.span) is.1.2)
+            ap (λ (s : Span). s.start) (sym next_kept.3) ∙ (follows r m is.1.1 first ∙ ap (λ (n : Linked). end_of pages span n.span) is.1.2)
         | inr kept ↦
             ap (λ (s : Span). s.start) (sym next_kept.3) ∙ rows.follow i n kept next_kept.0 next_kept.1 (named ∙ ap (λ (k : ℕ). Some k) (sym next_kept.2))
       ];
 }
   where
-    from : (i : ℕ) (n : Tied) → Contains (row_at new i) n
-        → ((i ≡ index) × ((r : Tied) × (slice_get (row_at old index) 0 ≡ Some r) × (record r { next = Some name } ≡ n))) ⊎ Contains (row_at old i) n
+    from : (i : ℕ) (n : Linked) → Contains (row_at new i) n
+        → ((i ≡ index) × ((r : Linked) × (slice_get (row_at old index) 0 ≡ Some r) × (record r { next = Some name } ≡ n))) ⊎ Contains (row_at old i) n
     from i n there = elim (cases_eq i index) [
-      | inl is ↦ elim (in_noted name (row_at old index) n (subst (λ (row : List Tied). Contains row n) (ap (row_at new) is ∙ here) there)) [
+      | inl is ↦ elim (in_noted name (row_at old index) n (subst (λ (row : List Linked). Contains row n) (ap (row_at new) is ∙ here) there)) [
         | inl first ↦ inl (is, first)
         | inr rest ↦ inr (subst (λ (j : ℕ). Contains (row_at old j) n) (sym is) rest)
       ]
-      | inr other ↦ inr (subst (λ (row : List Tied). Contains row n) (others i other) there)
+      | inr other ↦ inr (subst (λ (row : List Linked). Contains row n) (others i other) there)
     ]
 
-    was : (i : ℕ) (n : Tied) → Contains (row_at new i) n → (m : Tied) × Contains (row_at old i) m × (m.name ≡ n.name) × (m.span ≡ n.span)
+    was : (i : ℕ) (n : Linked) → Contains (row_at new i) n → (m : Linked) × Contains (row_at old i) m × (m.name ≡ n.name) × (m.span ≡ n.span)
     was i n there = elim (from i n there) [
-      | inl is ↦ (is.1.0, subst (λ (j : ℕ). Contains (row_at old j) is.1.0) (sym is.0) (got (row_at old index) 0 is.1.0 is.1.1), ap (λ (n : Tied). n.name) is.1.2, ap (λ (n : Tied). n.span) is.1.2)
+      | inl is ↦ (is.1.0, subst (λ (j : ℕ). Contains (row_at old j) is.1.0) (sym is.0) (got (row_at old index) 0 is.1.0 is.1.1), ap (λ (n : Linked). n.name) is.1.2, ap (λ (n : Linked). n.span) is.1.2)
       | inr kept ↦ (n, kept, refl, refl)
     ]
 
     long : (i : ℕ) → length (row_at new i) ≡ length (row_at old i)
     long i = elim (cases_eq i index) [
-      | inl is ↦ ap (λ (row : List Tied). length row) (ap (row_at new) is ∙ here) ∙ (length_noted name (row_at old index) ∙ ap (λ (j : ℕ). length (row_at old j)) (sym is))
-      | inr other ↦ ap (λ (row : List Tied). length row) (others i other)
+      | inl is ↦ ap (λ (row : List Linked). length row) (ap (row_at new) is ∙ here) ∙ (length_noted name (row_at old index) ∙ ap (λ (j : ℕ). length (row_at old j)) (sym is))
+      | inr other ↦ ap (λ (row : List Linked). length row) (others i other)
     ]
 
 -- a row whose first record is there
@@ -247,7 +247,7 @@ pub first_there : (places : List Places) (index : ℕ) → IsSome (first_at (row
 first_there places index some =
     by_cases (row_at (records_of places) index) (subst (λ (o : Option Span). IsSome o) (span_at places index 0) some)
   where
-    by_cases : (row : List Tied) → IsSome (option_map (λ (r : Tied). r.span) (slice_get row 0)) → 0 < length row
+    by_cases : (row : List Linked) → IsSome (option_map (λ (r : Linked). r.span) (slice_get row 0)) → 0 < length row
     by_cases [] some = absurd (let e : ⊥ = cc in e)
     by_cases (r ∷ row) some = omega arith
 
@@ -294,27 +294,27 @@ row_within places index place within =
     let less = has_place (records_of places) index place within in omega (arith, less, length-map places (λ (p : Places). p.records))
 
 -- the spans of a row after one was used, or put
-pub spans_promoted : (place : ℕ) (records : List Tied) → spans_of (promoted place records) ≡ promoted place (spans_of records)
+pub spans_promoted : (place : ℕ) (records : List Linked) → spans_of (promoted place records) ≡ promoted place (spans_of records)
 spans_promoted place records =
     by_cases (slice_get records place) refl
   where
     removed : spans_of (remove records place) ≡ remove (spans_of records) place
     removed =
-        map-append (λ (r : Tied). r.span) (take place records) (drop (suc place) records)
-        ∙ (ap (λ (xs : List Span). xs ++ spans_of (drop (suc place) records)) (sym (take-map (λ (r : Tied). r.span) place records))
-        ∙ ap (λ (xs : List Span). take place (spans_of records) ++ xs) (sym (drop-map (λ (r : Tied). r.span) (suc place) records)))
+        map-append (λ (r : Linked). r.span) (take place records) (drop (suc place) records)
+        ∙ (ap (λ (xs : List Span). xs ++ spans_of (drop (suc place) records)) (sym (take-map (λ (r : Linked). r.span) place records))
+        ∙ ap (λ (xs : List Span). take place (spans_of records) ++ xs) (sym (drop-map (λ (r : Linked). r.span) (suc place) records)))
 
-    by_cases : (o : Option Tied) → slice_get records place ≡ o → spans_of (promoted place records) ≡ promoted place (spans_of records)
+    by_cases : (o : Option Linked) → slice_get records place ≡ o → spans_of (promoted place records) ≡ promoted place (spans_of records)
     by_cases None is =
-        ap (λ (o : Option Tied). spans_of (option_map_or (λ s. s ∷ remove records place) o records)) is
-        ∙ sym (ap (λ (o : Option Span). option_map_or (λ s. s ∷ remove (spans_of records) place) o (spans_of records)) (slice_get-map (λ (r : Tied). r.span) records place ∙ ap (option_map (λ (r : Tied). r.span)) is))
+        ap (λ (o : Option Linked). spans_of (option_map_or (λ s. s ∷ remove records place) o records)) is
+        ∙ sym (ap (λ (o : Option Span). option_map_or (λ s. s ∷ remove (spans_of records) place) o (spans_of records)) (slice_get-map (λ (r : Linked). r.span) records place ∙ ap (option_map (λ (r : Linked). r.span)) is))
     by_cases (Some s) is =
-        ap (λ (o : Option Tied). spans_of (option_map_or (λ s. s ∷ remove records place) o records)) is
+        ap (λ (o : Option Linked). spans_of (option_map_or (λ s. s ∷ remove records place) o records)) is
         ∙ (ap (λ (xs : List Span). s.span ∷ xs) removed
-        ∙ sym (ap (λ (o : Option Span). option_map_or (λ s. s ∷ remove (spans_of records) place) o (spans_of records)) (slice_get-map (λ (r : Tied). r.span) records place ∙ ap (option_map (λ (r : Tied). r.span)) is)))
+        ∙ sym (ap (λ (o : Option Span). option_map_or (λ s. s ∷ remove (spans_of records) place) o (spans_of records)) (slice_get-map (λ (r : Linked). r.span) records place ∙ ap (option_map (λ (r : Linked). r.span)) is)))
 
-pub spans_put : (r : Tied) (n : ℕ) (records : List Tied) → spans_of (r ∷ take n records) ≡ r.span ∷ take n (spans_of records)
-spans_put r n records = ap (λ (xs : List Span). r.span ∷ xs) (sym (take-map (λ (r : Tied). r.span) n records))
+pub spans_put : (r : Linked) (n : ℕ) (records : List Linked) → spans_of (r ∷ take n records) ≡ r.span ∷ take n (spans_of records)
+spans_put r n records = ap (λ (xs : List Span). r.span ∷ xs) (sym (take-map (λ (r : Linked). r.span) n records))
 
 -- the rows that are seen after one is changed
 pub seen_set : (places : List Places) (index : ℕ) (q : Places) → index < length places → row_at (rows_of (slice_set places index q)) index ≡ spans_of q.records
@@ -328,11 +328,11 @@ seen_other places index i q other =
 pub seen_same : (old new : List Places) → ((i : ℕ) → row_at (records_of new) i ≡ row_at (records_of old) i) → (i : ℕ) → row_at (rows_of new) i ≡ row_at (rows_of old) i
 seen_same old new same i = row_of new i ∙ (ap spans_of (same i) ∙ sym (row_of old i))
 
-pub same_kept : (pages span : ℕ) (old new : List (List Tied)) (valid most names : ℕ) → AreRows pages span old valid most names → ((i : ℕ) → row_at new i ≡ row_at old i)
+pub same_kept : (pages span : ℕ) (old new : List (List Linked)) (valid most names : ℕ) → AreRows pages span old valid most names → ((i : ℕ) → row_at new i ≡ row_at old i)
     → AreRows pages span new valid most names
 same_kept pages span old new valid most names rows same =
-    fewer_kept pages span old new valid most names rows (λ i r there. subst (λ (row : List Tied). Contains row r) (same i) there)
-    (λ i. ap (λ (row : List Tied). length row) (same i))
+    fewer_kept pages span old new valid most names rows (λ i r there. subst (λ (row : List Linked). Contains row r) (same i) there)
+    (λ i. ap (λ (row : List Linked). length row) (same i))
 
 -- a record is promoted
 pub promote_kept : (pages span : ℕ) (places : List Places) (valid most names index place : ℕ) (p q : Places) → AreRows pages span (records_of places) valid most names
@@ -343,16 +343,16 @@ promote_kept pages span places valid most names index place p q rows there withi
     (λ i r now. elim (cases_eq i index) [
       | inl same ↦
           subst (λ (j : ℕ). Contains (row_at (records_of places) j) r) (sym same)
-          (subst (λ (row : List Tied). Contains row r) (sym (row_is places index p there))
-          (in_promoted place p.records r (subst (λ (row : List Tied). Contains row r) (here i same) now)))
-      | inr other ↦ subst (λ (row : List Tied). Contains row r) (row_other places index i q other) now
+          (subst (λ (row : List Linked). Contains row r) (sym (row_is places index p there))
+          (in_promoted place p.records r (subst (λ (row : List Linked). Contains row r) (here i same) now)))
+      | inr other ↦ subst (λ (row : List Linked). Contains row r) (row_other places index i q other) now
     ])
     (λ i. elim (cases_eq i index) [
       | inl same ↦
-          ap (λ (row : List Tied). length row) (here i same)
+          ap (λ (row : List Linked). length row) (here i same)
           ∙ (length_promoted place p.records within
-          ∙ ap (λ (row : List Tied). length row) (sym (ap (row_at (records_of places)) same ∙ row_is places index p there)))
-      | inr other ↦ ap (λ (row : List Tied). length row) (row_other places index i q other)
+          ∙ ap (λ (row : List Linked). length row) (sym (ap (row_at (records_of places)) same ∙ row_is places index p there)))
+      | inr other ↦ ap (λ (row : List Linked). length row) (row_other places index i q other)
     ])
   where
     here : (i : ℕ) → i ≡ index → row_at (records_of (slice_set places index q)) i ≡ promoted place p.records
@@ -360,11 +360,11 @@ promote_kept pages span places valid most names index place p q rows there withi
 
 -- what it is that a first record follows another
 pub followed : (pages span : ℕ) (places : List Places) (index : ℕ) → Follows pages span (first_at (rows_of places) index) (first_at (rows_of places) (index + 1))
-    → (a b : Tied) → slice_get (row_at (records_of places) index) 0 ≡ Some a → slice_get (row_at (records_of places) (index + 1)) 0 ≡ Some b
+    → (a b : Linked) → slice_get (row_at (records_of places) index) 0 ≡ Some a → slice_get (row_at (records_of places) (index + 1)) 0 ≡ Some b
     → b.span.start ≡ end_of pages span a.span
 followed pages span places index follows a b one next =
-    subst (λ (o : Option Span). Follows pages span (Some a.span) o) (span_at places (index + 1) 0 ∙ ap (option_map (λ (r : Tied). r.span)) next)
-    (subst (λ (o : Option Span). Follows pages span o (first_at (rows_of places) (index + 1))) (span_at places index 0 ∙ ap (option_map (λ (r : Tied). r.span)) one) follows)
+    subst (λ (o : Option Span). Follows pages span (Some a.span) o) (span_at places (index + 1) 0 ∙ ap (option_map (λ (r : Linked). r.span)) next)
+    (subst (λ (o : Option Span). Follows pages span o (first_at (rows_of places) (index + 1))) (span_at places index 0 ∙ ap (option_map (λ (r : Linked). r.span)) one) follows)
 
 pub tied_row : (pages span : ℕ) (places : List Places) (index : ℕ) (o : Option Span) → Follows pages span (first_at (rows_of places) index) o → index < length places
 tied_row pages span places index o follows =

@@ -4,20 +4,20 @@ use Rattle.span_fact.specs.Span.{Span, end_of}
 use Rattle.checkpoints.specs.Kept.{row_at}
 
 -- A record, with its name in its row. The record of the next number that has the name `next` starts where this one ends.
-pub record Tied : Type 0 where
+pub record Linked : Type 0 where
   pub span : Span
   pub name : ℕ
   pub next : Option ℕ
 
 -- a row, and how many records it has room for
 pub record Places : Type 0 where
-  pub records : List Tied
+  pub records : List Linked
   pub room : ℕ
 
-abbrev pub spans_of : List Tied → List Span
+abbrev pub spans_of : List Linked → List Span
 spans_of records = map (λ r. r.span) records
 
-abbrev pub records_of : List Places → List (List Tied)
+abbrev pub records_of : List Places → List (List Linked)
 records_of places = map (λ p. p.records) places
 
 abbrev pub rows_of : List Places → List (List Span)
@@ -29,24 +29,24 @@ pub record IsRoom (places : List Places) (most index : ℕ) : Type 0 where
   pub room : IfSome (slice_get places index) (λ p. ¬ (length p.records ≡ most) → length p.records < p.room)
 
 -- the first record of a row after the name of the next one was noted
-abbrev pub with_next : ℕ → List Tied → List Tied
+abbrev pub with_next : ℕ → List Linked → List Linked
 with_next name [] = []
 with_next name (r ∷ records) = record r { next = Some name } ∷ records
 
 -- the first record has this name, and no other one has it
-abbrev pub IsOwnName : List Tied → ℕ → Type 0
-IsOwnName records name = (r : Tied) → Contains records r → r.name ≡ name → slice_get records 0 ≡ Some r
+abbrev pub IsOwnName : List Linked → ℕ → Type 0
+IsOwnName records name = (r : Linked) → Contains records r → r.name ≡ name → slice_get records 0 ≡ Some r
 
 -- a record that is named next starts where this one ends
-abbrev pub Leads : (pages span : ℕ) → Tied → List Tied → Type 0
-Leads pages span r next = (n : Tied) → Contains next n → r.next ≡ Some n.name → n.span.start ≡ end_of pages span r.span
+abbrev pub Leads : (pages span : ℕ) → Linked → List Linked → Type 0
+Leads pages span r next = (n : Linked) → Contains next n → r.next ≡ Some n.name → n.span.start ≡ end_of pages span r.span
 
 -- Each record has its number. The valid ones are there, and each row has at most `most`. What is known of the next ones is so, and a new
 -- name is none of those that are known.
-pub record AreRows (pages span : ℕ) (rows : List (List Tied)) (valid most names : ℕ) : Type 0 where
+pub record AreRows (pages span : ℕ) (rows : List (List Linked)) (valid most names : ℕ) : Type 0 where
   pub some : 0 < most
-  pub numbers : (i : ℕ) (r : Tied) → Contains (row_at rows i) r → r.span.index ≡ i
+  pub numbers : (i : ℕ) (r : Linked) → Contains (row_at rows i) r → r.span.index ≡ i
   pub joined : (i : ℕ) → i < valid → 0 < length (row_at rows i)
   pub few : (i : ℕ) → length (row_at rows i) ≤ most
-  pub fresh : (i : ℕ) (r : Tied) → Contains (row_at rows i) r → IfSome r.next (λ name. name < names)
-  pub follow : (i : ℕ) (r : Tied) → Contains (row_at rows i) r → Leads pages span r (row_at rows (i + 1))
+  pub fresh : (i : ℕ) (r : Linked) → Contains (row_at rows i) r → IfSome r.next (λ name. name < names)
+  pub follow : (i : ℕ) (r : Linked) → Contains (row_at rows i) r → Leads pages span r (row_at rows (i + 1))

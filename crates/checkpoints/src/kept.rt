@@ -160,7 +160,7 @@ impl<const PAGES: u32, const SPAN: u32> Kept<PAGES, SPAN> {
     }
 
     /// Notes that the first record of the next number starts where the first one of this number ends. Nothing that is seen changes.
-    pub fn tie(&mut self, index: u64)
+    pub fn link(&mut self, index: u64)
         requires room { index < 2 ^ 63 }
         requires follows { Follows PAGES SPAN (first_at self.old.rows index) (first_at self.old.rows (index + 1)) }
         ensures { self.new ≡ self.old }

@@ -19,9 +19,9 @@ pub(crate) struct Record<const PAGES: u32, const SPAN: u32> {
 }
 
 impl<const PAGES: u32, const SPAN: u32> Model for Record<PAGES, SPAN> {
-    ghost use Rattle.checkpoints.specs.Rows.{Tied};
+    ghost use Rattle.checkpoints.specs.Rows.{Linked};
 
-    ghost Value = { Tied };
+    ghost Value = { Linked };
 
     ghost view = { λ r. record { span = r.fact; name = r.name; next = r.next } };
 }

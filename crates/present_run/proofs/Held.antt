@@ -4,11 +4,11 @@ use Rattle.std.proofs.Math.Nat.{le_trans}
 use Rattle.std.specs.Set.{remove_key}
 use Rattle.r3k_machine.specs.Run.{state_at}
 use Rattle.r3k_machine.specs.State.{State}
-use Rattle.present_run.specs.Landings.{HasNone, IsNearest, positions_of}
+use Rattle.present_run.specs.RecentStates.{HasNone, IsNearest, positions_of}
 use Rattle.present_run.specs.History.{History}
 use Rattle.present_run.specs.Reuse.{Holding, Reaches, ServesFirst, Spends, stay}
-use Rattle.present_run.specs.Landed.{Landed, Lands}
-use Rattle.present_run.specs.Runs.{AreLandings, IsLanding}
+use Rattle.present_run.specs.TimelineView.{TimelineView, KeepsState}
+use Rattle.present_run.specs.Runs.{AreRecentStates, IsRecentState}
 use Rattle.present_run.proofs.Counts.{lacks_none}
 use Rattle.checkpoints.specs.Kept.{row_at}
 use Rattle.present_run.proofs.Spans.{ok_all}
@@ -75,36 +75,36 @@ here position n states state near = let least = near.least in let most = near.mo
 pub kept_here : (position n : ℕ) (states : List (ℕ × State)) (state : State) → IsNearest position position states n state → Contains (positions_of states) position
 kept_here position n states state near = subst (λ n. Contains (positions_of states) n) (here position n states state near) (held states (n, state) near.there)
 
-pub landing_here : (pages span : ℕ) (h : History) (valid position n : ℕ) (states : List (ℕ × State)) (state : State)
-    → AreLandings pages span h valid states → IsNearest position position states n state → IsLanding pages span h valid position state
-landing_here pages span h valid position n states state each near =
-    subst (λ n. IsLanding pages span h valid n state) (here position n states state near) (each (n, state) near.there)
+pub recent_here : (pages span : ℕ) (h : History) (valid position n : ℕ) (states : List (ℕ × State)) (state : State)
+    → AreRecentStates pages span h valid states → IsNearest position position states n state → IsRecentState pages span h valid position state
+recent_here pages span h valid position n states state each near =
+    subst (λ n. IsRecentState pages span h valid n state) (here position n states state near) (each (n, state) near.there)
 
 pub none_here : (position : ℕ) (states : List (ℕ × State)) → HasNone position position states → ¬ Contains (positions_of states) position
 none_here position states absent there = absent position there (omega arith) (omega arith)
 
 -- a state that comes to be kept
-pub new_landing : (pages span : ℕ) (h : History) (valid position : ℕ) (e : ℕ × State) → position / span ≤ valid
-    → ¬ (position % span ≡ 0) → e ≡ (position, state_at pages h.image h.log position) → IsLanding pages span h valid e.0 e.1
-new_landing pages span h valid position e joined inside is =
-    subst (λ (e : ℕ × State). IsLanding pages span h valid e.0 e.1) (sym is) (record { is = refl; inside = inside; joined = joined })
+pub new_recent : (pages span : ℕ) (h : History) (valid position : ℕ) (e : ℕ × State) → position / span ≤ valid
+    → ¬ (position % span ≡ 0) → e ≡ (position, state_at pages h.image h.log position) → IsRecentState pages span h valid e.0 e.1
+new_recent pages span h valid position e joined inside is =
+    subst (λ (e : ℕ × State). IsRecentState pages span h valid e.0 e.1) (sym is) (record { is = refl; inside = inside; joined = joined })
 
 -- what a query of the state at a position does with those that are kept
-pub lands_there : {A E : Type 0} {old new : Landed} (span position : ℕ) (states : List ℕ) (steps : ℕ) (x : A) → old.landings ≡ states → old.steps ≡ steps
-    → Contains states position → ¬ (position % span ≡ 0) → new.steps ≡ steps → new.landings ≡ position ∷ remove_key (nat_eq position) states
-    → Lands {A = A} {E = E} span position old new (Ok x)
-lands_there span position states steps x landings_is steps_is there inside same order = record {
+pub keeps_there : {A E : Type 0} {old new : TimelineView} (span position : ℕ) (states : List ℕ) (steps : ℕ) (x : A) → old.recent_states ≡ states → old.steps ≡ steps
+    → Contains states position → ¬ (position % span ≡ 0) → new.steps ≡ steps → new.recent_states ≡ position ∷ remove_key (nat_eq position) states
+    → KeepsState {A = A} {E = E} span position old new (Ok x)
+keeps_there span position states steps x recent_is steps_is there inside same order = record {
   free = λ _. same ∙ sym steps_is;
-  again = λ _. order ∙ ap (λ l. position ∷ remove_key (nat_eq position) l) (sym landings_is);
-  first = λ absent. absurd (absent (subst (λ l. Contains l position) (sym landings_is) there));
+  again = λ _. order ∙ ap (λ l. position ∷ remove_key (nat_eq position) l) (sym recent_is);
+  first = λ absent. absurd (absent (subst (λ l. Contains l position) (sym recent_is) there));
   start = λ start. absurd (inside start);
   refused = tt;
 }
 
-pub lands_new : {A E : Type 0} {old new : Landed} (span position : ℕ) (states : List ℕ) (x : A) → old.landings ≡ states → ¬ Contains states position
-    → (position % span ≡ 0 → new.landings ≡ states) → (new.landings ≡ take 8 (position ∷ states)) ⊎ (new.landings ≡ states)
-    → Lands {A = A} {E = E} span position old new (Ok x)
-lands_new span position states x is absent start order = record {
+pub keeps_new : {A E : Type 0} {old new : TimelineView} (span position : ℕ) (states : List ℕ) (x : A) → old.recent_states ≡ states → ¬ Contains states position
+    → (position % span ≡ 0 → new.recent_states ≡ states) → (new.recent_states ≡ take 8 (position ∷ states)) ⊎ (new.recent_states ≡ states)
+    → KeepsState {A = A} {E = E} span position old new (Ok x)
+keeps_new span position states x is absent start order = record {
   free = λ there. absurd (absent (subst (λ l. Contains l position) is there));
   again = λ there. absurd (absent (subst (λ l. Contains l position) is there));
   first = λ _. elim order [
@@ -115,9 +115,9 @@ lands_new span position states x is absent start order = record {
   refused = tt;
 }
 
-pub lands_not : {A E : Type 0} {old new : Landed} (span position : ℕ) (states : List ℕ) (result : Result A E) → old.landings ≡ states → ¬ Contains states position
-    → new.landings ≡ states → Lands span position old new result
-lands_not span position states result is absent same = record {
+pub keeps_not : {A E : Type 0} {old new : TimelineView} (span position : ℕ) (states : List ℕ) (result : Result A E) → old.recent_states ≡ states → ¬ Contains states position
+    → new.recent_states ≡ states → KeepsState span position old new result
+keeps_not span position states result is absent same = record {
   free = λ there. absurd (absent (subst (λ l. Contains l position) is there));
   again = λ there. absurd (absent (subst (λ l. Contains l position) is there));
   first = λ _. ok_all result _ (inr (same ∙ sym is));
@@ -130,10 +130,10 @@ lands_not span position states result is absent same = record {
     err_all (Err e) p = p
 
 -- each of these states is still one of the run where as many spans are joined, or more
-pub landed_over : (pages span : ℕ) (h : History) (old new : ℕ) (states : List (ℕ × State)) → old ≤ new → AreLandings pages span h old states → AreLandings pages span h new states
-landed_over pages span h old new states more all e there =
-    let landing = all e there in record { is = landing.is; inside = landing.inside; joined = le_trans landing.joined more }
+pub recent_over : (pages span : ℕ) (h : History) (old new : ℕ) (states : List (ℕ × State)) → old ≤ new → AreRecentStates pages span h old states → AreRecentStates pages span h new states
+recent_over pages span h old new states more all e there =
+    let recent = all e there in record { is = recent.is; inside = recent.inside; joined = le_trans recent.joined more }
 
 -- what stays over two calls
 pub stays_on : {pages span : ℕ} {old mid new : Present pages span} → Stays old mid → Stays mid new → Stays old new
-stays_on a b = record { history = b.history ∙ a.history; landings = b.landings ∙ a.landings; pasts = b.pasts ∙ a.pasts }
+stays_on a b = record { history = b.history ∙ a.history; recent_states = b.recent_states ∙ a.recent_states; pasts = b.pasts ∙ a.pasts }

@@ -1,4 +1,4 @@
-mod Again
+mod Rejoining
 mod Agreeing
 mod Carry
 mod Consoles

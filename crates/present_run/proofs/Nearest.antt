@@ -2,7 +2,7 @@
 use Rattle.std.proofs.Common.{◌≡◌, ℕ, ◌<◌, ◌≤◌, ◌⊎◌, inl, inr, List, [], ◌∷◌, Option, Some, None, MatchOption, IfSome, Contains, sym, subst, arith, le_refl}
 use Rattle.lru.proofs.Splits.{Contains-head, Contains-tail, Contains-cons, Contains-nil}
 use Rattle.r3k_machine.specs.State.{State}
-use Rattle.present_run.specs.Landings.{HasNone, IsNearest, positions_of}
+use Rattle.present_run.specs.RecentStates.{HasNone, IsNearest, positions_of}
 
 le_or_lt : (a n : ℕ) → (a ≤ n) ⊎ (n < a)
 le_or_lt a n = grind arith

@@ -9,8 +9,8 @@ use Rattle.r3k_machine.specs.Reset.{reset}
 use Rattle.r3k_machine.specs.Run.{next_visit, run, state_at}
 use Rattle.r3k_machine.specs.State.{State}
 use Rattle.r3k_machine.proofs.Splits.{run_split, run_within}
-use Rattle.r3k_live.specs.Standing.{StandsIn}
-use Rattle.span_fact.specs.Span.{Span, StoodIn}
+use Rattle.r3k_live.specs.CodePages.{RunsIn}
+use Rattle.span_fact.specs.Span.{Span, SpanRunsIn}
 use Rattle.checkpoints.proofs.Near.{near_cores}
 use Rattle.present_run.specs.Ends.{IsJoined}
 use Rattle.present_run.specs.Reuse.{span_of}
@@ -20,7 +20,7 @@ use Rattle.present_run.proofs.Spans.{if_some, next_start}
 -- the record of a joined span says where the PC stands in it
 pub stands_too : (pages span index : ℕ) (image : Boot) (log : List LogEvent) (o : Option Span) (r : Span) (page : ℕ) → o ≡ Some r
     → IsJoined pages span index o (span_of pages span image log index)
-    → StoodIn pages span r page ↔ StandsIn pages log (index * span) (state_at pages image log (index * span)) span page
+    → SpanRunsIn pages span r page ↔ RunsIn pages log (index * span) (state_at pages image log (index * span)) span page
 stands_too pages span index image log o r page is joined = (
   λ stood. (stood.0, stood.1, ap (λ (pc : ℕ). pc / PAGE_BYTES) (sym (same_pc stood.0 stood.1)) ∙ stood.2),
   λ stands. (stands.0, stands.1, ap (λ (pc : ℕ). pc / PAGE_BYTES) (same_pc stands.0 stands.1) ∙ stands.2),
@@ -50,7 +50,7 @@ passes pages image log address time (suc n) none =
 
 -- a search within a span in which the PC stands nowhere in the page of the address finds nothing
 pub none_within : (pages : ℕ) (image : Boot) (log : List LogEvent) (address from span time to : ℕ)
-    → ¬ StandsIn pages log from (state_at pages image log from) span (address / PAGE_BYTES) → from ≤ time → time ≤ to → to ≤ from + span
+    → ¬ RunsIn pages log from (state_at pages image log from) span (address / PAGE_BYTES) → from ≤ time → time ≤ to → to ≤ from + span
     → next_visit pages image log address time (to - time) ≡ None
 none_within pages image log address from span time to out low before high =
     passes pages image log address time (to - time)

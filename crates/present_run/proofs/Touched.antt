@@ -5,7 +5,7 @@ use Rattle.std.specs.Set.{remove_key}
 use Rattle.lru.proofs.Splits.{Contains-head, Contains-tail, Contains-cons, Contains-nil}
 use Rattle.lru.proofs.CallerLemmas.{Contains-take}
 use Rattle.r3k_machine.specs.State.{State}
-use Rattle.present_run.specs.Landings.{positions_of, touched}
+use Rattle.present_run.specs.RecentStates.{positions_of, touched}
 
 module _ (position : ℕ) where
   pub found-there : (states : List (ℕ × State)) → Contains (positions_of states) position → (e : ℕ × State) × (lookup_entry (nat_eq position) states ≡ Some e) × (e.0 ≡ position)

@@ -9,7 +9,7 @@ pub mod Reuse
 pub mod Ends
 pub mod Sent
 pub mod Index
-pub mod Landings
+pub mod RecentStates
 pub mod Runs
-pub mod Landed
+pub mod TimelineView
 pub mod Shown

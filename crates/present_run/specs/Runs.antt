@@ -52,20 +52,20 @@ pub record IsRunning {pages span : ℕ} (image : Boot) (log : List LogEvent) (ma
   pub recorded : IfSome machine.recorded (λ position. Records pages (steps_between pages image log (position / span * span) position) machine.recorder)
 
 -- What is kept of spans is of the run from reset: the start, the joined records, the ends of their spans, and what is known where one
--- starts. The index has what the first records report. After these ends come those of an earlier run: from `again` on, each span goes on
--- from where the one before it ended.
+-- starts. The index has what the first records report. After these ends come those of an earlier run: from `rejoin_from` on, each span
+-- goes on from where the one before it ended.
 pub record AreRecords {pages span : ℕ} (image : Boot) (log : List LogEvent) (records : SpanRecords pages span) : Type 0 where
   pub sizes : AreSizes pages span
   pub start : records.reset.value ≡ reset pages image
   pub joined : (index : ℕ) → index < records.kept.valid → IsJoined pages span index (first_at records.kept.rows index) (span_of pages span image log index)
   pub ends : AreEnds pages span image log records.kept.valid (map (λ end. end.value) records.ends.items)
-  pub again : (index : ℕ) → records.again ≤ index → records.kept.valid ≤ index →
+  pub rejoin_from : (index : ℕ) → records.rejoin_from ≤ index → records.kept.valid ≤ index →
       GoesOn pages span log records.kept.rows (map (λ end. end.value) records.ends.items) index
   pub known : IsKnown span records.kept.rows (λ index. state_at pages image log (index * span)) records.frontier
   pub agrees : Agrees pages span records.reports records.kept.rows
 
 -- both are of one run
-pub record AreOf {pages span : ℕ} (image : Boot) (log : List LogEvent) (runs : Runs pages span) : Type 0 where
+pub record BelongTo {pages span : ℕ} (image : Boot) (log : List LogEvent) (runs : Runs pages span) : Type 0 where
   pub machine : IsRunning image log runs.machine
   pub records : AreRecords image log runs.records
 
@@ -79,14 +79,14 @@ held image log runs = record {
 }
 
 -- A state that is kept is that of the run at its position, inside a span. All spans before that one are joined.
-pub record IsLanding (pages span : ℕ) (h : History) (valid position : ℕ) (state : State) : Type 0 where
+pub record IsRecentState (pages span : ℕ) (h : History) (valid position : ℕ) (state : State) : Type 0 where
   pub is : state ≡ state_at pages h.image h.log position
   pub inside : ¬ (position % span ≡ 0)
   pub joined : position / span ≤ valid
 
 -- each of these states is kept at its position
-abbrev pub AreLandings : (pages span : ℕ) → History → (valid : ℕ) → List (ℕ × State) → Type 0
-AreLandings pages span h valid states = (e : ℕ × State) → Contains states e → IsLanding pages span h valid e.0 e.1
+abbrev pub AreRecentStates : (pages span : ℕ) → History → (valid : ℕ) → List (ℕ × State) → Type 0
+AreRecentStates pages span h valid states = (e : ℕ × State) → Contains states e → IsRecentState pages span h valid e.0 e.1
 
 -- each of these facts has one proof at most
 state_set : IsSet State
@@ -107,8 +107,8 @@ ends_prop : (pages span : ℕ) (o : Option Span) (state : State) → IsProp (End
 ends_prop pages span None state = hlevel props
 ends_prop pages span (Some s) state = hlevel (state_set, props)
 
-pub AreOf-prop : {pages span : ℕ} (image : Boot) (log : List LogEvent) (runs : Runs pages span) → IsProp (AreOf image log runs)
-AreOf-prop {pages} {span} image log runs = hlevel (near_prop, known_prop, ends_prop, state_set, span_set, props)
+pub BelongTo-prop : {pages span : ℕ} (image : Boot) (log : List LogEvent) (runs : Runs pages span) → IsProp (BelongTo image log runs)
+BelongTo-prop {pages} {span} image log runs = hlevel (near_prop, known_prop, ends_prop, state_set, span_set, props)
 
-pub AreLandings-prop : (pages span : ℕ) (h : History) (valid : ℕ) (states : List (ℕ × State)) → IsProp (AreLandings pages span h valid states)
-AreLandings-prop pages span h valid states = hlevel (state_set, props)
+pub AreRecentStates-prop : (pages span : ℕ) (h : History) (valid : ℕ) (states : List (ℕ × State)) → IsProp (AreRecentStates pages span h valid states)
+AreRecentStates-prop pages span h valid states = hlevel (state_set, props)

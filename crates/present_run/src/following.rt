@@ -21,7 +21,7 @@ impl<const PAGES: u32, const SPAN: u32> Present<PAGES, SPAN> {
         ensures spends { Spends PAGES SPAN (position / SPAN) (position % SPAN + count) (holding_of self.old) (holding_of self.new) }
         ensures reaches { IfOk result (λ _. Reaches PAGES SPAN (position / SPAN) (holding_of self.old) (holding_of self.new)) }
     {
-        self.stand(position)?;
+        self.go_to(position)?;
         Ok(self.runs.machine.follow(&self.inputs, position, count))
     }
 }

@@ -69,7 +69,7 @@ impl<const PAGES: u32> Frontier<PAGES> {
         let index = fact.index();
         let follows = self.ends_before(index);
         let _there_is_room = kept.put(fact);
-        tie_if(kept, index, follows, true);
+        link_if(kept, index, follows, true);
         self.differing.clear();
         self.exact = true;
         self.after = Some(index);
@@ -93,13 +93,13 @@ impl<const PAGES: u32> Frontier<PAGES> {
     {
         let index = kept.valid();
         let follows = self.ends_before(index);
-        self.meet(kept, start);
+        self.find_differing(kept, start);
         let Some(fact) = kept.first(index) else {
             unreachable!();
         };
         let end = carry_to_end(alloc, fact, start, &mut self.differing)?;
         self.exact = self.differing.pages().is_empty();
-        tie_if(kept, index, follows, self.exact);
+        link_if(kept, index, follows, self.exact);
         self.after = Some(index);
         Ok(end)
     }
@@ -135,7 +135,7 @@ impl<const PAGES: u32> Frontier<PAGES> {
 
     // The differing pages are now those in which the next span may start otherwise than its first record. Where the record before it
     // leads to that one, they stay. Else they are found by comparing both memories.
-    fn meet<const SPAN: u32>(&mut self, kept: &Kept<PAGES, SPAN>, start: &Boundary<PAGES>)
+    fn find_differing<const SPAN: u32>(&mut self, kept: &Kept<PAGES, SPAN>, start: &Boundary<PAGES>)
         requires few { kept.now.valid < 2 ^ 63 }
         requires known { (index : ℕ) → index + 1 ≡ kept.now.valid → self.old.after ≡ Some index → IsKnownAfter SPAN kept.now.rows index start.now self.old }
         ensures differ { IfSome (first_at kept.now.rows kept.now.valid) (λ s. SameOutside self.new.differing s.start.words start.now.words) }
@@ -157,7 +157,7 @@ impl<const PAGES: u32> Frontier<PAGES> {
 
 // Notes that the first record of a number starts where the first one before it ends. That is so if that one ends where the run stands,
 // and this one starts just there.
-fn tie_if<const PAGES: u32, const SPAN: u32>(
+fn link_if<const PAGES: u32, const SPAN: u32>(
     kept: &mut Kept<PAGES, SPAN>,
     index: u64,
     ends: bool,
@@ -168,7 +168,7 @@ fn tie_if<const PAGES: u32, const SPAN: u32>(
     ensures { kept.new ≡ kept.old }
 {
     if ends && starts {
-        kept.tie(index - 1);
+        kept.link(index - 1);
     }
 }
 

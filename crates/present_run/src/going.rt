@@ -3,7 +3,7 @@
 ghost use Rattle.std.specs.Prelude.{◌≡◌, ◌↔◌, ◌+◌, ◌-◌, ◌*◌, ◌/◌, ◌%◌, ◌^◌, ◌<◌, ◌≤◌, IfOk, IfSome, IsTrue, Some};
 ghost use Rattle.r3k_machine.specs.Run.{next_visit, state_at};
 ghost use Rattle.r3k_live.specs.Recording.{Records};
-ghost use Rattle.r3k_live.specs.Standing.{StandsIn};
+ghost use Rattle.r3k_live.specs.CodePages.{RunsIn};
 ghost use Rattle.input_log.specs.Limits.{max_position};
 ghost use Rattle.present_run.specs.Index.{max_spans};
 ghost use Rattle.present_run.specs.Reuse.{Reaches, Spends};
@@ -16,7 +16,7 @@ use std::alloc::AllocError;
 
 impl<const PAGES: u32, const SPAN: u32> Present<PAGES, SPAN> {
     // Joins all spans before one.
-    fn reach(&mut self, index: u64) -> Result<(), AllocError>
+    fn join_before(&mut self, index: u64) -> Result<(), AllocError>
         requires time { (index + 1) * SPAN < 2 ^ 64 }
         requires few { index ≤ max_spans }
         ensures stays { Stays self.old self.new }
@@ -24,11 +24,11 @@ impl<const PAGES: u32, const SPAN: u32> Present<PAGES, SPAN> {
         ensures spends { Spends PAGES SPAN index 0 (holding_of self.old) (holding_of self.new) }
         ensures reaches { IfOk result (λ _. Reaches PAGES SPAN index (holding_of self.old) (holding_of self.new)) }
     {
-        self.runs.reach(self.alloc, &self.inputs, index)
+        self.runs.join_before(self.alloc, &self.inputs, index)
     }
 
-    /// Makes the machine stand at a position.
-    pub(crate) fn stand(&mut self, position: u64) -> Result<(), AllocError>
+    /// The machine goes to a position.
+    pub(crate) fn go_to(&mut self, position: u64) -> Result<(), AllocError>
         requires position { position ≤ max_position }
         ensures stays { Stays self.old self.new }
         ensures stands { IfOk result (λ _. self.new.runs.machine.at ≡ Some position) }
@@ -39,12 +39,12 @@ impl<const PAGES: u32, const SPAN: u32> Present<PAGES, SPAN> {
             (holding_of self.old) (holding_of self.new)) }
     {
         let index = position / SPAN as u64;
-        self.reach(index)?;
-        self.stand_at(index, position)
+        self.join_before(index)?;
+        self.go_in_span(index, position)
     }
 
-    // Makes the machine stand at a position of a span. All spans before that are joined, unless the machine stands there.
-    fn stand_at(&mut self, index: u64, position: u64) -> Result<(), AllocError>
+    // The machine goes to a position of a span. All spans before that are joined, unless the machine is there.
+    fn go_in_span(&mut self, index: u64, position: u64) -> Result<(), AllocError>
         requires joined { ¬ (self.old.runs.machine.at ≡ Some position) → index ≤ self.old.runs.records.kept.valid }
         requires in_span { index * SPAN ≤ position }
         requires near { position ≤ index * SPAN + SPAN }
@@ -59,14 +59,14 @@ impl<const PAGES: u32, const SPAN: u32> Present<PAGES, SPAN> {
         if self.runs.machine.at == Some(position) {
             return Ok(());
         }
-        let time = self.stand_in(index, position)?;
+        let time = self.load_nearest(index, position)?;
         self.runs.machine.go_on(&self.inputs, time, position);
         Ok(())
     }
 
-    // Makes the machine stand in a span, at a position or before it, and gives the time there. It goes on from where it stands or
-    // from a kept state, whichever is nearer, or else from the start of the span.
-    fn stand_in(&mut self, index: u64, position: u64) -> Result<u64, AllocError>
+    // Brings the machine into a span, at a position or before it, and gives the time there: it stays where it is or loads a kept
+    // state, whichever is nearer, or else the start of the span.
+    fn load_nearest(&mut self, index: u64, position: u64) -> Result<u64, AllocError>
         requires joined { index ≤ self.old.runs.records.kept.valid }
         requires in_span { index * SPAN ≤ position }
         requires time { position < 2 ^ 64 }
@@ -79,7 +79,7 @@ impl<const PAGES: u32, const SPAN: u32> Present<PAGES, SPAN> {
         ensures steps { self.new.runs.machine.live.steps ≡ self.old.runs.machine.live.steps }
     {
         let start = index * SPAN as u64;
-        let near = self.landings.nearest(start, position);
+        let near = self.recent_states.nearest(start, position);
         let from = match near {
             Some((time, _)) => time,
             None => start,
@@ -91,10 +91,10 @@ impl<const PAGES: u32, const SPAN: u32> Present<PAGES, SPAN> {
         }
         let Some((time, state)) = near else {
             let state = self.runs.records.start_of(&self.inputs, index);
-            self.runs.machine.stand_at(&self.inputs, state, start)?;
+            self.runs.machine.load_at(&self.inputs, state, start)?;
             return Ok(start);
         };
-        self.runs.machine.stand_at(&self.inputs, state, time)?;
+        self.runs.machine.load_at(&self.inputs, state, time)?;
         Ok(time)
     }
 
@@ -113,7 +113,7 @@ impl<const PAGES: u32, const SPAN: u32> Present<PAGES, SPAN> {
             (holding_of self.old) (holding_of self.new)) }
     {
         let index = position / SPAN as u64;
-        self.reach(index)?;
+        self.join_before(index)?;
         if self.runs.machine.recorded == Some(position) {
             return Ok(index);
         }
@@ -124,11 +124,11 @@ impl<const PAGES: u32, const SPAN: u32> Present<PAGES, SPAN> {
 
     // Whether a span is joined, and the PC stands in no address of a virtual page from its start to its end.
     fn stays_out(&self, index: u64, page: u32) -> bool
-        ensures { IsTrue result ↔ ((index < self.now.runs.records.kept.valid) × ¬ StandsIn PAGES self.now.inputs.log (index * SPAN)
+        ensures { IsTrue result ↔ ((index < self.now.runs.records.kept.valid) × ¬ RunsIn PAGES self.now.inputs.log (index * SPAN)
             (state_at PAGES self.now.inputs.image self.now.inputs.log (index * SPAN)) SPAN page) }
     {
         match self.runs.records.kept.first(index) {
-            Some(fact) if index < self.runs.records.kept.valid() => !fact.stands_in(page),
+            Some(fact) if index < self.runs.records.kept.valid() => !fact.runs_in(page),
             _ => false,
         }
     }
@@ -151,7 +151,7 @@ impl<const PAGES: u32, const SPAN: u32> Present<PAGES, SPAN> {
             let index = time / SPAN as u64;
             let to = last.min((index + 1) * SPAN as u64);
             if !self.stays_out(index, address / PAGE_BYTES) {
-                self.stand_at(index, time)?;
+                self.go_in_span(index, time)?;
                 let found = self.runs.machine.visit(&self.inputs, time, address, to);
                 if let Some(found) = found {
                     return Ok(Some(found));
@@ -179,7 +179,7 @@ impl<const PAGES: u32, const SPAN: u32> Present<PAGES, SPAN> {
         ensures reaches { IfOk result (λ _. Reaches PAGES SPAN (position / SPAN)
             (holding_of self.old) (holding_of self.new)) }
     {
-        self.reach(position / SPAN as u64)?;
+        self.join_before(position / SPAN as u64)?;
         self.visit(position, address, last)
     }
 }

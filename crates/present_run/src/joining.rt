@@ -46,15 +46,15 @@ pub(crate) fn start_in<'a, const PAGES: u32>(
 /// are compared only if they are the same boundary, so it costs nothing if they differ.
 pub(crate) fn joined_by<const PAGES: u32>(
     ends: &[Rc<Boundary<PAGES>>],
-    again: u64,
+    rejoin_from: u64,
     index: u64,
     end: &Rc<Boundary<PAGES>>,
 ) -> u64
     requires { index < 2 ^ 64 - 1 }
     ensures more { index < result }
-    ensures met { (result ≡ index + 1) ⊎ ((again ≤ index) × (result ≡ length (map (λ end. end.value) ends.now)) × (slice_get (map (λ end. end.value) ends.now) index ≡ Some end.now.value)) }
+    ensures met { (result ≡ index + 1) ⊎ ((rejoin_from ≤ index) × (result ≡ length (map (λ end. end.value) ends.now)) × (slice_get (map (λ end. end.value) ends.now) index ≡ Some end.now.value)) }
 {
-    if index < again || index + 1 >= ends.len() as u64 {
+    if index < rejoin_from || index + 1 >= ends.len() as u64 {
         return index + 1;
     }
     let before = &ends[index as usize];

@@ -9,15 +9,15 @@ mod going;
 mod index;
 mod inputs;
 mod joining;
-mod landed;
-mod landings;
 mod laws;
 mod machine;
 mod present;
+mod recent_states;
 mod records;
 mod reporting;
 mod runs;
 mod sent;
+mod state_queries;
 
 pub use laws::lacking_laws;
 pub use present::Present;

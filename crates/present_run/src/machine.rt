@@ -24,7 +24,7 @@ use std::rc::Rc;
 pub(crate) struct Machine<const PAGES: u32, const SPAN: u32> {
     pub(crate) live: Live<PAGES>,
     pub(crate) recorder: Recorder<PAGES, SPAN>,
-    // Where it stands in the run, if it does.
+    // Where it is in the run, if it is.
     pub(crate) at: Option<u64>,
     // If some: the recorder holds what the run reports up to there, from the start of that position's span on.
     pub(crate) recorded: Option<u64>,
@@ -40,8 +40,8 @@ impl<const PAGES: u32, const SPAN: u32> Machine<PAGES, SPAN> {
         self.recorded = None;
     }
 
-    /// Makes it stand at a position, whose state is given.
-    pub(crate) fn stand_at(
+    /// Loads the state of a position.
+    pub(crate) fn load_at(
         &mut self,
         inputs: &Inputs,
         state: &Rc<Boundary<PAGES>>,
@@ -102,7 +102,7 @@ impl<const PAGES: u32, const SPAN: u32> Machine<PAGES, SPAN> {
         ensures least { self.old.live.steps ≤ self.new.live.steps }
     {
         let from = position / SPAN as u64 * SPAN as u64;
-        self.stand_at(inputs, start, from)?;
+        self.load_at(inputs, start, from)?;
         self.go_on(inputs, from, position);
         self.recorded = Some(position);
         Ok(())
@@ -208,7 +208,7 @@ impl<const PAGES: u32, const SPAN: u32> Machine<PAGES, SPAN> {
     {
         let from = index * SPAN as u64;
         let to = (index + 1) * SPAN as u64;
-        self.stand_at(inputs, &start, from)?;
+        self.load_at(inputs, &start, from)?;
         self.at = None;
         self.recorded = None;
         let fact = Fact::make(

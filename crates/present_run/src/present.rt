@@ -11,20 +11,20 @@
 //! where the run stands only in pages that are known (`Frontier`). Of another one that serves both memories are compared.
 //!
 //! An edit of the log forgets the spans from its time on, and their ends stay. Once a span ends where it ended before, all that go
-//! on from there are joined again at once. `again` is the first end from which that is known, as each edit breaks the chain at its
-//! own times. A patch changes the start of the run, so no span stays joined.
+//! on from there are joined again at once. `rejoin_from` is the first end from which that is known, as each edit breaks the chain at
+//! its own times. A patch changes the start of the run, so no span stays joined.
 //!
-//! The last 8 states inside spans that were asked for are kept too (`landings`), up to the next edit.
+//! The last 8 states inside spans that were asked for are kept too (`recent_states`), up to the next edit.
 
 ghost use Rattle.std.specs.Prelude.{◌≡◌, ◌/◌, ◌%◌, ◌<◌, ◌≤◌, ℕ, [], Contains, IfOk, length, nat_eq};
 ghost use Rattle.std.specs.List.{IsDistinct};
 ghost use Rattle.r3k_image.specs.Boot.{FitsRam};
 ghost use Rattle.present_run.specs.Reuse.{ServesFirst};
-ghost use Rattle.present_run.specs.Runs.{AreLandings, AreLandings-prop, AreOf, AreOf-prop};
+ghost use Rattle.present_run.specs.Runs.{AreRecentStates, AreRecentStates-prop, BelongTo, BelongTo-prop};
 ghost use Rattle.present_run.specs.Sizes.{AreSizes};
 
 use crate::inputs::Inputs;
-use crate::landings::Landings;
+use crate::recent_states::RecentStates;
 use crate::runs::Runs;
 use input_log::Log;
 use r3k_image::Image;
@@ -38,15 +38,15 @@ pub struct Present<const PAGES: u32, const SPAN: u32> {
     pub(crate) inputs: Inputs,
     pub(crate) runs: Runs<PAGES, SPAN>,
     // States of the run inside spans.
-    pub(crate) landings: Landings<PAGES>,
+    pub(crate) recent_states: RecentStates<PAGES>,
     ghost fits: { FitsRam PAGES inputs.image },
-    ghost of: { AreOf {pages = PAGES} {span = SPAN} inputs.image inputs.log runs } by { AreOf-prop inputs.image inputs.log runs },
-    ghost landed: { AreLandings PAGES SPAN (record { image = inputs.image; log = inputs.log }) runs.records.kept.valid landings } by { AreLandings-prop PAGES SPAN (record { image = inputs.image; log = inputs.log }) runs.records.kept.valid landings },
+    ghost of: { BelongTo {pages = PAGES} {span = SPAN} inputs.image inputs.log runs } by { BelongTo-prop inputs.image inputs.log runs },
+    ghost are_recent: { AreRecentStates PAGES SPAN (record { image = inputs.image; log = inputs.log }) runs.records.kept.valid recent_states } by { AreRecentStates-prop PAGES SPAN (record { image = inputs.image; log = inputs.log }) runs.records.kept.valid recent_states },
 }
 
 impl<const PAGES: u32, const SPAN: u32> Present<PAGES, SPAN> {
-    ghost use Rattle.present_run.specs.Landed.{Landed};
-    ghost use Rattle.present_run.specs.Shown.{holding_of, landed_of};
+    ghost use Rattle.present_run.specs.TimelineView.{TimelineView};
+    ghost use Rattle.present_run.specs.Shown.{holding_of, view_of};
 
     /// The run at reset, of an image that fits. Records of each span are to be kept of at most so many pasts.
     pub fn boot(
@@ -58,50 +58,50 @@ impl<const PAGES: u32, const SPAN: u32> Present<PAGES, SPAN> {
         requires sizes { AreSizes PAGES SPAN }
         requires pasts { 0 < pasts }
         requires fits { FitsRam PAGES image }
-        ensures { IfOk result (λ present. landed_of present ≡
-            record { history = record { image = image; log = log }; rows = []; pasts = pasts; steps = 0; landings = [] }) }
+        ensures { IfOk result (λ present. view_of present ≡
+            record { history = record { image = image; log = log }; rows = []; pasts = pasts; steps = 0; recent_states = [] }) }
     {
         let inputs = Inputs { image, log };
         let runs = Runs::boot(alloc, &inputs, pasts)?;
-        let landings = Landings::new(alloc)?;
+        let recent_states = RecentStates::new(alloc)?;
         Ok(Present {
             alloc,
             inputs,
             runs,
-            landings,
+            recent_states,
         })
     }
 
     /// The boot image as it now stands.
     pub fn image(&self) -> &Image
-        ensures { result.now ≡ (landed_of self.now).history.image }
+        ensures { result.now ≡ (view_of self.now).history.image }
     {
         &self.inputs.image
     }
 
     /// The log as it now stands.
     pub fn log(&self) -> &Log
-        ensures { result.now ≡ (landed_of self.now).history.log }
+        ensures { result.now ≡ (view_of self.now).history.log }
     {
         &self.inputs.log
     }
 
     /// How many states inside spans are kept: at most 8, each of another position. No span starts at one. Of each span before one the
     /// record that was used last serves.
-    pub fn landings(&self) -> usize
-        ensures len { result ≡ length (landed_of self.now).landings }
-        ensures few { length (landed_of self.now).landings ≤ 8 }
-        ensures distinct { IsDistinct nat_eq (landed_of self.now).landings }
-        ensures inside { (position : ℕ) → Contains (landed_of self.now).landings position → ¬ (position % SPAN ≡ 0) }
-        ensures served { (position : ℕ) → Contains (landed_of self.now).landings position →
+    pub fn recent_states(&self) -> usize
+        ensures len { result ≡ length (view_of self.now).recent_states }
+        ensures few { length (view_of self.now).recent_states ≤ 8 }
+        ensures distinct { IsDistinct nat_eq (view_of self.now).recent_states }
+        ensures inside { (position : ℕ) → Contains (view_of self.now).recent_states position → ¬ (position % SPAN ≡ 0) }
+        ensures served { (position : ℕ) → Contains (view_of self.now).recent_states position →
             (index : ℕ) → index < position / SPAN → ServesFirst PAGES SPAN (holding_of self.now) index }
     {
-        self.landings.len()
+        self.recent_states.len()
     }
 
     /// How many steps were run so far, for all queries together, up to the greatest number.
     pub fn steps_run(&self) -> u64
-        ensures { result ≡ (landed_of self.now).steps }
+        ensures { result ≡ (view_of self.now).steps }
     {
         self.runs.machine.live.steps()
     }

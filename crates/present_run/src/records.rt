@@ -34,7 +34,7 @@ pub(crate) struct SpanRecords<const PAGES: u32, const SPAN: u32> {
     // Where each joined span ends, and after these where later spans ended in an earlier run.
     pub(crate) ends: Vec<Rc<Boundary<PAGES>>>,
     // The first of the later spans from which on each goes on from where the one before it ended, with the events of the log.
-    pub(crate) again: u64,
+    pub(crate) rejoin_from: u64,
     // What is known where the next span starts.
     pub(crate) frontier: Frontier<PAGES>,
 }
@@ -52,7 +52,12 @@ impl<const PAGES: u32, const SPAN: u32> SpanRecords<PAGES, SPAN> {
         let index = from / SPAN as u64;
         let last = last / SPAN as u64;
         let joined = self.kept.valid();
-        self.again = again_from(self.again, last, joined, self.ends.len() as u64);
+        self.rejoin_from = rejoin_after_edit(
+            self.rejoin_from,
+            last,
+            joined,
+            self.ends.len() as u64,
+        );
         self.kept.truncate_valid(index);
         self.frontier.cut(index);
     }
@@ -216,7 +221,7 @@ impl<const PAGES: u32, const SPAN: u32> SpanRecords<PAGES, SPAN> {
         ensures pasts { self.new.kept.most ≡ self.old.kept.most }
     {
         let index = self.kept.valid();
-        let count = joined_by(&self.ends, self.again, index, &end);
+        let count = joined_by(&self.ends, self.rejoin_from, index, &end);
         put_end(&mut self.ends, index, end)?;
         join_up_to(&mut self.kept, count);
         self.reports.sum_up_to(count);
@@ -225,12 +230,12 @@ impl<const PAGES: u32, const SPAN: u32> SpanRecords<PAGES, SPAN> {
 }
 
 // From which span on the ends that are there go on from each other, once the events of a span have changed.
-fn again_from(again: u64, last: u64, joined: u64, ends: u64) -> u64
+fn rejoin_after_edit(rejoin_from: u64, last: u64, joined: u64, ends: u64) -> u64
     ensures last { last ≤ result }
-    ensures again { (joined ≡ ends) ⊎ ((again ≤ result) × (joined ≤ result)) }
+    ensures rejoin_from { (joined ≡ ends) ⊎ ((rejoin_from ≤ result) × (joined ≤ result)) }
 {
     if joined == ends {
         return last;
     }
-    again.max(joined).max(last)
+    rejoin_from.max(joined).max(last)
 }

@@ -81,7 +81,7 @@ impl<const PAGES: u32, const SPAN: u32> Present<PAGES, SPAN> {
             (holding_of self.old) (holding_of self.new)) }
     {
         let index = self.record(position)?;
-        match self.sought_before(index, line, place) {
+        match self.sender_before(index, line, place) {
             Ok(step) => Ok(Some(step)),
             Err(left) => match seek(line, self.runs.machine.recorder.sent(), left) {
                 Ok(step) => Ok(Some(index * SPAN as u64 + step as u64)),
@@ -119,7 +119,7 @@ impl<const PAGES: u32, const SPAN: u32> Present<PAGES, SPAN> {
     }
 
     // Which of the first `spans` spans sent the byte of a line at a place, or `spans` where they sent fewer.
-    fn sender_of(&self, spans: u64, line: SerialLine, place: u64) -> u64
+    fn sending_span(&self, spans: u64, line: SerialLine, place: u64) -> u64
         requires joined { spans ≤ self.now.runs.records.kept.valid }
         ensures within { result ≤ spans }
         ensures from { length (console_of line (trace_at PAGES self.now.inputs.image self.now.inputs.log (result * SPAN))) ≤ place }
@@ -144,26 +144,26 @@ impl<const PAGES: u32, const SPAN: u32> Present<PAGES, SPAN> {
         ensures shown { Shows from count (console_of line (trace_at PAGES self.now.inputs.image self.now.inputs.log (spans * SPAN))) result }
         ensures few { result.total ≤ spans * SPAN }
     {
-        let mut index = self.sender_of(spans, line, from);
+        let mut index = self.sending_span(spans, line, from);
         let mut shown = Shown {
             total: self.count_of(index, line),
             bytes: ArrayVec::new(),
         };
         while index < spans && shown.bytes.len() < count {
             shown.take_of(line, self.sent_in(index), from, count);
-            index = self.sender_of(spans, line, shown.total);
+            index = self.sending_span(spans, line, shown.total);
         }
         shown.total = self.count_of(spans, line);
         shown
     }
 
     // The step that sent the byte of a line at a place, in the first `spans` spans, or how many places are left after their bytes.
-    fn sought_before(&self, spans: u64, line: SerialLine, place: u64) -> Result<u64, u64>
+    fn sender_before(&self, spans: u64, line: SerialLine, place: u64) -> Result<u64, u64>
         requires joined { spans ≤ self.now.runs.records.kept.valid }
         requires near { spans * SPAN ≤ max_position }
         ensures { Seeks (senders_of line 0 (trace_at PAGES self.now.inputs.image self.now.inputs.log (spans * SPAN))) place result }
     {
-        let index = self.sender_of(spans, line, place);
+        let index = self.sending_span(spans, line, place);
         let left = place - self.count_of(index, line);
         if index == spans {
             return Err(left);

@@ -6,7 +6,7 @@ ghost use Rattle.r3k_live.specs.Living.{counted};
 ghost use Rattle.checkpoints.specs.Kept.{row_at};
 ghost use Rattle.present_run.specs.Index.{max_spans};
 ghost use Rattle.present_run.specs.Reuse.{IsServing, Reaches, Serves, Spends, Turns};
-ghost use Rattle.present_run.specs.Runs.{AreOf, held};
+ghost use Rattle.present_run.specs.Runs.{BelongTo, held};
 ghost use Rattle.present_run.specs.Sizes.{AreSizes};
 
 use crate::frontier::Frontier;
@@ -35,7 +35,7 @@ impl<const PAGES: u32, const SPAN: u32> Runs<PAGES, SPAN> {
     ) -> Result<Runs<PAGES, SPAN>, AllocError>
         requires sizes { AreSizes PAGES SPAN }
         requires pasts { 0 < pasts }
-        ensures of { IfOk result (AreOf {pages = PAGES} {span = SPAN} inputs.now.image inputs.now.log) }
+        ensures of { IfOk result (BelongTo {pages = PAGES} {span = SPAN} inputs.now.image inputs.now.log) }
         ensures rows { IfOk result (λ runs. runs.records.kept.rows ≡ []) }
         ensures pasts { IfOk result (λ runs. runs.records.kept.most ≡ pasts) }
         ensures steps { IfOk result (λ runs. runs.machine.live.steps ≡ 0) }
@@ -53,7 +53,7 @@ impl<const PAGES: u32, const SPAN: u32> Runs<PAGES, SPAN> {
             reports: SpanIndex::new(alloc),
             reset,
             ends: Vec::new(alloc),
-            again: 0,
+            rejoin_from: 0,
             frontier: Frontier::new(alloc)?,
         };
         Ok(Runs { machine, records })
@@ -61,10 +61,10 @@ impl<const PAGES: u32, const SPAN: u32> Runs<PAGES, SPAN> {
 
     // Joins one more span, and then those that go on from its end. A span for which no record serves is run.
     fn extend(&mut self, alloc: Global, inputs: &Inputs) -> Result<(), AllocError>
-        requires of { AreOf {pages = PAGES} {span = SPAN} inputs.now.image inputs.now.log self.old }
+        requires of { BelongTo {pages = PAGES} {span = SPAN} inputs.now.image inputs.now.log self.old }
         requires time { (self.old.records.kept.valid + 1) * SPAN < 2 ^ 64 }
         requires few { self.old.records.kept.valid < max_spans }
-        ensures of { AreOf {pages = PAGES} {span = SPAN} inputs.now.image inputs.now.log self.new }
+        ensures of { BelongTo {pages = PAGES} {span = SPAN} inputs.now.image inputs.now.log self.new }
         ensures pasts { self.new.records.kept.most ≡ self.old.records.kept.most }
         ensures grows { self.old.records.kept.valid ≤ self.new.records.kept.valid }
         ensures joined { IfOk result (λ _. self.old.records.kept.valid < self.new.records.kept.valid) }
@@ -93,11 +93,11 @@ impl<const PAGES: u32, const SPAN: u32> Runs<PAGES, SPAN> {
         start: &Boundary<PAGES>,
         place: usize,
     ) -> Result<(), AllocError>
-        requires of { AreOf {pages = PAGES} {span = SPAN} inputs.now.image inputs.now.log self.old }
+        requires of { BelongTo {pages = PAGES} {span = SPAN} inputs.now.image inputs.now.log self.old }
         requires start { start.now ≡ state_at PAGES inputs.now.image inputs.now.log (self.old.records.kept.valid * SPAN) }
         requires serves { IsServing PAGES SPAN (record { image = inputs.now.image; log = inputs.now.log }) self.old.records.kept.valid (slice_get (row_at self.old.records.kept.rows self.old.records.kept.valid) place) }
         requires few { self.old.records.kept.valid < max_spans }
-        ensures of { AreOf {pages = PAGES} {span = SPAN} inputs.now.image inputs.now.log self.new }
+        ensures of { BelongTo {pages = PAGES} {span = SPAN} inputs.now.image inputs.now.log self.new }
         ensures pasts { self.new.records.kept.most ≡ self.old.records.kept.most }
         ensures grows { self.old.records.kept.valid ≤ self.new.records.kept.valid }
         ensures joined { IfOk result (λ _. self.old.records.kept.valid < self.new.records.kept.valid) }
@@ -116,12 +116,12 @@ impl<const PAGES: u32, const SPAN: u32> Runs<PAGES, SPAN> {
         inputs: &Inputs,
         start: Rc<Boundary<PAGES>>,
     ) -> Result<(), AllocError>
-        requires of { AreOf {pages = PAGES} {span = SPAN} inputs.now.image inputs.now.log self.old }
+        requires of { BelongTo {pages = PAGES} {span = SPAN} inputs.now.image inputs.now.log self.old }
         requires start { start.value ≡ state_at PAGES inputs.now.image inputs.now.log (self.old.records.kept.valid * SPAN) }
         requires lacks { ¬ Serves PAGES SPAN (held inputs.now.image inputs.now.log self.old) self.old.records.kept.valid }
         requires time { (self.old.records.kept.valid + 1) * SPAN < 2 ^ 64 }
         requires few { self.old.records.kept.valid < max_spans }
-        ensures of { AreOf {pages = PAGES} {span = SPAN} inputs.now.image inputs.now.log self.new }
+        ensures of { BelongTo {pages = PAGES} {span = SPAN} inputs.now.image inputs.now.log self.new }
         ensures pasts { self.new.records.kept.most ≡ self.old.records.kept.most }
         ensures grows { self.old.records.kept.valid ≤ self.new.records.kept.valid }
         ensures joined { IfOk result (λ _. self.old.records.kept.valid < self.new.records.kept.valid) }
@@ -140,16 +140,16 @@ impl<const PAGES: u32, const SPAN: u32> Runs<PAGES, SPAN> {
     }
 
     /// Joins all spans before one.
-    pub(crate) fn reach(
+    pub(crate) fn join_before(
         &mut self,
         alloc: Global,
         inputs: &Inputs,
         index: u64,
     ) -> Result<(), AllocError>
-        requires of { AreOf {pages = PAGES} {span = SPAN} inputs.now.image inputs.now.log self.old }
+        requires of { BelongTo {pages = PAGES} {span = SPAN} inputs.now.image inputs.now.log self.old }
         requires time { (index + 1) * SPAN < 2 ^ 64 }
         requires few { index ≤ max_spans }
-        ensures of { AreOf {pages = PAGES} {span = SPAN} inputs.now.image inputs.now.log self.new }
+        ensures of { BelongTo {pages = PAGES} {span = SPAN} inputs.now.image inputs.now.log self.new }
         ensures grows { self.old.records.kept.valid ≤ self.new.records.kept.valid }
         ensures joined { IfOk result (λ _. index ≤ self.new.records.kept.valid) }
         ensures spends { Spends PAGES SPAN index 0 (held inputs.now.image inputs.now.log self.old) (held inputs.now.image inputs.now.log self.new) }

@@ -51,10 +51,6 @@ pub fails_same : (fault : AsmFault) (a b : Result State AsmFault) → a ≡ b �
 fails_same Memory a b e h = tt
 fails_same (Bad line kind) a b e h = sym e ∙ h
 
-pub same_fails : (fault : AsmFault) (a b : Result (map.FinMap nat_cmp ℕ) AsmFault) → a ≡ b → FailsOrLacks fault a → FailsOrLacks fault b
-same_fails Memory a b e h = tt
-same_fails (Bad line kind) a b e h = sym e ∙ h
-
 -- a reference in its place, and the others after it
 at_place : (rs : List Reference) (i : ℕ) (r : Reference) → i < length rs → r ≡ get_or rs i r → drop i rs ≡ r ∷ drop (i + 1) rs
 at_place [] i r lt is = absurd (omega arith)

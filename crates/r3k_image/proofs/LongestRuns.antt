@@ -85,9 +85,6 @@ joined_words fs s a ws e =
     ∙ sym (append_assoc (words_in fs) (entries_from s.address s.words) (entries_from a ws))
     ∙ ap (λ (xs : List (ℕ × ℕ)). xs ++ entries_from a ws) (sym (words_in-push fs s))
 
-pub pushed_words : (ss : List WordsAt) (a : ℕ) (ws : List ℕ) → words_in (ss ++ at a ws ∷ []) ≡ words_in ss ++ entries_from a ws
-pushed_words ss a ws = words_in-push ss (at a ws)
-
 -- another last run with the same address
 pub longest-joined : (fs : List WordsAt) (s : WordsAt) (ws : List ℕ) → AreLongest (fs ++ s ∷ []) → AreLongest (fs ++ at s.address (s.words ++ ws) ∷ [])
 longest-joined [] s ws h = (more s.words h.0, tt, tt)

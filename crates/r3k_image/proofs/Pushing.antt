@@ -10,7 +10,7 @@ use Rattle.r3k_image.specs.Segments.{WordsAt, view, views, end_of, entries_from,
 use Rattle.r3k_image.proofs.Placing.{stand, Stand-end}
 use Rattle.std.proofs.lemmas.List.{nil_from_length}
 use Rattle.r3k_image.specs.Writing.{words_in, AreLongest}
-use Rattle.r3k_image.proofs.LongestRuns.{at, joined_words, pushed_words, longest-joined, longest-first, longest-pushed}
+use Rattle.r3k_image.proofs.LongestRuns.{at, joined_words, longest-joined, longest-first, longest-pushed}
 
 -- a segment after others
 views-push : (front : List Segment) (s : Segment) → views (front ++ s ∷ []) ≡ views front ++ view s ∷ []
@@ -44,13 +44,6 @@ pub joins_longest : (old new front : List Segment) (last next : Segment) (a : �
 joins_longest old new front last next a ws j h =
     subst AreLongest (sym (joined_view old new front last next a ws j))
     (longest-joined (views front) (view last) ws (subst AreLongest (old_view old front last j.was) h))
-
-pub adds_words : (old new : List Segment) (next : Segment) (a : ℕ) (ws : List ℕ) → new ≡ old ++ next ∷ [] → next.address ≡ a → next.words.items ≡ ws
-    → words_in (views new) ≡ words_in (views old) ++ entries_from a ws
-adds_words old new next a ws e address words =
-    ap (λ (ss : List Segment). words_in (views ss)) e ∙ ap words_in (views-push old next)
-    ∙ ap (λ (s : WordsAt). words_in (views old ++ s ∷ [])) (λ i. record { address = address i; words = words i })
-    ∙ pushed_words (views old) a ws
 
 added_view : (old new : List Segment) (next : Segment) (a : ℕ) (ws : List ℕ) → new ≡ old ++ next ∷ [] → next.address ≡ a → next.words.items ≡ ws
     → views new ≡ views old ++ at a ws ∷ []

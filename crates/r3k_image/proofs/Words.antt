@@ -1,7 +1,7 @@
 -- Words and their bytes, one after the other.
 use Rattle.std.proofs.Common.{◌≡◌, ℕ, zero, suc, ◌+◌, ◌*◌, ◌^◌, ◌<◌, List, [], ◌∷◌, ◌++◌, length, take, drop, refl, sym, ap, ◌∙◌, arith}
 use Rattle.std.specs.Prelude.{All, flat_map}
-use Rattle.std.proofs.lemmas.List.{drop-drop, length-drop, get_or-take, take-append-drop, nil_from_length}
+use Rattle.std.proofs.lemmas.List.{drop-drop, length-drop, take-append-drop, nil_from_length}
 use Rattle.std.proofs.lemmas.List.Elements.{All-nil, All-cons, All-head, All-tail}
 use Rattle.byteorder.specs.Endian.{little_number, IsRead}
 use Rattle.r3k_word.specs.Word.{word_of, bytes_of}
@@ -15,10 +15,6 @@ AreWords words = All (λ w. w < 2 ^ 32) words
 -- what is read of four bytes in either way of writing it
 pub word_of-little : (bytes : List ℕ) → little_number 4 bytes ≡ word_of bytes
 word_of-little bytes = omega arith
-
--- a word reads its first four bytes alone
-pub word_of-take : (bytes : List ℕ) → word_of (take 4 bytes) ≡ word_of bytes
-word_of-take bytes = rw (get_or-take 4 bytes 0 0 (omega arith), get_or-take 4 bytes 1 0 (omega arith), get_or-take 4 bytes 2 0 (omega arith), get_or-take 4 bytes 3 0 (omega arith)) refl
 
 -- words that a bulk read gave, one by one
 pub words_from_reads : (words bytes : List ℕ) → IsRead little_number 4 bytes words → words ≡ words_of (length words) bytes

@@ -1,5 +1,5 @@
 -- A run goes on.
-use Rattle.std.proofs.Common.{◌≡◌, ℕ, ◌+◌, ◌<◌, ◌≤◌, List, [], ◌∷◌, ◌++◌, IsFalse, slice_index, sym, ap, subst, ◌∙◌, arith, ◌⊎◌, inl, inr}
+use Rattle.std.proofs.Common.{◌≡◌, ℕ, ◌+◌, ◌<◌, ◌≤◌, List, [], ◌∷◌, ◌++◌, IsFalse, slice_index, sym, ap, subst, ◌∙◌, arith, inl, inr}
 use Rattle.std.proofs.lemmas.Bool.{cases_lt}
 use Rattle.input_log.specs.Event.{LogEvent}
 use Rattle.r3k_word.specs.Layout.{page_of_place}
@@ -9,8 +9,8 @@ use Rattle.r3k_machine.specs.State.{State}
 use Rattle.r3k_machine.specs.Step.{Outcome, outcome_of_instruction, outcome_of_step}
 use Rattle.r3k_machine.specs.Reports.{DifferAt}
 use Rattle.r3k_machine.specs.Quiet.{outcome_elapsed, state_elapsed}
-use Rattle.r3k_live.specs.Going.{AreLeft, HasGone, HasGoneFor, IsFreeFor, PassesBy}
-use Rattle.r3k_live.specs.Standing.{HasStood}
+use Rattle.r3k_live.specs.Going.{AreLeft, HasGone, HasGoneFor, IsFreeFor}
+use Rattle.r3k_live.specs.CodePages.{AddsCodePages}
 use Rattle.r3k_live.specs.Record.{is_dirty}
 use Rattle.r3k_live.specs.Recording.{Recording, Records}
 use Rattle.r3k_live.proofs.Going.{run_more, trace_more}
@@ -53,26 +53,6 @@ quick_more pages log from start before made s t done r later free gone at_once r
     subst (λ (n : ℕ). HasGone pages log from start n (state_elapsed (made + 1) t) later) (let e : before + made + 1 ≡ before + (made + 1) = omega arith in e)
     (one_more pages log from start (before + made) (state_elapsed made s) (state_elapsed (made + 1) t) done r later gone step records differ)
 
--- no step to here came to an address
-pub passes_more : (pages : ℕ) (log : List LogEvent) (from : ℕ) (start : State) (address above below : ℕ)
-    → PassesBy pages log from start address above below → ¬ ((run pages log from start below).core.pc ≡ address)
-    → PassesBy pages log from start address above (below + 1)
-passes_more pages log from start address above below passed here = λ k after within there.
-    elim (earlier_or k below within) [
-      | inl earlier ↦ passed k after earlier there
-      | inr same ↦ here (ap (λ (n : ℕ). (run pages log from start n).core.pc) (sym same) ∙ there)
-    ]
-  where
-    earlier_or : (k below : ℕ) → k < below + 1 → (k < below) ⊎ (k ≡ below)
-    earlier_or k below within = grind arith
-
--- times that have no event of what is left have none of the log
-pub free_of : (left log : List LogEvent) (time since free n : ℕ) → time ≡ since → n ≤ free
-    → ((later : ℕ) → time ≤ later → arriving left later ≡ arriving log later)
-    → ((k : ℕ) → k < free → arriving left (time + k) ≡ []) → IsFreeFor n log since
-free_of left log time since free n is within same none = λ k before.
-    ap (λ (t : ℕ). arriving log (t + k)) (sym is) ∙ (sym (same (time + k) (omega arith)) ∙ none k (omega arith))
-
 -- fewer times from one on
 pub fewer_free : (log : List LogEvent) (time since free n : ℕ) → time ≡ since → n ≤ free → IsFreeFor free log time → IsFreeFor n log since
 fewer_free log time since free n is within none = λ k before. ap (λ (t : ℕ). arriving log (t + k)) (sym is) ∙ none k (omega (arith, before, within))
@@ -95,7 +75,7 @@ gone_on pages log from start address made n more s t r mid later first second he
                   here (omega (arith, after, is)) (omega (arith, within, is)) (ap (λ (n : ℕ). (run pages log from start n).core.pc) (sym is) ∙ there)
             ]
           ];
-      stood = λ before stood. subst (λ (k : ℕ). HasStood pages log from start k before later.stood) same (second.stood before (first.stood before stood));
+      code_pages = λ before code_pages. subst (λ (k : ℕ). AddsCodePages pages log from start k before later.code_pages) same (second.code_pages before (first.code_pages before code_pages));
     }
 
 -- no step more
@@ -105,7 +85,7 @@ no_more pages log from start address made s r gone =
     let same : made ≡ made + 0 = omega arith in record {
       gone = subst (λ (n : ℕ). HasGone pages log from start n s r) same gone;
       passed = λ k after below there. omega (arith, after, below);
-      stood = λ before stood. subst (λ (n : ℕ). HasStood pages log from start n before r.stood) same stood;
+      code_pages = λ before code_pages. subst (λ (n : ℕ). AddsCodePages pages log from start n before r.code_pages) same code_pages;
     }
 
 -- Steps from a time on: so goes any run that is there, with the events that are left.

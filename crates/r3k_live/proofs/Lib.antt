@@ -9,7 +9,7 @@ pub mod Gone
 mod Slots
 mod Holding
 mod Noted
-mod Stood
+mod CodePages
 mod Leads
 mod Quick
 mod Turns

@@ -10,7 +10,7 @@ use Rattle.r3k_pages.specs.Pages.{holds}
 use Rattle.r3k_pages.proofs.Kept.{held_at}
 use Rattle.r3k_pages.proofs.Marked.{held_more, once_more}
 use Rattle.r3k_pages.proofs.Set.{which}
-use Rattle.r3k_live.specs.Standing.{AreNoted}
+use Rattle.r3k_live.specs.CodePages.{AreNoted}
 
 -- equality of numbers turned
 turned : (x y : ℕ) → nat_eq x y ≡ nat_eq y x
@@ -75,14 +75,6 @@ noted_more room marks set page are within free = record {
           | inl same ↦ absurd (apart (eqb-true x y same))
           | inr other ↦ other
         ]
-
--- a page that is there is added again
-pub held_again : (set : List ℕ) (page other : ℕ) → holds set page ≡ true → holds set other ≡ (holds set other || nat_eq page other)
-held_again set page other there =
-    elim (cases_Bool (nat_eq page other)) [
-      | inl here ↦ rw here (ap (holds set) (sym (eqb-true page other here)) ∙ (there ∙ sym (or_true (holds set other))))
-      | inr apart ↦ rw apart (sym (or_false (holds set other)))
-    ]
 
 -- no page
 none_distinct : IsDistinct nat_eq []

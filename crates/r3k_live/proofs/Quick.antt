@@ -1,5 +1,5 @@
 -- Quick steps of a page, one after another.
-use Rattle.std.proofs.Common.{◌≡◌, ℕ, ◌+◌, ◌-◌, ◌*◌, ◌/◌, ◌^◌, ◌<◌, ◌≤◌, ◌||◌, nat_eq, List, [], ◌∷◌, ◌++◌, IfSome, IsFalse, refl, sym, subst, ap, ◌∙◌, arith, inl, inr}
+use Rattle.std.proofs.Common.{◌≡◌, ℕ, ◌+◌, ◌-◌, ◌*◌, ◌/◌, ◌^◌, ◌<◌, ◌≤◌, ◌||◌, nat_eq, List, [], ◌∷◌, ◌++◌, Option, None, Some, IfSome, IsFalse, refl, sym, subst, ap, ◌∙◌, arith, inl, inr}
 use Rattle.std.proofs.lemmas.Bool.{cases_lt}
 use Rattle.r3k_word.specs.Word.{sum_of}
 use Rattle.r3k_word.specs.declared.layout.TheConstants.{PAGE_BYTES, PAGE_WORDS}
@@ -13,13 +13,13 @@ use Rattle.r3k_machine.specs.Core.{Core}
 use Rattle.r3k_machine.specs.Flow.{with_flow}
 use Rattle.r3k_machine.specs.Quiet.{IsIndexIn, IsQuick, LeadsOn, outcome_elapsed, state_elapsed}
 use Rattle.r3k_machine.specs.declared.flow.Flow.{Flow}
-use Rattle.r3k_live.specs.Going.{Ends, GoesOn, GoesOver, HasGone, HasGoneFor, IsWordAt, LeadsTo, MayGoOn}
-use Rattle.r3k_live.specs.Recording.{Recording, Records}
+use Rattle.r3k_live.specs.Going.{Ends, GoesOn, GoesOnBy, GoesOver, HasGone, HasGoneFor, IsWordAt, LeadsTo, MayGoOn}
+use Rattle.r3k_live.specs.Recording.{IsNoted, Recording, Records}
 use Rattle.std.proofs.Math.Path.{ap₂}
 use Rattle.r3k_pages.specs.Pages.{holds}
 use Rattle.r3k_live.proofs.Gone.{gone_on, no_more, quick_more, recorded_too}
 use Rattle.r3k_live.proofs.Leads.{leads_more, leads_none, leads_one, leads_too}
-use Rattle.r3k_live.proofs.Stood.{stood_more}
+use Rattle.r3k_live.proofs.CodePages.{more_code_pages}
 
 -- by none
 pub goes_nowhere : (pages most address : ℕ) (page : CodePage) (made : ℕ) (s : State) (r : Recording) → made ≤ most → MayGoOn pages most page s.core r
@@ -29,7 +29,7 @@ goes_nowhere pages most address page made s r within may = record {
   leads = subst (λ (n : ℕ). LeadsTo pages n s s r r) (let e : 0 ≡ made - made = omega arith in e) (leads_none pages s r);
   bound = within;
   count = omega arith;
-  stood = refl;
+  code_pages = refl;
   may = may;
   runs = λ log from start before free gone. record {
     gone = gone;
@@ -40,18 +40,18 @@ goes_nowhere pages most address page made s r within may = record {
 
 -- by one
 pub goes_once : (pages most address : ℕ) (page : CodePage) (made : ℕ) (s t : State) (done : Done) (r later : Recording) → made < most
-    → s.core.pc / PAGE_BYTES ≡ page.number → ¬ (s.core.pc ≡ address) → MayGoOn pages most page t.core later → later.steps ≡ r.steps + 1 → later.stood ≡ r.stood
+    → s.core.pc / PAGE_BYTES ≡ page.number → ¬ (s.core.pc ≡ address) → MayGoOn pages most page t.core later → later.steps ≡ r.steps + 1 → later.code_pages ≡ r.code_pages
     → outcome_of_step pages [] (state_elapsed made s) ≡ outcome_elapsed (made + 1) (outcome_of_instruction pages s)
     → outcome_of_instruction pages s ≡ record { state = t; done = done }
     → ((steps : List Done) → Records pages steps r → Records pages (steps ++ done ∷ []) later) → DifferAt done.stored s.words t.words
     → IsQuick pages s → IfSome done.stored (IsRamWord pages)
     → GoesOn pages most address page made (made + 1) s t r later
-goes_once pages most address page made s t done r later within here elsewhere may count stood at_once ran records differ quick ram = record {
+goes_once pages most address page made s t done r later within here elsewhere may count code_pages at_once ran records differ quick ram = record {
   least = omega arith;
   leads = subst (λ (n : ℕ). LeadsTo pages n s t r later) (let e : 1 ≡ made + 1 - made = omega arith in e) (leads_one pages s t done r later quick ran records differ ram);
   bound = omega (arith, within);
   count = omega (arith, count);
-  stood = stood;
+  code_pages = code_pages;
   may = may;
   runs = λ log from start before free gone. record {
     gone = quick_more pages log from start before made s t done r later (free made within) gone at_once ran records differ;
@@ -73,7 +73,7 @@ goes_further pages most address page a b c s t u r mid later first more = record
       (leads_more pages (b - a) (c - b) s t u r mid later first.leads more.leads);
   bound = more.bound;
   count = omega (arith, first.count, more.count);
-  stood = more.stood ∙ first.stood;
+  code_pages = more.code_pages ∙ first.code_pages;
   may = more.may;
   runs = λ log from start before free gone.
       let there = first.runs log from start before free gone in
@@ -149,37 +149,43 @@ pub word_here : (pages most begun first halt end index : ℕ) (page : CodePage) 
 word_here pages most begun first halt end index page s r core flow words later ends at more =
     word_of page flow.pc index at.may.code.within (omega (arith, more, ends.within)) at.here
 
--- the step of the word
-abbrev pub StepOf : (pages most : ℕ) (page : CodePage) (s t : State) (r later : Recording) → Type 0
-StepOf pages most page s t r later = (address n : ℕ) → n < most → ¬ (s.core.pc ≡ address) → MayGoOn pages most page s.core r → GoesOn pages most address page n (n + 1) s t r later
-
-pub goes_one : (pages most begun first halt end index : ℕ) (page : CodePage) (s : State) (r : Recording) (core : Core) (flow : Flow) (words : List ℕ) (later : Recording) (t : State) (last : Recording)
-    → Ends most begun first halt end r.steps → AreAt pages most begun first halt end index page s r core flow words later → index < end → last.steps ≡ later.steps + 1
-    → StepOf pages most page (record { core = with_flow core flow; words = words }) t later last
+pub goes_one : {pages most begun first halt end index : ℕ} {page : CodePage} {s : State} {r : Recording} {core : Core} {flow : Flow} {words : List ℕ} {later last : Recording} {done : Done}
+    → (t : State) → Ends most begun first halt end r.steps → AreAt pages most begun first halt end index page s r core flow words later → index < end
+    → GoesOnBy pages page done (record { core = with_flow core flow; words = words }) t → IsNoted pages done later last
     → (address : ℕ) → IsWordAt page address halt → GoesOn pages most address page (r.steps - begun) (last.steps - begun) s t r last
-goes_one pages most begun first halt end index page s r core flow words later t last ends at more count step address word =
+goes_one {pages} {most} {begun} {first} {halt} {end} {index} {page} {s} {r} {core} {flow} {words} {later} {last} t ends at more goes noted address word =
     goes_straight pages most address page begun s (record { core = with_flow core flow; words = words }) t r later last
     (omega (arith, at.count, ends.since))
     (fewer_than pages most begun first halt end index page s r core flow words later ends at more)
-    count
+    noted.steps
     (not_at page address first index end halt flow.pc at.low more ends.stops word (word_here pages most begun first halt end index page s r core flow words later ends at more))
-    (at.goes address word) (step address)
+    (at.goes address word) (λ n less elsewhere may. goes most address n later last less elsewhere may noted)
 
 -- after it they are at the next word, unless it stood in a delay slot
-pub at_next : (pages most begun first halt end index : ℕ) (page : CodePage) (s : State) (r : Recording) (core new : Core) (flow after : Flow) (words left : List ℕ) (later last : Recording)
+pub at_next : {pages most begun first halt end index : ℕ} {page : CodePage} {s : State} {r : Recording} {core : Core} {flow : Flow} {words : List ℕ} {later last : Recording} {done : Done}
+    → (new : Core) (after : Flow) (left : List ℕ)
     → Ends most begun first halt end r.steps → AreAt pages most begun first halt end index page s r core flow words later → index < end → IsFalse flow.delay
-    → last.steps ≡ later.steps + 1 → LeadsOn (with_flow core flow) (with_flow new after)
-    → StepOf pages most page (record { core = with_flow core flow; words = words }) (record { core = with_flow new after; words = left }) later last
+    → LeadsOn (with_flow core flow) (with_flow new after)
+    → GoesOnBy pages page done (record { core = with_flow core flow; words = words }) (record { core = with_flow new after; words = left }) → IsNoted pages done later last
     → AreAt pages most begun first halt end (index + 1) page s r new after left last
-at_next pages most begun first halt end index page s r core new flow after words left later last ends at more free count leads step = record {
-  goes = goes_one pages most begun first halt end index page s r core flow words later (record { core = with_flow new after; words = left }) last ends at more count step;
-  may = (step (flow.pc + 1) 0 (omega (arith, ends.since, ends.made)) (λ same. omega (arith, same)) at.may).may;
+at_next {pages} {most} {begun} {first} {halt} {end} {index} {page} {s} {r} {core} {flow} {words} {later} {last} new after left ends at more free leads goes noted = record {
+  goes = goes_one (record { core = with_flow new after; words = left }) ends at more goes noted;
+  may = (goes most (flow.pc + 1) 0 later last (omega (arith, ends.since, ends.made)) (λ same. omega (arith, same)) at.may noted).may;
   here = leads.here ∙ (at.next free ∙ (ap (λ (a : ℕ). sum_of a 4) at.here ∙ next_address (page.number * PAGE_BYTES) index));
   next = leads.next;
-  count = omega (arith, count, at.count, at.low);
+  count = omega (arith, noted.steps, at.count, at.low);
   low = omega (arith, at.low);
   high = omega (arith, more);
 }
+
+-- a word comes before the end, as long as fewer steps are recorded than at the end
+pub more_to : (index first last steps now result : ℕ) → result ≡ now → now ≡ steps + (index - first) → first ≤ index → result < last → index < first + (last - steps)
+more_to index first last steps now result is count low fewer = omega (arith, is, count, low, fewer)
+
+-- what is so of an answer, as something else is
+pub if_so : {A : Type 0} {P Q : A → Type 0} (o : Option A) → IfSome o P → ((a : A) → P a → Q a) → IfSome o Q
+if_so None p f = tt
+if_so (Some a) p f = f a p
 
 -- no page yet
 pub over_none : (pages most address : ℕ) (page : CodePage) (s : State) (r : Recording) → ((s : State) → state_elapsed 0 s ≡ s) → MayGoOn pages most page s.core r
@@ -196,9 +202,9 @@ over_none pages most address page s r none may = record {
 pub over_more : (pages most address : ℕ) (page : CodePage) (made n : ℕ) (s t u : State) (r mid quick later : Recording) → made ≤ n
     → GoesOver pages most address made s t r mid → GoesOn pages most address page made n t u mid quick
     → ((steps : List Done) → Records pages steps quick → Records pages steps later)
-    → ((other : ℕ) → holds later.stood other ≡ (holds quick.stood other || nat_eq (u.core.pc / PAGE_BYTES) other)) → later.steps ≡ quick.steps
+    → ((other : ℕ) → holds later.code_pages other ≡ (holds quick.code_pages other || nat_eq (u.core.pc / PAGE_BYTES) other)) → later.steps ≡ quick.steps
     → GoesOver pages most address n s u r later
-over_more pages most address page made n s t u r mid quick later more over on records stood steps = record {
+over_more pages most address page made n s t u r mid quick later more over on records code_pages steps = record {
   leads =
       subst (λ (k : ℕ). LeadsTo pages k s u r later) (let e : made + (n - made) ≡ n = omega (arith, more) in e)
       (leads_too pages (made + (n - made)) s u r quick later (leads_more pages made (n - made) s t u r mid quick over.leads on.leads) records);
@@ -215,13 +221,18 @@ over_more pages most address page made n s t u r mid quick later more over on re
       (record {
         gone = subst (λ (k : ℕ). HasGone pages log from start k (state_elapsed n u) later) (sym sum) gone;
         passed = λ k after below. second.passed k (omega (arith, after)) (omega (arith, below, sum));
-        stood = λ set so_far.
-            stood_more pages log from start (before + made) (n - made) page.number set mid.stood later.stood so_far
+        code_pages = λ set so_far.
+            more_code_pages pages log from start (before + made) (n - made) page.number set mid.code_pages later.code_pages so_far
             (λ k above below. second.begins k above (omega (arith, below, sum)))
             (λ other.
-            stood other
-            ∙ ap₂ (λ (set : List ℕ) (pc : ℕ). holds set other || nat_eq (pc / PAGE_BYTES) other) on.stood
+            code_pages other
+            ∙ ap₂ (λ (set : List ℕ) (pc : ℕ). holds set other || nat_eq (pc / PAGE_BYTES) other) on.code_pages
             (ap (λ (s : State). s.core.pc) second.gone.state ∙ ap (λ (k : ℕ). (run pages log from start k).core.pc) (sym sum)));
       })
       (λ some others. second.passed (before + made) (omega arith) (omega (arith, others, sum))));
 }
+
+-- what three facts of an answer say together
+pub if_three : {A : Type 0} {P Q R S : A → Type 0} (o : Option A) → IfSome o P → IfSome o Q → IfSome o R → ((a : A) → P a → Q a → R a → S a) → IfSome o S
+if_three None p q r f = tt
+if_three (Some a) p q r f = f a p q r

@@ -94,35 +94,3 @@ word_learned pages words known opened page index operation are page_within insid
                 (are.each other i d other_within other_inside other_is)
           ];
     }
-
--- after a page was opened
-pub page_opened : (pages : ℕ) (words : List ℕ) (known later : List Operation) (opened : List ℕ) (page : ℕ) (stop : Operation)
-    → AreKnown pages words known opened → IsStop stop → page < pages + ROM_PAGES → length later ≡ SLOTS * PAGE_WORDS
-    → ((index : ℕ) (d : Operation) → index < PAGE_WORDS → slice_index_or later (slot_of pages page * PAGE_WORDS + index) d ≡ stop)
-    → ((i : ℕ) (d : Operation) → ¬ (i / PAGE_WORDS ≡ slot_of pages page) → slice_index_or later i d ≡ slice_index_or known i d)
-    → AreKnown pages words later (slice_set opened (slot_of pages page) (page + 1))
-page_opened pages words known later opened page stop are stops page_within room there others =
-    let slot = slot_of pages page in record {
-      room = room;
-      slots = length-set opened slot (page + 1) ∙ are.slots;
-      each = λ other index d other_within inside is.
-          elim (cases_Bool (nat_eq slot (slot_of pages other))) [
-            | inl same ↦
-                subst (λ (o : Operation). IsKnown (slice_index words (other * PAGE_WORDS + index)) o)
-                (sym (ap (λ (n : ℕ). slice_index_or later (n * PAGE_WORDS + index) d) (sym (eqb-true slot (slot_of pages other) same)) ∙ there index d inside))
-                (λ not. absurd (not stops))
-            | inr apart ↦
-                let apart_slot : ¬ (slot_of pages other ≡ slot) = λ same. true≢false (sym (eq-eqb slot (slot_of pages other) (sym same)) ∙ apart) in
-                subst (λ (o : Operation). IsKnown (slice_index words (other * PAGE_WORDS + index)) o)
-                (sym (others (slot_of pages other * PAGE_WORDS + index) d (λ same. apart_slot (sym (a_slot (slot_of pages other) index inside) ∙ same))))
-                (are.each other index d other_within inside
-                (subst (λ (n : ℕ). IsTrue (nat_eq n (other + 1))) (get_or-set_other opened slot (slot_of pages other) (page + 1) 0 apart_slot) is))
-          ];
-    }
-
--- that page is open
-pub is_opened : (pages : ℕ) (opened : List ℕ) (page : ℕ) → length opened ≡ SLOTS → page < pages + ROM_PAGES
-    → IsTrue (is_open pages (slice_set opened (slot_of pages page) (page + 1)) page)
-is_opened pages opened page slots within =
-    eq-eqb (slice_index (slice_set opened (slot_of pages page) (page + 1)) (slot_of pages page)) (page + 1)
-    (get_or-set_same opened (slot_of pages page) (page + 1) 0 (rw slots (slot_within pages page within)))

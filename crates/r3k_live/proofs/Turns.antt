@@ -301,9 +301,9 @@ goes_round pages log from start address before n k most s r mid later none at_on
             | inl some ↦ first.passed (before + m.0) (omega (arith, some)) (omega (arith, m.1)) (pc_at m.0 (omega (arith, m.1, mul-suc n k)) ∙ at)
             | inr zero_there ↦ elsewhere (ap (λ (j : ℕ). (quick_run pages s j).core.pc) (let e : 0 ≡ m.0 = omega (arith, zero_there) in e) ∙ at)
           ];
-      stood = λ set before_it page.
-          let there = first.stood set before_it page in
-          let same = ap (λ (stood : List ℕ). holds stood page) passed.stood in (
+      code_pages = λ set before_it page.
+          let there = first.code_pages set before_it page in
+          let same = ap (λ (code_pages : List ℕ). holds code_pages page) passed.code_pages in (
             λ held. elim (there.0 (sym same ∙ held)) [
               | inl was ↦ inl was
               | inr (i, less, pc) ↦ inr (i, omega (arith, less, mul-suc n k), pc)

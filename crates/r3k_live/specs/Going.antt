@@ -13,8 +13,8 @@ use Rattle.r3k_machine.specs.State.{State}
 use Rattle.r3k_machine.specs.Step.{outcome_of_instruction}
 use Rattle.r3k_pages.specs.Pages.{holds}
 use Rattle.r3k_live.specs.Record.{is_dirty}
-use Rattle.r3k_live.specs.Recording.{Recording, Records}
-use Rattle.r3k_live.specs.Standing.{BeginsIn, HasStood}
+use Rattle.r3k_live.specs.Recording.{IsNoted, Recording, Records}
+use Rattle.r3k_live.specs.CodePages.{BeginsIn, AddsCodePages}
 
 -- `made` steps of the run from a state are made and recorded, and words of pages that they did not store into stayed
 pub record HasGone (pages : ℕ) (log : List LogEvent) (from : ℕ) (start : State) (made : ℕ) (s : State) (r : Recording) : Type 0 where
@@ -32,7 +32,7 @@ PassesBy pages log from start address above below = (k : ℕ) → above < k → 
 pub record HasGoneFor (pages : ℕ) (log : List LogEvent) (from : ℕ) (start : State) (address made n : ℕ) (r : Recording) (t : State) (later : Recording) : Type 0 where
   pub gone : HasGone pages log from start (made + n) t later
   pub passed : PassesBy pages log from start address made (made + n)
-  pub stood : (before : List ℕ) → HasStood pages log from start made before r.stood → HasStood pages log from start (made + n) before later.stood
+  pub code_pages : (before : List ℕ) → AddsCodePages pages log from start made before r.code_pages → AddsCodePages pages log from start (made + n) before later.code_pages
 
 -- the events that are left have all of a log from a time on
 abbrev pub AreLeft : (time : ℕ) → (left log : List LogEvent) → Type 0
@@ -76,12 +76,17 @@ pub record GoesOn (pages most address : ℕ) (page : CodePage) (made n : ℕ) (s
   pub least : made ≤ n
   pub bound : n ≤ most
   pub count : later.steps + made ≡ r.steps + n
-  pub stood : later.stood ≡ r.stood
+  pub code_pages : later.code_pages ≡ r.code_pages
   pub leads : LeadsTo pages (n - made) s t r later
   pub may : MayGoOn pages most page t.core later
   pub runs : (log : List LogEvent) (from : ℕ) (start : State) (before : ℕ) → IsFreeFor most log (from + before)
       → HasGone pages log from start (before + made) (state_elapsed made s) r
       → HasGoneOn pages log from start address page.number (before + made) (before + n) (state_elapsed n t) later
+
+-- A step of a page leads from a state to another one, so that quick steps go on by it once it is recorded.
+abbrev pub GoesOnBy : (pages : ℕ) (page : CodePage) (done : Done) (s t : State) → Type 0
+GoesOnBy pages page done s t = (most address made : ℕ) (r later : Recording) → made < most → ¬ (s.core.pc ≡ address) → MayGoOn pages most page s.core r
+    → IsNoted pages done r later → GoesOn pages most address page made (made + 1) s t r later
 
 -- Quick steps go on from page to page, n of them. Their ticks and falls of Random are still to come. So goes any run that no event reaches
 -- in these times.

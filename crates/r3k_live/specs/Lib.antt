@@ -8,7 +8,7 @@ pub mod Record
 pub mod Marks
 pub mod Recording
 pub mod Visits
-pub mod Standing
+pub mod CodePages
 pub mod Living
 pub mod Going
 pub mod Slots

@@ -1,5 +1,5 @@
 -- How a recorder keeps what steps reported (own).
-use Rattle.std.specs.Prelude.{◌≡◌, ℕ, ◌+◌, ◌*◌, ◌/◌, ◌<◌, ◌≤◌, List, length, Option, Some, None, slice_index, slice_set}
+use Rattle.std.specs.Prelude.{◌≡◌, ℕ, ◌+◌, ◌*◌, ◌/◌, ◌<◌, ◌≤◌, List, [], ◌∷◌, ◌++◌, IsTrue, length, Option, Some, None, slice_index, slice_set}
 use Rattle.r3k_word.specs.declared.layout.TheConstants.{MAX_RAM_PAGES, PAGE_BYTES, PAGE_WORDS}
 use Rattle.r3k_machine.specs.declared.step.Done.{Done}
 use Rattle.r3k_machine.specs.declared.target.Target.TheVariants.{Memory}
@@ -18,7 +18,7 @@ pub record Recording : Type 0 where
   pub destinations : List ℕ
   pub touched : List ℕ
   pub sent : List SentAt
-  pub stood : List ℕ
+  pub code_pages : List ℕ
 
 -- these steps after one more, which stored into a word or did not
 abbrev pub with_writer : List ℕ → (step : ℕ) → Option ℕ → List ℕ
@@ -47,3 +47,10 @@ pub record Records (pages : ℕ) (steps : List Done) (r : Recording) : Type 0 wh
   pub destinations : AreDestinations steps r.destinations
   pub touched : (page : ℕ) → holds r.touched page ≡ is_touched steps page
   pub sent : r.sent ≡ sent_from 0 steps
+
+-- A recorder holds what it held, and what one more step reported. The page of that step was touched before.
+pub record IsNoted (pages : ℕ) (done : Done) (r later : Recording) : Type 0 where
+  pub steps : later.steps ≡ r.steps + 1
+  pub records : (steps : List Done) → Records pages steps r → Records pages (steps ++ done ∷ []) later
+  pub touched : (page : ℕ) → IsTrue (holds r.touched page) → IsTrue (holds later.touched page)
+  pub code_pages : later.code_pages ≡ r.code_pages

@@ -34,7 +34,7 @@ pub record HasPassed (pages since passed : ℕ) (r later : Recording) : Type 0 w
   pub dirty : later.dirty ≡ r.dirty
   pub touched : later.touched ≡ r.touched
   pub sent : later.sent ≡ r.sent
-  pub stood : later.stood ≡ r.stood
+  pub code_pages : later.code_pages ≡ r.code_pages
 
 -- a word with a later step than a number of steps, by its place, with what it holds
 pub record IsHeld (since : ℕ) (last words : List ℕ) (held : Held) : Type 0 where

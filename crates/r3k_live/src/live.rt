@@ -13,7 +13,7 @@ ghost use Rattle.r3k_machine.specs.Traced.{traced};
 ghost use Rattle.r3k_live.specs.Living.{counted, state_of};
 ghost use Rattle.r3k_live.specs.Record.{dirty_pages, stores_in};
 ghost use Rattle.r3k_live.specs.Recording.{Records};
-ghost use Rattle.r3k_live.specs.Standing.{HasStood};
+ghost use Rattle.r3k_live.specs.CodePages.{AddsCodePages};
 ghost use Rattle.r3k_live.specs.Visits.{first_visit};
 
 use crate::boundary::Boundary;
@@ -112,7 +112,7 @@ impl<const PAGES: u32> Live<PAGES> {
         ensures least { self.old.steps ≤ self.new.steps }
         ensures recorded { Records PAGES (trace PAGES events.now from self.old.state steps) recorder.new }
         ensures dirty { SameOutside (dirty_pages PAGES (trace PAGES events.now from self.old.state steps)) self.old.state.words self.new.state.words }
-        ensures stood { HasStood PAGES events.now from self.old.state steps recorder.old.stood recorder.new.stood }
+        ensures code_pages { AddsCodePages PAGES events.now from self.old.state steps recorder.old.code_pages recorder.new.code_pages }
     {
         let _stopped = self.go_on(from, events, steps, NOWHERE, recorder);
     }
@@ -138,7 +138,7 @@ impl<const PAGES: u32> Live<PAGES> {
         ensures recorded { Records PAGES (trace PAGES events.now from self.old.state (unwrap_or result steps)) recorder.new }
         ensures dirty { SameOutside (dirty_pages PAGES (trace PAGES events.now from self.old.state (unwrap_or result steps)))
             self.old.state.words self.new.state.words }
-        ensures stood { HasStood PAGES events.now from self.old.state (unwrap_or result steps) recorder.old.stood recorder.new.stood }
+        ensures code_pages { AddsCodePages PAGES events.now from self.old.state (unwrap_or result steps) recorder.old.code_pages recorder.new.code_pages }
     {
         self.go_on(from, events, steps, address as u64, recorder)
     }
@@ -178,7 +178,7 @@ impl<const PAGES: u32> Live<PAGES> {
         ensures recorded { Records PAGES (trace PAGES events.now from self.old.state (unwrap_or result steps)) recorder.new }
         ensures dirty { SameOutside (dirty_pages PAGES (trace PAGES events.now from self.old.state (unwrap_or result steps)))
             self.old.state.words self.new.state.words }
-        ensures stood { HasStood PAGES events.now from self.old.state (unwrap_or result steps) recorder.old.stood recorder.new.stood }
+        ensures code_pages { AddsCodePages PAGES events.now from self.old.state (unwrap_or result steps) recorder.old.code_pages recorder.new.code_pages }
     {
         let stopped = step_until(
             &mut self.core,
@@ -270,9 +270,9 @@ fn step_until<const PAGES: u32, const SPAN: u32>(
     ensures dirty { SameOutside (dirty_pages PAGES (trace PAGES events.entry from (state_of core.old memory.old) (unwrap_or result steps)))
         memory.old.words.items memory.new.words.items }
     ensures bound { unwrap_or result steps ≤ steps }
-    ensures stood { HasStood PAGES events.entry from (state_of core.old memory.old) (unwrap_or result steps) recorder.old.stood recorder.new.stood }
+    ensures code_pages { AddsCodePages PAGES events.entry from (state_of core.old memory.old) (unwrap_or result steps) recorder.old.code_pages recorder.new.code_pages }
 {
-    recorder.stand(core.pc() / PAGE_BYTES);
+    recorder.note_code_page(core.pc() / PAGE_BYTES);
     let mut made = 0;
     let mut patience = PATIENCE;
     while made < steps {

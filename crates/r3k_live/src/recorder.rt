@@ -11,7 +11,7 @@ ghost use Rattle.r3k_machine.specs.Run.{last_writer};
 ghost use Rattle.r3k_machine.specs.Reports.{IsPage, IsRamWord};
 ghost use Rattle.r3k_live.specs.Marks.{marks_of};
 ghost use Rattle.r3k_live.specs.Record.{AreDestinations, AreWriters, dirty_pages, sent_from, touched_pages, with_sent};
-ghost use Rattle.r3k_live.specs.Recording.{Records};
+ghost use Rattle.r3k_live.specs.Recording.{IsNoted, Records};
 ghost use Rattle.r3k_live.specs.Waiting.{HasPassed, IsHeld, held_at, is_among};
 
 use crate::destinations::Destinations;
@@ -49,8 +49,8 @@ pub struct Recorder<const PAGES: u32, const SPAN: u32> {
     destinations: Destinations,
     touched: PageMarks<PAGES>,
     sent: Vec<SentAt>,
-    // The virtual pages in which the PC stood.
-    stood: VirtualPages,
+    // The virtual pages in which the PC was.
+    code_pages: VirtualPages,
 }
 
 impl<const PAGES: u32, const SPAN: u32> Model for Recorder<PAGES, SPAN> {
@@ -66,7 +66,7 @@ impl<const PAGES: u32, const SPAN: u32> Model for Recorder<PAGES, SPAN> {
       destinations = r.destinations;
       touched = r.touched;
       sent = r.sent.items;
-      stood = r.stood;
+      code_pages = r.code_pages;
     } };
 
     ghost invariant = { λ r. IsRecording PAGES SPAN (vec_capacity r.sent) (record {
@@ -76,7 +76,7 @@ impl<const PAGES: u32, const SPAN: u32> Model for Recorder<PAGES, SPAN> {
       destinations = r.destinations;
       touched = r.touched;
       sent = r.sent.items;
-      stood = r.stood;
+      code_pages = r.code_pages;
     }) };
 }
 
@@ -92,20 +92,20 @@ impl<const PAGES: u32, const SPAN: u32> Recorder<PAGES, SPAN> {
             destinations: Destinations::none(),
             touched: PageMarks::new(alloc)?,
             sent: Vec::with_capacity(alloc, SPAN as usize)?,
-            stood: VirtualPages::new(alloc)?,
+            code_pages: VirtualPages::new(alloc)?,
         })
     }
 
     /// Empties it, by no more than what was recorded.
     pub fn clear(&mut self)
         ensures empty { Records PAGES [] self.new }
-        ensures stood { self.new.stood ≡ [] }
+        ensures code_pages { self.new.code_pages ≡ [] }
     {
         self.stores.clear();
         self.destinations = Destinations::none();
         self.touched.clear();
         self.sent.clear();
-        self.stood.clear();
+        self.code_pages.clear();
         self.steps = 0;
     }
 
@@ -186,22 +186,22 @@ impl<const PAGES: u32, const SPAN: u32> Recorder<PAGES, SPAN> {
         self.touched.ascending(alloc)
     }
 
-    /// The virtual pages in which the PC stood, each once, by their numbers.
-    pub fn stood(&self) -> &[u32]
-        ensures { result.now ≡ self.now.stood }
+    /// The virtual pages in which the PC was, each once, by their numbers.
+    pub fn code_pages(&self) -> &[u32]
+        ensures { result.now ≡ self.now.code_pages }
     {
-        self.stood.pages()
+        self.code_pages.pages()
     }
 
-    // The PC stands in a virtual page.
+    // Notes a virtual page in which the PC is.
     #[inline(always)]
-    pub(crate) fn stand(&mut self, page: u32)
+    pub(crate) fn note_code_page(&mut self, page: u32)
         requires { page < 2 ^ 20 }
-        ensures stood { (other : ℕ) → holds self.new.stood other ≡ (holds self.old.stood other || nat_eq page other) }
+        ensures code_pages { (other : ℕ) → holds self.new.code_pages other ≡ (holds self.old.code_pages other || nat_eq page other) }
         ensures records { (steps : List Done) → Records PAGES steps self.old → Records PAGES steps self.new }
         ensures steps { self.new.steps ≡ self.old.steps }
     {
-        self.stood.mark(page);
+        self.code_pages.mark(page);
     }
 
     /// The pages that were stored into.
@@ -248,10 +248,7 @@ impl<const PAGES: u32, const SPAN: u32> Recorder<PAGES, SPAN> {
         requires stored { IfSome done.stored (IsRamWord PAGES) }
         requires touched { All (λ page. IfSome page (IsPage PAGES)) done.touched }
         requires again { IfSome (fetched_page done) (λ page. IsTrue (holds self.old.touched page)) }
-        ensures steps { self.new.steps ≡ self.old.steps + 1 }
-        ensures records { (steps : List Done) → Records PAGES steps self.old → Records PAGES (steps ++ done ∷ []) self.new }
-        ensures touched { (page : ℕ) → IsTrue (holds self.old.touched page) → IsTrue (holds self.new.touched page) }
-        ensures stood { self.new.stood ≡ self.old.stood }
+        ensures { IsNoted PAGES done self.old self.new }
     {
         note_sent(&mut self.sent, done.sent, self.steps);
         self.stores.note(done.stored, self.steps);
@@ -268,7 +265,7 @@ impl<const PAGES: u32, const SPAN: u32> Recorder<PAGES, SPAN> {
         requires touched { All (λ page. IfSome page (IsPage PAGES)) done.touched }
         ensures steps { self.new.steps ≡ self.old.steps + 1 }
         ensures records { (steps : List Done) → Records PAGES steps self.old → Records PAGES (steps ++ done ∷ []) self.new }
-        ensures stood { self.new.stood ≡ self.old.stood }
+        ensures code_pages { self.new.code_pages ≡ self.old.code_pages }
     {
         note_sent(&mut self.sent, done.sent, self.steps);
         self.stores.note(done.stored, self.steps);

@@ -1,15 +1,16 @@
 //! Stretches of quick steps.
 
-ghost use Rattle.std.specs.Prelude.{◌≡◌, ◌+◌, ◌-◌, ◌*◌, ◌/◌, ◌^◌, ◌<◌, ◌≤◌, IfSome, IsFalse, IsTrue, ℕ, [], List};
+ghost use Rattle.std.specs.Prelude.{◌≡◌, ◌+◌, ◌-◌, ◌*◌, ◌/◌, ◌^◌, ◌<◌, ◌≤◌, IfSome, IsFalse, IsTrue, None, Some, ℕ, [], List};
 ghost use Rattle.input_log.specs.Event.{LogEvent};
 ghost use Rattle.r3k_word.specs.declared.layout.TheConstants.{PAGE_BYTES, PAGE_WORDS};
 ghost use Rattle.r3k_machine.specs.Flow.{IsStraight, with_flow};
-ghost use Rattle.r3k_machine.specs.Quiet.{IsCodePage, IsIndexIn, IsQuietFor, LeadsOn};
+ghost use Rattle.r3k_machine.specs.Locality.{fetched_page};
+ghost use Rattle.r3k_machine.specs.Quiet.{IsCodePage, IsIndexIn, IsQuietFor, LeadsOn, Leaves};
 ghost use Rattle.r3k_machine.specs.Run.{arriving};
 ghost use Rattle.r3k_machine.specs.State.{State};
-ghost use Rattle.r3k_machine.specs.Reports.{IsPage};
+ghost use Rattle.r3k_machine.specs.Reports.{IsPage, IsReport};
 ghost use Rattle.r3k_pages.specs.Pages.{holds};
-ghost use Rattle.r3k_live.specs.Going.{AreLeft, Ends, GoesOn, GoesOver, HasGone, HasGoneFor, IsFreeFor, IsWordAt, MayGoOn};
+ghost use Rattle.r3k_live.specs.Going.{AreLeft, Ends, GoesOn, GoesOnBy, GoesOver, HasGone, HasGoneFor, IsFreeFor, IsWordAt, MayGoOn};
 ghost use Rattle.r3k_live.specs.Living.{state_of};
 ghost use Rattle.r3k_live.specs.Slots.{is_open};
 
@@ -19,7 +20,7 @@ use crate::waiting::wait;
 use input_log::Cursor;
 use r3k_machine::step::step;
 use r3k_machine::{
-    CodePage, Core, Flow, Mem, code_page, learn, quick_step, quiet_laws, quiet_step,
+    CodePage, Core, Flow, Mem, Next, Quick, code_page, learn, quick_step, quiet_laws, quiet_step,
 };
 use r3k_word::layout::{PAGE_BYTES, PAGE_WORDS};
 
@@ -36,40 +37,33 @@ fn halt_in(page: CodePage, address: u64) -> usize
     ((address - start) / 4).min(u64::from(PAGE_WORDS)) as usize
 }
 
-// Makes the quick step of a word of the page, at which the PC stands, and records it. Says whether it did. Else it changes nothing.
+// Makes the quick step of a word of the page, at which the PC stands. Else it changes nothing. It is still to be recorded: on each way
+// apart that may come next, so that the compiler keeps no more there than what comes next wants.
 #[inline(always)]
-fn step_quickly<const PAGES: u32, const SPAN: u32>(
+fn step_quickly<const PAGES: u32>(
     core: &mut Core,
     flow: &mut Flow,
     memory: &mut FlatMemory<PAGES>,
     page: CodePage,
     index: usize,
-    recorder: &mut Recorder<PAGES, SPAN>,
-) -> bool
+) -> Option<Quick>
     requires code { IsCodePage PAGES (with_flow core.old flow.old) page }
     requires page { IsPage PAGES page.page }
     requires opened { IsTrue (is_open PAGES memory.old.opened.items page.page) }
-    requires again { IsTrue (holds recorder.old.touched page.page) }
     requires here { IsIndexIn page flow.old.pc index }
-    requires room { recorder.old.steps < SPAN }
-    ensures goes { IsTrue result → (most address made : ℕ) → made < most → ¬ (flow.old.pc ≡ address) →
-        MayGoOn PAGES most page (with_flow core.old flow.old) recorder.old →
-        GoesOn PAGES most address page made (made + 1) (state_of (with_flow core.old flow.old) memory.old) (state_of (with_flow core.new flow.new) memory.new)
-        recorder.old recorder.new }
-    ensures count { IsTrue result → recorder.new.steps ≡ recorder.old.steps + 1 }
-    ensures leads { IsTrue result → LeadsOn (with_flow core.old flow.old) (with_flow core.new flow.new) }
-    ensures core { IsFalse result → core.new ≡ core.old }
-    ensures flow { IsFalse result → flow.new ≡ flow.old }
-    ensures words { IsFalse result → memory.new.words.items ≡ memory.old.words.items }
-    ensures recorder { IsFalse result → recorder.new ≡ recorder.old }
+    ensures goes { IfSome result (λ quick. GoesOnBy PAGES page quick.done (state_of (with_flow core.old flow.old) memory.old)
+        (state_of (with_flow core.new flow.new) memory.new)) }
+    ensures leads { IfSome result (λ _. LeadsOn (with_flow core.old flow.old) (with_flow core.new flow.new)) }
+    ensures next { IfSome result (λ quick. Leaves quick.next flow.new) }
+    ensures reports { IfSome result (λ quick. IsReport PAGES memory.old.words.items memory.new.words.items quick.done) }
+    ensures fetched { IfSome result (λ quick. fetched_page quick.done ≡ Some page.page) }
+    ensures core { result ≡ None → core.new ≡ core.old }
+    ensures flow { result ≡ None → flow.new ≡ flow.old }
+    ensures words { result ≡ None → memory.new.words.items ≡ memory.old.words.items }
     ensures opened { IsTrue (is_open PAGES memory.new.opened.items page.page) }
 {
     quiet_laws();
-    let Some(done) = quick_step(core, flow, memory, page, index) else {
-        return false;
-    };
-    recorder.note_again(done);
-    true
+    quick_step(core, flow, memory, page, index)
 }
 
 // How many steps are recorded when straight steps from a word end at the latest: within the page, not past where all steps end, and before
@@ -92,9 +86,17 @@ fn last_of(first: usize, begun: u32, most: u32, steps: u32, halt: usize) -> u32
     steps + ((end - first) as u32).min(begun + most - steps)
 }
 
-// Makes quick steps from word to word, up to a jump, and the step in the jump's delay slot. Says whether more may follow. `begun` steps
-// were recorded before the first one of the page, and `most` may be made in all. The count of recorded steps is at hand after each, so it
-// also ends the loop: from step to step the compiler keeps no more than the number of the word and the load slot.
+// The number of the word in a delay slot, if there is a step for it.
+#[inline(always)]
+fn delay_slot(index: usize, steps: u32, last: u32) -> Option<usize>
+    ensures { IfSome result (λ slot. (slot ≡ index) × (steps < last)) }
+{
+    if steps < last { Some(index) } else { None }
+}
+
+// Makes quick steps from word to word, up to a jump, and gives the number of the word in the jump's delay slot, if its step may follow.
+// `begun` steps were recorded before the first one of the page, and `most` may be made in all. The count of recorded steps is at hand
+// after each, so it also ends the loops. Most steps find no load pending: they have a loop of their own, which keeps no load slot.
 #[inline(always)]
 fn step_straight<const PAGES: u32, const SPAN: u32>(
     core: &mut Core,
@@ -106,7 +108,7 @@ fn step_straight<const PAGES: u32, const SPAN: u32>(
     begun: u32,
     most: u32,
     recorder: &mut Recorder<PAGES, SPAN>,
-) -> bool
+) -> Option<usize>
     requires may { MayGoOn PAGES most page (with_flow core.old flow.old) recorder.old }
     requires page { IsPage PAGES page.page }
     requires opened { IsTrue (is_open PAGES memory.old.opened.items page.page) }
@@ -120,30 +122,54 @@ fn step_straight<const PAGES: u32, const SPAN: u32>(
     ensures goes { (address : ℕ) → IsWordAt page address halt → GoesOn PAGES most address page (recorder.old.steps - begun) (recorder.new.steps - begun)
         (state_of (with_flow core.old flow.old) memory.old) (state_of (with_flow core.new flow.new) memory.new) recorder.old recorder.new }
     ensures least { recorder.old.steps ≤ recorder.new.steps }
-    ensures more { IsTrue result → recorder.old.steps < recorder.new.steps }
-    ensures straight { IsTrue result → IsStraight flow.new }
+    ensures here { IfSome result (IsIndexIn page flow.new.pc) }
+    ensures room { IfSome result (λ _. recorder.new.steps < begun + most) }
+    ensures elsewhere { IfSome result (λ _. (address : ℕ) → IsWordAt page address halt → ¬ (flow.new.pc ≡ address)) }
     ensures opened { IsTrue (is_open PAGES memory.new.opened.items page.page) }
 {
     let last = last_of(first, begun, most, recorder.steps(), halt);
     let mut index = first;
     while recorder.steps() < last {
-        flow.stand_straight(page.address(index));
-        if !step_quickly(core, flow, memory, page, index, recorder) {
-            return false;
-        }
-        if flow.delay() {
-            if recorder.steps() >= last {
-                return false;
+        flow.pin_straight(page.address(index));
+        let quick = step_quickly(core, flow, memory, page, index)?;
+        match quick.next {
+            Next::DelaySlot => {
+                recorder.note_again(quick.done);
+                return delay_slot(index + 1, recorder.steps(), last);
             }
-            if !step_quickly(core, flow, memory, page, index + 1, recorder) {
-                return false;
+            Next::WordAfterLoad => {
+                recorder.note_again(quick.done);
+                index += 1;
+                continue;
             }
-            return !flow.delay();
+            Next::Word => {
+                recorder.note_again(quick.done);
+                index += 1;
+            }
         }
-        index += 1;
+        while recorder.steps() < last {
+            flow.pin_straight(page.address(index));
+            flow.pin_unloaded();
+            let quick = step_quickly(core, flow, memory, page, index)?;
+            match quick.next {
+                Next::DelaySlot => {
+                    recorder.note_again(quick.done);
+                    return delay_slot(index + 1, recorder.steps(), last);
+                }
+                Next::WordAfterLoad => {
+                    recorder.note_again(quick.done);
+                    index += 1;
+                    break;
+                }
+                Next::Word => {
+                    recorder.note_again(quick.done);
+                    index += 1;
+                }
+            }
+        }
     }
-    flow.stand_straight(page.address(index));
-    false
+    flow.pin_straight(page.address(index));
+    None
 }
 
 // Makes quick steps in an open page that was touched before, up to `most` in all after `begun`, and ends after one that comes to an
@@ -179,9 +205,16 @@ fn quick_steps<const PAGES: u32, const SPAN: u32>(
         let Some(index) = page.index(flow.pc()) else {
             return flow;
         };
-        if !step_straight(
+        let Some(slot) = step_straight(
             core, &mut flow, memory, page, index, halt, begun, most, recorder,
-        ) {
+        ) else {
+            return flow;
+        };
+        let Some(quick) = step_quickly(core, &mut flow, memory, page, slot) else {
+            return flow;
+        };
+        recorder.note_again(quick.done);
+        if flow.delay() {
             return flow;
         }
     }
@@ -216,7 +249,7 @@ pub(crate) fn quick_pages<const PAGES: u32, const SPAN: u32>(
         let before = recorder.steps();
         *flow = quick_steps(core, *flow, memory, *page, begun, most, stop, recorder);
         let here = flow.pc() / PAGE_BYTES;
-        recorder.stand(here);
+        recorder.note_code_page(here);
         let steps = recorder.steps();
         if steps == before || steps - begun == most || here == page.number {
             return steps - begun;
@@ -270,7 +303,7 @@ fn quiet_on<const PAGES: u32, const SPAN: u32>(
         return 0;
     };
     recorder.note(done);
-    recorder.stand(core.pc() / PAGE_BYTES);
+    recorder.note_code_page(core.pc() / PAGE_BYTES);
     1
 }
 
@@ -404,6 +437,6 @@ pub(crate) fn advance<const PAGES: u32, const SPAN: u32>(
     }
     let done = step(core, memory, events.next(time));
     recorder.note(done);
-    recorder.stand(core.pc() / PAGE_BYTES);
+    recorder.note_code_page(core.pc() / PAGE_BYTES);
     1
 }

@@ -2,7 +2,7 @@
 
 ghost use Rattle.std.specs.Prelude.{◌≡◌, ◌^◌, ◌<◌, ◌||◌, ◌&&◌, ℕ, [], All, IfOk, false, length, nat_eq, not, slice_index_or, vec_capacity};
 ghost use Rattle.r3k_pages.specs.Pages.{holds};
-ghost use Rattle.r3k_live.specs.Standing.{AreNoted};
+ghost use Rattle.r3k_live.specs.CodePages.{AreNoted};
 
 use std::alloc::{AllocError, Global};
 use std::marker::Model;
@@ -20,7 +20,7 @@ pub struct VirtualPages {
 
 impl Model for VirtualPages {
     ghost use Rattle.std.specs.Prelude.{List, ℕ, vec_capacity};
-    ghost use Rattle.r3k_live.specs.Standing.{AreNoted};
+    ghost use Rattle.r3k_live.specs.CodePages.{AreNoted};
 
     ghost Value = { List ℕ };
 

@@ -47,7 +47,6 @@ use Rattle.r3k_machine.specs.declared.exception.Exception.{Exception}
 use Rattle.r3k_machine.specs.declared.exception.Exception.TheVariants.{AddressErrorLoad, BusErrorFetch, TlbLoad}
 use Rattle.r3k_machine.specs.declared.load_store.Loaded.{Loaded}
 use Rattle.r3k_machine.specs.declared.load_store.Word.{Word}
-use Rattle.r3k_machine.specs.declared.step.Done.{Done}
 use Rattle.r3k_machine.specs.Address.{Meaning, found_for, meaning, meaning_in, meaning_of_found, met, segment_of}
 use Rattle.r3k_machine.specs.Core.{Core}
 use Rattle.r3k_machine.specs.State.{State}
@@ -539,18 +538,14 @@ quick_ran pages s quick o completes =
     ∙ ap (outcome_of_completion s quick.fetched.page) (quick_word pages s quick ∙ completes)
 
 -- what holds of what a quick step reports, if it is one
-pub if_both : {P Q R : Done → Type 0} (o : Option Done) → IfSome o P → IfSome o Q → ((done : Done) → P done → Q done → R done) → IfSome o R
+pub if_both : {A : Type 0} {P Q R : A → Type 0} (o : Option A) → IfSome o P → IfSome o Q → ((a : A) → P a → Q a → R a) → IfSome o R
 if_both None p q f = tt
-if_both (Some done) p q f = f done p q
+if_both (Some a) p q f = f a p q
 
 -- a quiet step of an instruction of the page that is run in is that of its word after the tick
 ticked_fetch : (core : Core) → meaning_of_fetch (ticked core) ≡ meaning_of_fetch core
 unfolding meaning ticked
 ticked_fetch core = refl
-
-ticked_pc : (core : Core) → (ticked core).pc ≡ core.pc
-unfolding ticked
-ticked_pc core = refl
 
 pub page_instruction : (pages : ℕ) (s : State) (page : CodePage) (index : ℕ) → IsCodePage pages s.core page → IsIndexIn page s.core.pc index
     → outcome_of_instruction pages (record { core = ticked s.core; words = s.words })

@@ -25,7 +25,10 @@ use Rattle.r3k_machine.specs.declared.address.TheConstants.{KSEG0, KSEG2}
 use Rattle.r3k_machine.specs.declared.address.Use.TheVariants.{Fetch}
 use Rattle.r3k_machine.specs.declared.load_store.Loaded.{Loaded}
 use Rattle.r3k_machine.specs.declared.load_store.Word.{Word}
+use Rattle.r3k_machine.specs.declared.flow.Flow.{Flow}
 use Rattle.r3k_machine.specs.declared.quick.CodePage.{CodePage}
+use Rattle.r3k_machine.specs.declared.quick.Next.{Next}
+use Rattle.r3k_machine.specs.declared.quick.Next.TheVariants.{Word as NextWord, WordAfterLoad, DelaySlot}
 use Rattle.r3k_machine.specs.Address.{Meaning, meaning}
 use Rattle.r3k_machine.specs.Core.{Core}
 use Rattle.r3k_machine.specs.State.{State}
@@ -144,3 +147,9 @@ pub record LeavesRest (old new : Core) : Type 0 where
   pub entries : new.entries ≡ old.entries
   pub caches : new.caches ≡ old.caches
   pub bus : new.bus ≡ old.bus
+
+-- what a quick step leaves next: the next word, with no load pending, or maybe with one, or the word in a delay slot
+abbrev pub Leaves : Next → Flow → Type 0
+Leaves NextWord flow = (flow.slot ≡ 0) × IsFalse flow.delay
+Leaves WordAfterLoad flow = IsFalse flow.delay
+Leaves DelaySlot flow = IsTrue flow.delay

@@ -135,7 +135,7 @@ impl Flow {
 
     /// Where it is straight at this address, that changes nothing. But then the compiler has only the load slot to keep.
     #[inline(always)]
-    pub fn stand_straight(&mut self, address: u32)
+    pub fn pin_straight(&mut self, address: u32)
         requires straight { IsStraight self.old }
         requires here { self.old.pc ≡ address }
         ensures { self.new ≡ self.old }
@@ -143,6 +143,15 @@ impl Flow {
         self.pc = address;
         self.next_pc = add(address, 4);
         self.delay = false;
+    }
+
+    /// Where no load is pending, that changes nothing. But then the compiler has no load slot to keep.
+    #[inline(always)]
+    pub fn pin_unloaded(&mut self)
+        requires { self.old.slot ≡ 0 }
+        ensures { self.new ≡ self.old }
+    {
+        self.slot = Register::new(0);
     }
 
     /// The load that has not landed yet.

@@ -28,7 +28,7 @@ pub use known::{decoded, stop};
 pub use laws::{locality, quiet_laws, run_laws};
 pub use memory::Mem;
 pub use numbers::address_numbers;
-pub use quick::{CodePage, code_page, learn, quick_step, quiet_step};
+pub use quick::{CodePage, Next, Quick, code_page, learn, quick_step, quiet_step};
 pub use state::{Core, Processor};
 pub use step::Done;
 pub use target::{Destination, Target};

@@ -8,7 +8,7 @@ ghost use Rattle.r3k_word.specs.declared.layout.TheConstants.{PAGE_BYTES, PAGE_W
 ghost use Rattle.kn02_bus.specs.Region.{region_of};
 ghost use Rattle.cop0.specs.Changes.{StaysQuiet};
 ghost use Rattle.cop0.specs.declared.number.TheConstants.{ENTRY_LO, STATUS};
-ghost use Rattle.r3k_machine.specs.Quiet.{IsCodePage, IsIndexIn, IsOverBusFor, IsQuick, IsQuickEffect, IsQuietFor, IsReached, elapsed, steady_over_bus};
+ghost use Rattle.r3k_machine.specs.Quiet.{IsCodePage, IsIndexIn, IsOverBusFor, IsQuick, IsQuickEffect, IsQuietFor, IsReached, Leaves, elapsed, steady_over_bus};
 ghost use Rattle.r3k_machine.specs.Address.{meaning};
 ghost use Rattle.r3k_machine.specs.Flow.{with_flow};
 ghost use Rattle.r3k_machine.specs.Locality.{fetched_page};
@@ -216,6 +216,7 @@ fn load_quick<M: Mem>(
         completion_of_effect M.ram (record { core = with_flow core.old flow.old; words = M.words memory.now }) page (Load kind register address)
         ≡ Ok (record { state = record { core = with_flow core.new flow.new; words = M.words memory.now }; done = done })) }
     ensures within { IfSome result (IsReport M.ram (M.words memory.now) (M.words memory.now)) }
+    ensures next { IfSome result (λ _. Leaves Next.WordAfterLoad flow.new) }
     ensures fetched { IfSome result (λ done. fetched_page done ≡ Some page) }
     ensures core { result ≡ None → core.new ≡ core.old }
     ensures flow { result ≡ None → flow.new ≡ flow.old }
@@ -248,6 +249,7 @@ fn load_by_kind<M: Mem>(
         completion_of_effect M.ram (record { core = with_flow core.old flow.old; words = M.words memory.now }) page (Load kind register address)
         ≡ Ok (record { state = record { core = with_flow core.new flow.new; words = M.words memory.now }; done = done })) }
     ensures within { IfSome result (IsReport M.ram (M.words memory.now) (M.words memory.now)) }
+    ensures next { IfSome result (λ _. Leaves Next.WordAfterLoad flow.new) }
     ensures fetched { IfSome result (λ done. fetched_page done ≡ Some page) }
     ensures core { result ≡ None → core.new ≡ core.old }
     ensures flow { result ≡ None → flow.new ≡ flow.old }
@@ -307,6 +309,7 @@ fn store_quick<M: Mem>(
         completion_of_effect M.ram (record { core = with_flow core.old flow.old; words = M.words memory.old }) page (Store kind address value)
         ≡ Ok (record { state = record { core = with_flow core.new flow.new; words = M.words memory.new }; done = done })) }
     ensures within { IfSome result (IsReport M.ram (M.words memory.old) (M.words memory.new)) }
+    ensures next { IfSome result (λ _. Leaves Next.Word flow.new) }
     ensures fetched { IfSome result (λ done. fetched_page done ≡ Some page) }
     ensures core { result ≡ None → core.new ≡ core.old }
     ensures flow { result ≡ None → flow.new ≡ flow.old }
@@ -342,6 +345,7 @@ fn store_by_kind<M: Mem>(
         completion_of_effect M.ram (record { core = with_flow core.old flow.old; words = M.words memory.old }) page (Store kind address value)
         ≡ Ok (record { state = record { core = with_flow core.new flow.new; words = M.words memory.new }; done = done })) }
     ensures within { IfSome result (IsReport M.ram (M.words memory.old) (M.words memory.new)) }
+    ensures next { IfSome result (λ _. Leaves Next.Word flow.new) }
     ensures fetched { IfSome result (λ done. fetched_page done ≡ Some page) }
     ensures core { result ≡ None → core.new ≡ core.old }
     ensures flow { result ≡ None → flow.new ≡ flow.old }
@@ -373,6 +377,24 @@ fn store_by_kind<M: Mem>(
     }
 }
 
+/// What a quick step leaves next. It is said on each way apart, so that the compiler knows it there.
+#[derive(Clone, Copy, Debug, PartialEq, Eq)]
+pub enum Next {
+    /// The next word, with no load pending.
+    Word,
+    /// The next word, maybe with a load pending.
+    WordAfterLoad,
+    /// The word in a delay slot.
+    DelaySlot,
+}
+
+/// A quick step that was made: what it reports, and what it leaves next.
+#[derive(Clone, Copy, Debug)]
+pub struct Quick {
+    pub done: Done,
+    pub next: Next,
+}
+
 // Performs the effect of the instruction at the PC, which was fetched from a page, if it is quick, and that is known without a
 // search. Else it changes nothing.
 #[inline(always)]
@@ -383,20 +405,22 @@ fn perform_quick<M: Mem>(
     page: u32,
     over_bus: u32,
     effect: Effect,
-) -> Option<Done>
+) -> Option<Quick>
     requires page { IsPage M.ram page }
     requires over_bus { IsOverBusFor over_bus core.old }
-    ensures quick { IfSome result (λ done. IsQuickEffect M.ram (record { core = with_flow core.old flow.old; words = M.words memory.old }) effect) }
-    ensures ran { IfSome result (λ done.
+    ensures quick { IfSome result (λ quick. IsQuickEffect M.ram (record { core = with_flow core.old flow.old; words = M.words memory.old }) effect) }
+    ensures ran { IfSome result (λ quick.
         completion_of_effect M.ram (record { core = with_flow core.old flow.old; words = M.words memory.old }) page effect
-        ≡ Ok (record { state = record { core = with_flow core.new flow.new; words = M.words memory.new }; done = done })) }
-    ensures within { IfSome result (IsReport M.ram (M.words memory.old) (M.words memory.new)) }
-    ensures fetched { IfSome result (λ done. fetched_page done ≡ Some page) }
+        ≡ Ok (record { state = record { core = with_flow core.new flow.new; words = M.words memory.new }; done = quick.done })) }
+    ensures within { IfSome result (λ quick. IsReport M.ram (M.words memory.old) (M.words memory.new) quick.done) }
+    ensures fetched { IfSome result (λ quick. fetched_page quick.done ≡ Some page) }
+    ensures next { IfSome result (λ quick. Leaves quick.next flow.new) }
     ensures core { result ≡ None → core.new ≡ core.old }
     ensures flow { result ≡ None → flow.new ≡ flow.old }
     ensures words { result ≡ None → M.words memory.new ≡ M.words memory.old }
     ensures opened { (other : ℕ) → M.is_open memory.new other ≡ M.is_open memory.old other }
 {
+    let mut next = Next::Word;
     match effect {
         Effect::Write { register, value } => {
             core.complete_in(flow);
@@ -418,6 +442,7 @@ fn perform_quick<M: Mem>(
         Effect::Jump { target } => {
             core.complete_in(flow);
             flow.branch(target);
+            next = Next::DelaySlot;
         }
         Effect::JumpAndLink {
             target,
@@ -427,17 +452,30 @@ fn perform_quick<M: Mem>(
             core.complete_in(flow);
             flow.branch(target);
             core.set_register(register, value);
+            next = Next::DelaySlot;
         }
         Effect::Load {
             kind,
             register,
             address,
-        } => return load_by_kind(core, flow, memory, page, over_bus, kind, register, address),
+        } => {
+            let done = load_by_kind(core, flow, memory, page, over_bus, kind, register, address)?;
+            return Some(Quick {
+                done,
+                next: Next::WordAfterLoad,
+            });
+        }
         Effect::Store {
             kind,
             address,
             value,
-        } => return store_by_kind(core, flow, memory, page, over_bus, kind, address, value),
+        } => {
+            let done = store_by_kind(core, flow, memory, page, over_bus, kind, address, value)?;
+            return Some(Quick {
+                done,
+                next: Next::Word,
+            });
+        }
         Effect::MoveFromControl { register, control } => {
             if over_bus == 0 || control.number() == RANDOM {
                 return None;
@@ -445,6 +483,7 @@ fn perform_quick<M: Mem>(
             let value = core.cop0().read(control.number());
             core.complete_in(flow);
             flow.set_slot(register, value);
+            next = Next::WordAfterLoad;
         }
         Effect::MoveToControl { control, value } => {
             if over_bus == 0 || !core.is_quick_control(control, value) {
@@ -455,7 +494,8 @@ fn perform_quick<M: Mem>(
         }
         _ => return None,
     }
-    Some(Done::completing(page, Destination::of_effect(effect)))
+    let done = Done::completing(page, Destination::of_effect(effect));
+    Some(Quick { done, next })
 }
 
 /// Runs the instruction at the PC, which is a word of this open page, if it is known and quick. Else it changes nothing. The core
@@ -467,16 +507,17 @@ pub fn quick_step<M: Mem>(
     memory: &mut M,
     page: CodePage,
     index: usize,
-) -> Option<Done>
+) -> Option<Quick>
     requires code { IsCodePage M.ram (with_flow core.old flow.old) page }
     requires page { IsPage M.ram page.page }
     requires opened { IsTrue (M.is_open memory.old page.page) }
     requires here { IsIndexIn page flow.old.pc index }
-    ensures quick { IfSome result (λ done. IsQuick M.ram (record { core = with_flow core.old flow.old; words = M.words memory.old })) }
-    ensures ran { IfSome result (λ done. outcome_of_instruction M.ram (record { core = with_flow core.old flow.old; words = M.words memory.old })
-        ≡ record { state = record { core = with_flow core.new flow.new; words = M.words memory.new }; done = done }) }
-    ensures within { IfSome result (IsReport M.ram (M.words memory.old) (M.words memory.new)) }
-    ensures fetched { IfSome result (λ done. fetched_page done ≡ Some page.page) }
+    ensures quick { IfSome result (λ quick. IsQuick M.ram (record { core = with_flow core.old flow.old; words = M.words memory.old })) }
+    ensures ran { IfSome result (λ quick. outcome_of_instruction M.ram (record { core = with_flow core.old flow.old; words = M.words memory.old })
+        ≡ record { state = record { core = with_flow core.new flow.new; words = M.words memory.new }; done = quick.done }) }
+    ensures within { IfSome result (λ quick. IsReport M.ram (M.words memory.old) (M.words memory.new) quick.done) }
+    ensures fetched { IfSome result (λ quick. fetched_page quick.done ≡ Some page.page) }
+    ensures next { IfSome result (λ quick. Leaves quick.next flow.new) }
     ensures core { result ≡ None → core.new ≡ core.old }
     ensures flow { result ≡ None → flow.new ≡ flow.old }
     ensures words { result ≡ None → M.words memory.new ≡ M.words memory.old }

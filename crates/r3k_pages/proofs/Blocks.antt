@@ -97,11 +97,3 @@ same_still a b x y block of_a of_b same before place within =
           let back : block * BLOCK_WORDS + at ≡ place = omega (arith, least) in
           ap (slice_index a) (sym back) ∙ sym (of_a at low) ∙ ap (λ (words : List ℕ). slice_index words at) same ∙ of_b at low ∙ ap (slice_index b) back
     ]
-
--- blocks of the same page are the same
-pub same_block : (a b x y : List ℕ) (block : ℕ) → IsBlockOf a block x → IsBlockOf b block y → length x ≡ BLOCK_WORDS → length y ≡ BLOCK_WORDS → a ≡ b → x ≡ y
-same_block a b x y block of_a of_b long_x long_y same =
-    same_number_lists x y (long_x ∙ sym long_y)
-    (λ at within.
-    let low : at < BLOCK_WORDS = subst (λ (n : ℕ). at < n) long_x within in
-    of_a at low ∙ ap (λ (words : List ℕ). slice_index words (block * BLOCK_WORDS + at)) same ∙ sym (of_b at low))

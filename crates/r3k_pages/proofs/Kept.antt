@@ -1,6 +1,6 @@
 -- The words of a snapshot by their places.
-use Rattle.std.proofs.Common.{◌≡◌, ℕ, suc, ◌*◌, ◌/◌, ◌%◌, ◌<◌, List, [], ◌∷◌, map, length, slice_index, slice_index_or, Option, Some, Result, Ok, Err, IfOk, IfSome, MatchResult, IsFalse, sym, ap, subst, ◌∙◌, arith, refl, take, drop, inl, inr}
-use Rattle.std.proofs.lemmas.List.{get_or-map, get_or-take, get_or-drop}
+use Rattle.std.proofs.Common.{◌≡◌, ℕ, suc, ◌/◌, ◌%◌, ◌<◌, List, [], ◌∷◌, map, length, slice_index, slice_index_or, Option, Some, Result, Ok, Err, IfOk, IfSome, MatchResult, IsFalse, sym, ap, subst, ◌∙◌, arith, refl, inl, inr}
+use Rattle.std.proofs.lemmas.List.{get_or-map}
 use Rattle.std.proofs.lemmas.List.FromFn.{get_or-map-range_with_len, length-map-range_with_len}
 use Rattle.std.proofs.lemmas.Grind.{same_number_lists}
 use Rattle.std.proofs.lemmas.Bool.{cases_Bool, eqb-true, true≢false}
@@ -45,14 +45,6 @@ kept_in f items d pages place group within of inside =
     sym (word_is pages (map f items) place within
     ∙ (ap (λ (n : ℕ). word_of (slice_index_or (map f items) n [])) of
     ∙ ap word_of (get_or-map f items group d [] inside)))
-
--- a part of a memory as a page
-pub page_copied : (words : List ℕ) (page place : ℕ) → page_of_place place ≡ page
-    → slice_index (take PAGE_WORDS (drop (page * PAGE_WORDS) words)) (place % PAGE_WORDS) ≡ slice_index words place
-page_copied words page place of =
-    get_or-take PAGE_WORDS (drop (page * PAGE_WORDS) words) (place % PAGE_WORDS) 0 (omega arith)
-    ∙ (get_or-drop (page * PAGE_WORDS) words (place % PAGE_WORDS) 0
-    ∙ ap (slice_index words) (omega (arith, of)))
 
 -- a test of two that fails
 pub neither : (a b : Bool) → IsFalse (a || b) → (a ≡ false) × (b ≡ false)

@@ -1,2 +1,2 @@
 mod Found
-mod Stood
+mod CodePages

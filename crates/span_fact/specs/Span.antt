@@ -9,7 +9,7 @@ use Rattle.r3k_machine.specs.declared.step.Done.{Done}
 use Rattle.r3k_pages.specs.Pages.{SameOutside, holds}
 use Rattle.r3k_live.specs.Marks.{marks_of}
 use Rattle.r3k_live.specs.Record.{AreDestinations, AreWriters, dirty_pages, sent_from, touched_pages}
-use Rattle.r3k_live.specs.Standing.{StandsIn}
+use Rattle.r3k_live.specs.CodePages.{RunsIn}
 use Rattle.r3k_live.specs.declared.recorder.SentAt.{SentAt}
 use Rattle.r3k_live.specs.declared.recorder.Written.{Written}
 
@@ -25,12 +25,12 @@ end_of pages span s = run pages s.events (s.index * span) s.start span
 abbrev pub steps_of : (pages span : ℕ) → Span → List Done
 steps_of pages span s = trace pages s.events (s.index * span) s.start span
 
--- the PC stands in a virtual page where it starts, or after one of its steps
-abbrev pub StoodIn : (pages span : ℕ) → Span → ℕ → Type 0
-StoodIn pages span s page = StandsIn pages s.events (s.index * span) s.start span page
+-- the PC is in a virtual page where the span starts, or after one of its steps
+abbrev pub SpanRunsIn : (pages span : ℕ) → Span → ℕ → Type 0
+SpanRunsIn pages span s page = RunsIn pages s.events (s.index * span) s.start span page
 
 -- what a record of a span reports is so
-pub record Holds (pages span : ℕ) (s : Span) (end : State) (writers : List Written) (destinations : List ℕ) (sent : List SentAt) (dirty marks touched stood : List ℕ) : Type 0 where
+pub record Holds (pages span : ℕ) (s : Span) (end : State) (writers : List Written) (destinations : List ℕ) (sent : List SentAt) (dirty marks touched code_pages : List ℕ) : Type 0 where
   pub in_order : AreInOrder s.events
   pub within : AreWithin (s.index * span) ((s.index + 1) * span) s.events
   pub ends : end ≡ end_of pages span s
@@ -42,4 +42,4 @@ pub record Holds (pages span : ℕ) (s : Span) (end : State) (writers : List Wri
   pub ascending : IsStrictlyIncreasing marks
   pub stayed : SameOutside dirty s.start.words end.words
   pub seen : touched ≡ touched_pages pages (steps_of pages span s)
-  pub stands : (page : ℕ) → IsTrue (holds stood page) ↔ StoodIn pages span s page
+  pub stands : (page : ℕ) → IsTrue (holds code_pages page) ↔ SpanRunsIn pages span s page

@@ -13,7 +13,7 @@ ghost use Rattle.r3k_live.specs.Living.{counted};
 ghost use Rattle.r3k_live.specs.Marks.{marks_of};
 ghost use Rattle.r3k_live.specs.Record.{AreWriters, dirty_pages, sent_from, touched_pages};
 ghost use Rattle.r3k_live.specs.declared.recorder.Written.{Written};
-ghost use Rattle.span_fact.specs.Span.{StoodIn, end_of, steps_of};
+ghost use Rattle.span_fact.specs.Span.{SpanRunsIn, end_of, steps_of};
 
 use input_log::Event;
 use r3k_live::{Boundary, Destinations, Live, Recorder, SentAt, Written};
@@ -36,7 +36,7 @@ pub struct Fact<const PAGES: u32, const SPAN: u32> {
     dirty: Vec<u32>,
     marks: Vec<u32>,
     touched: Vec<u32>,
-    stood: Vec<u32>,
+    code_pages: Vec<u32>,
 }
 
 impl<const PAGES: u32, const SPAN: u32> Model for Fact<PAGES, SPAN> {
@@ -47,7 +47,7 @@ impl<const PAGES: u32, const SPAN: u32> Model for Fact<PAGES, SPAN> {
     ghost view = { λ f. record { index = f.index; start = f.start.value; events = f.events.items } };
 
     ghost invariant = { λ f. Holds PAGES SPAN (record { index = f.index; start = f.start.value; events = f.events.items })
-        f.end.value f.writers.items f.destinations f.sent.items f.dirty.items f.marks.items f.touched.items f.stood.items };
+        f.end.value f.writers.items f.destinations f.sent.items f.dirty.items f.marks.items f.touched.items f.code_pages.items };
 }
 
 impl<const PAGES: u32, const SPAN: u32> Fact<PAGES, SPAN> {
@@ -84,7 +84,7 @@ impl<const PAGES: u32, const SPAN: u32> Fact<PAGES, SPAN> {
             dirty: recorder.dirty(alloc)?,
             marks: recorder.marks(alloc)?,
             touched: recorder.touched(alloc)?,
-            stood: Vec::from_slice(alloc, recorder.stood())?,
+            code_pages: Vec::from_slice(alloc, recorder.code_pages())?,
         })
     }
 
@@ -163,11 +163,11 @@ impl<const PAGES: u32, const SPAN: u32> Fact<PAGES, SPAN> {
         &self.touched
     }
 
-    /// Whether the PC stands in a virtual page, given by its number, where it starts or after one of its steps.
-    pub fn stands_in(&self, page: u32) -> bool
-        ensures { IsTrue result ↔ StoodIn PAGES SPAN self.now page }
+    /// Whether the PC is in a virtual page, given by its number, where the span starts or after one of its steps.
+    pub fn runs_in(&self, page: u32) -> bool
+        ensures { IsTrue result ↔ SpanRunsIn PAGES SPAN self.now page }
     {
-        self.stood.contains(&page)
+        self.code_pages.contains(&page)
     }
 }
 

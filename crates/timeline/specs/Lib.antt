@@ -9,5 +9,5 @@ pub use Rattle.present_run.specs.Sizes
 pub use Rattle.present_run.specs.Console
 pub use Rattle.present_run.specs.History
 pub use Rattle.present_run.specs.Reuse
-pub use Rattle.present_run.specs.Landed
+pub use Rattle.present_run.specs.TimelineView
 pub mod Query

@@ -6,7 +6,7 @@ ghost use Rattle.input_log.specs.Edits.{ChangesBy, adding, deleting, edited, era
 ghost use Rattle.r3k_image.specs.Boot.{FitsRam};
 ghost use Rattle.r3k_image.specs.Patch.{patching};
 ghost use Rattle.refusal.specs.Given.{Changes, ChangesOrLacks};
-ghost use Rattle.present_run.specs.Landed.{with_image, with_log};
+ghost use Rattle.present_run.specs.TimelineView.{with_image, with_log};
 
 use crate::timeline::Timeline;
 use input_log::{Edit, Kind};

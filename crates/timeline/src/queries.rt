@@ -11,7 +11,7 @@ ghost use Rattle.std.specs.Prelude.{◌≡◌, ◌≤◌, IfOk, MatchResult, Ok}
 ghost use Rattle.refusal.specs.Given.{Gives, GivesFault};
 ghost use Rattle.input_log.specs.Limits.{max_position};
 ghost use Rattle.timeline.specs.Query.{console_at, core_at, followed, next_pc, register_writer_at, sent_at, word_at, writer_at, writer_of};
-ghost use Rattle.present_run.specs.Landed.{Asks, Lands};
+ghost use Rattle.present_run.specs.TimelineView.{Asks, KeepsState};
 
 use crate::timeline::Timeline;
 use crate::writer::Writer;
@@ -34,7 +34,7 @@ impl<const PAGES: u32, const SPAN: u32> Timeline<PAGES, SPAN> {
         ensures core { MatchResult result (λ core. core_at PAGES self.old.history position ≡ Ok core.value)
             (GivesFault (core_at PAGES self.old.history position)) }
         ensures asks { Asks PAGES SPAN position 0 self.old self.new result }
-        ensures lands { Lands SPAN position self.old self.new result }
+        ensures keeps_state { KeepsState SPAN position self.old self.new result }
         ensures same { self.new.history ≡ self.old.history }
     {
         if position > MAX_POSITION {
@@ -47,7 +47,7 @@ impl<const PAGES: u32, const SPAN: u32> Timeline<PAGES, SPAN> {
     pub fn word_at(&mut self, position: u64, address: u32) -> Result<u32, Fault>
         ensures word { Gives (word_at PAGES self.old.history position address) result }
         ensures asks { Asks PAGES SPAN position 0 self.old self.new result }
-        ensures lands { Lands SPAN position self.old self.new result }
+        ensures keeps_state { KeepsState SPAN position self.old self.new result }
         ensures same { self.new.history ≡ self.old.history }
     {
         if address % 4 != 0 {
@@ -75,7 +75,7 @@ impl<const PAGES: u32, const SPAN: u32> Timeline<PAGES, SPAN> {
             (λ shown. console_at PAGES self.old.history position line from count ≡ Ok (shown.0, shown.1.items))
             (GivesFault (console_at PAGES self.old.history position line from count)) }
         ensures asks { Asks PAGES SPAN position 0 self.old self.new result }
-        ensures landings { self.new.landings ≡ self.old.landings }
+        ensures recent_states { self.new.recent_states ≡ self.old.recent_states }
         ensures same { self.new.history ≡ self.old.history }
     {
         if line > 3 || count == 0 || count > 256 {
@@ -94,7 +94,7 @@ impl<const PAGES: u32, const SPAN: u32> Timeline<PAGES, SPAN> {
     pub fn writer_at(&mut self, position: u64, address: u32) -> Result<Writer, Fault>
         ensures writer { Gives (writer_at PAGES self.old.history position address) result }
         ensures asks { Asks PAGES SPAN position 0 self.old self.new result }
-        ensures landings { self.new.landings ≡ self.old.landings }
+        ensures recent_states { self.new.recent_states ≡ self.old.recent_states }
         ensures same { self.new.history ≡ self.old.history }
     {
         if address % 4 != 0 {
@@ -116,7 +116,7 @@ impl<const PAGES: u32, const SPAN: u32> Timeline<PAGES, SPAN> {
     pub fn register_writer_at(&mut self, position: u64, register: u8) -> Result<u64, Fault>
         ensures step { Gives (register_writer_at PAGES self.old.history position register) result }
         ensures asks { Asks PAGES SPAN position 0 self.old self.new result }
-        ensures landings { self.new.landings ≡ self.old.landings }
+        ensures recent_states { self.new.recent_states ≡ self.old.recent_states }
         ensures same { self.new.history ≡ self.old.history }
     {
         if register > 33 {
@@ -136,7 +136,7 @@ impl<const PAGES: u32, const SPAN: u32> Timeline<PAGES, SPAN> {
     pub fn sent_at(&mut self, position: u64, line: u8, place: u64) -> Result<u64, Fault>
         ensures step { Gives (sent_at PAGES self.old.history position line place) result }
         ensures asks { Asks PAGES SPAN position 0 self.old self.new result }
-        ensures landings { self.new.landings ≡ self.old.landings }
+        ensures recent_states { self.new.recent_states ≡ self.old.recent_states }
         ensures same { self.new.history ≡ self.old.history }
     {
         if line > 3 {
@@ -155,7 +155,7 @@ impl<const PAGES: u32, const SPAN: u32> Timeline<PAGES, SPAN> {
         ensures found { Gives (next_pc PAGES self.old.history position address limit) result }
         ensures bound { IfOk result (λ found. found ≤ max_position) }
         ensures asks { Asks PAGES SPAN position limit self.old self.new result }
-        ensures landings { self.new.landings ≡ self.old.landings }
+        ensures recent_states { self.new.recent_states ≡ self.old.recent_states }
         ensures same { self.new.history ≡ self.old.history }
     {
         if limit == 0 || limit > MAX_VISIT {
@@ -178,7 +178,7 @@ impl<const PAGES: u32, const SPAN: u32> Timeline<PAGES, SPAN> {
             (λ steps. followed PAGES self.old.history position count ≡ Ok steps.items)
             (GivesFault (followed PAGES self.old.history position count)) }
         ensures asks { Asks PAGES SPAN position count self.old self.new result }
-        ensures landings { self.new.landings ≡ self.old.landings }
+        ensures recent_states { self.new.recent_states ≡ self.old.recent_states }
         ensures same { self.new.history ≡ self.old.history }
     {
         if count == 0 || count > MAX_FOLLOWED {

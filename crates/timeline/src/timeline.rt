@@ -7,7 +7,7 @@ ghost use Rattle.r3k_image.specs.declared.fault.ImageFault.TheVariants.{Bad, Mem
 ghost use Rattle.r3k_image.specs.declared.fault.ImageKind.TheVariants.{Pages};
 ghost use Rattle.present_run.specs.Reuse.{ServesFirst};
 ghost use Rattle.present_run.specs.Sizes.{AreSizes};
-ghost use Rattle.present_run.specs.Landed.{holding};
+ghost use Rattle.present_run.specs.TimelineView.{holding};
 
 use input_log::Log;
 use present_run::Present;
@@ -26,14 +26,14 @@ pub struct Timeline<const PAGES: u32, const SPAN: u32> {
 impl<const PAGES: u32, const SPAN: u32> Model for Timeline<PAGES, SPAN> {
     ghost use Rattle.std.specs.Coded.{codes};
     ghost use Rattle.present_run.specs.History.{history_code};
-    ghost use Rattle.present_run.specs.Landed.{Landed};
-    ghost use Rattle.present_run.specs.Shown.{landed_of};
+    ghost use Rattle.present_run.specs.TimelineView.{TimelineView};
+    ghost use Rattle.present_run.specs.Shown.{view_of};
 
-    ghost Value = { Landed };
+    ghost Value = { TimelineView };
 
     ghost coded = { Prim.hlevel (history_code, codes) };
 
-    ghost view = { λ t. landed_of t.present };
+    ghost view = { λ t. view_of t.present };
 }
 
 impl<const PAGES: u32, const SPAN: u32> Timeline<PAGES, SPAN> {
@@ -42,7 +42,7 @@ impl<const PAGES: u32, const SPAN: u32> Timeline<PAGES, SPAN> {
     pub fn new(alloc: Global, image: Image, log: Log) -> Result<Timeline<PAGES, SPAN>, ImageFault>
         requires sizes { AreSizes PAGES SPAN }
         ensures { MatchResult result
-            (λ t. FitsRam PAGES image × (t ≡ record { history = record { image = image; log = log }; rows = []; pasts = 1; steps = 0; landings = [] }))
+            (λ t. FitsRam PAGES image × (t ≡ record { history = record { image = image; log = log }; rows = []; pasts = 1; steps = 0; recent_states = [] }))
             (λ fault. ((fault ≡ Memory) × FitsRam PAGES image) ⊎ ((fault ≡ Bad Pages) × ¬ FitsRam PAGES image)) }
     {
         Timeline::with_pasts(alloc, image, log, 1)
@@ -59,7 +59,7 @@ impl<const PAGES: u32, const SPAN: u32> Timeline<PAGES, SPAN> {
         requires sizes { AreSizes PAGES SPAN }
         requires pasts { 0 < pasts }
         ensures { MatchResult result
-            (λ t. FitsRam PAGES image × (t ≡ record { history = record { image = image; log = log }; rows = []; pasts = pasts; steps = 0; landings = [] }))
+            (λ t. FitsRam PAGES image × (t ≡ record { history = record { image = image; log = log }; rows = []; pasts = pasts; steps = 0; recent_states = [] }))
             (λ fault. ((fault ≡ Memory) × FitsRam PAGES image) ⊎ ((fault ≡ Bad Pages) × ¬ FitsRam PAGES image)) }
     {
         if !image.fits(PAGES) {
@@ -86,15 +86,15 @@ impl<const PAGES: u32, const SPAN: u32> Timeline<PAGES, SPAN> {
     /// How many states inside spans are kept: at most 8, each of another position. No span starts at one. Of each span before one the
     /// record that was used last serves. That they are states of the run follows from what `core_at` and `word_at` answer there
     /// without a step.
-    pub fn landings(&self) -> usize
-        ensures len { result ≡ length self.now.landings }
-        ensures few { length self.now.landings ≤ 8 }
-        ensures distinct { IsDistinct nat_eq self.now.landings }
-        ensures inside { (position : ℕ) → Contains self.now.landings position → ¬ (position % SPAN ≡ 0) }
-        ensures served { (position : ℕ) → Contains self.now.landings position →
+    pub fn recent_states(&self) -> usize
+        ensures len { result ≡ length self.now.recent_states }
+        ensures few { length self.now.recent_states ≤ 8 }
+        ensures distinct { IsDistinct nat_eq self.now.recent_states }
+        ensures inside { (position : ℕ) → Contains self.now.recent_states position → ¬ (position % SPAN ≡ 0) }
+        ensures served { (position : ℕ) → Contains self.now.recent_states position →
             (index : ℕ) → index < position / SPAN → ServesFirst PAGES SPAN (holding self.now) index }
     {
-        self.present.landings()
+        self.present.recent_states()
     }
 
     /// How many steps were run so far, for all queries together, up to the greatest number.

@@ -1,77 +1,67 @@
 -- What queries cost, as replies report it, and what several at one position cost together.
-use Rattle.std.proofs.Common.{◌≡◌, ◌⊎◌, inl, inr, ℕ, zero, suc, ◌+◌, ◌-◌, ◌*◌, ◌/◌, ◌%◌, ◌<◌, ◌≤◌, ◌==◌, ◌∷◌, nat_eq, cond, slice_get, take, List, Option, Some, None, Bool, true, false, if◌then◌else◌, Contains, Result, Ok, Err, refl, sym, ap, ◌∙◌, subst, arith}
+use Rattle.std.proofs.Common.{◌≡◌, ◌⊎◌, inl, inr, ℕ, zero, suc, ◌+◌, ◌-◌, ◌*◌, ◌/◌, ◌%◌, ◌<◌, ◌≤◌, ◌∷◌, nat_eq, cond, slice_get, take, List, Bool, Contains, Result, Ok, Err, refl, sym, ap, ◌∙◌, subst, arith}
 use Rattle.std.proofs.Math.Nat.{add-mul, div-mul-le_self, mul-le-mul_right}
 use Rattle.std.proofs.lemmas.Nat.{le-div}
-use Rattle.std.specs.Option.{ok_or}
-use Rattle.std.specs.Result.{is_ok}
-use Rattle.std.proofs.lemmas.Bool.{eq-eqb, true≢false}
+use Rattle.std.proofs.lemmas.Bool.{eq-eqb}
 use Rattle.std.specs.Set.{remove_key}
 use Rattle.timeline.specs.Reuse.{Holding, IsServing, Lacks, Reaches, ServesFirst, Spends, Turns, kept_at, put_one, stay, use_one}
 use Rattle.timeline.specs.History.{History}
 use Rattle.timeline.proofs.Counts.{first_used, serving_turned, turned_on}
 use Rattle.refusal.specs.declared.fault.Fault.{Fault}
-use Rattle.refusal.specs.declared.fault.Fault.TheVariants.{Memory, Unaligned, NotMemory}
-use Rattle.timeline.specs.Landed.{Asks, AsksFault, Landed, Lands, holding}
+use Rattle.refusal.specs.declared.fault.Fault.TheVariants.{Memory}
+use Rattle.timeline.specs.TimelineView.{Asks, AsksFault, TimelineView, KeepsState, holding}
 use Rattle.wb_text.specs.declared.reply.Reply.{Reply}
 use Rattle.wb_text.specs.declared.reply.Reply.TheVariants.{Fault as Refused}
-use Rattle.wb_session.specs.Cost.{AsksState, AsksSteps, AsksWords, LandsOnce, outcome_of}
-use Rattle.wb_session.specs.Memory.{places_from, places_of}
+use Rattle.wb_session.specs.Cost.{AsksState, AsksSteps, AsksWords, KeepsStateOnce, outcome_of}
 use Rattle.wb_session.specs.Session.{Held}
 
 -- a query of the state that is answered, and one that is refused
 pub state_shown : {A : Type 0} (pages span : ℕ) (old new : Held) (x : A) (reply : Reply) → outcome_of reply ≡ Ok tt
     → Asks {A = A} pages span old.position 0 old.timeline new.timeline (Ok x)
-    → Lands {A = A} {E = Fault} span old.position old.timeline new.timeline (Ok x)
+    → KeepsState {A = A} {E = Fault} span old.position old.timeline new.timeline (Ok x)
     → AsksState pages span old new reply
-state_shown pages span old new x reply e asks lands = record {
+state_shown pages span old new x reply e asks keeps_state = record {
   asks = subst (λ (r : Result (Unit {0}) Fault). Asks {A = Unit {0}} pages span old.position 0 old.timeline new.timeline r) (sym e) asks;
-  lands = subst (λ (r : Result (Unit {0}) Fault). Lands {A = Unit {0}} {E = Fault} span old.position old.timeline new.timeline r) (sym e)
-      (record { free = lands.free; again = lands.again; first = lands.first; start = lands.start; refused = tt });
+  keeps_state = subst (λ (r : Result (Unit {0}) Fault). KeepsState {A = Unit {0}} {E = Fault} span old.position old.timeline new.timeline r) (sym e)
+      (record { free = keeps_state.free; again = keeps_state.again; first = keeps_state.first; start = keeps_state.start; refused = tt });
 }
 
 pub state_refused : {A : Type 0} (pages span : ℕ) (old new : Held) (fault : Fault)
     → Asks {A = A} pages span old.position 0 old.timeline new.timeline (Err fault)
-    → Lands {A = A} {E = Fault} span old.position old.timeline new.timeline (Err fault)
+    → KeepsState {A = A} {E = Fault} span old.position old.timeline new.timeline (Err fault)
     → AsksState pages span old new (Refused fault)
-state_refused pages span old new fault asks lands = record {
+state_refused pages span old new fault asks keeps_state = record {
   asks = asks;
-  lands = record { free = lands.free; again = λ _. tt; first = λ _. tt; start = lands.start; refused = lands.refused };
+  keeps_state = record { free = keeps_state.free; again = λ _. tt; first = λ _. tt; start = keeps_state.start; refused = keeps_state.refused };
 }
 
 -- a query of steps that is answered, and one that is refused
 pub steps_shown : {A : Type 0} (pages span beyond : ℕ) (old new : Held) (x : A) (reply : Reply) → outcome_of reply ≡ Ok tt
     → Asks {A = A} pages span old.position beyond old.timeline new.timeline (Ok x)
-    → new.timeline.landings ≡ old.timeline.landings
+    → new.timeline.recent_states ≡ old.timeline.recent_states
     → AsksSteps pages span beyond old new reply
-steps_shown pages span beyond old new x reply e asks landings = record {
+steps_shown pages span beyond old new x reply e asks recent_states = record {
   asks = subst (λ (r : Result (Unit {0}) Fault). Asks {A = Unit {0}} pages span old.position beyond old.timeline new.timeline r) (sym e) asks;
-  landings = landings;
+  recent_states = recent_states;
 }
 
 pub steps_refused : (pages span beyond : ℕ) (old new : Held) (fault : Fault)
     → AsksFault pages span old.position beyond old.timeline new.timeline fault
-    → new.timeline.landings ≡ old.timeline.landings
+    → new.timeline.recent_states ≡ old.timeline.recent_states
     → AsksSteps pages span beyond old new (Refused fault)
-steps_refused pages span beyond old new fault asks landings = record { asks = asks; landings = landings }
+steps_refused pages span beyond old new fault asks recent_states = record { asks = asks; recent_states = recent_states }
 
 -- words that are shown, and that are refused
 pub words_shown : {A : Type 0} (pages span count : ℕ) (old new : Held) (x : A) (reply : Reply) → outcome_of reply ≡ Ok tt
     → Asks {A = A} pages span old.position ((count - 1) * (old.position % span)) old.timeline new.timeline (Ok x)
-    → (Contains old.timeline.landings old.position → new.timeline.steps ≡ old.timeline.steps)
-    → LandsOnce {A = A} span old.position old.timeline new.timeline (Ok x)
+    → (Contains old.timeline.recent_states old.position → new.timeline.steps ≡ old.timeline.steps)
+    → KeepsStateOnce {A = A} span old.position old.timeline new.timeline (Ok x)
     → AsksWords pages span count old new reply
-words_shown pages span count old new x reply e asks free lands = record {
+words_shown pages span count old new x reply e asks free keeps_state = record {
   asks = subst (λ (r : Result (Unit {0}) Fault). Asks {A = Unit {0}} pages span old.position ((count - 1) * (old.position % span)) old.timeline new.timeline r) (sym e) asks;
   free = free;
-  lands = subst (λ (r : Result (Unit {0}) Fault). LandsOnce {A = Unit {0}} span old.position old.timeline new.timeline r) (sym e) lands;
+  keeps_state = subst (λ (r : Result (Unit {0}) Fault). KeepsStateOnce {A = Unit {0}} span old.position old.timeline new.timeline r) (sym e) keeps_state;
 }
-
-pub words_refused : (pages span count : ℕ) (old new : Held) (fault : Fault)
-    → AsksFault pages span old.position ((count - 1) * (old.position % span)) old.timeline new.timeline fault
-    → (Contains old.timeline.landings old.position → new.timeline.steps ≡ old.timeline.steps)
-    → LandsOnce {A = Unit {0}} span old.position old.timeline new.timeline (Err fault)
-    → AsksWords pages span count old new (Refused fault)
-words_refused pages span count old new fault asks free lands = record { asks = asks; free = free; lands = lands }
 
 -- Several queries of words at one position.
 -- where the first record of each span serves, none is lacking
@@ -139,12 +129,12 @@ one_more : (n rest : ℕ) → (n + 1) * rest ≡ n * rest + rest
 one_more n rest = add-mul n 1 rest ∙ ap (λ (m : ℕ). n * rest + m) (let e : 1 * rest ≡ rest = omega arith in e)
 
 -- So many queries were made at positions up to one, the first of them at that position. Each after it costs at most `rest` steps.
-pub record AskedUpTo (pages span position rest asked : ℕ) (old now : Landed) : Type 0 where
+pub record AskedUpTo (pages span position rest asked : ℕ) (old now : TimelineView) : Type 0 where
   pub first : asked ≡ 0 → now ≡ old
   pub spends : Spends pages span (position / span) (position % span + (asked - 1) * rest) (holding old) (holding now)
   pub reaches : 0 < asked → Reaches pages span (position / span) (holding old) (holding now)
 
-pub up_to_none : (pages span position rest : ℕ) (h : Landed) → AskedUpTo pages span position rest 0 h h
+pub up_to_none : (pages span position rest : ℕ) (h : TimelineView) → AskedUpTo pages span position rest 0 h h
 up_to_none pages span position rest h = record {
   first = λ _. refl;
   spends = spends_more pages span (position / span) 0 (position % span + (0 - 1) * rest) (holding h) (holding h) (omega arith) (nothing_spent pages span (position / span) (holding h));
@@ -155,13 +145,13 @@ spans_below : (q position span : ℕ) → 0 < span → q ≤ position → q / sp
 spans_below q position span some below = le-div (q / span) position span some (let least = div-mul-le_self q span in omega (arith, least, below))
 
 -- what one more costs, whether it is answered or not
-spends_one : (pages span position q rest asked : ℕ) (old now new : Landed) → 0 < span → (asked ≡ 0 → q ≡ position) → q ≤ position → q % span ≤ rest
+spends_one : (pages span position q rest asked : ℕ) (old now new : TimelineView) → 0 < span → (asked ≡ 0 → q ≡ position) → q ≤ position → q % span ≤ rest
     → AskedUpTo pages span position rest asked old now
     → Spends pages span (q / span) (q % span + 0) (holding now) (holding new)
     → Spends pages span (position / span) (position % span + asked * rest) (holding old) (holding new)
 spends_one pages span position q rest zero old now new some at below small so one =
     spends_more pages span (position / span) (position % span + 0) (position % span + 0 * rest) (holding old) (holding new) (omega arith)
-    (subst (λ (h : Landed). Spends pages span (position / span) (position % span + 0) (holding h) (holding new)) (so.first refl)
+    (subst (λ (h : TimelineView). Spends pages span (position / span) (position % span + 0) (holding h) (holding new)) (so.first refl)
     (subst (λ (p : ℕ). Spends pages span (p / span) (p % span + 0) (holding now) (holding new)) (at refl) one))
 spends_one pages span position q rest (suc n) old now new some at below small so one =
     let less : (suc n - 1) * rest ≡ n * rest = ap (λ (k : ℕ). k * rest) (let e : suc n - 1 ≡ n = omega arith in e) in
@@ -171,17 +161,17 @@ spends_one pages span position q rest (suc n) old now new some at below small so
     (spends_again pages span (q / span) (position / span) (position % span + (suc n - 1) * rest) (q % span + 0) (holding old) (holding now) (holding new)
     (spans_below q position span some below) so.spends (so.reaches (omega arith)) one)
 
-reaches_one : (pages span position q rest asked : ℕ) (old now new : Landed) → (asked ≡ 0 → q ≡ position) → AskedUpTo pages span position rest asked old now
+reaches_one : (pages span position q rest asked : ℕ) (old now new : TimelineView) → (asked ≡ 0 → q ≡ position) → AskedUpTo pages span position rest asked old now
     → Spends pages span (q / span) (q % span + 0) (holding now) (holding new)
     → Reaches pages span (q / span) (holding now) (holding new)
     → Reaches pages span (position / span) (holding old) (holding new)
 reaches_one pages span position q rest zero old now new at so one there =
-    subst (λ (h : Landed). Reaches pages span (position / span) (holding h) (holding new)) (so.first refl)
+    subst (λ (h : TimelineView). Reaches pages span (position / span) (holding h) (holding new)) (so.first refl)
     (subst (λ (p : ℕ). Reaches pages span (p / span) (holding now) (holding new)) (at refl) there)
 reaches_one pages span position q rest (suc n) old now new at so one there =
     reaches_again pages span (q / span) (position / span) (q % span + 0) (holding old) (holding now) (holding new) (so.reaches (omega arith)) one
 
-pub up_to_one : (pages span position q rest asked : ℕ) (old now new : Landed) → 0 < span → (asked ≡ 0 → q ≡ position) → q ≤ position → q % span ≤ rest
+pub up_to_one : (pages span position q rest asked : ℕ) (old now new : TimelineView) → 0 < span → (asked ≡ 0 → q ≡ position) → q ≤ position → q % span ≤ rest
     → AskedUpTo pages span position rest asked old now
     → Spends pages span (q / span) (q % span + 0) (holding now) (holding new) → Reaches pages span (q / span) (holding now) (holding new)
     → AskedUpTo pages span position rest (asked + 1) old new
@@ -193,7 +183,7 @@ up_to_one pages span position q rest asked old now new some at below small so on
 }
 
 -- all of them were answered
-pub up_to_all : {A : Type 0} (pages span position rest asked count : ℕ) (old new : Landed) (x : A) → 0 < asked → asked ≤ count
+pub up_to_all : {A : Type 0} (pages span position rest asked count : ℕ) (old new : TimelineView) (x : A) → 0 < asked → asked ≤ count
     → AskedUpTo pages span position rest asked old new → Asks {A = A} pages span position ((count - 1) * rest) old new (Ok x)
 up_to_all pages span position rest asked count old new x some within so =
     let less : (asked - 1) * rest ≤ (count - 1) * rest = mul-le-mul_right rest (let l : asked - 1 ≤ count - 1 = omega (arith, within) in l) in (
@@ -202,7 +192,7 @@ up_to_all pages span position rest asked count old new x some within so =
     )
 
 -- the last of them was refused for memory
-pub up_to_part : (pages span position q rest asked count : ℕ) (old now new : Landed) → 0 < span → (asked ≡ 0 → q ≡ position) → q ≤ position → q % span ≤ rest
+pub up_to_part : (pages span position q rest asked count : ℕ) (old now new : TimelineView) → 0 < span → (asked ≡ 0 → q ≡ position) → q ≤ position → q % span ≤ rest
     → asked < count → AskedUpTo pages span position rest asked old now
     → AsksFault pages span q 0 now new Memory → AsksFault pages span position ((count - 1) * rest) old new Memory
 up_to_part pages span position q rest asked count old now new some at below small within so asks =
@@ -211,30 +201,30 @@ up_to_part pages span position q rest asked count old now new some at below smal
     (spends_one pages span position q rest asked old now new some at below small so asks)
 
 -- what is left of the kept states where a query of the state was answered
-abbrev pub Left : (span position : ℕ) → (old new : Landed) → Type 0
-Left span position old new = Lands {A = Unit {0}} {E = Fault} span position old new (Ok tt)
+abbrev pub Left : (span position : ℕ) → (old new : TimelineView) → Type 0
+Left span position old new = KeepsState {A = Unit {0}} {E = Fault} span position old new (Ok tt)
 
-left_by : {A : Type 0} (span position : ℕ) (old new : Landed) (x : A) → Lands {A = A} {E = Fault} span position old new (Ok x) → Left span position old new
-left_by span position old new x lands = record { free = lands.free; again = lands.again; first = lands.first; start = lands.start; refused = tt }
+left_by : {A : Type 0} (span position : ℕ) (old new : TimelineView) (x : A) → KeepsState {A = A} {E = Fault} span position old new (Ok x) → Left span position old new
+left_by span position old new x keeps_state = record { free = keeps_state.free; again = keeps_state.again; first = keeps_state.first; start = keeps_state.start; refused = tt }
 
 first_removed : (p : ℕ) (ps : List ℕ) → remove_key (nat_eq p) (p ∷ ps) ≡ ps
 first_removed p ps = ap (λ (same : Bool). cond same ps (p ∷ remove_key (nat_eq p) ps)) (eq-eqb p p refl)
 
 -- a second query leaves them as the first one did
-left_again : (span position : ℕ) (old now new : Landed) → Left span position old now → Left span position now new → Left span position old new
+left_again : (span position : ℕ) (old now new : TimelineView) → Left span position old now → Left span position now new → Left span position old new
 left_again span position old now new before after =
-    let comes_first : Contains old.landings position → Contains now.landings position =
+    let comes_first : Contains old.recent_states position → Contains now.recent_states position =
     λ there. subst (λ (l : List ℕ). Contains l position) (sym (before.again there)) (0, omega arith, refl) in record {
       free = λ there. after.free (comes_first there) ∙ before.free there;
       again = λ there.
           after.again (comes_first there)
-          ∙ ap (λ (l : List ℕ). position ∷ l) (ap (remove_key (nat_eq position)) (before.again there) ∙ first_removed position (remove_key (nat_eq position) old.landings));
+          ∙ ap (λ (l : List ℕ). position ∷ l) (ap (remove_key (nat_eq position)) (before.again there) ∙ first_removed position (remove_key (nat_eq position) old.recent_states));
       first = λ none.
           elim (before.first none) [
             | inl took ↦
-                let there : Contains now.landings position = subst (λ (l : List ℕ). Contains l position) (sym took) (0, omega arith, refl) in
+                let there : Contains now.recent_states position = subst (λ (l : List ℕ). Contains l position) (sym took) (0, omega arith, refl) in
                 inl (after.again there
-                ∙ ap (λ (l : List ℕ). position ∷ l) (ap (remove_key (nat_eq position)) took ∙ first_removed position (take 7 old.landings)))
+                ∙ ap (λ (l : List ℕ). position ∷ l) (ap (remove_key (nat_eq position)) took ∙ first_removed position (take 7 old.recent_states)))
             | inr same ↦
                 elim (after.first (λ there. none (subst (λ (l : List ℕ). Contains l position) same there))) [
                   | inl took ↦ inl (took ∙ ap (λ (l : List ℕ). take 8 (position ∷ l)) same)
@@ -246,16 +236,16 @@ left_again span position old now new before after =
     }
 
 -- one more query, after none or after some
-left_one : (span position words : ℕ) (old now new : Landed) → (words ≡ 0 → now ≡ old) → (0 < words → Left span position old now) → Left span position now new
+left_one : (span position words : ℕ) (old now new : TimelineView) → (words ≡ 0 → now ≡ old) → (0 < words → Left span position old now) → Left span position now new
     → Left span position old new
-left_one span position zero old now new none some lands = subst (λ (h : Landed). Left span position h new) (none refl) lands
-left_one span position (suc n) old now new none some lands = left_again span position old now new (some (omega arith)) lands
+left_one span position zero old now new none some keeps_state = subst (λ (h : TimelineView). Left span position h new) (none refl) keeps_state
+left_one span position (suc n) old now new none some keeps_state = left_again span position old now new (some (omega arith)) keeps_state
 
 -- one more, which is refused
-pub left_refused : (span position words : ℕ) (old now new : Landed) → (words ≡ 0 → now ≡ old) → (0 < words → Left span position old now)
-    → new.landings ≡ now.landings → (Contains old.landings position → new.steps ≡ old.steps)
-    → (new.landings ≡ old.landings) ⊎ Left span position old new
-left_refused span position zero old now new none some same free = inl (same ∙ ap (λ (h : Landed). h.landings) (none refl))
+pub left_refused : (span position words : ℕ) (old now new : TimelineView) → (words ≡ 0 → now ≡ old) → (0 < words → Left span position old now)
+    → new.recent_states ≡ now.recent_states → (Contains old.recent_states position → new.steps ≡ old.steps)
+    → (new.recent_states ≡ old.recent_states) ⊎ Left span position old new
+left_refused span position zero old now new none some same free = inl (same ∙ ap (λ (h : TimelineView). h.recent_states) (none refl))
 left_refused span position (suc n) old now new none some same free =
     let before = some (omega arith) in
     inr (record {
@@ -267,54 +257,32 @@ left_refused span position (suc n) old now new none some same free =
     })
 
 -- n words were asked for at a position
-pub record AskedSo (pages span position words : ℕ) (old now : Landed) : Type 0 where
+pub record AskedSo (pages span position words : ℕ) (old now : TimelineView) : Type 0 where
   pub up_to : AskedUpTo pages span position (position % span) words old now
-  pub free : Contains old.landings position → (now.steps ≡ old.steps) × Contains now.landings position
+  pub free : Contains old.recent_states position → (now.steps ≡ old.steps) × Contains now.recent_states position
   pub left : 0 < words → Left span position old now
 
-pub asked_none : (pages span position : ℕ) (h : Landed) → AskedSo pages span position 0 h h
+pub asked_none : (pages span position : ℕ) (h : TimelineView) → AskedSo pages span position 0 h h
 asked_none pages span position h = record {
   up_to = up_to_none pages span position (position % span) h;
   free = λ there. (refl, there);
   left = λ some. absurd (omega (arith, some));
 }
 
-pub asked_one : {A : Type 0} (pages span position words : ℕ) (old now new : Landed) (x : A) → 0 < span → AskedSo pages span position words old now
-    → Asks {A = A} pages span position 0 now new (Ok x) → Lands {A = A} {E = Fault} span position now new (Ok x)
+pub asked_one : {A : Type 0} (pages span position words : ℕ) (old now new : TimelineView) (x : A) → 0 < span → AskedSo pages span position words old now
+    → Asks {A = A} pages span position 0 now new (Ok x) → KeepsState {A = A} {E = Fault} span position now new (Ok x)
     → AskedSo pages span position (words + 1) old new
-asked_one pages span position words old now new x some so asks lands = record {
+asked_one pages span position words old now new x some so asks keeps_state = record {
   up_to = up_to_one pages span position position (position % span) words old now new some (λ _. refl) (omega arith) (omega arith) so.up_to asks.0 asks.1;
   free = λ there.
       let before = so.free there in
-      (lands.free before.1 ∙ before.0, subst (λ (l : List ℕ). Contains l position) (sym (lands.again before.1)) (0, omega arith, refl));
-  left = λ _. left_one span position words old now new so.up_to.first so.left (left_by span position now new x lands);
+      (keeps_state.free before.1 ∙ before.0, subst (λ (l : List ℕ). Contains l position) (sym (keeps_state.again before.1)) (0, omega arith, refl));
+  left = λ _. left_one span position words old now new so.up_to.first so.left (left_by span position now new x keeps_state);
 }
 
--- all words were shown
-pub asked_all : {A : Type 0} (pages span position count : ℕ) (old new : Landed) (x : A) → 0 < count → AskedSo pages span position count old new
-    → Asks {A = A} pages span position ((count - 1) * (position % span)) old new (Ok x)
-asked_all pages span position count old new x some so =
-    up_to_all {A = _} pages span position (position % span) count count old new x some (omega arith) so.up_to
-
 -- one of them was refused for memory
-pub asked_part : (pages span position words count : ℕ) (old now new : Landed) → 0 < span → words < count → AskedSo pages span position words old now
+pub asked_part : (pages span position words count : ℕ) (old now new : TimelineView) → 0 < span → words < count → AskedSo pages span position words old now
     → AsksFault pages span position 0 now new Memory
     → AsksFault pages span position ((count - 1) * (position % span)) old new Memory
 asked_part pages span position words count old now new some below so asks =
     up_to_part pages span position position (position % span) words count old now new some (λ _. refl) (omega arith) (omega arith) below so.up_to asks
-
--- words that have no places are refused before anything is asked
-IsNotAsked : (pages span beyond position : ℕ) → Landed → Result (List ℕ) Fault → Type 0
-IsNotAsked pages span beyond position h (Ok places) = Unit {0}
-IsNotAsked pages span beyond position h (Err fault) = AsksFault pages span position beyond h h fault
-
-not_asked_by : (pages span beyond position : ℕ) (h : Landed) (fault : Fault) (even : Bool) (places : Option (List ℕ))
-    → (if even then ok_or places NotMemory else Err Unaligned) ≡ Err fault → AsksFault pages span position beyond h h fault
-unfolding IsNotAsked
-not_asked_by pages span beyond position h fault false places e = subst (IsNotAsked pages span beyond position h) e refl
-not_asked_by pages span beyond position h fault true None e = subst (IsNotAsked pages span beyond position h) e refl
-not_asked_by pages span beyond position h fault true (Some places) e = absurd (true≢false (ap (λ (r : Result (List ℕ) Fault). is_ok r) e))
-
-pub not_asked : (pages span beyond position address count : ℕ) (h : Landed) (fault : Fault) → places_of pages address count ≡ Err fault
-    → AsksFault pages span position beyond h h fault
-not_asked pages span beyond position address count h fault e = not_asked_by pages span beyond position h fault (address % 4 == 0) (places_from pages address count) e

@@ -3,15 +3,15 @@ use Rattle.std.proofs.Common.{◌≡◌, ℕ, ◌+◌, List, [], ◌∷◌, ◌+
 use Rattle.std.proofs.Math.Seq.{take-append_seam}
 use Rattle.std.proofs.lemmas.List.{map-append}
 use Rattle.refusal.specs.declared.fault.Fault.{Fault}
-use Rattle.timeline.specs.Landed.{Landed, Lands}
+use Rattle.timeline.specs.TimelineView.{TimelineView, KeepsState}
 use Rattle.wb_text.specs.declared.lists.Timed.{Timed}
 use Rattle.wb_session.specs.Cost.{Leaves, LeavesAlong, LeavesBy}
 use Rattle.wb_session.specs.Lists.{states_after}
 
 -- one query that is answered
-pub leaves_one : {A : Type 0} (span position : ℕ) (old new : Landed) (x : A) → Lands {A = A} {E = Fault} span position old new (Ok x)
-    → Leaves span position old.landings new.landings
-leaves_one span position old new x lands = record { again = lands.again; first = lands.first; start = lands.start }
+pub leaves_one : {A : Type 0} (span position : ℕ) (old new : TimelineView) (x : A) → KeepsState {A = A} {E = Fault} span position old new (Ok x)
+    → Leaves span position old.recent_states new.recent_states
+leaves_one span position old new x keeps_state = record { again = keeps_state.again; first = keeps_state.first; start = keeps_state.start }
 
 -- one more after others
 pub along_one : (span : ℕ) (positions : List ℕ) (position : ℕ) (before between after : List ℕ) → LeavesAlong span positions before between

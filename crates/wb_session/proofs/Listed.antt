@@ -5,7 +5,7 @@ use Rattle.std.specs.Option.{is_some, ok_or}
 use Rattle.std.specs.Result.{is_ok}
 use Rattle.std.proofs.lemmas.Bool.{eq-eqb, le-leb, true≢false}
 use Rattle.std.proofs.lemmas.List.{append-nil, get_or-drop, length-drop, map-append, take_all, take_more}
-use Rattle.std.proofs.lemmas.Option.{get_or_from_slice_get, slice_get_cases, slice_get_within}
+use Rattle.std.proofs.lemmas.Option.{get_or_from_slice_get, slice_get_within}
 use Rattle.input_log.specs.Limits.{max_position}
 use Rattle.r3k_machine.specs.declared.step.Done.{Done}
 use Rattle.r3k_machine.specs.Core.{Core}
@@ -177,11 +177,6 @@ memory_or_none (Some value) fault (inr lacks) = (λ is. absurd (not_both (sym la
     not_both : Memory ≡ NotFound → ⊥
     not_both same = true≢false (ap is_memory same)
 
-pub no_sender : (pages : ℕ) (h : History) (position line place : ℕ) → line ≤ 3 → position ≤ max_position → GivesFault (sent_at pages h position line place) NotFound
-    → slice_get (senders_of line 0 (trace_at pages h.image h.log position)) place ≡ None
-no_sender pages h position line place low near given =
-    (memory_or_none _ NotFound (subst (λ (r : Result ℕ Fault). GivesFault r NotFound) (sender_given pages h position line place low near) given)).0 refl
-
 pub only_memory_sender : (pages : ℕ) (h : History) (position line place : ℕ) (fault : Fault) → line ≤ 3 → position ≤ max_position
     → (fault ≡ NotFound → ⊥) → GivesFault (sent_at pages h position line place) fault → fault ≡ Memory
 only_memory_sender pages h position line place fault low near other given =
@@ -204,13 +199,6 @@ pub part_end : (xs : List ℕ) (from more count : ℕ) → length xs ≤ from + 
 part_end xs from more count past within =
     let rest = length-drop from xs in
     take_all count (drop from xs) (omega (arith, rest, past, within)) ∙ sym (take_all more (drop from xs) (omega (arith, rest, past)))
-
-pub past_end : (xs : List ℕ) (i : ℕ) → slice_get xs i ≡ None → length xs ≤ i
-past_end xs i none =
-    elim (slice_get_cases xs i).1 [
-      | inl found ↦ absurd (true≢false (ap (λ (o : Option ℕ). is_some o) (sym found.2 ∙ none)))
-      | inr past ↦ past.0
-    ]
 
 -- positions that are some distance apart, one more
 pub positions_zero : (position distance : ℕ) → positions_from position distance 0 ≡ []

@@ -1,7 +1,7 @@
 -- What a command costs (own): the steps that it may run, and what is kept after it.
 use Rattle.std.specs.Prelude.{◌≡◌, ◌⊎◌, ℕ, ◌+◌, ◌-◌, ◌*◌, ◌%◌, List, [], ◌∷◌, take, Contains, Result, Ok, Err, nat_eq}
 use Rattle.std.specs.Set.{remove_key}
-use Rattle.timeline.specs.Landed.{Asks, Landed, Lands}
+use Rattle.timeline.specs.TimelineView.{Asks, TimelineView, KeepsState}
 use Rattle.refusal.specs.declared.fault.Fault.{Fault}
 use Rattle.wb_text.specs.declared.command.Command.{Command}
 use Rattle.wb_text.specs.declared.command.Command.TheVariants.{Pos, Goto, Step, Back, Visit, Regs, Reg, Cp0, Tlb, Where, Mem, Dis, Console, Find, Writer, Stores, Finds, RegisterWriter, Pcs, Devices, Trace, Log, Add, Ferr, Wire, Del, Set, Move, Erase, Patch, Quit}
@@ -23,33 +23,33 @@ AsksNothing old new = new.timeline ≡ old.timeline
 abbrev pub Edits : (old new : Held) → Reply → Type 0
 Edits old new (Refused fault) = new.timeline ≡ old.timeline
 Edits old new reply =
-    new.timeline ≡ record { history = new.timeline.history; rows = old.timeline.rows; pasts = old.timeline.pasts; steps = old.timeline.steps; landings = [] }
+    new.timeline ≡ record { history = new.timeline.history; rows = old.timeline.rows; pasts = old.timeline.pasts; steps = old.timeline.steps; recent_states = [] }
 
 -- one query of the state at the position
 pub record AsksState (pages span : ℕ) (old new : Held) (reply : Reply) : Type 0 where
   pub asks : Asks pages span old.position 0 old.timeline new.timeline (outcome_of reply)
-  pub lands : Lands span old.position old.timeline new.timeline (outcome_of reply)
+  pub keeps_state : KeepsState span old.position old.timeline new.timeline (outcome_of reply)
 
 -- One query of what the steps before the position reported, or of what comes at most `beyond` steps after it; or several of the former,
 -- where those after the first cost at most as many steps together.
 pub record AsksSteps (pages span beyond : ℕ) (old new : Held) (reply : Reply) : Type 0 where
   pub asks : Asks pages span old.position beyond old.timeline new.timeline (outcome_of reply)
-  pub landings : new.timeline.landings ≡ old.timeline.landings
+  pub recent_states : new.timeline.recent_states ≡ old.timeline.recent_states
 
 -- Several queries of the state at a position leave the kept states as one does. Where one of them is refused, those before it may
 -- have left them so.
-abbrev pub LandsOnce : {A : Type 0} → (span position : ℕ) → (old new : Landed) → Result A Fault → Type 0
-LandsOnce span position old new (Ok answer) = Lands {A = Unit {0}} {E = Fault} span position old new (Ok tt)
-LandsOnce span position old new (Err fault) = (new.landings ≡ old.landings) ⊎ Lands {A = Unit {0}} {E = Fault} span position old new (Ok tt)
+abbrev pub KeepsStateOnce : {A : Type 0} → (span position : ℕ) → (old new : TimelineView) → Result A Fault → Type 0
+KeepsStateOnce span position old new (Ok answer) = KeepsState {A = Unit {0}} {E = Fault} span position old new (Ok tt)
+KeepsStateOnce span position old new (Err fault) = (new.recent_states ≡ old.recent_states) ⊎ KeepsState {A = Unit {0}} {E = Fault} span position old new (Ok tt)
 
 -- `count` words at the position, each by a query. The first costs what one query costs. Each after it costs at most the steps of
 -- the position's own span up to the position. Where the state at the position is kept, none of them runs a step.
 pub record AsksWords (pages span count : ℕ) (old new : Held) (reply : Reply) : Type 0 where
   pub asks : Asks pages span old.position ((count - 1) * (old.position % span)) old.timeline new.timeline (outcome_of reply)
-  pub free : Contains old.timeline.landings old.position → new.timeline.steps ≡ old.timeline.steps
-  pub lands : LandsOnce span old.position old.timeline new.timeline (outcome_of reply)
+  pub free : Contains old.timeline.recent_states old.position → new.timeline.steps ≡ old.timeline.steps
+  pub keeps_state : KeepsStateOnce span old.position old.timeline new.timeline (outcome_of reply)
 
--- What one query of the state at a position, which is answered, does with the kept states: as in `Lands`.
+-- What one query of the state at a position, which is answered, does with the kept states: as in `KeepsState`.
 pub record Leaves (span position : ℕ) (before after : List ℕ) : Type 0 where
   pub again : Contains before position → after ≡ position ∷ remove_key (nat_eq position) before
   pub first : ¬ Contains before position → (after ≡ take 8 (position ∷ before)) ⊎ (after ≡ before)
@@ -69,7 +69,7 @@ LeavesBy span positions before after (Err fault) = (asked : ℕ) × LeavesAlong 
 -- costs at most the steps of a span. Those of them that ask for a state are at `positions`, in this order.
 pub record AsksStates (pages span position more : ℕ) (positions : List ℕ) (old new : Held) (reply : Reply) : Type 0 where
   pub asks : Asks pages span position (more * span) old.timeline new.timeline (outcome_of reply)
-  pub leaves : LeavesBy span positions old.timeline.landings new.timeline.landings (outcome_of reply)
+  pub leaves : LeavesBy span positions old.timeline.recent_states new.timeline.recent_states (outcome_of reply)
 
 -- what each command costs, on a machine with `pages` pages of RAM whose runs are kept in spans of `span` steps
 abbrev pub Costs : (pages span : ℕ) → Command → (old new : Held) → Reply → Type 0

@@ -2,7 +2,7 @@ pub use Rattle.r3k_image.specs.Boot
 pub use Rattle.input_log.specs.Event
 pub use Rattle.timeline.specs.History
 pub use Rattle.timeline.specs.Query
-pub use Rattle.timeline.specs.Landed
+pub use Rattle.timeline.specs.TimelineView
 pub use Rattle.wb_text.specs.Command
 pub use Rattle.wb_text.specs.Reply
 pub use Rattle.wb_options.specs.Fault

@@ -18,7 +18,7 @@ use Rattle.tlb64.specs.declared.entry.Entry.{Entry}
 use Rattle.timeline.specs.Console.{part_of}
 use Rattle.input_log.specs.Limits.{max_position}
 use Rattle.timeline.specs.History.{History}
-use Rattle.timeline.specs.Landed.{Landed}
+use Rattle.timeline.specs.TimelineView.{TimelineView}
 use Rattle.timeline.specs.Query.{console_at, core_at, followed, next_pc, register_writer_at, sent_at, writer_at}
 use Rattle.timeline.specs.Sizes.{AreSizes}
 use Rattle.timeline.specs.declared.writer.Writer.{Writer as LastWriter}
@@ -54,7 +54,7 @@ pub record Triple : Type 0 where
 -- What a session holds: what its timeline holds, which includes its history, and a position. Whoever asks sees a triple of image,
 -- log and position.
 pub record Held : Type 0 where
-  pub timeline : Landed
+  pub timeline : TimelineView
   pub position : ℕ
 
 -- the image, the log and the position of what a session holds
@@ -67,7 +67,7 @@ kept_pasts = 4
 
 -- a session as it begins: at position 0, with nothing kept
 abbrev pub begun : Boot → List LogEvent → Held
-begun image log = record { timeline = record { history = record { image = image; log = log }; rows = []; pasts = kept_pasts; steps = 0; landings = [] }; position = 0 }
+begun image log = record { timeline = record { history = record { image = image; log = log }; rows = []; pasts = kept_pasts; steps = 0; recent_states = [] }; position = 0 }
 
 -- the history of a session
 abbrev pub history_of : Triple → History

@@ -4,7 +4,7 @@ ghost use Rattle.std.specs.Prelude.{◌≡◌, ◌⊎◌, ◌+◌, ◌-◌, ◌*
 ghost use Rattle.std.specs.Option.{SomeIff};
 ghost use Rattle.input_log.specs.Limits.{max_position};
 ghost use Rattle.refusal.specs.Given.{GivesFault};
-ghost use Rattle.timeline.specs.Landed.{Asks};
+ghost use Rattle.timeline.specs.TimelineView.{Asks};
 ghost use Rattle.wb_session.specs.Cost.{LeavesBy};
 ghost use Rattle.wb_session.specs.Lists.{pcs_at, senders_at, states_after, states_apart, stores_at};
 ghost use Rattle.wb_session.specs.Session.{triple_of};
@@ -30,7 +30,7 @@ impl<const PAGES: u32, const SPAN: u32> Session<PAGES, SPAN> {
         ensures same { triple_of self.new ≡ triple_of self.old }
         ensures asks { Asks PAGES SPAN self.old.position ((2 * count - 1) * SPAN) self.old.timeline self.new.timeline result }
         ensures leaves { LeavesBy SPAN (states_after (stores_at PAGES self.old.timeline.history self.old.position address count))
-            self.old.timeline.landings self.new.timeline.landings result }
+            self.old.timeline.recent_states self.new.timeline.recent_states result }
     {
         let address = address.get() as u32;
         if address % 4 != 0 {
@@ -69,7 +69,7 @@ impl<const PAGES: u32, const SPAN: u32> Session<PAGES, SPAN> {
             (GivesFault (senders_at PAGES self.old.timeline.history self.old.position line from count)) }
         ensures same { triple_of self.new ≡ triple_of self.old }
         ensures asks { Asks PAGES SPAN self.old.position ((count - 1) * (self.old.position % SPAN)) self.old.timeline self.new.timeline result }
-        ensures landings { self.new.timeline.landings ≡ self.old.timeline.landings }
+        ensures recent_states { self.new.timeline.recent_states ≡ self.old.timeline.recent_states }
     {
         let number = line.get() as u8;
         let mut steps = ArrayVec::new();
@@ -98,7 +98,7 @@ impl<const PAGES: u32, const SPAN: u32> Session<PAGES, SPAN> {
         ensures same { triple_of self.new ≡ triple_of self.old }
         ensures asks { Asks PAGES SPAN (self.old.position + (count - 1) * distance) ((count - 1) * SPAN) self.old.timeline self.new.timeline result }
         ensures leaves { LeavesBy SPAN (states_apart self.old.position distance count)
-            self.old.timeline.landings self.new.timeline.landings result }
+            self.old.timeline.recent_states self.new.timeline.recent_states result }
     {
         let later = count.get() - 1;
         let Some(last) = position_after(self.position, distance.get(), later) else {

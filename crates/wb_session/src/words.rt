@@ -5,8 +5,8 @@ ghost use Rattle.r3k_word.specs.Layout.{place_of_word};
 ghost use Rattle.r3k_word.specs.declared.layout.TheConstants.{MAX_RAM_PAGES};
 ghost use Rattle.refusal.specs.declared.fault.Fault.TheVariants.{Memory};
 ghost use Rattle.wb_session.specs.Memory.{places_of};
-ghost use Rattle.timeline.specs.Landed.{Asks};
-ghost use Rattle.wb_session.specs.Cost.{LandsOnce};
+ghost use Rattle.timeline.specs.TimelineView.{Asks};
+ghost use Rattle.wb_session.specs.Cost.{KeepsStateOnce};
 ghost use Rattle.wb_session.specs.Session.{triple_of, words_shown};
 
 use crate::session::Session;
@@ -22,8 +22,8 @@ impl<const PAGES: u32, const SPAN: u32> Session<PAGES, SPAN> {
             ⊎ ((result ≡ Err Memory) × IsOk (places_of PAGES address count)) }
         ensures same { triple_of self.new ≡ triple_of self.old }
         ensures asks { Asks PAGES SPAN self.old.position ((count - 1) * (self.old.position % SPAN)) self.old.timeline self.new.timeline result }
-        ensures lands { LandsOnce SPAN self.old.position self.old.timeline self.new.timeline result }
-        ensures free { Contains self.old.timeline.landings self.old.position → self.new.timeline.steps ≡ self.old.timeline.steps }
+        ensures keeps_state { KeepsStateOnce SPAN self.old.position self.old.timeline self.new.timeline result }
+        ensures free { Contains self.old.timeline.recent_states self.old.position → self.new.timeline.steps ≡ self.old.timeline.steps }
     {
         let position = self.position;
         let _places = places_from::<PAGES>(address, count)?;

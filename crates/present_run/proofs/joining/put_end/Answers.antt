@@ -2,7 +2,7 @@ use Rattle.std.proofs.Common.{ℕ, List, [], ◌∷◌, map, length, sym, ap, su
 use Rattle.r3k_machine.specs.State.{State}
 use Rattle.present_run.specs.Ends.{IsPut}
 use Rattle.std.proofs.lemmas.List.{length-map, map-append, map-set}
-use Rattle.present_run.proofs.Again.{put_in_place, put_last}
+use Rattle.present_run.proofs.Rejoining.{put_in_place, put_last}
 use Rattle.present_run.proofs.joining.put_end.Goals as goal
 
 pub returns-then-index-len-clause-put : goal.returns-then-index-len-clause-put

@@ -1,7 +1,7 @@
 use Rattle.std.proofs.Common.{◌-◌, map, sym, arith, ◌∙◌}
 use Rattle.std.proofs.lemmas.List.{length-map}
 use Rattle.std.proofs.lemmas.Option.{slice_get_within}
-use Rattle.present_run.proofs.Again.{got}
+use Rattle.present_run.proofs.Rejoining.{got}
 use Rattle.present_run.proofs.Spans.{some_is}
 use Rattle.present_run.proofs.joining.start_in.Goals as goal
 

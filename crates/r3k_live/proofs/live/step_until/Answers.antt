@@ -6,23 +6,23 @@ use Rattle.r3k_live.specs.Going.{HasGone}
 use Rattle.r3k_live.specs.Living.{state_of}
 use Rattle.r3k_live.specs.Record.{is_dirty}
 use Rattle.r3k_pages.proofs.Ascending.{outside_pages}
-use Rattle.r3k_live.specs.Standing.{HasStood}
+use Rattle.r3k_live.specs.CodePages.{AddsCodePages}
 use Rattle.r3k_pages.specs.Pages.{holds}
 use Rattle.r3k_word.specs.declared.layout.TheConstants.{PAGE_BYTES}
 use Rattle.r3k_live.specs.Visits.{first_visit}
 use Rattle.r3k_live.proofs.Going.{visits_here, visits_on}
-use Rattle.r3k_live.proofs.Stood.{stood_first}
+use Rattle.r3k_live.proofs.CodePages.{first_code_page}
 use Rattle.r3k_live.proofs.live.step_until.Goals as goal
 
 pub loop-made-init : goal.loop-made-init
 unfolding run trace
 loop-made-init g c = record {
-  gone = record { state = refl; recorded = c.stand.ensures.records [] c.requires.empty; stayed = λ place clean. refl };
+  gone = record { state = refl; recorded = c.note_code_page.ensures.records [] c.requires.empty; stayed = λ place clean. refl };
   found = ap (first_visit g.row.PAGES c.args.events c.args.from (state_of c.args.core.now c.args.memory.now) c.args.stop 0) (omega arith);
   left = λ time later. refl;
-  stood =
-      stood_first g.row.PAGES c.args.events c.args.from (state_of c.args.core.now c.args.memory.now) c.args.recorder.now.stood c.stand.new.self.stood
-      (λ page. c.stand.ensures.stood page ∙ ap (λ (pc : ℕ). holds c.args.recorder.now.stood page || nat_eq (pc / PAGE_BYTES) page) c.pc.ensures);
+  code_pages =
+      first_code_page g.row.PAGES c.args.events c.args.from (state_of c.args.core.now c.args.memory.now) c.args.recorder.now.code_pages c.note_code_page.new.self.code_pages
+      (λ page. c.note_code_page.ensures.code_pages page ∙ ap (λ (pc : ℕ). holds c.args.recorder.now.code_pages page || nat_eq (pc / PAGE_BYTES) page) c.pc.ensures);
   bound = omega arith;
 }
 
@@ -56,10 +56,10 @@ pub returns-then-pc-stop-clause-recorded : goal.returns-then-pc-stop-clause-reco
 returns-then-pc-stop-clause-recorded g c =
     (c.advance-more.ensures.goes c.args.events c.args.from (state_of c.args.core.now c.args.memory.now) c.loop-made.made refl c.loop-made.invariant.left c.loop-made.invariant.gone).gone.recorded
 
-pub returns-then-pc-stop-clause-stood : goal.returns-then-pc-stop-clause-stood
-returns-then-pc-stop-clause-stood g c =
-    (c.advance-more.ensures.goes c.args.events c.args.from (state_of c.args.core.now c.args.memory.now) c.loop-made.made refl c.loop-made.invariant.left c.loop-made.invariant.gone).stood
-    c.args.recorder.now.stood c.loop-made.invariant.stood
+pub returns-then-pc-stop-clause-code_pages : goal.returns-then-pc-stop-clause-code_pages
+returns-then-pc-stop-clause-code_pages g c =
+    (c.advance-more.ensures.goes c.args.events c.args.from (state_of c.args.core.now c.args.memory.now) c.loop-made.made refl c.loop-made.invariant.left c.loop-made.invariant.gone).code_pages
+    c.args.recorder.now.code_pages c.loop-made.invariant.code_pages
 
 pub returns-then-pc-stop-clause-dirty : goal.returns-then-pc-stop-clause-dirty
 returns-then-pc-stop-clause-dirty g c =
@@ -84,7 +84,7 @@ loop-made-preserved g c =
           goes.passed (λ here. c.if-pc-stop.false (c.pc-in-loop-made.ensures ∙ (ap (λ (s : State). s.core.pc) goes.gone.state ∙ here)));
       left = λ time later.
           c.advance-more.ensures.left time (omega (arith, later)) ∙ c.loop-made.invariant.left time (omega (arith, later));
-      stood = goes.stood c.args.recorder.now.stood c.loop-made.invariant.stood;
+      code_pages = goes.code_pages c.args.recorder.now.code_pages c.loop-made.invariant.code_pages;
       bound = omega (arith, c.advance-more.ensures.bound, c.loop-made-test.true);
     }
 
@@ -117,8 +117,8 @@ returns-clause-dirty g c =
     c.args.memory.now.words.items c.loop-made.memory.words.items c.args.memory.now.whole c.loop-made.memory.whole
     (subst (λ (n : ℕ). HasGone g.row.PAGES c.args.events c.args.from start n (state_of c.loop-made.core c.loop-made.memory) c.loop-made.recorder) all c.loop-made.invariant.gone).stayed
 
-pub returns-clause-stood : goal.returns-clause-stood
-returns-clause-stood g c =
+pub returns-clause-code_pages : goal.returns-clause-code_pages
+returns-clause-code_pages g c =
     let start = state_of c.args.core.now c.args.memory.now in
     let all : c.loop-made.made ≡ c.args.steps = omega (arith, c.loop-made-test.false, c.loop-made.invariant.bound) in
-    subst (λ (n : ℕ). HasStood g.row.PAGES c.args.events c.args.from start n c.args.recorder.now.stood c.loop-made.recorder.stood) all c.loop-made.invariant.stood
+    subst (λ (n : ℕ). AddsCodePages g.row.PAGES c.args.events c.args.from start n c.args.recorder.now.code_pages c.loop-made.recorder.code_pages) all c.loop-made.invariant.code_pages

@@ -1,7 +1,7 @@
 use Rattle.std.proofs.Common.{◌≡◌, ◌+◌, ◌-◌, ◌≤◌}
 use Rattle.r3k_live.specs.Going.{AreLeft, HasGone}
 use Rattle.r3k_live.specs.Living.{state_of}
-use Rattle.r3k_live.specs.Standing.{HasStood}
+use Rattle.r3k_live.specs.CodePages.{AddsCodePages}
 use Rattle.r3k_live.specs.Visits.{first_visit}
 use Rattle.r3k_live.proofs.live.step_until.Given as goal
 
@@ -12,7 +12,7 @@ invariant-loop-made g l = record {
   found : first_visit g.row.PAGES l.fn.events l.from (state_of l.fn.core l.fn.memory) l.stop 0 l.steps
       ≡ first_visit g.row.PAGES l.fn.events l.from (state_of l.fn.core l.fn.memory) l.stop l.made (l.steps - l.made);
   left : AreLeft (l.from + l.made) l.events l.fn.events;
-  stood : HasStood g.row.PAGES l.fn.events l.from (state_of l.fn.core l.fn.memory) l.made l.fn.recorder.stood l.recorder.stood;
+  code_pages : AddsCodePages g.row.PAGES l.fn.events l.from (state_of l.fn.core l.fn.memory) l.made l.fn.recorder.code_pages l.recorder.code_pages;
   bound : l.made ≤ l.steps;
 }
 

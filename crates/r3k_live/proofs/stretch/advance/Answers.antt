@@ -9,10 +9,10 @@ use Rattle.r3k_machine.specs.Step.{outcome_of_step}
 use Rattle.r3k_pages.specs.Pages.{holds}
 use Rattle.r3k_live.specs.Going.{HasGone}
 use Rattle.r3k_live.specs.Living.{state_of}
-use Rattle.r3k_live.specs.Standing.{HasStood}
+use Rattle.r3k_live.specs.CodePages.{AddsCodePages}
 use Rattle.r3k_live.proofs.Going.{left_later}
 use Rattle.r3k_live.proofs.Gone.{goes_for_more, one_more}
-use Rattle.r3k_live.proofs.Stood.{begins_once, stood_more}
+use Rattle.r3k_live.proofs.CodePages.{begins_once, more_code_pages}
 use Rattle.r3k_live.proofs.stretch.advance.Goals as goal
 
 pub returns-then-pc-stop-clause-goes : goal.returns-then-pc-stop-clause-goes
@@ -33,18 +33,18 @@ returns-clause-goes g c = λ log from start made now left so_far.
     let events = ap (arriving log) (sym now) ∙ (sym (left c.args.time (omega arith)) ∙ sym c.next.ensures.events) in
     let outcome : outcome_of_step g.row.PAGES c.next.result.now s ≡ record { state = t; done = c.step-done.result } =
     λ i. record { state = sym c.step-done.ensures.state i; done = sym c.step-done.ensures.report i } in
-    let gone = one_more g.row.PAGES log from start made s t c.step-done.result c.stretch-made.new.recorder c.stand.new.self here
+    let gone = one_more g.row.PAGES log from start made s t c.step-done.result c.stretch-made.new.recorder c.note_code_page.new.self here
     (ap (λ (e : List LogEvent). outcome_of_step g.row.PAGES e s) events ∙ outcome)
-    (λ steps so_far. c.stand.ensures.records (steps ++ c.step-done.result ∷ []) (c.note.ensures.records steps so_far)) c.step-done.ensures.within.words in record {
+    (λ steps so_far. c.note_code_page.ensures.records (steps ++ c.step-done.result ∷ []) (c.note.ensures.records steps so_far)) c.step-done.ensures.within.words in record {
       gone = gone;
       passed = λ k after below there. omega (arith, after, below);
-      stood = λ before stood.
-          stood_more g.row.PAGES log from start made 1 _ before c.stretch-made.new.recorder.stood c.stand.new.self.stood
-          (subst (λ (n : ℕ). HasStood g.row.PAGES log from start n before c.stretch-made.new.recorder.stood) none (stretch.stood before stood))
+      code_pages = λ before code_pages.
+          more_code_pages g.row.PAGES log from start made 1 _ before c.stretch-made.new.recorder.code_pages c.note_code_page.new.self.code_pages
+          (subst (λ (n : ℕ). AddsCodePages g.row.PAGES log from start n before c.stretch-made.new.recorder.code_pages) none (stretch.code_pages before code_pages))
           (begins_once g.row.PAGES log from start made)
           (λ page.
-          c.stand.ensures.stood page
-          ∙ ap₂ (λ (set : List ℕ) (pc : ℕ). holds set page || nat_eq (pc / PAGE_BYTES) page) c.note.ensures.stood (c.pc-2.ensures ∙ ap (λ (s : State). s.core.pc) gone.state));
+          c.note_code_page.ensures.code_pages page
+          ∙ ap₂ (λ (set : List ℕ) (pc : ℕ). holds set page || nat_eq (pc / PAGE_BYTES) page) c.note.ensures.code_pages (c.pc-2.ensures ∙ ap (λ (s : State). s.core.pc) gone.state));
     }
 
 pub returns-clause-left : goal.returns-clause-left

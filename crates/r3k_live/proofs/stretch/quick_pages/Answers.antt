@@ -24,55 +24,55 @@ loop-most-init g c = record {
 pub returns-then-steps-before-clause-goes : goal.returns-then-steps-before-clause-goes
 returns-then-steps-before-clause-goes g c =
     subst (λ (n : ℕ). GoesOver g.row.PAGES c.args.most c.args.stop n (state_of (with_flow c.args.core.now c.args.flow.now) c.args.memory.now)
-    (state_of (with_flow c.quick_steps.new.core c.quick_steps.result) c.quick_steps.new.memory) c.args.recorder.now c.stand.new.self)
-    (let e : c.quick_steps.new.recorder.steps - c.steps-begun.result ≡ c.steps-steps.result - c.steps-begun.result = omega (arith, c.steps-steps.ensures.steps, c.stand.ensures.steps) in e)
+    (state_of (with_flow c.quick_steps.new.core c.quick_steps.result) c.quick_steps.new.memory) c.args.recorder.now c.note_code_page.new.self)
+    (let e : c.quick_steps.new.recorder.steps - c.steps-begun.result ≡ c.steps-steps.result - c.steps-begun.result = omega (arith, c.steps-steps.ensures.steps, c.note_code_page.ensures.steps) in e)
     (over_more g.row.PAGES c.args.most c.args.stop c.loop-most.page (c.loop-most.recorder.steps - c.steps-begun.result) (c.quick_steps.new.recorder.steps - c.steps-begun.result)
     (state_of (with_flow c.args.core.now c.args.flow.now) c.args.memory.now) (state_of (with_flow c.loop-most.core c.loop-most.flow) c.loop-most.memory)
     (state_of (with_flow c.quick_steps.new.core c.quick_steps.result) c.quick_steps.new.memory)
-    c.args.recorder.now c.loop-most.recorder c.quick_steps.new.recorder c.stand.new.self (omega (arith, c.quick_steps.ensures.least))
-    c.loop-most.invariant.goes c.quick_steps.ensures.goes c.stand.ensures.records
-    (λ other. c.stand.ensures.stood other ∙ ap (λ (pc : ℕ). holds c.quick_steps.new.recorder.stood other || nat_eq (pc / PAGE_BYTES) other) c.pc-here.ensures)
-    c.stand.ensures.steps)
+    c.args.recorder.now c.loop-most.recorder c.quick_steps.new.recorder c.note_code_page.new.self (omega (arith, c.quick_steps.ensures.least))
+    c.loop-most.invariant.goes c.quick_steps.ensures.goes c.note_code_page.ensures.records
+    (λ other. c.note_code_page.ensures.code_pages other ∙ ap (λ (pc : ℕ). holds c.quick_steps.new.recorder.code_pages other || nat_eq (pc / PAGE_BYTES) other) c.pc-here.ensures)
+    c.note_code_page.ensures.steps)
 
 pub returns-in_default-clause-goes : goal.returns-in_default-clause-goes
 returns-in_default-clause-goes g c =
     rw (c.code_page.ensures.core, c.set_flow.ensures)
     (subst (λ (n : ℕ). GoesOver g.row.PAGES c.args.most c.args.stop n (state_of (with_flow c.args.core.now c.args.flow.now) c.args.memory.now)
-    (state_of (with_flow c.quick_steps.new.core c.quick_steps.result) c.quick_steps.new.memory) c.args.recorder.now c.stand.new.self)
-    (let e : c.quick_steps.new.recorder.steps - c.steps-begun.result ≡ c.steps-steps.result - c.steps-begun.result = omega (arith, c.steps-steps.ensures.steps, c.stand.ensures.steps) in e)
+    (state_of (with_flow c.quick_steps.new.core c.quick_steps.result) c.quick_steps.new.memory) c.args.recorder.now c.note_code_page.new.self)
+    (let e : c.quick_steps.new.recorder.steps - c.steps-begun.result ≡ c.steps-steps.result - c.steps-begun.result = omega (arith, c.steps-steps.ensures.steps, c.note_code_page.ensures.steps) in e)
     (over_more g.row.PAGES c.args.most c.args.stop c.loop-most.page (c.loop-most.recorder.steps - c.steps-begun.result) (c.quick_steps.new.recorder.steps - c.steps-begun.result)
     (state_of (with_flow c.args.core.now c.args.flow.now) c.args.memory.now) (state_of (with_flow c.loop-most.core c.loop-most.flow) c.loop-most.memory)
     (state_of (with_flow c.quick_steps.new.core c.quick_steps.result) c.quick_steps.new.memory)
-    c.args.recorder.now c.loop-most.recorder c.quick_steps.new.recorder c.stand.new.self (omega (arith, c.quick_steps.ensures.least))
-    c.loop-most.invariant.goes c.quick_steps.ensures.goes c.stand.ensures.records
-    (λ other. c.stand.ensures.stood other ∙ ap (λ (pc : ℕ). holds c.quick_steps.new.recorder.stood other || nat_eq (pc / PAGE_BYTES) other) c.pc-here.ensures)
-    c.stand.ensures.steps))
+    c.args.recorder.now c.loop-most.recorder c.quick_steps.new.recorder c.note_code_page.new.self (omega (arith, c.quick_steps.ensures.least))
+    c.loop-most.invariant.goes c.quick_steps.ensures.goes c.note_code_page.ensures.records
+    (λ other. c.note_code_page.ensures.code_pages other ∙ ap (λ (pc : ℕ). holds c.quick_steps.new.recorder.code_pages other || nat_eq (pc / PAGE_BYTES) other) c.pc-here.ensures)
+    c.note_code_page.ensures.steps))
 
 pub returns-then-not-has_touched-clause-goes : goal.returns-then-not-has_touched-clause-goes
 returns-then-not-has_touched-clause-goes g c =
     rw (c.code_page.ensures.core, c.set_flow.ensures)
     (subst (λ (n : ℕ). GoesOver g.row.PAGES c.args.most c.args.stop n (state_of (with_flow c.args.core.now c.args.flow.now) c.args.memory.now)
-    (state_of (with_flow c.quick_steps.new.core c.quick_steps.result) c.quick_steps.new.memory) c.args.recorder.now c.stand.new.self)
-    (let e : c.quick_steps.new.recorder.steps - c.steps-begun.result ≡ c.steps-steps.result - c.steps-begun.result = omega (arith, c.steps-steps.ensures.steps, c.stand.ensures.steps) in e)
+    (state_of (with_flow c.quick_steps.new.core c.quick_steps.result) c.quick_steps.new.memory) c.args.recorder.now c.note_code_page.new.self)
+    (let e : c.quick_steps.new.recorder.steps - c.steps-begun.result ≡ c.steps-steps.result - c.steps-begun.result = omega (arith, c.steps-steps.ensures.steps, c.note_code_page.ensures.steps) in e)
     (over_more g.row.PAGES c.args.most c.args.stop c.loop-most.page (c.loop-most.recorder.steps - c.steps-begun.result) (c.quick_steps.new.recorder.steps - c.steps-begun.result)
     (state_of (with_flow c.args.core.now c.args.flow.now) c.args.memory.now) (state_of (with_flow c.loop-most.core c.loop-most.flow) c.loop-most.memory)
     (state_of (with_flow c.quick_steps.new.core c.quick_steps.result) c.quick_steps.new.memory)
-    c.args.recorder.now c.loop-most.recorder c.quick_steps.new.recorder c.stand.new.self (omega (arith, c.quick_steps.ensures.least))
-    c.loop-most.invariant.goes c.quick_steps.ensures.goes c.stand.ensures.records
-    (λ other. c.stand.ensures.stood other ∙ ap (λ (pc : ℕ). holds c.quick_steps.new.recorder.stood other || nat_eq (pc / PAGE_BYTES) other) c.pc-here.ensures)
-    c.stand.ensures.steps))
+    c.args.recorder.now c.loop-most.recorder c.quick_steps.new.recorder c.note_code_page.new.self (omega (arith, c.quick_steps.ensures.least))
+    c.loop-most.invariant.goes c.quick_steps.ensures.goes c.note_code_page.ensures.records
+    (λ other. c.note_code_page.ensures.code_pages other ∙ ap (λ (pc : ℕ). holds c.quick_steps.new.recorder.code_pages other || nat_eq (pc / PAGE_BYTES) other) c.pc-here.ensures)
+    c.note_code_page.ensures.steps))
 
 pub loop-most-preserved : goal.loop-most-preserved
 loop-most-preserved g c = record {
   goes =
       rw (c.open_page.ensures.words, c.code_page.ensures.core, c.set_flow.ensures)
-      (over_more g.row.PAGES c.args.most c.args.stop c.loop-most.page (c.loop-most.recorder.steps - c.steps-begun.result) (c.stand.new.self.steps - c.steps-begun.result)
+      (over_more g.row.PAGES c.args.most c.args.stop c.loop-most.page (c.loop-most.recorder.steps - c.steps-begun.result) (c.note_code_page.new.self.steps - c.steps-begun.result)
       (state_of (with_flow c.args.core.now c.args.flow.now) c.args.memory.now) (state_of (with_flow c.loop-most.core c.loop-most.flow) c.loop-most.memory)
       (state_of (with_flow c.quick_steps.new.core c.quick_steps.result) c.quick_steps.new.memory)
-      c.args.recorder.now c.loop-most.recorder c.quick_steps.new.recorder c.stand.new.self (omega (arith, c.quick_steps.ensures.least, c.stand.ensures.steps))
-      c.loop-most.invariant.goes (rw c.stand.ensures.steps c.quick_steps.ensures.goes) c.stand.ensures.records
-      (λ other. c.stand.ensures.stood other ∙ ap (λ (pc : ℕ). holds c.quick_steps.new.recorder.stood other || nat_eq (pc / PAGE_BYTES) other) c.pc-here.ensures)
-      c.stand.ensures.steps);
+      c.args.recorder.now c.loop-most.recorder c.quick_steps.new.recorder c.note_code_page.new.self (omega (arith, c.quick_steps.ensures.least, c.note_code_page.ensures.steps))
+      c.loop-most.invariant.goes (rw c.note_code_page.ensures.steps c.quick_steps.ensures.goes) c.note_code_page.ensures.records
+      (λ other. c.note_code_page.ensures.code_pages other ∙ ap (λ (pc : ℕ). holds c.quick_steps.new.recorder.code_pages other || nat_eq (pc / PAGE_BYTES) other) c.pc-here.ensures)
+      c.note_code_page.ensures.steps);
   may = record {
     quiet = rw (c.code_page.ensures.core, c.set_flow.ensures) c.quick_steps.ensures.goes.may.quiet;
     code = rw (c.code_page.ensures.core, c.set_flow.ensures) (rw c.set_flow.ensures at c.in-Some.ensures.code);
@@ -80,5 +80,5 @@ loop-most-preserved g c = record {
   };
   page = c.in-Some.ensures.page;
   opened = c.open_page.ensures.opened;
-  least = omega (arith, c.loop-most.invariant.least, c.quick_steps.ensures.least, c.stand.ensures.steps);
+  least = omega (arith, c.loop-most.invariant.least, c.quick_steps.ensures.least, c.note_code_page.ensures.steps);
 }

@@ -1,13 +1,9 @@
-use Rattle.std.proofs.Common.{◌≡◌, ℕ, ◌+◌, ◌-◌, ◌<◌, ◌≤◌, not, sym, ap, ◌∙◌, arith}
-use Rattle.std.proofs.Math.Bool.{not-not}
+use Rattle.std.proofs.Common.{ℕ, ◌+◌, ◌-◌, refl, sym, subst, arith}
 use Rattle.r3k_machine.specs.Flow.{with_flow}
+use Rattle.r3k_machine.specs.Quiet.{IsIndexIn}
 use Rattle.r3k_live.specs.Living.{state_of}
-use Rattle.r3k_live.proofs.Quick.{address_of, at_next, fewer_than, goes_nowhere, goes_one, word_here}
+use Rattle.r3k_live.proofs.Quick.{address_of, at_next, fewer_than, goes_nowhere, if_so, more_to, not_at, word_here}
 use Rattle.r3k_live.proofs.stretch.step_straight.Goals as goal
-
--- a word comes before the end, as long as fewer steps are recorded than at the end
-more : (index first last steps now result : ℕ) → result ≡ now → now ≡ steps + (index - first) → first ≤ index → result < last → index < first + (last - steps)
-more index first last steps now result is count low fewer = omega (arith, is, count, low, fewer)
 
 pub loop-flow-init : goal.loop-flow-init
 loop-flow-init g c = record {
@@ -26,97 +22,144 @@ loop-flow-init g c = record {
   opened = c.requires.opened;
 }
 
-pub returns-then-not-step_quickly-clause-goes : goal.returns-then-not-step_quickly-clause-goes
-returns-then-not-step_quickly-clause-goes g c =
-    let no = c.if-not-step_quickly.true in
-    let step = c.step_quickly.ensures in
-    rw (step.core no, step.flow no, step.words no, step.recorder no, c.stand_straight.ensures) c.loop-flow.invariant.at.goes
+pub returns-in_err-quick-clause-goes : goal.returns-in_err-quick-clause-goes
+returns-in_err-quick-clause-goes g c = rw (c.in_err-quick.ensures.core refl, c.in_err-quick.ensures.flow refl, c.in_err-quick.ensures.words refl, c.pin_straight.ensures) c.loop-flow.invariant.at.goes
 
-pub returns-then-steps-last-clause-goes : goal.returns-then-steps-last-clause-goes
-returns-then-steps-last-clause-goes g c =
-    let yes = c.if-not-step_quickly.false in
-    let step = c.step_quickly in
-    (at_next g.row.PAGES c.args.most c.args.begun c.args.first c.args.halt (c.args.first + (c.last_of-last.result - c.args.recorder.now.steps)) c.loop-flow.index c.args.page
-    (state_of (with_flow c.args.core.now c.args.flow.now) c.args.memory.now) c.args.recorder.now c.loop-flow.core step.new.core c.loop-flow.flow step.new.flow
-    c.loop-flow.memory.words.items step.new.memory.words.items c.loop-flow.recorder step.new.recorder (rw c.steps.ensures.steps at c.last_of-last.ensures.ends) c.loop-flow.invariant.at
-    (more c.loop-flow.index c.args.first c.last_of-last.result c.args.recorder.now.steps c.loop-flow.recorder.steps c.steps-in-loop-flow.result
-    c.steps-in-loop-flow.ensures.steps c.loop-flow.invariant.at.count c.loop-flow.invariant.at.low c.loop-flow-test.true) c.loop-flow.invariant.free (step.ensures.count yes) ((rw c.stand_straight.ensures at step.ensures.leads) yes)
-    ((rw c.stand_straight.ensures at step.ensures.goes) yes c.args.most)).goes
+pub returns-in-DelaySlot-clause-goes : goal.returns-in-DelaySlot-clause-goes
+returns-in-DelaySlot-clause-goes g c = (at_next c.step_quickly.new.core c.step_quickly.new.flow c.step_quickly.new.memory.words.items (rw c.steps.ensures.steps at c.last_of-last.ensures.ends) c.loop-flow.invariant.at
+    (more_to c.loop-flow.index c.args.first c.last_of-last.result c.args.recorder.now.steps c.loop-flow.recorder.steps c.steps-in-loop-flow.result c.steps-in-loop-flow.ensures.steps
+    c.loop-flow.invariant.at.count c.loop-flow.invariant.at.low c.loop-flow-test.true)
+    c.loop-flow.invariant.free (rw c.pin_straight.ensures at c.in_ok-quick.ensures.leads) (rw c.pin_straight.ensures at c.in_ok-quick.ensures.goes) c.note_again.ensures).goes
 
-pub step_quickly-requires-then-delay : goal.step_quickly-requires-then-delay
-step_quickly-requires-then-delay g c =
-    let yes = c.if-not-step_quickly.false in
-    let step = c.step_quickly in
-    let start = state_of (with_flow c.args.core.now c.args.flow.now) c.args.memory.now in
-    let ends = rw c.steps.ensures.steps at c.last_of-last.ensures.ends in
-    let at = at_next g.row.PAGES c.args.most c.args.begun c.args.first c.args.halt (c.args.first + (c.last_of-last.result - c.args.recorder.now.steps)) c.loop-flow.index c.args.page
-    start c.args.recorder.now c.loop-flow.core step.new.core c.loop-flow.flow step.new.flow
-    c.loop-flow.memory.words.items step.new.memory.words.items c.loop-flow.recorder step.new.recorder ends c.loop-flow.invariant.at
-    (more c.loop-flow.index c.args.first c.last_of-last.result c.args.recorder.now.steps c.loop-flow.recorder.steps c.steps-in-loop-flow.result
-    c.steps-in-loop-flow.ensures.steps c.loop-flow.invariant.at.count c.loop-flow.invariant.at.low c.loop-flow-test.true) c.loop-flow.invariant.free (step.ensures.count yes) ((rw c.stand_straight.ensures at step.ensures.leads) yes)
-    ((rw c.stand_straight.ensures at step.ensures.goes) yes c.args.most) in
-    let here = word_here g.row.PAGES c.args.most c.args.begun c.args.first c.args.halt (c.args.first + (c.last_of-last.result - c.args.recorder.now.steps)) (c.loop-flow.index + 1) c.args.page
-    start c.args.recorder.now step.new.core step.new.flow step.new.memory.words.items step.new.recorder ends at (more (c.loop-flow.index + 1) c.args.first c.last_of-last.result c.args.recorder.now.steps step.new.recorder.steps c.steps-then-delay.result
-    c.steps-then-delay.ensures.steps at.count at.low c.if-steps-last.false) in
-    let fewer = fewer_than g.row.PAGES c.args.most c.args.begun c.args.first c.args.halt (c.args.first + (c.last_of-last.result - c.args.recorder.now.steps)) (c.loop-flow.index + 1) c.args.page
-    start c.args.recorder.now step.new.core step.new.flow step.new.memory.words.items step.new.recorder ends at (more (c.loop-flow.index + 1) c.args.first c.last_of-last.result c.args.recorder.now.steps step.new.recorder.steps c.steps-then-delay.result
-    c.steps-then-delay.ensures.steps at.count at.low c.if-steps-last.false) in
-    (omega arith, (omega arith, (at.may.code, (c.requires.page, (step.ensures.opened, (at.may.again, (here, omega (arith, fewer, c.requires.room))))))))
+pub returns-in-DelaySlot-clause-here : goal.returns-in-DelaySlot-clause-here
+returns-in-DelaySlot-clause-here g c =
+    let at = at_next c.step_quickly.new.core c.step_quickly.new.flow c.step_quickly.new.memory.words.items (rw c.steps.ensures.steps at c.last_of-last.ensures.ends) c.loop-flow.invariant.at
+    (more_to c.loop-flow.index c.args.first c.last_of-last.result c.args.recorder.now.steps c.loop-flow.recorder.steps c.steps-in-loop-flow.result c.steps-in-loop-flow.ensures.steps
+    c.loop-flow.invariant.at.count c.loop-flow.invariant.at.low c.loop-flow-test.true)
+    c.loop-flow.invariant.free (rw c.pin_straight.ensures at c.in_ok-quick.ensures.leads) (rw c.pin_straight.ensures at c.in_ok-quick.ensures.goes) c.note_again.ensures in
+    let ends = (rw c.steps.ensures.steps at c.last_of-last.ensures.ends) in
+    if_so c.delay_slot.result c.delay_slot.ensures
+    (λ slot so.
+    subst (λ (slot : ℕ). IsIndexIn c.args.page c.step_quickly.new.flow.pc slot) (sym so.0)
+    (word_here _ _ _ _ _ _ _ _ _ _ _ _ _ _ ends at (more_to (c.loop-flow.index + 1) c.args.first c.last_of-last.result c.args.recorder.now.steps c.note_again.new.self.steps c.steps-in-DelaySlot.result c.steps-in-DelaySlot.ensures.steps at.count at.low so.1)))
 
-pub returns-then-not-step_quickly-2-clause-goes : goal.returns-then-not-step_quickly-2-clause-goes
-returns-then-not-step_quickly-2-clause-goes g c =
-    let yes = c.if-not-step_quickly.false in
-    let no = c.if-not-step_quickly-2.true in
-    let step = c.step_quickly in
-    let last = c.step_quickly-then-delay.ensures in
-    rw (last.core no, last.flow no, last.words no, last.recorder no)
-    (at_next g.row.PAGES c.args.most c.args.begun c.args.first c.args.halt (c.args.first + (c.last_of-last.result - c.args.recorder.now.steps)) c.loop-flow.index c.args.page
-    (state_of (with_flow c.args.core.now c.args.flow.now) c.args.memory.now) c.args.recorder.now c.loop-flow.core step.new.core c.loop-flow.flow step.new.flow
-    c.loop-flow.memory.words.items step.new.memory.words.items c.loop-flow.recorder step.new.recorder (rw c.steps.ensures.steps at c.last_of-last.ensures.ends) c.loop-flow.invariant.at
-    (more c.loop-flow.index c.args.first c.last_of-last.result c.args.recorder.now.steps c.loop-flow.recorder.steps c.steps-in-loop-flow.result
-    c.steps-in-loop-flow.ensures.steps c.loop-flow.invariant.at.count c.loop-flow.invariant.at.low c.loop-flow-test.true) c.loop-flow.invariant.free (step.ensures.count yes) ((rw c.stand_straight.ensures at step.ensures.leads) yes)
-    ((rw c.stand_straight.ensures at step.ensures.goes) yes c.args.most)).goes
+pub returns-in-DelaySlot-clause-room : goal.returns-in-DelaySlot-clause-room
+returns-in-DelaySlot-clause-room g c =
+    let at = at_next c.step_quickly.new.core c.step_quickly.new.flow c.step_quickly.new.memory.words.items (rw c.steps.ensures.steps at c.last_of-last.ensures.ends) c.loop-flow.invariant.at
+    (more_to c.loop-flow.index c.args.first c.last_of-last.result c.args.recorder.now.steps c.loop-flow.recorder.steps c.steps-in-loop-flow.result c.steps-in-loop-flow.ensures.steps
+    c.loop-flow.invariant.at.count c.loop-flow.invariant.at.low c.loop-flow-test.true)
+    c.loop-flow.invariant.free (rw c.pin_straight.ensures at c.in_ok-quick.ensures.leads) (rw c.pin_straight.ensures at c.in_ok-quick.ensures.goes) c.note_again.ensures in
+    let ends = (rw c.steps.ensures.steps at c.last_of-last.ensures.ends) in
+    if_so c.delay_slot.result c.delay_slot.ensures
+    (λ slot so. fewer_than _ _ _ _ _ _ _ _ _ _ _ _ _ _ ends at (more_to (c.loop-flow.index + 1) c.args.first c.last_of-last.result c.args.recorder.now.steps c.note_again.new.self.steps c.steps-in-DelaySlot.result c.steps-in-DelaySlot.ensures.steps at.count at.low so.1))
 
-pub returns-then-delay-clause-goes : goal.returns-then-delay-clause-goes
-returns-then-delay-clause-goes g c =
-    let yes = c.if-not-step_quickly.false in
-    let step = c.step_quickly in
-    let last = c.step_quickly-then-delay in
-    let done = c.if-not-step_quickly-2.false in
-    let start = state_of (with_flow c.args.core.now c.args.flow.now) c.args.memory.now in
-    let ends = rw c.steps.ensures.steps at c.last_of-last.ensures.ends in
-    let at = at_next g.row.PAGES c.args.most c.args.begun c.args.first c.args.halt (c.args.first + (c.last_of-last.result - c.args.recorder.now.steps)) c.loop-flow.index c.args.page
-    start c.args.recorder.now c.loop-flow.core step.new.core c.loop-flow.flow step.new.flow
-    c.loop-flow.memory.words.items step.new.memory.words.items c.loop-flow.recorder step.new.recorder ends c.loop-flow.invariant.at
-    (more c.loop-flow.index c.args.first c.last_of-last.result c.args.recorder.now.steps c.loop-flow.recorder.steps c.steps-in-loop-flow.result
-    c.steps-in-loop-flow.ensures.steps c.loop-flow.invariant.at.count c.loop-flow.invariant.at.low c.loop-flow-test.true) c.loop-flow.invariant.free (step.ensures.count yes) ((rw c.stand_straight.ensures at step.ensures.leads) yes)
-    ((rw c.stand_straight.ensures at step.ensures.goes) yes c.args.most) in
-    goes_one g.row.PAGES c.args.most c.args.begun c.args.first c.args.halt (c.args.first + (c.last_of-last.result - c.args.recorder.now.steps)) (c.loop-flow.index + 1) c.args.page
-    start c.args.recorder.now step.new.core step.new.flow step.new.memory.words.items step.new.recorder
-    (state_of (with_flow last.new.core last.new.flow) last.new.memory) last.new.recorder
-    ends at (more (c.loop-flow.index + 1) c.args.first c.last_of-last.result c.args.recorder.now.steps step.new.recorder.steps c.steps-then-delay.result
-    c.steps-then-delay.ensures.steps at.count at.low c.if-steps-last.false) (last.ensures.count done) (last.ensures.goes done c.args.most)
+pub returns-in-DelaySlot-clause-elsewhere : goal.returns-in-DelaySlot-clause-elsewhere
+returns-in-DelaySlot-clause-elsewhere g c =
+    let at = at_next c.step_quickly.new.core c.step_quickly.new.flow c.step_quickly.new.memory.words.items (rw c.steps.ensures.steps at c.last_of-last.ensures.ends) c.loop-flow.invariant.at
+    (more_to c.loop-flow.index c.args.first c.last_of-last.result c.args.recorder.now.steps c.loop-flow.recorder.steps c.steps-in-loop-flow.result c.steps-in-loop-flow.ensures.steps
+    c.loop-flow.invariant.at.count c.loop-flow.invariant.at.low c.loop-flow-test.true)
+    c.loop-flow.invariant.free (rw c.pin_straight.ensures at c.in_ok-quick.ensures.leads) (rw c.pin_straight.ensures at c.in_ok-quick.ensures.goes) c.note_again.ensures in
+    let ends = (rw c.steps.ensures.steps at c.last_of-last.ensures.ends) in
+    if_so c.delay_slot.result c.delay_slot.ensures
+    (λ slot so address word.
+    let more = (more_to (c.loop-flow.index + 1) c.args.first c.last_of-last.result c.args.recorder.now.steps c.note_again.new.self.steps c.steps-in-DelaySlot.result c.steps-in-DelaySlot.ensures.steps at.count at.low so.1) in
+    not_at c.args.page address c.args.first (c.loop-flow.index + 1) _ c.args.halt _ at.low more ends.stops word (word_here _ _ _ _ _ _ _ _ _ _ _ _ _ _ ends at more))
 
-pub returns-then-delay-clause-straight : goal.returns-then-delay-clause-straight
-returns-then-delay-clause-straight g c =
-    λ yes.
-    let free = sym c.delay-then-delay.ensures ∙ (sym (not-not c.delay-then-delay.result) ∙ ap not yes) in
-    record { free = free; next = (c.step_quickly-then-delay.ensures.leads c.if-not-step_quickly-2.false).next free }
+pub loop-flow-preserved-in-WordAfterLoad : goal.loop-flow-preserved-in-WordAfterLoad
+loop-flow-preserved-in-WordAfterLoad g c = record {
+  at = at_next c.step_quickly.new.core c.step_quickly.new.flow c.step_quickly.new.memory.words.items (rw c.steps.ensures.steps at c.last_of-last.ensures.ends) c.loop-flow.invariant.at
+      (more_to c.loop-flow.index c.args.first c.last_of-last.result c.args.recorder.now.steps c.loop-flow.recorder.steps c.steps-in-loop-flow.result c.steps-in-loop-flow.ensures.steps
+      c.loop-flow.invariant.at.count c.loop-flow.invariant.at.low c.loop-flow-test.true)
+      c.loop-flow.invariant.free (rw c.pin_straight.ensures at c.in_ok-quick.ensures.leads) (rw c.pin_straight.ensures at c.in_ok-quick.ensures.goes) c.note_again-in-WordAfterLoad.ensures;
+  free = rw c.in-WordAfterLoad.is at c.in_ok-quick.ensures.next;
+  opened = c.step_quickly.ensures.opened;
+}
+
+pub loop-flow-2-init : goal.loop-flow-2-init
+loop-flow-2-init g c =
+    let next = rw c.in-Word.is at c.in_ok-quick.ensures.next in record {
+      at = at_next c.step_quickly.new.core c.step_quickly.new.flow c.step_quickly.new.memory.words.items (rw c.steps.ensures.steps at c.last_of-last.ensures.ends) c.loop-flow.invariant.at
+          (more_to c.loop-flow.index c.args.first c.last_of-last.result c.args.recorder.now.steps c.loop-flow.recorder.steps c.steps-in-loop-flow.result c.steps-in-loop-flow.ensures.steps
+          c.loop-flow.invariant.at.count c.loop-flow.invariant.at.low c.loop-flow-test.true)
+          c.loop-flow.invariant.free (rw c.pin_straight.ensures at c.in_ok-quick.ensures.leads) (rw c.pin_straight.ensures at c.in_ok-quick.ensures.goes) c.note_again-in-Word.ensures;
+      free = next.1;
+      unloaded = next.0;
+      opened = c.step_quickly.ensures.opened;
+      least = omega arith;
+    }
+
+pub loop-flow-preserved-in-loop-flow-2 : goal.loop-flow-preserved-in-loop-flow-2
+loop-flow-preserved-in-loop-flow-2 g c = record {
+  at = c.loop-flow-2.invariant.at;
+  free = c.loop-flow-2.invariant.free;
+  opened = c.loop-flow-2.invariant.opened;
+}
+
+pub returns-in_err-quick-2-clause-goes : goal.returns-in_err-quick-2-clause-goes
+returns-in_err-quick-2-clause-goes g c = rw (c.in_err-quick-2.ensures.core refl, c.in_err-quick-2.ensures.flow refl, c.in_err-quick-2.ensures.words refl, c.pin_unloaded.ensures, c.pin_straight-in-loop-flow-2.ensures) c.loop-flow-2.invariant.at.goes
+
+pub returns-in-DelaySlot-next-clause-goes : goal.returns-in-DelaySlot-next-clause-goes
+returns-in-DelaySlot-next-clause-goes g c = (at_next c.step_quickly-in-loop-flow-2.new.core c.step_quickly-in-loop-flow-2.new.flow c.step_quickly-in-loop-flow-2.new.memory.words.items (rw c.steps.ensures.steps at c.last_of-last.ensures.ends) c.loop-flow-2.invariant.at
+    (more_to c.loop-flow-2.index c.args.first c.last_of-last.result c.args.recorder.now.steps c.loop-flow-2.recorder.steps c.steps-in-loop-flow-2.result c.steps-in-loop-flow-2.ensures.steps
+    c.loop-flow-2.invariant.at.count c.loop-flow-2.invariant.at.low c.loop-flow-2-test.true)
+    c.loop-flow-2.invariant.free (rw (c.pin_unloaded.ensures, c.pin_straight-in-loop-flow-2.ensures) at c.in_ok-quick-2.ensures.leads) (rw (c.pin_unloaded.ensures, c.pin_straight-in-loop-flow-2.ensures) at c.in_ok-quick-2.ensures.goes) c.note_again-in-DelaySlot-next.ensures).goes
+
+pub returns-in-DelaySlot-next-clause-here : goal.returns-in-DelaySlot-next-clause-here
+returns-in-DelaySlot-next-clause-here g c =
+    let at = at_next c.step_quickly-in-loop-flow-2.new.core c.step_quickly-in-loop-flow-2.new.flow c.step_quickly-in-loop-flow-2.new.memory.words.items (rw c.steps.ensures.steps at c.last_of-last.ensures.ends) c.loop-flow-2.invariant.at
+    (more_to c.loop-flow-2.index c.args.first c.last_of-last.result c.args.recorder.now.steps c.loop-flow-2.recorder.steps c.steps-in-loop-flow-2.result c.steps-in-loop-flow-2.ensures.steps
+    c.loop-flow-2.invariant.at.count c.loop-flow-2.invariant.at.low c.loop-flow-2-test.true)
+    c.loop-flow-2.invariant.free (rw (c.pin_unloaded.ensures, c.pin_straight-in-loop-flow-2.ensures) at c.in_ok-quick-2.ensures.leads) (rw (c.pin_unloaded.ensures, c.pin_straight-in-loop-flow-2.ensures) at c.in_ok-quick-2.ensures.goes) c.note_again-in-DelaySlot-next.ensures in
+    let ends = (rw c.steps.ensures.steps at c.last_of-last.ensures.ends) in
+    if_so c.delay_slot-in-DelaySlot-next.result c.delay_slot-in-DelaySlot-next.ensures
+    (λ slot so.
+    subst (λ (slot : ℕ). IsIndexIn c.args.page c.step_quickly-in-loop-flow-2.new.flow.pc slot) (sym so.0)
+    (word_here _ _ _ _ _ _ _ _ _ _ _ _ _ _ ends at (more_to (c.loop-flow-2.index + 1) c.args.first c.last_of-last.result c.args.recorder.now.steps c.note_again-in-DelaySlot-next.new.self.steps c.steps-in-DelaySlot-next.result c.steps-in-DelaySlot-next.ensures.steps at.count at.low so.1)))
+
+pub returns-in-DelaySlot-next-clause-room : goal.returns-in-DelaySlot-next-clause-room
+returns-in-DelaySlot-next-clause-room g c =
+    let at = at_next c.step_quickly-in-loop-flow-2.new.core c.step_quickly-in-loop-flow-2.new.flow c.step_quickly-in-loop-flow-2.new.memory.words.items (rw c.steps.ensures.steps at c.last_of-last.ensures.ends) c.loop-flow-2.invariant.at
+    (more_to c.loop-flow-2.index c.args.first c.last_of-last.result c.args.recorder.now.steps c.loop-flow-2.recorder.steps c.steps-in-loop-flow-2.result c.steps-in-loop-flow-2.ensures.steps
+    c.loop-flow-2.invariant.at.count c.loop-flow-2.invariant.at.low c.loop-flow-2-test.true)
+    c.loop-flow-2.invariant.free (rw (c.pin_unloaded.ensures, c.pin_straight-in-loop-flow-2.ensures) at c.in_ok-quick-2.ensures.leads) (rw (c.pin_unloaded.ensures, c.pin_straight-in-loop-flow-2.ensures) at c.in_ok-quick-2.ensures.goes) c.note_again-in-DelaySlot-next.ensures in
+    let ends = (rw c.steps.ensures.steps at c.last_of-last.ensures.ends) in
+    if_so c.delay_slot-in-DelaySlot-next.result c.delay_slot-in-DelaySlot-next.ensures
+    (λ slot so. fewer_than _ _ _ _ _ _ _ _ _ _ _ _ _ _ ends at (more_to (c.loop-flow-2.index + 1) c.args.first c.last_of-last.result c.args.recorder.now.steps c.note_again-in-DelaySlot-next.new.self.steps c.steps-in-DelaySlot-next.result c.steps-in-DelaySlot-next.ensures.steps at.count at.low so.1))
+
+pub returns-in-DelaySlot-next-clause-elsewhere : goal.returns-in-DelaySlot-next-clause-elsewhere
+returns-in-DelaySlot-next-clause-elsewhere g c =
+    let at = at_next c.step_quickly-in-loop-flow-2.new.core c.step_quickly-in-loop-flow-2.new.flow c.step_quickly-in-loop-flow-2.new.memory.words.items (rw c.steps.ensures.steps at c.last_of-last.ensures.ends) c.loop-flow-2.invariant.at
+    (more_to c.loop-flow-2.index c.args.first c.last_of-last.result c.args.recorder.now.steps c.loop-flow-2.recorder.steps c.steps-in-loop-flow-2.result c.steps-in-loop-flow-2.ensures.steps
+    c.loop-flow-2.invariant.at.count c.loop-flow-2.invariant.at.low c.loop-flow-2-test.true)
+    c.loop-flow-2.invariant.free (rw (c.pin_unloaded.ensures, c.pin_straight-in-loop-flow-2.ensures) at c.in_ok-quick-2.ensures.leads) (rw (c.pin_unloaded.ensures, c.pin_straight-in-loop-flow-2.ensures) at c.in_ok-quick-2.ensures.goes) c.note_again-in-DelaySlot-next.ensures in
+    let ends = (rw c.steps.ensures.steps at c.last_of-last.ensures.ends) in
+    if_so c.delay_slot-in-DelaySlot-next.result c.delay_slot-in-DelaySlot-next.ensures
+    (λ slot so address word.
+    let more = (more_to (c.loop-flow-2.index + 1) c.args.first c.last_of-last.result c.args.recorder.now.steps c.note_again-in-DelaySlot-next.new.self.steps c.steps-in-DelaySlot-next.result c.steps-in-DelaySlot-next.ensures.steps at.count at.low so.1) in
+    not_at c.args.page address c.args.first (c.loop-flow-2.index + 1) _ c.args.halt _ at.low more ends.stops word (word_here _ _ _ _ _ _ _ _ _ _ _ _ _ _ ends at more))
 
 pub loop-flow-preserved : goal.loop-flow-preserved
-loop-flow-preserved g c =
-    let yes = c.if-not-step_quickly.false in
-    let step = c.step_quickly in record {
-      at =
-          at_next g.row.PAGES c.args.most c.args.begun c.args.first c.args.halt (c.args.first + (c.last_of-last.result - c.args.recorder.now.steps)) c.loop-flow.index c.args.page
-          (state_of (with_flow c.args.core.now c.args.flow.now) c.args.memory.now) c.args.recorder.now c.loop-flow.core step.new.core c.loop-flow.flow step.new.flow
-          c.loop-flow.memory.words.items step.new.memory.words.items c.loop-flow.recorder step.new.recorder (rw c.steps.ensures.steps at c.last_of-last.ensures.ends) c.loop-flow.invariant.at
-          (more c.loop-flow.index c.args.first c.last_of-last.result c.args.recorder.now.steps c.loop-flow.recorder.steps c.steps-in-loop-flow.result
-          c.steps-in-loop-flow.ensures.steps c.loop-flow.invariant.at.count c.loop-flow.invariant.at.low c.loop-flow-test.true) c.loop-flow.invariant.free (step.ensures.count yes) ((rw c.stand_straight.ensures at step.ensures.leads) yes)
-          ((rw c.stand_straight.ensures at step.ensures.goes) yes c.args.most);
-      free = sym c.if-delay.ensures;
-      opened = step.ensures.opened;
+loop-flow-preserved g c = record {
+  at = at_next c.step_quickly-in-loop-flow-2.new.core c.step_quickly-in-loop-flow-2.new.flow c.step_quickly-in-loop-flow-2.new.memory.words.items (rw c.steps.ensures.steps at c.last_of-last.ensures.ends) c.loop-flow-2.invariant.at
+      (more_to c.loop-flow-2.index c.args.first c.last_of-last.result c.args.recorder.now.steps c.loop-flow-2.recorder.steps c.steps-in-loop-flow-2.result c.steps-in-loop-flow-2.ensures.steps
+      c.loop-flow-2.invariant.at.count c.loop-flow-2.invariant.at.low c.loop-flow-2-test.true)
+      c.loop-flow-2.invariant.free (rw (c.pin_unloaded.ensures, c.pin_straight-in-loop-flow-2.ensures) at c.in_ok-quick-2.ensures.leads) (rw (c.pin_unloaded.ensures, c.pin_straight-in-loop-flow-2.ensures) at c.in_ok-quick-2.ensures.goes) c.note_again-in-WordAfterLoad-next.ensures;
+  free = rw c.in-WordAfterLoad-next.is at c.in_ok-quick-2.ensures.next;
+  opened = c.step_quickly-in-loop-flow-2.ensures.opened;
+}
+
+pub loop-flow-2-preserved : goal.loop-flow-2-preserved
+loop-flow-2-preserved g c =
+    let next = rw c.in-Word-next.is at c.in_ok-quick-2.ensures.next in record {
+      at = at_next c.step_quickly-in-loop-flow-2.new.core c.step_quickly-in-loop-flow-2.new.flow c.step_quickly-in-loop-flow-2.new.memory.words.items (rw c.steps.ensures.steps at c.last_of-last.ensures.ends) c.loop-flow-2.invariant.at
+          (more_to c.loop-flow-2.index c.args.first c.last_of-last.result c.args.recorder.now.steps c.loop-flow-2.recorder.steps c.steps-in-loop-flow-2.result c.steps-in-loop-flow-2.ensures.steps
+          c.loop-flow-2.invariant.at.count c.loop-flow-2.invariant.at.low c.loop-flow-2-test.true)
+          c.loop-flow-2.invariant.free (rw (c.pin_unloaded.ensures, c.pin_straight-in-loop-flow-2.ensures) at c.in_ok-quick-2.ensures.leads) (rw (c.pin_unloaded.ensures, c.pin_straight-in-loop-flow-2.ensures) at c.in_ok-quick-2.ensures.goes) c.note_again-in-Word-next.ensures;
+      free = next.1;
+      unloaded = next.0;
+      opened = c.step_quickly-in-loop-flow-2.ensures.opened;
+      least = omega (arith, c.loop-flow-2.invariant.least, c.note_again-in-Word-next.ensures.steps);
     }
 
 pub returns-clause-goes : goal.returns-clause-goes
-returns-clause-goes g c = rw c.stand_straight-2.ensures c.loop-flow.invariant.at.goes
+returns-clause-goes g c = rw c.pin_straight-2.ensures c.loop-flow.invariant.at.goes

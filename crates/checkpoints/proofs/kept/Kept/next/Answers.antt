@@ -1,7 +1,7 @@
 use Rattle.std.proofs.Common.{◌≡◌, ◌+◌, IsSomeAnd, List, Some, slice_get, sym, ap, subst, ◌∙◌}
 use Rattle.std.proofs.lemmas.Option.{IfSome_then}
 use Rattle.checkpoints.specs.Kept.{Follows, Kept, first_at, row_at}
-use Rattle.checkpoints.specs.Rows.{Places, Tied, records_of}
+use Rattle.checkpoints.specs.Rows.{Places, Linked, records_of}
 use Rattle.checkpoints.proofs.Rows.{leads}
 use Rattle.checkpoints.proofs.kept.Kept.next.Goals as goal
 
@@ -17,5 +17,5 @@ returns g c =
     IfSome_then c.place_in.result c.place_in.ensures
     (λ place named.
     subst (λ (k : Kept). Follows pages span (first_at k.rows i) (slice_get (row_at k.rows (i + 1)) place)) c.self.view_is
-    (leads pages span places c.self.inside.valid c.self.inside.most c.self.inside.names i place r c.in_ok-name.name c.self.invariant.0 there (ap (λ (r : Tied). r.next) (sym c.branch.view_is) ∙ c.in_ok-name.was {u = tt})
+    (leads pages span places c.self.inside.valid c.self.inside.most c.self.inside.names i place r c.in_ok-name.name c.self.invariant.0 there (ap (λ (r : Linked). r.next) (sym c.branch.view_is) ∙ c.in_ok-name.was {u = tt})
     (subst (λ (places : List Places). IsSomeAnd (slice_get (row_at (records_of places) (i + 1)) place) (λ n. n.name ≡ c.in_ok-name.name)) c.deref-2.ensures.value named)))

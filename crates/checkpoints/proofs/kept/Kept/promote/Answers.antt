@@ -2,7 +2,7 @@ use Rattle.std.proofs.Common.{◌<◌, List, length, sym, ap, subst, ◌∙◌, 
 use Rattle.std.proofs.lemmas.Option.{IfSome_then}
 use Rattle.span_fact.specs.Span.{Span}
 use Rattle.checkpoints.specs.Kept.{Kept, promoted, row_at}
-use Rattle.checkpoints.specs.Rows.{Tied, spans_of}
+use Rattle.checkpoints.specs.Rows.{Linked, spans_of}
 use Rattle.checkpoints.proofs.Rows.{item, length_promoted, place_within, promote_kept, room_kept, row_is, row_of, row_within, seen_other, seen_set, spans_promoted}
 use Rattle.checkpoints.proofs.kept.Kept.promote.Goals as goal
 
@@ -20,7 +20,7 @@ promote-requires g c =
     let seen = subst (λ (k : Kept). c.args.place < length (row_at k.rows c.args.index)) (sym c.self.view_is) c.requires in
     let at = place_within places c.args.index c.args.place seen in
     let there = item places c.args.index p (row_within places c.args.index c.args.place at) c.index_mut.ensures.value in
-    (omega arith, subst (λ (row : List Tied). c.args.place < length row) (row_is places c.args.index p there) at)
+    (omega arith, subst (λ (row : List Linked). c.args.place < length row) (row_is places c.args.index p there) at)
 
 pub invariant_of-self : goal.invariant_of-self
 invariant_of-self g c =
@@ -31,8 +31,8 @@ invariant_of-self g c =
     let seen = subst (λ (k : Kept). c.args.place < length (row_at k.rows c.args.index)) (sym c.self.view_is) c.requires in
     let at = place_within places c.args.index c.args.place seen in
     let there = item places c.args.index p (row_within places c.args.index c.args.place at) c.index_mut.ensures.value in
-    let within = subst (λ (row : List Tied). c.args.place < length row) (row_is places c.args.index p there) at in
-    let long = ap (λ (row : List Tied). length row) c.promote.ensures.records ∙ length_promoted c.args.place p.records within in (
+    let within = subst (λ (row : List Linked). c.args.place < length row) (row_is places c.args.index p there) at in
+    let long = ap (λ (row : List Linked). length row) c.promote.ensures.records ∙ length_promoted c.args.place p.records within in (
       promote_kept g.row.PAGES g.row.SPAN places inside.valid inside.most inside.names c.args.index c.args.place p q c.self.invariant.0 there within c.promote.ensures.records,
       IfSome_then inside.reserved c.self.invariant.1 (λ n is. room_kept places inside.most c.args.index n p q there long c.promote.ensures.room is),
     )
@@ -48,7 +48,7 @@ returns-clause-row g c =
     seen_set places i c.promote.new.self less
     ∙ (ap spans_of c.promote.ensures.records
     ∙ (spans_promoted c.args.place p.records
-    ∙ (ap (λ (row : List Tied). promoted c.args.place (spans_of row)) (sym (row_is places i p there))
+    ∙ (ap (λ (row : List Linked). promoted c.args.place (spans_of row)) (sym (row_is places i p there))
     ∙ (ap (λ (row : List Span). promoted c.args.place row) (sym (row_of places i))
     ∙ ap (λ (k : Kept). promoted c.args.place (row_at k.rows i)) c.self.view_is))))
 

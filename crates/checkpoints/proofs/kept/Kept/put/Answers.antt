@@ -1,7 +1,7 @@
 use Rattle.std.proofs.Common.{◌≡◌, ◌∷◌, ◌-◌, ◌<◌, ◌≤◌, ℕ, List, None, Some, IsOk, length, slice_set, take, refl, sym, ap, subst, ◌∙◌, arith}
 use Rattle.span_fact.specs.Span.{Span}
 use Rattle.checkpoints.specs.Kept.{Kept, row_at}
-use Rattle.checkpoints.specs.Rows.{IsRoom, Places, Tied, records_of, rows_of, spans_of}
+use Rattle.checkpoints.specs.Rows.{IsRoom, Places, Linked, records_of, rows_of, spans_of}
 use Rattle.checkpoints.proofs.Rows.{item, not_both, put_kept, row_is, row_of, row_other, row_set, seen_other, seen_set, some_is, spans_put}
 use Rattle.checkpoints.proofs.kept.Kept.put.Goals as goal
 
@@ -26,7 +26,7 @@ put-requires g c =
         (
           c.self.invariant.0.some,
           (
-            subst (λ (row : List Tied). length row ≤ inside.most) (row_is places n p there) (c.self.invariant.0.few n),
+            subst (λ (row : List Linked). length row ≤ inside.most) (row_is places n p there) (c.self.invariant.0.few n),
             some_is _ p (λ (p : Places). ¬ (length p.records ≡ inside.most) → length p.records < p.room) there room.room,
           ),
         ),
@@ -47,9 +47,9 @@ invariant_of-self g c =
     let q = c.put.new.self in
     let room = some_is inside.reserved n (IsRoom places inside.most) (ap (λ (k : Kept). k.reserved) c.self.view_is ∙ (c.in_ok-reserve.ensures {u = tt}).reserved) c.self.invariant.1 in
     let there = item places n p room.there c.index_mut.ensures.value in
-    let r : Tied = record { span = c.args.fact; name = inside.names; next = None } in (
+    let r : Linked = record { span = c.args.fact; name = inside.names; next = None } in (
       put_kept g.row.PAGES g.row.SPAN (records_of places) (records_of (slice_set places n q)) inside.valid inside.most inside.names c.saturating_add-self-inside.result n r c.self.invariant.0
-          (row_set places n q room.there ∙ (c.put.ensures ∙ ap (λ (row : List Tied). r ∷ take (inside.most - 1) row) (sym (row_is places n p there))))
+          (row_set places n q room.there ∙ (c.put.ensures ∙ ap (λ (row : List Linked). r ∷ take (inside.most - 1) row) (sym (row_is places n p there))))
           (λ i other. row_other places n i q other) (sym c.index-index.ensures) refl refl (omega (arith, c.saturating_add-self-inside.ensures)),
       tt,
     )
@@ -63,7 +63,7 @@ returns-clause-there g c =
     let q = c.put.new.self in
     let room = some_is inside.reserved n (IsRoom places inside.most) (ap (λ (k : Kept). k.reserved) c.self.view_is ∙ (c.in_ok-reserve.ensures {u = tt}).reserved) c.self.invariant.1 in
     let there = item places n p room.there c.index_mut.ensures.value in
-    let r : Tied = record { span = c.args.fact; name = inside.names; next = None } in
+    let r : Linked = record { span = c.args.fact; name = inside.names; next = None } in
     let most : inside.most ≡ c.args.self.now.most = ap (λ (k : Kept). k.most) c.self.view_is ∙ c.reserve.ensures.most in
     let row : spans_of p.records ≡ row_at c.args.self.now.rows c.args.fact.index =
     ap spans_of (sym (row_is places n p there))

@@ -14,10 +14,10 @@ use Rattle.present_run.proofs.frontier.Frontier.carry_over.Goals as goal
 pub carry_to_end-requires : goal.carry_to_end-requires
 carry_to_end-requires g c =
     let is = ap (first_at c.args.kept.now.rows) (sym c.valid-index.ensures) ∙ (c.in-Some.ensures {u = tt}).fact in
-    (omega arith, (omega arith, (omega arith, (subst (λ (o : Option Span). IsSomeAnd o (λ s. NearlyApplies g.row.PAGES g.row.SPAN s c.args.start.now s.events)) is c.requires.near, if_some _ _ _ is c.meet.ensures.differ))))
+    (omega arith, (omega arith, (omega arith, (subst (λ (o : Option Span). IsSomeAnd o (λ s. NearlyApplies g.row.PAGES g.row.SPAN s c.args.start.now s.events)) is c.requires.near, if_some _ _ _ is c.find_differing.ensures.differ))))
 
-pub tie_if-requires : goal.tie_if-requires
-tie_if-requires g c =
+pub link_if-requires : goal.link_if-requires
+link_if-requires g c =
     let kept = c.args.kept.now in
     let n = c.valid-index.result in (
       omega arith,
@@ -60,7 +60,7 @@ returns-clause-known g c = λ starts end.
     let next : end_of pages span (record r { start = start }) ≡ starts (n + 1) =
     sym ((c.in_ok-end.ensures {u = tt}).end) ∙ (sym end ∙ ap (λ (i : ℕ). starts (i + 1)) (sym c.valid-index.ensures)) in
     let f : Frontier pages = record { after = Some n; differing = set; exact = c.is_empty-self.result } in
-    subst (λ (k : Kept). IsKnown span k.rows starts f) (sym c.tie_if.ensures)
+    subst (λ (k : Kept). IsKnown span k.rows starts f) (sym c.link_if.ensures)
     (record {
       near =
           subst (λ (o : Option Span). EndsNear pages span o set (starts (n + 1))) (sym is)

@@ -12,8 +12,8 @@ ok_of : {A E : Type 0} (r : Result A E) (P : Type 0) → IsOk r → IfOk r (λ _
 ok_of (Ok x) P ok there = there
 ok_of (Err e) P ok there = absurd (false≢true ok)
 
-pub tie_if-requires : goal.tie_if-requires
-tie_if-requires g c =
+pub link_if-requires : goal.link_if-requires
+link_if-requires g c =
     let new = c.put-there_is_room.new.self in
     let n = c.index-index.result in
     let ok = c.put-there_is_room.ensures.free c.requires.room in (
@@ -38,14 +38,14 @@ tie_if-requires g c =
 
 pub returns-clause-row : goal.returns-clause-row
 returns-clause-row g c =
-    ap (λ (k : Kept). row_at k.rows c.args.kept.now.valid) c.tie_if.ensures
+    ap (λ (k : Kept). row_at k.rows c.args.kept.now.valid) c.link_if.ensures
     ∙ (ap (row_at c.put-there_is_room.new.self.rows) (sym c.requires.number)
     ∙ (ok_of c.put-there_is_room.result _ (c.put-there_is_room.ensures.free c.requires.room) c.put-there_is_room.ensures.there
     ∙ ap (λ (i : ℕ). c.args.fact ∷ take (c.args.kept.now.most - 1) (row_at c.args.kept.now.rows i)) c.requires.number))
 
 pub returns-clause-others : goal.returns-clause-others
 returns-clause-others g c = λ i other.
-    ap (λ (k : Kept). row_at k.rows i) c.tie_if.ensures
+    ap (λ (k : Kept). row_at k.rows i) c.link_if.ensures
     ∙ ok_of c.put-there_is_room.result _ (c.put-there_is_room.ensures.free c.requires.room) c.put-there_is_room.ensures.others i (λ same. other (same ∙ c.requires.number))
 
 pub returns-clause-known : goal.returns-clause-known
@@ -54,8 +54,8 @@ returns-clause-known g c = λ starts ends.
     let span = g.row.SPAN in
     let n = c.index-index.result in
     let number : n ≡ c.args.kept.now.valid = c.index-index.ensures ∙ c.requires.number in
-    let there : first_at c.tie_if.new.kept.rows n ≡ Some c.args.fact =
-    ap (λ (i : ℕ). first_at c.tie_if.new.kept.rows i) number ∙ ap (λ (row : List Span). slice_get row 0) (returns-clause-row g c) in
+    let there : first_at c.link_if.new.kept.rows n ≡ Some c.args.fact =
+    ap (λ (i : ℕ). first_at c.link_if.new.kept.rows i) number ∙ ap (λ (row : List Span). slice_get row 0) (returns-clause-row g c) in
     let end : starts (n + 1) ≡ end_of pages span c.args.fact = ap (λ (i : ℕ). starts (i + 1)) number ∙ ends in record {
       near =
           subst (λ (o : Option Span). EndsNear pages span o c.clear.new.self (starts (n + 1))) (sym there)

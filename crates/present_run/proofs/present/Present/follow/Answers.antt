@@ -7,14 +7,14 @@ use Rattle.present_run.proofs.present.Present.follow.Goals as goal
 
 pub returns-clause-spends : goal.returns-clause-spends
 returns-clause-spends g c =
-    spends_more g.row.PAGES g.row.SPAN (c.args.position / g.row.SPAN) (c.args.position % g.row.SPAN) c.args.count (holding_of c.args.self.now) (holding_of c.stand.new.self) _
-    c.stand.ensures.spends refl refl refl c.follow.ensures.least c.follow.ensures.count
+    spends_more g.row.PAGES g.row.SPAN (c.args.position / g.row.SPAN) (c.args.position % g.row.SPAN) c.args.count (holding_of c.args.self.now) (holding_of c.go_to.new.self) _
+    c.go_to.ensures.spends refl refl refl c.follow.ensures.least c.follow.ensures.count
 
 pub returns-clause-reaches : goal.returns-clause-reaches
 returns-clause-reaches g c =
-    reaches_more g.row.PAGES g.row.SPAN (c.args.position / g.row.SPAN) (holding_of c.args.self.now) (holding_of c.stand.new.self) _
-    (c.in_ok-stand.ensures {u = tt}).reaches refl refl c.follow.ensures.least
+    reaches_more g.row.PAGES g.row.SPAN (c.args.position / g.row.SPAN) (holding_of c.args.self.now) (holding_of c.go_to.new.self) _
+    (c.in_ok-go_to.ensures {u = tt}).reaches refl refl c.follow.ensures.least
 
 pub returns-clause-traced : goal.returns-clause-traced
 returns-clause-traced g c =
-    c.follow.ensures.traced ∙ ap (λ (h : History). traces_at g.row.PAGES h.image h.log c.args.position c.args.count) c.stand.ensures.stays.history
+    c.follow.ensures.traced ∙ ap (λ (h : History). traces_at g.row.PAGES h.image h.log c.args.position c.args.count) c.go_to.ensures.stays.history

@@ -12,24 +12,24 @@ use Rattle.present_run.proofs.Held.{stays_on}
 pub returns-clause-spends : goal.returns-clause-spends
 returns-clause-spends g c =
     let position = c.args.position in
-    spends_rest g.row.PAGES g.row.SPAN (position / g.row.SPAN) (position % g.row.SPAN + (c.args.last - position)) (holding_of c.args.self.now) (holding_of c.reach.new.self)
-    (holding_of c.visit.new.self) c.reach.ensures.spends c.visit.ensures.stays.history c.visit.ensures.stays.pasts c.visit.ensures.rows c.visit.ensures.least c.visit.ensures.count
+    spends_rest g.row.PAGES g.row.SPAN (position / g.row.SPAN) (position % g.row.SPAN + (c.args.last - position)) (holding_of c.args.self.now) (holding_of c.join_before.new.self)
+    (holding_of c.visit.new.self) c.join_before.ensures.spends c.visit.ensures.stays.history c.visit.ensures.stays.pasts c.visit.ensures.rows c.visit.ensures.least c.visit.ensures.count
 
 pub returns-clause-reaches : goal.returns-clause-reaches
 returns-clause-reaches g c =
     let index = c.args.position / g.row.SPAN in
     ok_all c.visit.result (Reaches g.row.PAGES g.row.SPAN index (holding_of c.args.self.now) (holding_of c.visit.new.self))
-    (reaches_more g.row.PAGES g.row.SPAN index (holding_of c.args.self.now) (holding_of c.reach.new.self)
-    (holding_of c.visit.new.self) (c.in_ok-reach.ensures {u = tt}).reaches c.visit.ensures.stays.history c.visit.ensures.rows c.visit.ensures.least)
+    (reaches_more g.row.PAGES g.row.SPAN index (holding_of c.args.self.now) (holding_of c.join_before.new.self)
+    (holding_of c.visit.new.self) (c.in_ok-join_before.ensures {u = tt}).reaches c.visit.ensures.stays.history c.visit.ensures.rows c.visit.ensures.least)
 
 pub returns-clause-found : goal.returns-clause-found
 returns-clause-found g c =
     IfOk-weaker c.visit.result _ _
-    (λ found is. is ∙ ap (λ (h : History). next_visit g.row.PAGES h.image h.log c.args.address c.args.position (c.args.last - c.args.position)) c.reach.ensures.stays.history)
+    (λ found is. is ∙ ap (λ (h : History). next_visit g.row.PAGES h.image h.log c.args.address c.args.position (c.args.last - c.args.position)) c.join_before.ensures.stays.history)
     c.visit.ensures.found
 
 pub returns-clause-bound : goal.returns-clause-bound
 returns-clause-bound g c = c.visit.ensures.bound
 
 pub returns-clause-stays : goal.returns-clause-stays
-returns-clause-stays g c = let stays = stays_on c.reach.ensures.stays c.visit.ensures.stays in record { history = stays.history; landings = stays.landings; pasts = stays.pasts }
+returns-clause-stays g c = let stays = stays_on c.join_before.ensures.stays c.visit.ensures.stays in record { history = stays.history; recent_states = stays.recent_states; pasts = stays.pasts }

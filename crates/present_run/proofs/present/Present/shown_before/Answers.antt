@@ -39,19 +39,19 @@ loop-index-smaller g c =
     let log = c.args.self.now.inputs.log in
     let line = c.args.line in
     let index = c.loop-index.index in
-    let next = c.sender_of-index-in-loop-index.result in
+    let next = c.sending_span-index-in-loop-index.result in
     let shows = subst (λ (bytes : List ℕ). Shows c.args.from c.args.count bytes c.take_of.new.self)
     (ap (λ (s : List SentAt). console_of line (trace_at pages image log (index * span)) ++ bytes_on line s) c.sent_in.ensures
     ∙ console_front pages image log line (index * span) ((index + 1) * span) (up_to_next index span))
     (c.take_of.ensures.shows (console_of line (trace_at pages image log (index * span))) c.loop-index.invariant.shown) in
     let later : index + 1 ≤ next =
-    later_sender pages span image log line index next c.args.spans c.take_of.new.self.total c.loop-index-test.true shows.0 c.sender_of-index-in-loop-index.ensures.to in
-    omega (arith, later, c.loop-index-test.true, c.sender_of-index-in-loop-index.ensures.within)
+    later_sender pages span image log line index next c.args.spans c.take_of.new.self.total c.loop-index-test.true shows.0 c.sending_span-index-in-loop-index.ensures.to in
+    omega (arith, later, c.loop-index-test.true, c.sending_span-index-in-loop-index.ensures.within)
 
 pub loop-index-init : goal.loop-index-init
 loop-index-init g c = record {
-  shown = (c.count_of.ensures, c.new.ensures ∙ sym (part_short c.args.from c.args.count _ c.sender_of-index.ensures.from));
-  within = c.sender_of-index.ensures.within;
+  shown = (c.count_of.ensures, c.new.ensures ∙ sym (part_short c.args.from c.args.count _ c.sending_span-index.ensures.from));
+  within = c.sending_span-index.ensures.within;
 }
 
 pub loop-index-preserved : goal.loop-index-preserved
@@ -62,15 +62,15 @@ loop-index-preserved g c =
     let log = c.args.self.now.inputs.log in
     let line = c.args.line in
     let index = c.loop-index.index in
-    let next = c.sender_of-index-in-loop-index.result in
+    let next = c.sending_span-index-in-loop-index.result in
     let shows = subst (λ (bytes : List ℕ). Shows c.args.from c.args.count bytes c.take_of.new.self)
     (ap (λ (s : List SentAt). console_of line (trace_at pages image log (index * span)) ++ bytes_on line s) c.sent_in.ensures
     ∙ console_front pages image log line (index * span) ((index + 1) * span) (up_to_next index span))
     (c.take_of.ensures.shows (console_of line (trace_at pages image log (index * span))) c.loop-index.invariant.shown) in
     let later : index + 1 ≤ next =
-    later_sender pages span image log line index next c.args.spans c.take_of.new.self.total c.loop-index-test.true shows.0 c.sender_of-index-in-loop-index.ensures.to in record {
-      shown = shows_next pages span image log line c.args.from c.args.count index next c.take_of.new.self later c.sender_of-index-in-loop-index.ensures.from shows;
-      within = c.sender_of-index-in-loop-index.ensures.within;
+    later_sender pages span image log line index next c.args.spans c.take_of.new.self.total c.loop-index-test.true shows.0 c.sending_span-index-in-loop-index.ensures.to in record {
+      shown = shows_next pages span image log line c.args.from c.args.count index next c.take_of.new.self later c.sending_span-index-in-loop-index.ensures.from shows;
+      within = c.sending_span-index-in-loop-index.ensures.within;
     }
 
 pub returns-clause-shown : goal.returns-clause-shown

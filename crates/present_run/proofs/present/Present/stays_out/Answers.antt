@@ -18,6 +18,6 @@ returns-in-Some g c =
     let below : index < c.args.self.now.runs.records.kept.valid = omega (arith, c.if-index-valid.true, c.valid.ensures) in
     let both = stands_too g.row.PAGES g.row.SPAN index c.args.self.now.inputs.image c.args.self.now.inputs.log (first_at c.args.self.now.runs.records.kept.rows index)
     c.in-Some.fact.now c.args.page (c.in-Some.ensures {u = tt}).fact (c.args.self.now.of.records.joined index below) in (
-      λ off. (below, λ stands. not_both c.stands_in.result off (c.stands_in.ensures.1 (both.1 stands))),
-      λ out. not_of c.stands_in.result (λ on. out.1 (both.0 (c.stands_in.ensures.0 on))),
+      λ off. (below, λ stands. not_both c.runs_in.result off (c.runs_in.ensures.1 (both.1 stands))),
+      λ out. not_of c.runs_in.result (λ on. out.1 (both.0 (c.runs_in.ensures.0 on))),
     )

@@ -25,7 +25,7 @@ returns-in-Some-clause-found g c =
     let time = c.loop-time.time in
     let to = c.min-to.result in
     let p = piece g.row.SPAN time c.args.last to c.args.self.now.of.records.sizes.least_span c.loop-time-test.true c.min-to.ensures in
-    let stays = stays_on c.loop-time.invariant.stays c.stand_at.ensures.stays in
+    let stays = stays_on c.loop-time.invariant.stays c.go_in_span.ensures.stays in
     sym (c.loop-time.invariant.found
     ∙ after_part g.row.PAGES inputs.image inputs.log c.args.address time to c.args.last (Some c.in-Some.found) p.more p.most
     (sym (c.visit-found.ensures.found ∙ ap (λ (h : History). next_visit g.row.PAGES h.image h.log c.args.address time (to - time)) stays.history) ∙ c.in-Some.is))
@@ -37,20 +37,20 @@ loop-time-preserved-in_default g c =
     let to = c.min-to.result in
     let so_far = c.loop-time.invariant in
     let p = piece g.row.SPAN time c.args.last to c.args.self.now.of.records.sizes.least_span c.loop-time-test.true c.min-to.ensures in
-    let stays = stays_on so_far.stays c.stand_at.ensures.stays in
+    let stays = stays_on so_far.stays c.go_in_span.ensures.stays in
     let room = so_far.room c.loop-time-test.true in
     let count : c.visit-found.new.self.live.steps ≤ c.args.self.now.runs.machine.live.steps + (c.args.position % g.row.SPAN + (to - c.args.position)) =
-    omega (arith, c.visit-found.ensures.count, c.stand_at.ensures.count, p.into, p.more, room, so_far.after) in record {
-      stays = record { history = stays.history; landings = stays.landings; pasts = stays.pasts };
+    omega (arith, c.visit-found.ensures.count, c.go_in_span.ensures.count, p.into, p.more, room, so_far.after) in record {
+      stays = record { history = stays.history; recent_states = stays.recent_states; pasts = stays.pasts };
       at = λ less elsewhere. absurd (elsewhere (c.visit-found.ensures.stands ∙ ap (λ (o : Option ℕ). Some (unwrap_or o to)) c.in_default.is));
       found =
           so_far.found
           ∙ after_part g.row.PAGES inputs.image inputs.log c.args.address time to c.args.last None p.more p.most
           (sym (c.visit-found.ensures.found ∙ ap (λ (h : History). next_visit g.row.PAGES h.image h.log c.args.address time (to - time)) stays.history) ∙ c.in_default.is);
-      rows = c.stand_at.ensures.rows ∙ so_far.rows;
+      rows = c.go_in_span.ensures.rows ∙ so_far.rows;
       count = count;
       room = λ less. let start = p.whole less in omega (arith, count, start);
-      least = omega (arith, c.visit-found.ensures.least, c.stand_at.ensures.least, so_far.least);
+      least = omega (arith, c.visit-found.ensures.least, c.go_in_span.ensures.least, so_far.least);
       after = omega (arith, so_far.after, p.more);
       bound = p.most;
     }

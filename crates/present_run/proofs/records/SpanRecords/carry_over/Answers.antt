@@ -5,7 +5,7 @@ use Rattle.span_fact.specs.Span.{Span}
 use Rattle.checkpoints.specs.Kept.{Kept, NearlyApplies, first_at}
 use Rattle.present_run.specs.Reuse.{span_of}
 use Rattle.present_run.specs.Ends.{IsJoined}
-use Rattle.present_run.proofs.Again.{over_known}
+use Rattle.present_run.proofs.Rejoining.{over_known}
 use Rattle.present_run.proofs.Known.{end_known, known_before, own_events}
 use Rattle.std.proofs.lemmas.Result.{IfOk-weaker}
 use Rattle.present_run.proofs.records.SpanRecords.carry_over.Goals as goal

@@ -5,7 +5,7 @@ use Rattle.checkpoints.specs.Kept.{Kept, first_at, row_at}
 use Rattle.present_run.specs.Index.{Agrees}
 use Rattle.present_run.specs.Ends.{GoesOn, IsJoined}
 use Rattle.present_run.specs.Reuse.{span_of}
-use Rattle.present_run.proofs.Again.{ends_before, goes_on_over, joined_before, same_before, starts_before}
+use Rattle.present_run.proofs.Rejoining.{ends_before, goes_on_over, joined_before, same_before, starts_before}
 use Rattle.std.proofs.lemmas.List.{length-map}
 use Rattle.present_run.proofs.records.SpanRecords.forget.Goals as goal
 
@@ -33,15 +33,15 @@ returns-clause-of g c =
           subst (λ (o : Option Span). IsJoined pages span i o (span_of pages span image changed i)) (sym (at i))
           (joined_before pages span image log changed from to now.valid i (first_at kept.rows i) same few below (of.joined i (omega (arith, below, less))));
       ends = ends_before pages span image log changed from to valid now.valid all same few less of.ends;
-      again = λ i first past.
+      rejoin_from = λ i first past.
           subst (λ (s : List (List Span)). GoesOn pages span changed s all i) (sym spans)
-          (goes_on_over pages span image log changed kept.rows all from to valid c.args.self.now.again c.again_from-self.result i (let s = of.sizes.least_span in omega (arith, s)) same of.ends
-          of.joined of.again
-          (elim c.again_from-self.ensures.again [
+          (goes_on_over pages span image log changed kept.rows all from to valid c.args.self.now.rejoin_from c.rejoin_after_edit-self.result i (let s = of.sizes.least_span in omega (arith, s)) same of.ends
+          of.joined of.rejoin_from
+          (elim c.rejoin_after_edit-self.ensures.rejoin_from [
             | inl joined ↦ inl (sym c.valid-joined.ensures ∙ (joined ∙ whole))
             | inr later ↦ inr (later.0, omega (arith, later.1, c.valid-joined.ensures))
           ])
-          (omega (arith, c.again_from-self.ensures.last)) first);
+          (omega (arith, c.rejoin_after_edit-self.ensures.last)) first);
       known =
           c.cut.ensures.known span kept.rows now.rows (λ n. state_at pages image log (n * span)) (λ n. state_at pages image changed (n * span))
           (λ n before. ap (λ (s : List (List Span)). row_at s n) spans)

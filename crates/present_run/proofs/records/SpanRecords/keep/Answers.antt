@@ -4,7 +4,7 @@ use Rattle.r3k_machine.specs.Run.{state_at}
 use Rattle.span_fact.specs.Span.{Span, end_of}
 use Rattle.checkpoints.specs.Kept.{first_at}
 use Rattle.present_run.proofs.Indexed.{agrees_same}
-use Rattle.present_run.proofs.Again.{over_kept, over_next}
+use Rattle.present_run.proofs.Rejoining.{over_kept, over_next}
 use Rattle.present_run.proofs.Known.{known_before, known_by}
 use Rattle.present_run.proofs.Spans.{ends}
 use Rattle.present_run.proofs.records.SpanRecords.keep.Goals as goal

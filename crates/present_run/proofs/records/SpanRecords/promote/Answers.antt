@@ -3,7 +3,7 @@ use Rattle.std.proofs.lemmas.Option.{slice_get_within}
 use Rattle.r3k_machine.specs.Run.{state_at}
 use Rattle.span_fact.specs.Span.{Span}
 use Rattle.checkpoints.specs.Kept.{first_at, row_at}
-use Rattle.present_run.proofs.Again.{over_kept, over_next}
+use Rattle.present_run.proofs.Rejoining.{over_kept, over_next}
 use Rattle.present_run.proofs.Near.{first_promoted, promoted_zero}
 use Rattle.present_run.proofs.records.SpanRecords.promote.Goals as goal
 

@@ -5,7 +5,7 @@ use Rattle.r3k_machine.specs.Run.{state_at}
 use Rattle.checkpoints.specs.Kept.{Kept}
 use Rattle.present_run.specs.Index.{Agrees}
 use Rattle.present_run.proofs.records.SpanRecords.restart.Goals as goal
-use Rattle.present_run.proofs.Again.{no_ends}
+use Rattle.present_run.proofs.Rejoining.{no_ends}
 
 pub returns-clause-of : goal.returns-clause-of
 returns-clause-of g c =
@@ -19,7 +19,7 @@ returns-clause-of g c =
       start = start;
       joined = λ index within. absurd (let e : ⊥ = omega (arith, none, within) in e);
       ends = no_ends pages span changed log _ _ none (ap (map (λ end. end.value)) c.clear.ensures.items);
-      again = λ index first past start end is. absurd (none-some start (sym (ap (λ ends. slice_get (map (λ end. end.value) ends) index) c.clear.ensures.items) ∙ is));
+      rejoin_from = λ index first past start end is. absurd (none-some start (sym (ap (λ ends. slice_get (map (λ end. end.value) ends) index) c.clear.ensures.items) ∙ is));
       known =
           c.cut.ensures.known span kept.rows now.rows (λ n. state_at pages image log (n * span)) (λ n. state_at pages changed log (n * span))
           (λ n below. absurd (let e : ⊥ = omega (arith, below) in e)) (λ n some before. absurd (let e : ⊥ = omega (arith, some, before) in e)) of.known;

@@ -7,7 +7,7 @@ use Rattle.present_run.specs.Index.{Agrees}
 use Rattle.present_run.specs.Runs.{IsKnownAfter}
 use Rattle.present_run.proofs.Spans.{at_reset}
 use Rattle.present_run.proofs.runs.Runs.boot.Goals as goal
-use Rattle.present_run.proofs.Again.{no_ends}
+use Rattle.present_run.proofs.Rejoining.{no_ends}
 
 pub returns-clause-of : goal.returns-clause-of
 returns-clause-of g c =
@@ -24,7 +24,7 @@ returns-clause-of g c =
         start = (c.in_ok-reset.ensures {u = tt}).kept ∙ ap (λ (l : Living). l.state) (c.in_ok-live.ensures {u = tt});
         joined = λ index within. absurd (let e : ⊥ = omega (arith, ap (λ (k : Kept). k.valid) c.new-3.ensures, within) in e);
         ends = no_ends pages span image log _ _ (ap (λ (k : Kept). k.valid) c.new-3.ensures) (ap (map (λ end. end.value)) c.new-5.ensures.items);
-        again = λ index first past start end is. absurd (none-some start (sym (ap (λ ends. slice_get (map (λ end. end.value) ends) index) c.new-5.ensures.items) ∙ is));
+        rejoin_from = λ index first past start end is. absurd (none-some start (sym (ap (λ ends. slice_get (map (λ end. end.value) ends) index) c.new-5.ensures.items) ∙ is));
         known = subst (λ (o : Option ℕ). IfSome o (λ n. IsKnownAfter span c.new-3.result.rows n (state_at pages image log ((n + 1) * span)) c.in_ok-new-2.field-0)) (sym (c.in_ok-new-2.ensures {u = tt})) tt;
         agrees = subst (λ (k : Kept). Agrees pages span c.new-4.result k.rows) (sym c.new-3.ensures) (c.new-4.ensures.agrees pages span);
       };

@@ -1,7 +1,7 @@
 use Rattle.std.proofs.Common.{◌∙◌, List, subst, unwrap_or}
 use Rattle.input_log.specs.Event.{LogEvent}
 use Rattle.r3k_live.specs.Living.{Living, state_of}
-use Rattle.r3k_live.specs.Standing.{HasStood}
+use Rattle.r3k_live.specs.CodePages.{AddsCodePages}
 use Rattle.r3k_live.proofs.Recorded.{widened}
 use Rattle.r3k_live.proofs.live.Live.go_on.Goals as goal
 
@@ -10,9 +10,9 @@ invariant_of-self g c =
     widened g.row.PAGES _ _ _ _ _ _ _ _ c.step_until-stopped.ensures.recorded (c.pages.ensures.pages ∙ c.dirty_marks.ensures) c.add.ensures
     c.self.invariant c.step_until-stopped.ensures.dirty
 
-pub returns-clause-stood : goal.returns-clause-stood
-returns-clause-stood g c =
+pub returns-clause-code_pages : goal.returns-clause-code_pages
+returns-clause-code_pages g c =
     let n = unwrap_or c.step_until-stopped.result c.args.steps in
-    subst (λ (l : Living). HasStood g.row.PAGES c.args.events.now c.args.from l.state n c.args.recorder.now.stood c.step_until-stopped.new.recorder.stood) c.self.view_is
-    (subst (λ (log : List LogEvent). HasStood g.row.PAGES log c.args.from (state_of c.self.inside.core c.self.inside.memory) n c.args.recorder.now.stood c.step_until-stopped.new.recorder.stood) c.new.ensures
-    c.step_until-stopped.ensures.stood)
+    subst (λ (l : Living). AddsCodePages g.row.PAGES c.args.events.now c.args.from l.state n c.args.recorder.now.code_pages c.step_until-stopped.new.recorder.code_pages) c.self.view_is
+    (subst (λ (log : List LogEvent). AddsCodePages g.row.PAGES log c.args.from (state_of c.self.inside.core c.self.inside.memory) n c.args.recorder.now.code_pages c.step_until-stopped.new.recorder.code_pages) c.new.ensures
+    c.step_until-stopped.ensures.code_pages)

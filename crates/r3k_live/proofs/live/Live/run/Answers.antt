@@ -4,7 +4,7 @@ use Rattle.r3k_pages.specs.Pages.{SameOutside}
 use Rattle.r3k_live.specs.Living.{counted}
 use Rattle.r3k_live.specs.Record.{dirty_pages}
 use Rattle.r3k_live.specs.Recording.{Records}
-use Rattle.r3k_live.specs.Standing.{HasStood}
+use Rattle.r3k_live.specs.CodePages.{AddsCodePages}
 use Rattle.r3k_live.proofs.live.Live.run.Goals as goal
 
 pub returns-clause-state : goal.returns-clause-state
@@ -28,7 +28,7 @@ returns-clause-dirty g c =
     c.args.self.now.state.words c.go_on-stopped.new.self.state.words)
     (c.go_on-stopped.ensures.never (omega arith)) c.go_on-stopped.ensures.dirty
 
-pub returns-clause-stood : goal.returns-clause-stood
-returns-clause-stood g c =
-    subst (λ (o : Option ℕ). HasStood g.row.PAGES c.args.events.now c.args.from c.args.self.now.state (unwrap_or o c.args.steps) c.args.recorder.now.stood c.go_on-stopped.new.recorder.stood)
-    (c.go_on-stopped.ensures.never (omega arith)) c.go_on-stopped.ensures.stood
+pub returns-clause-code_pages : goal.returns-clause-code_pages
+returns-clause-code_pages g c =
+    subst (λ (o : Option ℕ). AddsCodePages g.row.PAGES c.args.events.now c.args.from c.args.self.now.state (unwrap_or o c.args.steps) c.args.recorder.now.code_pages c.go_on-stopped.new.recorder.code_pages)
+    (c.go_on-stopped.ensures.never (omega arith)) c.go_on-stopped.ensures.code_pages

@@ -28,5 +28,5 @@ returns g c =
       dirty = c.pass.ensures.dirty;
       touched = refl;
       sent = refl;
-      stood = refl;
+      code_pages = refl;
     })

@@ -6,7 +6,7 @@ use Rattle.r3k_pages.specs.Pages.{SameOutside}
 use Rattle.r3k_live.specs.Marks.{marks_of}
 use Rattle.r3k_live.specs.Record.{AreDestinations, AreWriters, dirty_pages, sent_from, touched_pages}
 use Rattle.span_fact.specs.Span.{Holds}
-use Rattle.span_fact.proofs.Stood.{from_none}
+use Rattle.span_fact.proofs.CodePages.{from_none}
 use Rattle.span_fact.proofs.fact.Fact.make.Goals as goal
 
 pub invariant_of-result : goal.invariant_of-result
@@ -16,8 +16,8 @@ invariant_of-result g c =
     let index = c.args.index in
     let from = index * span in
     let events = c.args.events.now in
-    let stood = c.args.live.now.state in
-    let steps = trace pages events from stood span in
+    let begun = c.args.live.now.state in
+    let steps = trace pages events from begun span in
     let here = c.requires.stands in
     let ends = (c.in_ok-keep.ensures {u = tt}).kept in
     let stored = (c.in_ok-dirty.ensures {u = tt}).pages steps c.run.ensures.recorded in
@@ -35,12 +35,12 @@ invariant_of-result g c =
       stayed =
           subst (λ (set : List ℕ). SameOutside set c.args.start.value.words c.in_ok-keep.field-0.value.words) (sym stored)
           (subst (λ (s : State). SameOutside (dirty_pages pages steps) s.words c.in_ok-keep.field-0.value.words) here
-          (subst (λ (e : State). SameOutside (dirty_pages pages steps) stood.words e.words) (sym ends) c.run.ensures.dirty));
+          (subst (λ (e : State). SameOutside (dirty_pages pages steps) begun.words e.words) (sym ends) c.run.ensures.dirty));
       marked = (c.in_ok-marks.ensures {u = tt}).marks steps recorded ∙ ap (λ (s : State). marks_of pages (trace pages events from s span)) here;
       ascending = (c.in_ok-marks.ensures {u = tt}).ascending steps recorded;
       stored = stored ∙ ap (λ (s : State). dirty_pages pages (trace pages events from s span)) here;
       seen = (c.in_ok-touched.ensures {u = tt}).pages steps recorded ∙ ap (λ (s : State). touched_pages pages (trace pages events from s span)) here;
       stands =
-          from_none pages events from stood c.args.start.value span c.clear.new.self.stood c.run.new.recorder.stood c.in_ok-from_slice-3.field-0.items
-          c.run.ensures.stood c.clear.ensures.stood ((c.in_ok-from_slice-3.ensures {u = tt}).items ∙ c.stood.ensures) here;
+          from_none pages events from begun c.args.start.value span c.clear.new.self.code_pages c.run.new.recorder.code_pages c.in_ok-from_slice-3.field-0.items
+          c.run.ensures.code_pages c.clear.ensures.code_pages ((c.in_ok-from_slice-3.ensures {u = tt}).items ∙ c.code_pages.ensures) here;
     })

@@ -4,7 +4,7 @@ use Rattle.r3k_machine.specs.Run.{console_of, trace_at}
 use Rattle.refusal.specs.declared.fault.Fault.{Fault}
 use Rattle.present_run.specs.Console.{shown_of}
 use Rattle.present_run.specs.History.{History}
-use Rattle.present_run.specs.Landed.{Landed}
+use Rattle.present_run.specs.TimelineView.{TimelineView}
 use Rattle.timeline.proofs.Plain.{console_given}
 use Rattle.timeline.proofs.timeline.Timeline.console_at.Goals as goal
 
@@ -17,4 +17,4 @@ returns-clause-shown g c =
     ∙ sym (ap₂ answer shown.0 shown.1
     ∙ ap (λ (h : History).
     let part = shown_of c.args.from c.args.count (console_of c.args.line (trace_at g.row.PAGES h.image h.log position)) in
-    answer part.0 part.1) (c.console.ensures.spends.history ∙ ap (λ (h : Landed). h.history) c.self.view_is))
+    answer part.0 part.1) (c.console.ensures.spends.history ∙ ap (λ (h : TimelineView). h.history) c.self.view_is))

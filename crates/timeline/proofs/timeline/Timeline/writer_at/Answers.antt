@@ -7,7 +7,7 @@ use Rattle.r3k_machine.specs.Run.{last_writer, trace_at}
 use Rattle.refusal.specs.declared.fault.Fault.{Fault}
 use Rattle.r3k_image.specs.Boot.{Boot}
 use Rattle.present_run.specs.History.{History}
-use Rattle.present_run.specs.Landed.{Landed}
+use Rattle.present_run.specs.TimelineView.{TimelineView}
 use Rattle.timeline.specs.Query.{writer_of}
 use Rattle.timeline.specs.declared.writer.Writer.{Writer}
 use Rattle.timeline.proofs.Plain.{writer_given}
@@ -23,6 +23,6 @@ returns-clause-writer g c =
     ∙ ap (λ (writer : Writer). let r : Result Writer Fault = Ok writer in r) (sym (c.writer_of.ensures
     ∙ ap₂ writer_of
     ((c.in_ok-step.ensures {u = tt}).writer
-    ∙ ap (λ (h : History). last_writer (Memory address) (trace_at pages h.image h.log position)) (c.last_writer.ensures.spends.history ∙ ap (λ (h : Landed). h.history) c.self.view_is))
+    ∙ ap (λ (h : History). last_writer (Memory address) (trace_at pages h.image h.log position)) (c.last_writer.ensures.spends.history ∙ ap (λ (h : TimelineView). h.history) c.self.view_is))
     (c.word-set.ensures
-    ∙ ap (λ (b : Boot). map.get b.words address) (c.image.ensures ∙ ap (λ (h : Landed). h.history.image) c.self.view_is))))
+    ∙ ap (λ (b : Boot). map.get b.words address) (c.image.ensures ∙ ap (λ (h : TimelineView). h.history.image) c.self.view_is))))

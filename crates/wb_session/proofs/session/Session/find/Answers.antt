@@ -22,6 +22,6 @@ returns-clause-costs g c =
     let new : Held = record { timeline = c.sent_at.new.self; position = c.self.inside.position } in
     subst (λ (s : Held). AsksSteps pages span 0 s new c.match-sent_at.result) c.self.view_is
     (elim c.match-sent_at.branch [
-      | in-Ok w ↦ rw w.result-is (steps_shown pages span 0 old new w.in-Ok.step _ refl w.in-Ok.ensures.asks w.in-Ok.ensures.landings)
-      | in-Err w ↦ rw w.result-is (steps_refused pages span 0 old new w.in-Err.fault w.in-Err.ensures.asks w.in-Err.ensures.landings)
+      | in-Ok w ↦ rw w.result-is (steps_shown pages span 0 old new w.in-Ok.step _ refl w.in-Ok.ensures.asks w.in-Ok.ensures.recent_states)
+      | in-Err w ↦ rw w.result-is (steps_refused pages span 0 old new w.in-Err.fault w.in-Err.ensures.asks w.in-Err.ensures.recent_states)
     ])

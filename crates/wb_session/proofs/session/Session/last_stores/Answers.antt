@@ -8,7 +8,7 @@ use Rattle.refusal.specs.Given.{GivesFault, MayLackMemory}
 use Rattle.refusal.specs.declared.fault.Fault.{Fault}
 use Rattle.input_log.specs.Limits.{max_position}
 use Rattle.r3k_word.specs.Layout.{place_of_word}
-use Rattle.timeline.specs.Landed.{AsksFault}
+use Rattle.timeline.specs.TimelineView.{AsksFault}
 use Rattle.timeline.specs.History.{History}
 use Rattle.timeline.specs.Query.{word_at, writer_at}
 use Rattle.timeline.specs.declared.writer.Writer.{Writer}
@@ -39,7 +39,7 @@ loop-init g c =
       len = rw c.new-stores.ensures refl;
       asked = subst (λ (s : Held). AskedUpTo pages span s.position span 0 s.timeline c.self.inside.timeline) c.self.view_is
           (up_to_none pages span c.self.inside.position span c.self.inside.timeline);
-      left = rw c.new-stores.ensures (ap (λ (s : Held). s.timeline.landings) c.self.view_is);
+      left = rw c.new-stores.ensures (ap (λ (s : Held). s.timeline.recent_states) c.self.view_is);
     }
 
 pub returns-in-Ok-Image : goal.returns-in-Ok-Image
@@ -77,8 +77,8 @@ returns-in-Ok-Image g c =
       stores = all;
       same = search rules;
       leaves =
-          stores_all span c.loop.stores.items (stores_at pages h position address c.args.count) now.timeline.landings before.landings c.writer_at.new.self.landings all
-          c.in-Ok-Image.ensures.landings c.loop.invariant.left;
+          stores_all span c.loop.stores.items (stores_at pages h position address c.args.count) now.timeline.recent_states before.recent_states c.writer_at.new.self.recent_states all
+          c.in-Ok-Image.ensures.recent_states c.loop.invariant.left;
       asks =
           up_to_all {A = List Timed} pages span position span (2 * k + 1) (2 * c.args.count) now.timeline c.writer_at.new.self c.loop.stores.items (omega arith)
           (omega (arith, c.loop-test.true, c.get-end.ensures.value))
@@ -121,8 +121,8 @@ returns-in-Ok-Never g c =
       stores = all;
       same = search rules;
       leaves =
-          stores_all span c.loop.stores.items (stores_at pages h position address c.args.count) now.timeline.landings before.landings c.writer_at.new.self.landings all
-          c.in-Ok-Never.ensures.landings c.loop.invariant.left;
+          stores_all span c.loop.stores.items (stores_at pages h position address c.args.count) now.timeline.recent_states before.recent_states c.writer_at.new.self.recent_states all
+          c.in-Ok-Never.ensures.recent_states c.loop.invariant.left;
       asks =
           up_to_all {A = List Timed} pages span position span (2 * k + 1) (2 * c.args.count) now.timeline c.writer_at.new.self c.loop.stores.items (omega arith)
           (omega (arith, c.loop-test.true, c.get-end.ensures.value))
@@ -178,10 +178,10 @@ returns-in-Err-clause-leaves g c =
     let placed = some_place (place_of_word pages address) there in
     let far = subst (λ (s : Held). s.position ≤ max_position) c.self.view_is c.self.invariant.position in
     let rest = stores_before pages h address placed.0 (c.args.count - k) here in
-    stores_front span c.loop.stores.items rest (stores_at pages h position address c.args.count) now.timeline.landings before.landings c.writer_at.new.self.landings c.in-Err.fault
+    stores_front span c.loop.stores.items rest (stores_at pages h position address c.args.count) now.timeline.recent_states before.recent_states c.writer_at.new.self.recent_states c.in-Err.fault
     (stores_given pages h position address placed.0 c.args.count far even placed.1
     ∙ ap (λ (xs : List Timed). let r : Result (List Timed) Fault = Ok xs in r) (sym (c.loop.invariant.so_far placed.0 placed.1)))
-    c.in-Err.ensures.landings c.loop.invariant.left
+    c.in-Err.ensures.recent_states c.loop.invariant.left
 
 pub overflow_add-step : goal.overflow_add-step
 overflow_add-step g c =
@@ -313,10 +313,10 @@ returns-in-Err-word_at-clause-leaves g c =
     let placed = some_place (place_of_word pages address) there in
     let far = subst (λ (s : Held). s.position ≤ max_position) c.self.view_is c.self.invariant.position in
     let rest = stores_before pages h address placed.0 (c.args.count - k) here in
-    stores_front span c.loop.stores.items rest (stores_at pages h position address c.args.count) now.timeline.landings before.landings c.word_at.new.self.landings c.in-Err-word_at.fault
+    stores_front span c.loop.stores.items rest (stores_at pages h position address c.args.count) now.timeline.recent_states before.recent_states c.word_at.new.self.recent_states c.in-Err-word_at.fault
     (stores_given pages h position address placed.0 c.args.count far even placed.1
     ∙ ap (λ (xs : List Timed). let r : Result (List Timed) Fault = Ok xs in r) (sym (c.loop.invariant.so_far placed.0 placed.1)))
-    (c.in-Err-word_at.ensures.lands.refused ∙ c.in-Ok-Step.ensures.landings) c.loop.invariant.left
+    (c.in-Err-word_at.ensures.keeps_state.refused ∙ c.in-Ok-Step.ensures.recent_states) c.loop.invariant.left
 
 pub loop-preserved : goal.loop-preserved
 loop-preserved g c =
@@ -375,9 +375,9 @@ loop-preserved g c =
           (up_to_one pages span position (step + 1) span (2 * k + 1) now.timeline c.writer_at.new.self c.word_at.new.self some (λ none. absurd (omega (arith, none)))
           (omega (arith, lower, c.loop.invariant.within)) less asked c.in-Ok.ensures.asks.0 c.in-Ok.ensures.asks.1);
       left =
-          store_one span c.loop.stores.items _ (record { time = step; word = c.in-Ok.word }) now.timeline.landings before.landings c.writer_at.new.self.landings
-          c.word_at.new.self.landings c.push.ensures.items c.in-Ok-Step.ensures.landings c.loop.invariant.left
-          (leaves_one span (step + 1) c.writer_at.new.self c.word_at.new.self c.in-Ok.word c.in-Ok.ensures.lands);
+          store_one span c.loop.stores.items _ (record { time = step; word = c.in-Ok.word }) now.timeline.recent_states before.recent_states c.writer_at.new.self.recent_states
+          c.word_at.new.self.recent_states c.push.ensures.items c.in-Ok-Step.ensures.recent_states c.loop.invariant.left
+          (leaves_one span (step + 1) c.writer_at.new.self c.word_at.new.self c.in-Ok.word c.in-Ok.ensures.keeps_state);
     }
 
 pub returns : goal.returns
@@ -412,6 +412,6 @@ returns g c =
           (omega (arith, c.loop-test.false, c.get-end.ensures.value, c.get-end.ensures.least)) (omega (arith, c.loop.auto.counter-end, c.get-end.ensures.value))
           c.loop.invariant.asked;
       leaves =
-          stores_all span c.loop.stores.items (stores_at pages h position address c.args.count) now.timeline.landings before.landings before.landings all refl
+          stores_all span c.loop.stores.items (stores_at pages h position address c.args.count) now.timeline.recent_states before.recent_states before.recent_states all refl
           c.loop.invariant.left;
     }

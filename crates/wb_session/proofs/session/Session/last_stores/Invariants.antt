@@ -18,5 +18,5 @@ invariant-loop g l = record {
       ≡ stores_before g.row.PAGES l.fn.self.timeline.history l.fn.address place l.fn.count l.fn.self.position;
   len : length l.stores.items ≡ l.counter;
   asked : AskedUpTo g.row.PAGES g.row.SPAN l.fn.self.position g.row.SPAN (2 * l.counter) l.fn.self.timeline l.self-inside.timeline;
-  left : LeavesAlong g.row.SPAN (states_after (Ok l.stores.items)) l.fn.self.timeline.landings l.self-inside.timeline.landings;
+  left : LeavesAlong g.row.SPAN (states_after (Ok l.stores.items)) l.fn.self.timeline.recent_states l.self-inside.timeline.recent_states;
 }

@@ -7,7 +7,7 @@ use Rattle.refusal.specs.declared.fault.Fault.{Fault}
 use Rattle.input_log.specs.Limits.{max_position}
 use Rattle.r3k_machine.specs.Core.{Core}
 use Rattle.r3k_machine.specs.Run.{state_at}
-use Rattle.timeline.specs.Landed.{AsksFault}
+use Rattle.timeline.specs.TimelineView.{AsksFault}
 use Rattle.timeline.specs.History.{History}
 use Rattle.timeline.specs.Query.{core_at}
 use Rattle.wb_text.specs.declared.lists.Timed.{Timed}
@@ -46,9 +46,9 @@ loop-init g c =
           (up_to_one pages span last last span 0 c.self.inside.timeline c.self.inside.timeline c.core_at.new.self some (λ _. refl) (omega arith)
           (let small = mod-lt last some in omega (arith, small)) (up_to_none pages span last span c.self.inside.timeline) c.in-Ok.ensures.asks.0 c.in-Ok.ensures.asks.1);
       left =
-          subst (λ (positions : List ℕ). LeavesAlong span (last ∷ positions) now.timeline.landings c.core_at.new.self.landings) (sym (positions_zero now.position c.args.distance))
-          (along_one span [] last now.timeline.landings c.self.inside.timeline.landings c.core_at.new.self.landings (ap (λ (s : Held). s.timeline.landings) c.self.view_is)
-          (leaves_one span last c.self.inside.timeline c.core_at.new.self c.in-Ok.core c.in-Ok.ensures.lands));
+          subst (λ (positions : List ℕ). LeavesAlong span (last ∷ positions) now.timeline.recent_states c.core_at.new.self.recent_states) (sym (positions_zero now.position c.args.distance))
+          (along_one span [] last now.timeline.recent_states c.self.inside.timeline.recent_states c.core_at.new.self.recent_states (ap (λ (s : Held). s.timeline.recent_states) c.self.view_is)
+          (leaves_one span last c.self.inside.timeline c.core_at.new.self c.in-Ok.core c.in-Ok.ensures.keeps_state));
     }
 
 -- where a position on the way lies
@@ -62,7 +62,7 @@ same_way : (p q n m d e : ℕ) → p ≡ q → n ≡ m → d ≡ e → p + (n - 
 same_way p q n m d e from later distance = ap₂ (λ (a b : ℕ). a + b) from (ap₂ (λ (n d : ℕ). (n - 1) * d) later distance)
 
 pub returns-in-Err-clause-leaves : goal.returns-in-Err-clause-leaves
-returns-in-Err-clause-leaves g c = (0, c.in-Err.ensures.lands.refused ∙ ap (λ (s : Held). s.timeline.landings) c.self.view_is)
+returns-in-Err-clause-leaves g c = (0, c.in-Err.ensures.keeps_state.refused ∙ ap (λ (s : Held). s.timeline.recent_states) c.self.view_is)
 
 pub returns-in-Err-core_at-clause-pcs : goal.returns-in-Err-core_at-clause-pcs
 returns-in-Err-core_at-clause-pcs g c =
@@ -122,9 +122,9 @@ returns-in-Err-core_at-clause-leaves g c =
     let lies : last ≡ now.position + (c.args.count - 1) * d = spot.1 ∙ same_way _ _ _ _ _ _ (ap (λ (s : Held). s.position) c.self.view_is) c.get-later.ensures.value c.get.ensures.value in
     let front = positions_front now.position d k (c.args.count - 1 - k) in
     let whole : k + (c.args.count - 1 - k) ≡ c.args.count - 1 = omega (arith, c.loop-test.true, c.get-later.ensures.value) in
-    along_front g.row.SPAN (last ∷ positions_from now.position d k) front.0 (states_apart now.position d c.args.count) now.timeline.landings
-    c.loop.self-inside.timeline.landings c.core_at-in-loop.new.self.landings c.in-Err-core_at.fault
-    (ap₂ (λ (p : ℕ) (ps : List ℕ). p ∷ ps) lies (front.1 ∙ ap (positions_from now.position d) whole)) c.in-Err-core_at.ensures.lands.refused c.loop.invariant.left
+    along_front g.row.SPAN (last ∷ positions_from now.position d k) front.0 (states_apart now.position d c.args.count) now.timeline.recent_states
+    c.loop.self-inside.timeline.recent_states c.core_at-in-loop.new.self.recent_states c.in-Err-core_at.fault
+    (ap₂ (λ (p : ℕ) (ps : List ℕ). p ∷ ps) lies (front.1 ∙ ap (positions_from now.position d) whole)) c.in-Err-core_at.ensures.keeps_state.refused c.loop.invariant.left
 
 pub overflow_add-position : goal.overflow_add-position
 overflow_add-position g c =
@@ -172,10 +172,10 @@ loop-preserved g c =
           up_to_one pages span last here span (k + 1) now.timeline before c.core_at-in-loop.new.self some (λ none. absurd (omega (arith, none))) (omega (arith, below))
           (let small = mod-lt here some in omega (arith, small)) c.loop.invariant.asked c.in-Ok-core_at.ensures.asks.0 c.in-Ok-core_at.ensures.asks.1;
       left =
-          subst (λ (positions : List ℕ). LeavesAlong span (last ∷ positions) now.timeline.landings c.core_at-in-loop.new.self.landings) (sym (positions_more now.position d k))
-          (along_one span (last ∷ positions_from now.position d k) (now.position + k * d) now.timeline.landings before.landings c.core_at-in-loop.new.self.landings c.loop.invariant.left
-          (subst (λ (n : ℕ). Leaves span n before.landings c.core_at-in-loop.new.self.landings) c.loop.invariant.at
-          (leaves_one span here before c.core_at-in-loop.new.self c.in-Ok-core_at.core c.in-Ok-core_at.ensures.lands)));
+          subst (λ (positions : List ℕ). LeavesAlong span (last ∷ positions) now.timeline.recent_states c.core_at-in-loop.new.self.recent_states) (sym (positions_more now.position d k))
+          (along_one span (last ∷ positions_from now.position d k) (now.position + k * d) now.timeline.recent_states before.recent_states c.core_at-in-loop.new.self.recent_states c.loop.invariant.left
+          (subst (λ (n : ℕ). Leaves span n before.recent_states c.core_at-in-loop.new.self.recent_states) c.loop.invariant.at
+          (leaves_one span here before c.core_at-in-loop.new.self c.in-Ok-core_at.core c.in-Ok-core_at.ensures.keeps_state)));
     }
 
 pub returns-clause-pcs : goal.returns-clause-pcs
@@ -209,5 +209,5 @@ returns-clause-leaves g c =
     let spot = c.in-Some.ensures {u = tt} in
     let lies : last ≡ now.position + (c.args.count - 1) * d = spot.1 ∙ same_way _ _ _ _ _ _ (ap (λ (s : Held). s.position) c.self.view_is) c.get-later.ensures.value c.get.ensures.value in
     let whole : k ≡ c.args.count - 1 = omega (arith, c.loop.auto.counter-end, c.loop-test.false, c.get-later.ensures.value, c.get-later.ensures.least) in
-    subst (λ (positions : List ℕ). LeavesAlong g.row.SPAN positions now.timeline.landings c.loop.self-inside.timeline.landings)
+    subst (λ (positions : List ℕ). LeavesAlong g.row.SPAN positions now.timeline.recent_states c.loop.self-inside.timeline.recent_states)
     (ap₂ (λ (p : ℕ) (ps : List ℕ). p ∷ ps) lies (ap (positions_from now.position d) whole)) c.loop.invariant.left

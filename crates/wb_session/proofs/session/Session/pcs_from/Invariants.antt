@@ -14,5 +14,5 @@ invariant-loop g l = record {
   so_far : l.pcs.items ≡ pcs_from g.row.PAGES l.fn.self.timeline.history l.fn.self.position l.fn.distance l.counter;
   len : length l.pcs.items ≡ l.counter;
   asked : AskedUpTo g.row.PAGES g.row.SPAN l.last g.row.SPAN (l.counter + 1) l.fn.self.timeline l.self-inside.timeline;
-  left : LeavesAlong g.row.SPAN (l.last ∷ positions_from l.fn.self.position l.fn.distance l.counter) l.fn.self.timeline.landings l.self-inside.timeline.landings;
+  left : LeavesAlong g.row.SPAN (l.last ∷ positions_from l.fn.self.position l.fn.distance l.counter) l.fn.self.timeline.recent_states l.self-inside.timeline.recent_states;
 }

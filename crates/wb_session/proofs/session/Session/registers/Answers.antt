@@ -13,6 +13,6 @@ returns-clause-costs g c =
     let new : Held = record { timeline = c.core_at.new.self; position = c.self.inside.position } in
     subst (λ (s : Held). AsksState pages span s new c.match-core_at.result) c.self.view_is
     (elim c.match-core_at.branch [
-      | in-Ok w ↦ rw w.result-is (state_shown pages span old new w.in-Ok.core _ refl w.in-Ok.ensures.asks w.in-Ok.ensures.lands)
-      | in-Err w ↦ rw w.result-is (state_refused pages span old new w.in-Err.fault w.in-Err.ensures.asks w.in-Err.ensures.lands)
+      | in-Ok w ↦ rw w.result-is (state_shown pages span old new w.in-Ok.core _ refl w.in-Ok.ensures.asks w.in-Ok.ensures.keeps_state)
+      | in-Err w ↦ rw w.result-is (state_refused pages span old new w.in-Err.fault w.in-Err.ensures.asks w.in-Err.ensures.keeps_state)
     ])

@@ -6,7 +6,7 @@ use Rattle.refusal.specs.declared.fault.Fault.TheVariants.{NotFound}
 use Rattle.input_log.specs.Limits.{max_position}
 use Rattle.r3k_machine.specs.Run.{senders_of, trace_at}
 use Rattle.timeline.specs.Console.{part_of}
-use Rattle.timeline.specs.Landed.{AsksFault}
+use Rattle.timeline.specs.TimelineView.{AsksFault}
 use Rattle.timeline.specs.History.{History}
 use Rattle.timeline.specs.Query.{sent_at}
 use Rattle.wb_session.specs.Session.{Held}
@@ -22,7 +22,7 @@ loop-more-init g c = record {
   len = rw c.new-steps.ensures refl;
   asked = subst (λ (s : Held). AskedUpTo g.row.PAGES g.row.SPAN s.position (s.position % g.row.SPAN) 0 s.timeline c.self.inside.timeline) c.self.view_is
       (up_to_none g.row.PAGES g.row.SPAN c.self.inside.position (c.self.inside.position % g.row.SPAN) c.self.inside.timeline);
-  landings = ap (λ (s : Held). s.timeline.landings) c.self.view_is;
+  recent_states = ap (λ (s : Held). s.timeline.recent_states) c.self.view_is;
 }
 
 pub loop-more-preserved : goal.loop-more-preserved
@@ -53,7 +53,7 @@ loop-more-preserved g c =
           let asks = rw at at c.in-Ok.ensures.asks in
           up_to_one pages span now.position now.position (now.position % span) more now.timeline before c.sent_at.new.self (omega (arith, c.self.invariant.sizes.least_span)) (λ _. refl) (omega arith) (omega arith)
           c.loop-more.invariant.asked asks.0 asks.1;
-      landings = c.in-Ok.ensures.landings ∙ c.loop-more.invariant.landings;
+      recent_states = c.in-Ok.ensures.recent_states ∙ c.loop-more.invariant.recent_states;
     }
 
 -- no byte has a place so far on, and none is there after the bytes that were found
@@ -77,8 +77,8 @@ returns-in_default-clause-asks g c =
     up_to_all g.row.PAGES g.row.SPAN now.position (now.position % g.row.SPAN) c.loop-more.more c.args.count now.timeline c.loop-more.self-inside.timeline c.loop-more.steps
     (omega (arith, none)) (omega (arith, c.loop-more-test.true, c.get-more-end.ensures.value)) c.loop-more.invariant.asked
 
-pub returns-in-Err-NotFound-clause-landings : goal.returns-in-Err-NotFound-clause-landings
-returns-in-Err-NotFound-clause-landings g c = c.in-Err-NotFound.ensures.landings ∙ c.loop-more.invariant.landings
+pub returns-in-Err-NotFound-clause-recent_states : goal.returns-in-Err-NotFound-clause-recent_states
+returns-in-Err-NotFound-clause-recent_states g c = c.in-Err-NotFound.ensures.recent_states ∙ c.loop-more.invariant.recent_states
 
 -- all were found
 pub returns-clause-senders : goal.returns-clause-senders
@@ -138,5 +138,5 @@ returns-in-Err g c =
           (up_to_part pages span now.position now.position (now.position % span) more c.args.count now.timeline before c.sent_at.new.self
           (omega (arith, c.self.invariant.sizes.least_span)) (λ _. refl) (omega arith) (omega arith) (omega (arith, c.loop-more-test.true, c.get-more-end.ensures.value)) c.loop-more.invariant.asked
           (subst (λ (f : Fault). AsksFault pages span now.position 0 before c.sent_at.new.self f) memory (rw at at c.in-Err.ensures.asks)));
-      landings = c.in-Err.ensures.landings ∙ c.loop-more.invariant.landings;
+      recent_states = c.in-Err.ensures.recent_states ∙ c.loop-more.invariant.recent_states;
     }

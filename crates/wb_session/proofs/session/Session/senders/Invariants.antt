@@ -13,5 +13,5 @@ invariant-loop-more g l = record {
   so_far : l.steps.items ≡ part_of l.fn.from l.more (senders_of l.fn.line 0 (trace_at g.row.PAGES l.fn.self.timeline.history.image l.fn.self.timeline.history.log l.fn.self.position));
   len : length l.steps.items ≡ l.more;
   asked : AskedUpTo g.row.PAGES g.row.SPAN l.fn.self.position (l.fn.self.position % g.row.SPAN) l.more l.fn.self.timeline l.self-inside.timeline;
-  landings : l.self-inside.timeline.landings ≡ l.fn.self.timeline.landings;
+  recent_states : l.self-inside.timeline.recent_states ≡ l.fn.self.timeline.recent_states;
 }

@@ -22,6 +22,6 @@ returns-clause-costs g c =
     let new : Held = record { timeline = c.follow.new.self; position = c.self.inside.position } in
     subst (λ (s : Held). AsksSteps pages span c.args.count s new c.match-follow.result) c.self.view_is
     (elim c.match-follow.branch [
-      | in-Ok w ↦ rw w.result-is (steps_shown pages span c.args.count old new w.in-Ok.steps _ refl (rw c.get.ensures.value at w.in-Ok.ensures.asks) w.in-Ok.ensures.landings)
-      | in-Err w ↦ rw w.result-is (steps_refused pages span c.args.count old new w.in-Err.fault (rw c.get.ensures.value at w.in-Err.ensures.asks) w.in-Err.ensures.landings)
+      | in-Ok w ↦ rw w.result-is (steps_shown pages span c.args.count old new w.in-Ok.steps _ refl (rw c.get.ensures.value at w.in-Ok.ensures.asks) w.in-Ok.ensures.recent_states)
+      | in-Err w ↦ rw w.result-is (steps_refused pages span c.args.count old new w.in-Err.fault (rw c.get.ensures.value at w.in-Err.ensures.asks) w.in-Err.ensures.recent_states)
     ])

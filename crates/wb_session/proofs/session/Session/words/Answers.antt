@@ -7,13 +7,13 @@ use Rattle.refusal.specs.Given.{GivesFault}
 use Rattle.refusal.specs.declared.fault.Fault.{Fault}
 use Rattle.refusal.specs.declared.fault.Fault.TheVariants.{Memory}
 use Rattle.input_log.specs.Limits.{max_position}
-use Rattle.timeline.specs.Landed.{AsksFault}
+use Rattle.timeline.specs.TimelineView.{AsksFault}
 use Rattle.r3k_machine.specs.Run.{state_at}
 use Rattle.timeline.specs.History.{History}
 use Rattle.timeline.specs.Query.{word_at}
 use Rattle.wb_session.specs.Memory.{place_after}
 use Rattle.wb_session.proofs.Costs.{AskedSo, asked_none, asked_one, asked_part, left_refused}
-use Rattle.wb_session.specs.Cost.{LandsOnce}
+use Rattle.wb_session.specs.Cost.{KeepsStateOnce}
 use Rattle.wb_session.specs.Session.{Held}
 use Rattle.wb_session.proofs.Places.{all_places, only_memory, place_among, places_from-more, places_from-zero, starts_even, value_is}
 use Rattle.wb_session.proofs.session.Session.words.Goals as goal
@@ -57,7 +57,7 @@ loop-word-preserved g c =
       );
       len = omega (arith, c.push.ensures.len, c.loop-word.invariant.len);
       asked = subst (λ (n : ℕ). AskedSo pages span n (word + 1) now.timeline c.word_at.new.self) position
-          (asked_one pages span c.self.inside.position word now.timeline before c.word_at.new.self c.in-Ok.value (omega (arith, c.self.invariant.sizes.least_span)) asked c.in-Ok.ensures.asks c.in-Ok.ensures.lands);
+          (asked_one pages span c.self.inside.position word now.timeline before c.word_at.new.self c.in-Ok.value (omega (arith, c.self.invariant.sizes.least_span)) asked c.in-Ok.ensures.asks c.in-Ok.ensures.keeps_state);
     }
 
 pub returns-in-Err : goal.returns-in-Err
@@ -86,10 +86,10 @@ returns-in-Err g c =
       same = search rules;
       asks = subst (λ (f : Fault). AsksFault pages span now.position ((c.args.count - 1) * (now.position % span)) now.timeline after f) (sym memory)
           (subst (λ (n : ℕ). AsksFault pages span n ((c.args.count - 1) * (n % span)) now.timeline after Memory) position cost);
-      free = λ there. (let kept = so.free (subst (λ (n : ℕ). Contains now.timeline.landings n) (sym position) there) in c.in-Err.ensures.lands.free kept.1 ∙ kept.0);
-      lands =
+      free = λ there. (let kept = so.free (subst (λ (n : ℕ). Contains now.timeline.recent_states n) (sym position) there) in c.in-Err.ensures.keeps_state.free kept.1 ∙ kept.0);
+      keeps_state =
           let from : ℕ = c.self.inside.position in
-          let steps : Contains now.timeline.landings from → after.steps ≡ now.timeline.steps = (λ there. let kept = so.free there in c.in-Err.ensures.lands.free kept.1 ∙ kept.0) in
-          subst (λ (n : ℕ). LandsOnce {A = Unit {0}} span n now.timeline after (Err Memory)) position
-          (left_refused span from word now.timeline before after so.up_to.first so.left c.in-Err.ensures.lands.refused steps);
+          let steps : Contains now.timeline.recent_states from → after.steps ≡ now.timeline.steps = (λ there. let kept = so.free there in c.in-Err.ensures.keeps_state.free kept.1 ∙ kept.0) in
+          subst (λ (n : ℕ). KeepsStateOnce {A = Unit {0}} span n now.timeline after (Err Memory)) position
+          (left_refused span from word now.timeline before after so.up_to.first so.left c.in-Err.ensures.keeps_state.refused steps);
     }
