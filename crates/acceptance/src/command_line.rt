@@ -7,7 +7,7 @@ use std::alloc::Global;
 use std::str;
 use std::test::Fail;
 use wb_options::MAX_SIZE;
-use workbench::{Kind, NoWords, Plan, RunFault, fault_line, options, r3kwb, status};
+use workbench::{Kind, NoWords, Order, Plan, RunFault, fault_line, options, r3kwb, status};
 
 // What a line asks for, or the status that it ends with.
 fn asked<'a>(alloc: Global, words: &'a [&'a str]) -> Result<(Kind, u32, u32), u8> {
@@ -114,7 +114,14 @@ fn no_words(rt: HostRuntime) -> Result<(), Fail> {
         let mut input = Plan::new(alloc, b"pos\n", 1, 0)?;
         let mut output = Plan::new(alloc, &[], 1, 100)?;
         let mut errors = Plan::new(alloc, &[], 1, 1000)?;
-        let status = r3kwb(alloc, Err(why), &mut input, &mut output, &mut errors);
+        let status = r3kwb(
+            alloc,
+            Err(why),
+            &mut input,
+            &mut output,
+            &mut errors,
+            &mut Order::new(),
+        );
         same_at(&rt, &why, &status, &fault);
         same_at(&rt, &why, &input.left().len(), &4);
         same_at(&rt, &why, &output.written().len(), &0);

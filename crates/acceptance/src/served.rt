@@ -8,7 +8,7 @@ use std::alloc::{AllocError, Global};
 use std::process::Abort;
 use std::str;
 use std::test::Fail;
-use workbench::{Plan, serve_words};
+use workbench::{Order, Plan, serve_words};
 
 /// What a run wrote to its output, what it reported on its errors, and its status.
 #[derive(Drop)]
@@ -69,6 +69,7 @@ pub fn run_on<const PAGES: u32, const SPAN: u32>(
         &mut input,
         &mut output,
         &mut errors,
+        &mut Order::new(),
     );
     Ok(Served {
         output: String::from_str(alloc, str::from_utf8(output.written())?)?,

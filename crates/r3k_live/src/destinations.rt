@@ -15,20 +15,21 @@ use r3k_word::layout::PAGE_BYTES;
 use std::alloc::AllocError;
 use std::marker::Model;
 
-/// For each destination, by its number, one more than the last step that had it, or 0.
+/// For each destination, by its number, one more than the last step that had it, or 0. They are wider than a step's number, and so than
+/// a register: where a step writes both, the compiler then scales the register's number within both addresses, with no shift before.
 #[derive(Clone, Copy)]
 pub struct Destinations {
-    last: [u32; 35],
+    last: [u64; 35],
 }
 
 impl Model for Destinations {
-    ghost use Rattle.std.specs.Prelude.{◌≡◌, ℕ, List, length};
+    ghost use Rattle.std.specs.Prelude.{◌≡◌, ◌^◌, ◌<◌, ℕ, List, length, slice_index};
 
     ghost Value = { List ℕ };
 
     ghost view = { λ destinations. destinations.last };
 
-    ghost invariant = { λ destinations. length destinations.last ≡ 35 };
+    ghost invariant = { λ destinations. (length destinations.last ≡ 35) × ((number : ℕ) → slice_index destinations.last number < 2 ^ 32) };
 
     ghost inverse = { λ last. record { last = last } };
 }
@@ -48,7 +49,7 @@ impl Destinations {
         ensures last { self.new ≡ slice_set self.old wrote (step + 1) }
         ensures long { length self.old ≡ 35 }
     {
-        self.last[wrote.index()] = step + 1;
+        self.last[wrote.index()] = u64::from(step + 1);
     }
 
     /// The last steps after so many come later by as many as have passed, but for those after `steps`.
@@ -58,8 +59,8 @@ impl Destinations {
     {
         for number in 0..35 {
             let last = self.last[number];
-            if since < last && last <= steps {
-                self.last[number] = last + passed;
+            if u64::from(since) < last && last <= u64::from(steps) {
+                self.last[number] = last + u64::from(passed);
             }
         }
     }
@@ -73,9 +74,9 @@ impl Destinations {
         }
         let own = self.last[register as usize];
         if register < 32 {
-            return step_of(own);
+            return step_of(own as u32);
         }
-        step_of(own.max(self.last[34]))
+        step_of(own.max(self.last[34]) as u32)
     }
 
     /// Adds the marks of the registers that were written.

@@ -83,7 +83,7 @@ fn last_of(first: usize, begun: u32, most: u32, steps: u32, halt: usize) -> u32
     } else {
         PAGE_WORDS as usize
     };
-    steps + ((end - first) as u32).min(begun + most - steps)
+    (u64::from(steps) + (end - first) as u64).min(u64::from(begun + most)) as u32
 }
 
 // The number of the word in a delay slot, if there is a step for it.
@@ -146,6 +146,14 @@ fn step_straight<const PAGES: u32, const SPAN: u32>(
                 recorder.note_again(quick.done);
                 index += 1;
             }
+            Next::WordAfterHiLo => {
+                recorder.note_again(quick.done);
+                index += 1;
+            }
+            Next::WordAfterNone => {
+                recorder.note_again(quick.done);
+                index += 1;
+            }
         }
         while recorder.steps() < last {
             flow.pin_straight(page.address(index));
@@ -162,6 +170,14 @@ fn step_straight<const PAGES: u32, const SPAN: u32>(
                     break;
                 }
                 Next::Word => {
+                    recorder.note_again(quick.done);
+                    index += 1;
+                }
+                Next::WordAfterHiLo => {
+                    recorder.note_again(quick.done);
+                    index += 1;
+                }
+                Next::WordAfterNone => {
                     recorder.note_again(quick.done);
                     index += 1;
                 }

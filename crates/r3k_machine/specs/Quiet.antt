@@ -28,7 +28,7 @@ use Rattle.r3k_machine.specs.declared.load_store.Word.{Word}
 use Rattle.r3k_machine.specs.declared.flow.Flow.{Flow}
 use Rattle.r3k_machine.specs.declared.quick.CodePage.{CodePage}
 use Rattle.r3k_machine.specs.declared.quick.Next.{Next}
-use Rattle.r3k_machine.specs.declared.quick.Next.TheVariants.{Word as NextWord, WordAfterLoad, DelaySlot}
+use Rattle.r3k_machine.specs.declared.quick.Next.TheVariants.{Word as NextWord, WordAfterHiLo, WordAfterNone, WordAfterLoad, DelaySlot}
 use Rattle.r3k_machine.specs.Address.{Meaning, meaning}
 use Rattle.r3k_machine.specs.Core.{Core}
 use Rattle.r3k_machine.specs.State.{State}
@@ -151,5 +151,7 @@ pub record LeavesRest (old new : Core) : Type 0 where
 -- what a quick step leaves next: the next word, with no load pending, or maybe with one, or the word in a delay slot
 abbrev pub Leaves : Next → Flow → Type 0
 Leaves NextWord flow = (flow.slot ≡ 0) × IsFalse flow.delay
+Leaves WordAfterHiLo flow = (flow.slot ≡ 0) × IsFalse flow.delay
+Leaves WordAfterNone flow = (flow.slot ≡ 0) × IsFalse flow.delay
 Leaves WordAfterLoad flow = IsFalse flow.delay
 Leaves DelaySlot flow = IsTrue flow.delay

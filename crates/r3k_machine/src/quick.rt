@@ -309,7 +309,7 @@ fn store_quick<M: Mem>(
         completion_of_effect M.ram (record { core = with_flow core.old flow.old; words = M.words memory.old }) page (Store kind address value)
         ≡ Ok (record { state = record { core = with_flow core.new flow.new; words = M.words memory.new }; done = done })) }
     ensures within { IfSome result (IsReport M.ram (M.words memory.old) (M.words memory.new)) }
-    ensures next { IfSome result (λ _. Leaves Next.Word flow.new) }
+    ensures next { IfSome result (λ _. Leaves Next.WordAfterNone flow.new) }
     ensures fetched { IfSome result (λ done. fetched_page done ≡ Some page) }
     ensures core { result ≡ None → core.new ≡ core.old }
     ensures flow { result ≡ None → flow.new ≡ flow.old }
@@ -345,7 +345,7 @@ fn store_by_kind<M: Mem>(
         completion_of_effect M.ram (record { core = with_flow core.old flow.old; words = M.words memory.old }) page (Store kind address value)
         ≡ Ok (record { state = record { core = with_flow core.new flow.new; words = M.words memory.new }; done = done })) }
     ensures within { IfSome result (IsReport M.ram (M.words memory.old) (M.words memory.new)) }
-    ensures next { IfSome result (λ _. Leaves Next.Word flow.new) }
+    ensures next { IfSome result (λ _. Leaves Next.WordAfterNone flow.new) }
     ensures fetched { IfSome result (λ done. fetched_page done ≡ Some page) }
     ensures core { result ≡ None → core.new ≡ core.old }
     ensures flow { result ≡ None → flow.new ≡ flow.old }
@@ -377,11 +377,16 @@ fn store_by_kind<M: Mem>(
     }
 }
 
-/// What a quick step leaves next. It is said on each way apart, so that the compiler knows it there.
+/// What a quick step leaves next. It is said on each way apart, so that the compiler knows it there. The steps that write a register are
+/// apart from those whose destination the compiler knows, so that these are recorded without its number.
 #[derive(Clone, Copy, Debug, PartialEq, Eq)]
 pub enum Next {
     /// The next word, with no load pending.
     Word,
+    /// The same, after a write of HI or LO.
+    WordAfterHiLo,
+    /// The same, where no register was written.
+    WordAfterNone,
     /// The next word, maybe with a load pending.
     WordAfterLoad,
     /// The word in a delay slot.
@@ -429,15 +434,18 @@ fn perform_quick<M: Mem>(
         Effect::WriteHi { value } => {
             core.complete_in(flow);
             core.set_hi(value);
+            next = Next::WordAfterHiLo;
         }
         Effect::WriteLo { value } => {
             core.complete_in(flow);
             core.set_lo(value);
+            next = Next::WordAfterHiLo;
         }
         Effect::WriteHiLo { hi, lo } => {
             core.complete_in(flow);
             core.set_hi(hi);
             core.set_lo(lo);
+            next = Next::WordAfterHiLo;
         }
         Effect::Jump { target } => {
             core.complete_in(flow);
@@ -473,7 +481,7 @@ fn perform_quick<M: Mem>(
             let done = store_by_kind(core, flow, memory, page, over_bus, kind, address, value)?;
             return Some(Quick {
                 done,
-                next: Next::Word,
+                next: Next::WordAfterNone,
             });
         }
         Effect::MoveFromControl { register, control } => {
@@ -491,6 +499,7 @@ fn perform_quick<M: Mem>(
             }
             core.complete_in(flow);
             core.write_control(control, value);
+            next = Next::WordAfterNone;
         }
         _ => return None,
     }

@@ -4,7 +4,7 @@
 use std::env;
 use std::io::ErrorKind;
 use std::process::ExitCode;
-use workbench::{FromRead, NoWords, ToWrite, r3kwb};
+use workbench::{FromRead, NoWords, Order, ToWrite, r3kwb};
 
 fn main(rt: HostRuntime) -> ExitCode {
     let arguments = arguments(&rt);
@@ -21,6 +21,7 @@ fn main(rt: HostRuntime) -> ExitCode {
         &mut FromRead::new(rt.reader()),
         &mut ToWrite::new(rt.stdout()),
         &mut ToWrite::new(rt.stderr()),
+        &mut Order::new(),
     );
     ExitCode::from(status)
 }

@@ -1,5 +1,5 @@
 -- Calls one after the other.
-use Rattle.std.proofs.Common.{◌≡◌, ℕ, ◌<◌, List, [], ◌∷◌, ◌++◌, take, length, unwrap_or, Option, Some, None, Result, Ok, Err, MatchResult, append_assoc, refl, sym, ap, subst, ◌∙◌, arith, length-append}
+use Rattle.std.proofs.Common.{◌≡◌, ℕ, ◌<◌, List, [], ◌∷◌, ◌++◌, take, length, unwrap_or, Option, Some, None, Result, Ok, Err, MatchResult, append_assoc, map, refl, sym, ap, subst, ◌∙◌, arith, length-append}
 use Rattle.std.proofs.KnownBytes.{Appends-kept, Appends-nil, Appends-trans, Consumes-kept, Consumes-nil, Consumes-trans}
 use Rattle.std.proofs.lemmas.List.{append-nil}
 use Rattle.std.specs.Io.KnownBytes.{Appends, Consumes, IsAtEnd, Keeps}
@@ -108,3 +108,8 @@ TakesFront-more x y calls f = record {
   front = ap (λ (z : List ℕ). z ++ y) f.front ∙ append_assoc (bytes_moved calls) f.rest y;
   left = let more = length-append f.rest y in omega (arith, f.left, more);
 }
+
+-- one more of what is made of a list
+pub map_append_one : {A B : Type 0} (f : A → B) (xs : List A) (x : A) → map f (xs ++ x ∷ []) ≡ map f xs ++ f x ∷ []
+map_append_one f [] x = refl
+map_append_one f (y ∷ xs) x = ap (λ (z : List _). f y ∷ z) (map_append_one f xs x)

@@ -62,6 +62,11 @@ Reads reads reads' left left' made = (reads' ≡ reads ++ made) × Consumes left
 abbrev pub Writes : (writes writes' : List Call) (written written' : Option (List ℕ)) → List Call → Type 0
 Writes writes writes' written written' made = (writes' ≡ writes ++ made) × Appends written written' (bytes_moved made)
 
+-- a time between calls: those that a reader had got by then, and those that a writer had
+pub record Moment : Type 0 where
+  pub reads : List Call
+  pub writes : List Call
+
 -- calls took all of these bytes, and each took some
 pub record TakesAll (bytes : List ℕ) (calls : List Call) : Type 0 where
   pub each : Each MovesSome calls

@@ -2,11 +2,13 @@
 #![tactic(auto)]
 
 mod calls;
+mod order;
 mod plan;
 mod sink;
 mod source;
 mod whole;
 
+pub use order::Order;
 pub use plan::{Plan, Upset};
 pub use sink::{Sink, ToWrite};
 pub use source::{Failed, FromRead, PIECE_BYTES, Source};

@@ -1,8 +1,10 @@
 -- A session (own): an image, a log and a position, and the answer to each command.
 use Rattle.std.specs.Prelude.{◌≡◌, ◌⊎◌, ℕ, ◌+◌, ◌-◌, ◌≤◌, Bool, true, false, List, [], length, map, Option, Some, None, Result, Ok, Err, if◌then◌else◌, nat_le, slice_index, slice_index_or}
 use Rattle.cop0.specs.Registers.{Registers as ControlState, register_of}
+use Rattle.input_log.specs.declared.edit.Edit.{Edit}
+use Rattle.input_log.specs.declared.edit.Edit.TheVariants as edit
 use Rattle.input_log.specs.declared.event.Kind.TheVariants.{Byte, Framing, Wire as WireKind}
-use Rattle.input_log.specs.Edits.{adding, deleting, erasing, moving, setting, up_to, without}
+use Rattle.input_log.specs.Edits.{edited, event_place}
 use Rattle.input_log.specs.Event.{LogEvent}
 use Rattle.r3k_image.specs.Boot.{Boot, FitsRam}
 use Rattle.r3k_image.specs.Patch.{patching}
@@ -200,9 +202,17 @@ abbrev pub visits : Triple → Result ℕ Fault → Answer
 visits s (Ok position) = answer (record { image = s.image; log = s.log; position = position }) (Position position)
 visits s (Err fault) = refusal s fault
 
-abbrev pub edits : Triple → (List LogEvent → Reply) → Result (List LogEvent) Fault → Answer
-edits s tell (Ok log) = answer (record { image = s.image; log = log; position = s.position }) (tell log)
-edits s tell (Err fault) = refusal s fault
+abbrev pub shows_log : Triple → (List LogEvent → Reply) → Result (List LogEvent) Fault → Answer
+shows_log s show (Ok log) = answer (record { image = s.image; log = log; position = s.position }) (show log)
+shows_log s show (Err fault) = refusal s fault
+
+-- an edit shows the place of the event that it adds, sets or moves, or how many events are left
+abbrev pub edit_shown : Option ℕ → List LogEvent → Reply
+edit_shown (Some place) log = Event place
+edit_shown None log = Left (length log)
+
+abbrev pub edits : Triple → Edit → Answer
+edits s edit = shows_log s (edit_shown (event_place edit s.log)) (edited edit s.log)
 
 abbrev pub patches : Triple → Result Boot Fault → Answer
 patches s (Ok image) = answer (record { image = image; log = s.log; position = s.position }) Patched
@@ -237,13 +247,13 @@ plain pages s (Pcs distance count) = shows s pcs_shown (pcs_at pages (history_of
 plain pages s Devices = of_core pages s (λ core. DevicesReply (devices_shown core.bus))
 plain pages s (Trace count) = shows s (trace_shown s.position) (followed pages (history_of s) s.position count)
 plain pages s (Log from count) = answer s (log_shown from count s.log)
-plain pages s (Add time line byte) = edits s (λ _. Event (length (up_to time s.log))) (adding (record { time = time; kind = Byte; line = line; byte = byte }) s.log)
-plain pages s (Ferr time line byte) = edits s (λ _. Event (length (up_to time s.log))) (adding (record { time = time; kind = Framing; line = line; byte = byte }) s.log)
-plain pages s (Wire time line level) = edits s (λ _. Event (length (up_to time s.log))) (adding (record { time = time; kind = WireKind; line = line; byte = level }) s.log)
-plain pages s (Del place) = edits s (λ log. Left (length log)) (deleting place s.log)
-plain pages s (Set place byte) = edits s (λ _. Event place) (setting place byte s.log)
-plain pages s (Move place time) = edits s (λ _. Event (length (up_to time (without place s.log)))) (moving place time s.log)
-plain pages s (Erase from to) = edits s (λ log. Left (length log)) (erasing from to s.log)
+plain pages s (Add time line byte) = edits s (edit.Add time Byte line byte)
+plain pages s (Ferr time line byte) = edits s (edit.Add time Framing line byte)
+plain pages s (Wire time line level) = edits s (edit.Add time WireKind line level)
+plain pages s (Del place) = edits s (edit.Delete place)
+plain pages s (Set place byte) = edits s (edit.Set place byte)
+plain pages s (Move place time) = edits s (edit.Move place time)
+plain pages s (Erase from to) = edits s (edit.Erase from to)
 plain pages s (Patch address word) = patches s (patching pages address word s.image)
 plain pages s Quit = answer s Nothing
 
@@ -288,9 +298,13 @@ comes_before_memory (Refused NotFound) = false
 comes_before_memory (Refused fault) = true
 comes_before_memory reply = false
 
--- The answers of a command: the plain one, and where it takes memory also a refusal for want of it. That refusal keeps the session.
--- It comes only where the plain reply is no refusal that comes before it.
+-- An answer whose plain one is this: it, or where memory is taken also a refusal for want of it, which keeps the session. That refusal
+-- comes only where the plain reply is no refusal that comes before it.
+abbrev pub AnswersAs : (takes_memory : Bool) → (plain : Answer) → Triple → Triple → Reply → Type 0
+AnswersAs takes_memory plain old new reply =
+    (answer new reply ≡ plain)
+    ⊎ ((takes_memory ≡ true) × (comes_before_memory plain.reply ≡ false) × (new ≡ old) × (reply ≡ Refused Memory))
+
+-- the answers of a command
 abbrev pub Answers : ℕ → Triple → Command → Triple → Reply → Type 0
-Answers pages old command new reply =
-    (answer new reply ≡ plain pages old command)
-    ⊎ ((takes_memory command ≡ true) × (comes_before_memory (plain pages old command).reply ≡ false) × (new ≡ old) × (reply ≡ Refused Memory))
+Answers pages old command new reply = AnswersAs (takes_memory command) (plain pages old command) old new reply

@@ -1,16 +1,17 @@
 //! A session: an image, a log and a position, and the answer to each command.
 
 ghost use Rattle.std.specs.Prelude.{◌≡◌, ◌⊎◌, Err, IsOk, MatchResult, Ok};
+ghost use Rattle.input_log.specs.Edits.{takes_memory};
 ghost use Rattle.r3k_image.specs.Boot.{FitsRam};
 ghost use Rattle.timeline.specs.Sizes.{AreSizes};
 ghost use Rattle.wb_text.specs.declared.command.Command.TheVariants as command;
-ghost use Rattle.wb_session.specs.Session.{Answers, IsNewFault, answer, begun, log_shown, moved, triple_of};
-ghost use Rattle.wb_session.specs.Cost.{AsksNothing, Costs};
+ghost use Rattle.wb_session.specs.Session.{Answers, AnswersAs, IsNewFault, answer, begun, edits, log_shown, moved, triple_of};
+ghost use Rattle.wb_session.specs.Cost.{AsksNothing, Costs, Edits};
 
 use crate::showing::{
     control_of, devices_of, entry_shown, events_from, place_shown, registers_of, writer_shown,
 };
-use input_log::Log;
+use input_log::{Edit, Kind, Log};
 use r3k_image::Image;
 use refusal::Fault;
 use std::alloc::Global;
@@ -18,9 +19,9 @@ use std::marker::Model;
 use timeline::{MAX_POSITION, Timeline};
 use wb_options::RunFault;
 use wb_text::{
-    Address, ByteCount, ByteValue, Command, Distance, EntryNumber, EventCount, EventTime,
-    FindCount, Level, LineNumber, PositionCount, RegisterNumber, Reply, StepCount, StoreCount,
-    TraceCount, WireNumber, WordValue, WrittenNumber,
+    Address, ByteCount, Command, Distance, EntryNumber, EventCount, FindCount, LineNumber,
+    PositionCount, RegisterNumber, Reply, StepCount, StoreCount, TraceCount, WordValue,
+    WrittenNumber,
 };
 
 // How many pasts are kept side by side.
@@ -103,13 +104,34 @@ impl<const PAGES: u32, const SPAN: u32> Session<PAGES, SPAN> {
             Command::Devices => self.devices(),
             Command::Trace(count) => self.trace(count),
             Command::Log { from, count } => self.events(from, count),
-            Command::Add { time, line, byte } => self.add(time, line, byte),
-            Command::Ferr { time, line, byte } => self.ferr(time, line, byte),
-            Command::Wire { time, line, level } => self.wire(time, line, level),
-            Command::Del(event) => self.del(event),
-            Command::Set { event, byte } => self.set(event, byte),
-            Command::Move { event, time } => self.move_to(event, time),
-            Command::Erase { from, to } => self.erase(from, to),
+            Command::Add { time, line, byte } => self.edit(Edit::Add {
+                time: time.get(),
+                kind: Kind::Byte,
+                line: line.get() as u8,
+                byte: byte.get() as u8,
+            }),
+            Command::Ferr { time, line, byte } => self.edit(Edit::Add {
+                time: time.get(),
+                kind: Kind::Framing,
+                line: line.get() as u8,
+                byte: byte.get() as u8,
+            }),
+            Command::Wire { time, line, level } => self.edit(Edit::Add {
+                time: time.get(),
+                kind: Kind::Wire,
+                line: line.get() as u8,
+                byte: level.get() as u8,
+            }),
+            Command::Del(place) => self.edit(Edit::Delete { place }),
+            Command::Set { event, byte } => self.edit(Edit::Set {
+                place: event,
+                byte: byte.get() as u8,
+            }),
+            Command::Move { event, time } => self.edit(Edit::Move {
+                place: event,
+                time: time.get(),
+            }),
+            Command::Erase { from, to } => self.edit(Edit::Erase { from, to }),
             Command::Patch { address, word } => self.patch(address, word),
             Command::Quit => Reply::Nothing,
         }
@@ -352,88 +374,14 @@ impl<const PAGES: u32, const SPAN: u32> Session<PAGES, SPAN> {
         }
     }
 
-    // Adds the arrival of a byte.
-    fn add(&mut self, time: EventTime, line: LineNumber, byte: ByteValue) -> Reply
-        ensures answers { Answers PAGES (triple_of self.old) (command.Add time line byte) (triple_of self.new) result }
-        ensures costs { Costs PAGES SPAN (command.Add time line byte) self.old self.new result }
+    // Edits the log, and shows the place of the event that this adds, sets or moves, or how many events are left.
+    fn edit(&mut self, edit: Edit) -> Reply
+        ensures answers { AnswersAs (takes_memory edit) (edits (triple_of self.old) edit) (triple_of self.old) (triple_of self.new) result }
+        ensures costs { Edits self.old self.new result }
     {
-        match self
-            .timeline
-            .add(time.get(), line.get() as u8, byte.get() as u8)
-        {
-            Ok(event) => Reply::Event(event as u64),
-            Err(fault) => Reply::Fault(fault),
-        }
-    }
-
-    // Adds the arrival of a byte with a framing error.
-    fn ferr(&mut self, time: EventTime, line: LineNumber, byte: ByteValue) -> Reply
-        ensures answers { Answers PAGES (triple_of self.old) (command.Ferr time line byte) (triple_of self.new) result }
-        ensures costs { Costs PAGES SPAN (command.Ferr time line byte) self.old self.new result }
-    {
-        match self
-            .timeline
-            .ferr(time.get(), line.get() as u8, byte.get() as u8)
-        {
-            Ok(event) => Reply::Event(event as u64),
-            Err(fault) => Reply::Fault(fault),
-        }
-    }
-
-    // Adds a level of an external line.
-    fn wire(&mut self, time: EventTime, line: WireNumber, level: Level) -> Reply
-        ensures answers { Answers PAGES (triple_of self.old) (command.Wire time line level) (triple_of self.new) result }
-        ensures costs { Costs PAGES SPAN (command.Wire time line level) self.old self.new result }
-    {
-        match self
-            .timeline
-            .wire(time.get(), line.get() as u8, level.get() as u8)
-        {
-            Ok(event) => Reply::Event(event as u64),
-            Err(fault) => Reply::Fault(fault),
-        }
-    }
-
-    // Deletes an event.
-    fn del(&mut self, event: u64) -> Reply
-        ensures answers { Answers PAGES (triple_of self.old) (command.Del event) (triple_of self.new) result }
-        ensures costs { Costs PAGES SPAN (command.Del event) self.old self.new result }
-    {
-        match self.timeline.del(event) {
-            Ok(()) => Reply::Left(self.timeline.log().events().len() as u64),
-            Err(fault) => Reply::Fault(fault),
-        }
-    }
-
-    // Gives an event another byte.
-    fn set(&mut self, event: u64, byte: ByteValue) -> Reply
-        ensures answers { Answers PAGES (triple_of self.old) (command.Set event byte) (triple_of self.new) result }
-        ensures costs { Costs PAGES SPAN (command.Set event byte) self.old self.new result }
-    {
-        match self.timeline.set(event, byte.get() as u8) {
-            Ok(()) => Reply::Event(event),
-            Err(fault) => Reply::Fault(fault),
-        }
-    }
-
-    // Moves an event to another time.
-    fn move_to(&mut self, event: u64, time: EventTime) -> Reply
-        ensures answers { Answers PAGES (triple_of self.old) (command.Move event time) (triple_of self.new) result }
-        ensures costs { Costs PAGES SPAN (command.Move event time) self.old self.new result }
-    {
-        match self.timeline.move_to(event, time.get()) {
-            Ok(event) => Reply::Event(event as u64),
-            Err(fault) => Reply::Fault(fault),
-        }
-    }
-
-    // Takes the events of a range of times out of the log.
-    fn erase(&mut self, from: u64, to: u64) -> Reply
-        ensures answers { Answers PAGES (triple_of self.old) (command.Erase from to) (triple_of self.new) result }
-        ensures costs { Costs PAGES SPAN (command.Erase from to) self.old self.new result }
-    {
-        match self.timeline.erase(from, to) {
-            Ok(()) => Reply::Left(self.timeline.log().events().len() as u64),
+        match self.timeline.edit(edit) {
+            Ok(Some(place)) => Reply::Event(place as u64),
+            Ok(None) => Reply::Left(self.timeline.log().events().len() as u64),
             Err(fault) => Reply::Fault(fault),
         }
     }

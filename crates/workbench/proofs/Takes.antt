@@ -2,12 +2,12 @@
 use Rattle.std.proofs.Common.{◌≡◌, ◌≢◌, ℕ, ◌<◌, ◌≤◌, Bool, true, false, List, [], ◌∷◌, ◌++◌, ◌+◌, length, take, drop, get_or, append_assoc, Option, Some, Result, Ok, Err, MatchResult, unwrap_or, inl, refl, sym, ap, subst, ◌∙◌, cond, arith, ltb}
 use Rattle.std.proofs.lemmas.Bool.{ltb-false}
 use Rattle.std.proofs.lemmas.List.{append-nil, take_more, take-append-drop}
-use Rattle.wb_io.specs.Calls.{Call, Each, MovesSome, TakesAll, TakesFront, bytes_moved, bytes_of}
+use Rattle.wb_io.specs.Calls.{Call, Each, Moment, MovesSome, TakesAll, TakesFront, bytes_moved, bytes_of}
 use Rattle.wb_io.proofs.CallLemmas.{Each-append, TakesAll-append, TakesFront-after, bytes_moved-append}
 use Rattle.workbench.specs.LineBuffer.{HasNoFeed}
 use Rattle.wb_options.specs.declared.fault.RunFault.{RunFault}
 use Rattle.wb_options.specs.declared.fault.RunFault.TheVariants.{WriteFault}
-use Rattle.workbench.specs.Runs.{IsPiece, NoQuit, ScriptRuns, WritesText}
+use Rattle.workbench.specs.Runs.{AnswersFirst, IsAnswered, IsPiece, NoQuit, ScriptRuns, WritesText}
 use Rattle.workbench.specs.Script.{IsText, Quits, QuitsAnyway, complete_lines, lines_of}
 use Rattle.wb_session.specs.Session.{Triple}
 use Rattle.workbench.specs.Taking.{Answered, Ends, GoesOn, Stops, Took, Unanswered}
@@ -150,3 +150,19 @@ end_runs pages most s t (Ok done) reads writes calls last b each asked some none
 end_runs pages most s t (Err fault) reads writes calls last b each asked some none e f h =
     subst (λ (z : RunFault). ScriptRuns {T = Unit {0}} pages most s (Err z) (reads ++ last ∷ []) (writes ++ calls)) (sym h.0)
     (inl (record { pieces = reads; last = last; reads_are = refl; each = each; asked = asked; so = (some, none) }, no_quit_at_end pages s t reads writes last b (ap (λ (m : Option (List ℕ)). unwrap_or m []) none) f, end_stopped pages s t reads writes calls last b (ap (λ (m : Option (List ℕ)). unwrap_or m []) none) e f h.1))
+
+-- one more read that came after the answers
+pub answers_first-append_one : (pages : ℕ) (s : Triple) (first now : Moment) (before reads : List Call) (read : Call) (moments : List Moment) → AnswersFirst pages s first before reads moments → IsAnswered pages s first now (before ++ reads) → AnswersFirst pages s first before (reads ++ read ∷ []) (moments ++ now ∷ [])
+answers_first-append_one pages s first now before [] read [] h is = (subst (λ (z : List Call). IsAnswered pages s first now z) (append-nil before) is, tt)
+answers_first-append_one pages s first now before [] read (one ∷ moments) h is = absurd h
+answers_first-append_one pages s first now before (one ∷ reads) read [] h is = absurd h
+answers_first-append_one pages s first now before (one ∷ reads) read (next ∷ moments) h is =
+    (h.0, answers_first-append_one pages s first now (before ++ one ∷ []) reads read moments h.1 (subst (λ (z : List Call). IsAnswered pages s first now z) (sym (append_assoc before (one ∷ []) reads)) is))
+
+pub moments-append_one : (a b c moments : List Moment) (now : Moment) → b ≡ a ++ moments → c ≡ b ++ now ∷ [] → c ≡ a ++ (moments ++ now ∷ [])
+moments-append_one a b c moments now e f = f ∙ (ap (λ (z : List Moment). z ++ now ∷ []) e ∙ append_assoc a moments (now ∷ []))
+
+-- the lines so far are answered
+pub answered_so_far : (pages : ℕ) (s t : Triple) (first now : Moment) (reads writes : List Call) (pending : List ℕ) → now.reads ≡ first.reads ++ reads → now.writes ≡ first.writes ++ writes → Each MovesSome writes → GoesOn pages s (bytes_moved reads) t pending (bytes_moved writes) → IsAnswered pages s first now reads
+answered_so_far pages s t first now reads writes pending e f each on =
+    record { writes = writes; reads_are = e; writes_are = f; text = (bytes_moved writes, on.complete_text, record { each = each; all = refl }) }

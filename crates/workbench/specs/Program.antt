@@ -2,14 +2,14 @@
 use Rattle.std.specs.Prelude.{◌≡◌, ◌⊎◌, ℕ, List, [], ◌++◌, Option, Some, None, Result, Ok, Err, map}
 use Rattle.std.specs.Borrow.{Bor}
 use Rattle.std.specs.String.{string_bytes}
-use Rattle.wb_io.specs.Calls.{Call, TakesAll, TakesFront}
+use Rattle.wb_io.specs.Calls.{Call, Moment, TakesAll, TakesFront}
 use Rattle.wb_options.specs.Fault.{line_of, status_of}
 use Rattle.wb_options.specs.Options.{IsLineFault, IsLine, IsNotText}
 use Rattle.wb_options.specs.declared.fault.RunFault.{RunFault}
 use Rattle.wb_options.specs.declared.fault.RunFault.TheVariants.{Memory, Usage, Help}
 use Rattle.workbench.specs.declared.program.NoWords.{NoWords}
 use Rattle.workbench.specs.declared.program.NoWords.TheVariants.{NoMemory, NotText}
-use Rattle.workbench.specs.Serve.{Layout, Serves}
+use Rattle.workbench.specs.Serve.{Layout, Serves, ServesInOrder}
 
 -- a text, if there is one, was written, whole or up to the first write that failed or took none of it
 abbrev pub Reports : Option (List ℕ) → List Call → Type 0
@@ -45,6 +45,13 @@ Serving pages (Err why) result reads writes = (fault : RunFault) × (result ≡ 
 Serving pages (Ok words) result reads writes =
     ((layout : Layout) × IsLine words layout.kind layout.size layout.log_size × Serves pages layout result reads writes)
     ⊎ ((fault : RunFault) × (result ≡ Err fault) × IsLineFault words fault × (reads ≡ []) × (writes ≡ []))
+
+-- nothing was written, or good words were served in order
+abbrev pub ServingInOrder : {T : Type 0} → ℕ → Result (List (List ℕ)) NoWords → Result T RunFault → (reads writes : List Call) → (first : Moment) → List Moment → Type 0
+ServingInOrder pages (Err why) result reads writes first moments = writes ≡ []
+ServingInOrder pages (Ok words) result reads writes first moments =
+    (writes ≡ [])
+    ⊎ ((layout : Layout) × IsLine words layout.kind layout.size layout.log_size × ServesInOrder pages layout result reads writes first moments)
 
 -- The program: the words are served or not, then help goes to the output, and a fault is reported on the errors.
 pub record Program (pages : ℕ) (words : Result (List (List ℕ)) NoWords) (status : ℕ) (reads writes reports : List Call) : Type 0 where

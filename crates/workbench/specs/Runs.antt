@@ -1,6 +1,6 @@
 -- How a run goes (own): which calls its reader and its writer get, by its result.
 use Rattle.std.specs.Prelude.{◌≡◌, ◌⊎◌, ℕ, List, [], ◌∷◌, ◌++◌, Result, Ok, Err, length}
-use Rattle.wb_io.specs.Calls.{Call, Each, Fails, MovesNone, MovesSome, TakesAll, TakesFront, bytes_moved}
+use Rattle.wb_io.specs.Calls.{Call, Each, Fails, Moment, MovesNone, MovesSome, TakesAll, TakesFront, bytes_moved}
 use Rattle.input_log.specs.Event.{LogEvent}
 use Rattle.r3k_image.specs.Boot.{Boot, FitsRam}
 use Rattle.r3k_image.specs.declared.fault.ImageKind.TheVariants.{Pages}
@@ -82,3 +82,20 @@ RunsScript pages most image log (Err Memory) reads writes = FitsRam pages image 
 RunsScript pages most image log (Err (BadImage kind)) reads writes = (kind ≡ Pages) × ¬ FitsRam pages image × Untouched reads writes
 RunsScript pages most image log result reads writes =
     FitsRam pages image × ScriptRuns pages most (record { image = image; log = log; position = 0 }) result reads writes
+
+-- From one time to another a reader got these reads, and the complete lines in them were answered: what a writer got from the one to the
+-- other is a text of them, written whole.
+pub record IsAnswered (pages : ℕ) (s : Triple) (first now : Moment) (reads : List Call) : Type 0 where
+  pub writes : List Call
+  pub reads_are : now.reads ≡ first.reads ++ reads
+  pub writes_are : now.writes ≡ first.writes ++ writes
+  pub text : WritesText TakesAll pages s (complete_lines (bytes_moved reads)) writes
+
+-- Replies come before reads: at the time of each read of a script, all complete lines that were read before it are answered. These are
+-- the reads after those in `before`, and the times of each.
+abbrev pub AnswersFirst : ℕ → Triple → Moment → (before reads : List Call) → List Moment → Type 0
+AnswersFirst pages s first before [] [] = Unit {0}
+AnswersFirst pages s first before (read ∷ reads) (now ∷ moments) =
+    IsAnswered pages s first now before × AnswersFirst pages s first (before ++ read ∷ []) reads moments
+AnswersFirst pages s first before [] (now ∷ moments) = ⊥
+AnswersFirst pages s first before (read ∷ reads) [] = ⊥

@@ -2,7 +2,7 @@
 use Rattle.std.specs.Prelude.{◌≡◌, ◌⊎◌, ℕ, ◌+◌, ◌-◌, ◌<◌, min, List, [], ◌∷◌, ◌++◌, length, take, drop, Result, Ok, Err}
 use Rattle.input_log.specs.Event.{LogEvent}
 use Rattle.input_log.specs.Reading.{log_at}
-use Rattle.wb_io.specs.Calls.{Call, Fails, MovesNone, MovesSome, bytes_moved, bytes_of}
+use Rattle.wb_io.specs.Calls.{Call, Fails, Moment, MovesNone, MovesSome, bytes_moved, bytes_of}
 use Rattle.r3k_image.specs.Boot.{Boot, FitsRam}
 use Rattle.r3k_image.specs.Reading.{image_at, raw_rom_at}
 use Rattle.r3k_asm.specs.Meaning.{image_of as source_image}
@@ -12,7 +12,7 @@ use Rattle.wb_options.specs.declared.arguments.Kind.TheVariants.{Rom, Image, Sou
 use Rattle.wb_options.specs.Fault.{run_fault_of_source}
 use Rattle.wb_options.specs.declared.fault.RunFault.{RunFault}
 use Rattle.wb_options.specs.declared.fault.RunFault.TheVariants.{Memory, BadImage, BadLog, BadSource, ReadFault}
-use Rattle.workbench.specs.Runs.{ScriptRuns, max_reads}
+use Rattle.workbench.specs.Runs.{AnswersFirst, ScriptRuns, max_reads}
 
 -- the answer of a reading, with its fault as one of a run
 abbrev pub with_fault : {A E : Type 0} → (E → RunFault) → Result A E → Result A RunFault
@@ -116,6 +116,14 @@ Serves pages layout (Err (BadSource line why)) reads writes = Refuses pages layo
 Serves pages layout (Err ReadFault) reads writes =
     (IsCutWithin (size_of layout) reads × (writes ≡ [])) ⊎ ServesScript {T = Unit {0}} pages layout (Err ReadFault) reads writes
 Serves pages layout result reads writes = ServesScript pages layout result reads writes
+
+-- Nothing was written, or a script was served and its replies came before its reads. These are the times of those reads, and `first` is
+-- that before the run.
+abbrev pub ServesInOrder : {T : Type 0} → ℕ → Layout → Result T RunFault → (reads writes : List Call) → (first : Moment) → List Moment → Type 0
+ServesInOrder pages layout result reads writes first moments =
+    (writes ≡ [])
+    ⊎ ((served : ServesScript pages layout result reads writes)
+    × AnswersFirst pages (record { image = served.image; log = served.log; position = 0 }) (record { reads = first.reads ++ served.before; writes = first.writes }) [] served.script moments)
 
 -- why image or log could not be made
 abbrev pub IsJudgement : RunFault → Type 0

@@ -10,6 +10,6 @@ mod serving;
 pub use program::{NoWords, r3kwb, serve_words};
 pub use script::run;
 pub use serving::serve;
-pub use wb_io::{Failed, FromRead, Plan, Sink, Source, ToWrite, Upset};
+pub use wb_io::{Failed, FromRead, Order, Plan, Sink, Source, ToWrite, Upset};
 pub use wb_options::{Kind, MAX_SIZE, Options, RunFault, fault_line, options, status};
 pub use wb_session::{MAX_POSITION, Session};

@@ -1,12 +1,12 @@
 //! The program: it reads its line, runs the workbench over a reader and a writer, and reports how it went.
-ghost use Rattle.std.specs.Prelude.{List};
-ghost use Rattle.wb_io.specs.Calls.{Call, Reads, Writes};
-ghost use Rattle.workbench.specs.Program.{IsWithoutWords, Program, Serving, Reports, error_text, help_text, texts_of};
+ghost use Rattle.std.specs.Prelude.{◌≡◌, ◌++◌, List};
+ghost use Rattle.wb_io.specs.Calls.{Call, Moment, Reads, Writes};
+ghost use Rattle.workbench.specs.Program.{IsWithoutWords, Program, Serving, ServingInOrder, Reports, error_text, help_text, texts_of};
 ghost use Rattle.timeline.specs.Sizes.{AreSizes};
 
-use crate::serving::serve;
+use crate::serving::serve_in_order;
 use std::alloc::Global;
-use wb_io::{Sink, Source, write_whole};
+use wb_io::{Order, Sink, Source, write_whole};
 use wb_options::{RunFault, fault_line, not_text, options, status};
 
 /// Why the program's words can't be had.
@@ -18,21 +18,25 @@ pub enum NoWords {
     NotText,
 }
 
-/// The program, on a machine with 2048 pages of RAM, 8 MiB, whose runs are kept in spans of 65,536 steps.
+/// The program, on a machine with 2048 pages of RAM, 8 MiB, whose runs are kept in spans of 65,536 steps. Before each read of the script
+/// all complete lines that were read are answered, each reply written whole. `order` sees these reads.
 pub fn r3kwb<R: Source, W: Sink, E: Sink>(
     alloc: Global,
     words: Result<&[&str], NoWords>,
     input: &mut R,
     output: &mut W,
     errors: &mut E,
+    order: &mut Order<R, W>,
 ) -> u8
     ensures { (reads : List Call) × (writes : List Call) × (reports : List Call)
         × Reads (R.reads input.old) (R.reads input.new) (R.left input.old) (R.left input.new) reads
         × Writes (W.writes output.old) (W.writes output.new) (W.written output.old) (W.written output.new) writes
         × Writes (E.writes errors.old) (E.writes errors.new) (E.written errors.old) (E.written errors.new) reports
-        × Program 2048 (texts_of words.entry) result reads writes reports }
+        × (program : Program 2048 (texts_of words.entry) result reads writes reports)
+        × (moments : List Moment) × (order.new ≡ order.old ++ moments)
+        × ServingInOrder 2048 (texts_of words.entry) program.outcome reads program.served (record { reads = R.reads input.old; writes = W.writes output.old }) moments }
 {
-    serve_words::<2048, 65_536, R, W, E>(alloc, words, input, output, errors)
+    serve_words::<2048, 65_536, R, W, E>(alloc, words, input, output, errors, order)
 }
 
 /// The program on its words, the first of which is its name, or on none. It serves what they ask for, with replies to `output`,
@@ -45,15 +49,18 @@ pub fn serve_words<const PAGES: u32, const SPAN: u32, R: Source, W: Sink, E: Sin
     input: &mut R,
     output: &mut W,
     errors: &mut E,
+    order: &mut Order<R, W>,
 ) -> u8
     requires sizes { AreSizes PAGES SPAN }
     ensures { (reads : List Call) × (writes : List Call) × (reports : List Call)
         × Reads (R.reads input.old) (R.reads input.new) (R.left input.old) (R.left input.new) reads
         × Writes (W.writes output.old) (W.writes output.new) (W.written output.old) (W.written output.new) writes
         × Writes (E.writes errors.old) (E.writes errors.new) (E.written errors.old) (E.written errors.new) reports
-        × Program PAGES (texts_of words.entry) result reads writes reports }
+        × (program : Program PAGES (texts_of words.entry) result reads writes reports)
+        × (moments : List Moment) × (order.new ≡ order.old ++ moments)
+        × ServingInOrder PAGES (texts_of words.entry) program.outcome reads program.served (record { reads = R.reads input.old; writes = W.writes output.old }) moments }
 {
-    let outcome = outcome_of::<PAGES, SPAN, R, W>(alloc, words, input, output);
+    let outcome = outcome_of::<PAGES, SPAN, R, W>(alloc, words, input, output, order);
     report(&outcome, output, errors);
     status(&outcome)
 }
@@ -64,12 +71,15 @@ fn outcome_of<const PAGES: u32, const SPAN: u32, R: Source, W: Sink>(
     words: Result<&[&str], NoWords>,
     input: &mut R,
     output: &mut W,
+    order: &mut Order<R, W>,
 ) -> Result<(), RunFault>
     requires sizes { AreSizes PAGES SPAN }
     ensures { (reads : List Call) × (writes : List Call)
         × Reads (R.reads input.old) (R.reads input.new) (R.left input.old) (R.left input.new) reads
         × Writes (W.writes output.old) (W.writes output.new) (W.written output.old) (W.written output.new) writes
-        × Serving PAGES (texts_of words.entry) result reads writes }
+        × Serving PAGES (texts_of words.entry) result reads writes
+        × (moments : List Moment) × (order.new ≡ order.old ++ moments)
+        × ServingInOrder PAGES (texts_of words.entry) result reads writes (record { reads = R.reads input.old; writes = W.writes output.old }) moments }
 {
     let words = match words {
         Err(why) => return Err(without_words(alloc, why)),
@@ -77,7 +87,7 @@ fn outcome_of<const PAGES: u32, const SPAN: u32, R: Source, W: Sink>(
     };
     match options(alloc, words) {
         Err(fault) => Err(fault),
-        Ok(options) => serve::<PAGES, SPAN, R, W>(alloc, options, input, output),
+        Ok(options) => serve_in_order::<PAGES, SPAN, R, W>(alloc, options, input, output, order),
     }
 }
 

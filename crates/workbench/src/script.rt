@@ -1,9 +1,9 @@
 //! A script: its lines are read, answered one after the other, and each reply is written whole.
 ghost use Rattle.std.specs.Prelude.{◌≡◌, ◌≤◌, ◌∷◌, ◌++◌, [], List, MatchResult, length};
-ghost use Rattle.wb_io.specs.Calls.{Call, Reads, TakesAll, TakesFront, Writes};
+ghost use Rattle.wb_io.specs.Calls.{Call, Moment, Reads, TakesAll, TakesFront, Writes};
 ghost use Rattle.wb_options.specs.declared.fault.RunFault.TheVariants.{WriteFault};
 ghost use Rattle.workbench.specs.LineBuffer.{HasNoFeed};
-ghost use Rattle.workbench.specs.Runs.{RunsScript, ScriptRuns, WritesText, max_reads};
+ghost use Rattle.workbench.specs.Runs.{AnswersFirst, RunsScript, ScriptRuns, WritesText, max_reads};
 ghost use Rattle.workbench.specs.Script.{is_quit, lines_of};
 ghost use Rattle.timeline.specs.Sizes.{AreSizes};
 ghost use Rattle.wb_session.specs.Session.{triple_of};
@@ -13,7 +13,7 @@ use crate::line_buffer::LineBuffer;
 use input_log::Log;
 use r3k_image::Image;
 use std::alloc::Global;
-use wb_io::{PIECE_BYTES, Sink, Source, write_whole};
+use wb_io::{Order, PIECE_BYTES, Sink, Source, write_whole};
 use wb_options::RunFault;
 use wb_session::Session;
 use wb_text::{Command, Reply, parse_line, reply_text};
@@ -40,16 +40,19 @@ pub fn run<const PAGES: u32, const SPAN: u32, R: Source, W: Sink>(
         × (length reads ≤ max_reads)
         × RunsScript PAGES max_reads image log result reads writes }
 {
-    run_with::<PAGES, SPAN, R, W>(alloc, image, log, reader, writer, MAX_READS)
+    let mut order = Order::new();
+    run_with::<PAGES, SPAN, R, W>(alloc, image, log, reader, writer, &mut order, MAX_READS)
 }
 
-/// Runs a script with at most `most` reads.
+/// Runs a script with at most `most` reads. Before each of them all complete lines that were read are answered, and the replies
+/// are written whole. `order` sees each read.
 pub(crate) fn run_with<const PAGES: u32, const SPAN: u32, R: Source, W: Sink>(
     alloc: Global,
     image: Image,
     log: Log,
     reader: &mut R,
     writer: &mut W,
+    order: &mut Order<R, W>,
     most: u32,
 ) -> Result<(), RunFault>
     requires sizes { AreSizes PAGES SPAN }
@@ -57,13 +60,15 @@ pub(crate) fn run_with<const PAGES: u32, const SPAN: u32, R: Source, W: Sink>(
         × Reads (R.reads reader.old) (R.reads reader.new) (R.left reader.old) (R.left reader.new) reads
         × Writes (W.writes writer.old) (W.writes writer.new) (W.written writer.old) (W.written writer.new) writes
         × (length reads ≤ most)
-        × RunsScript PAGES most image log result reads writes }
+        × RunsScript PAGES most image log result reads writes
+        × (moments : List Moment) × (order.new ≡ order.old ++ moments)
+        × AnswersFirst PAGES (record { image = image; log = log; position = 0 }) (record { reads = R.reads reader.old; writes = W.writes writer.old }) [] reads moments }
 {
     let mut session = match Session::<PAGES, SPAN>::new(alloc, image, log) {
         Ok(session) => session,
         Err(refusal) => return Err(refusal),
     };
-    run_script(&mut session, reader, writer, most)
+    run_script(&mut session, reader, writer, order, most)
 }
 
 // Reads a script and answers its lines.
@@ -71,18 +76,21 @@ fn run_script<const PAGES: u32, const SPAN: u32, R: Source, W: Sink>(
     session: &mut Session<PAGES, SPAN>,
     reader: &mut R,
     writer: &mut W,
+    order: &mut Order<R, W>,
     most: u32,
 ) -> Result<(), RunFault>
     ensures { (reads : List Call) × (writes : List Call)
         × Reads (R.reads reader.old) (R.reads reader.new) (R.left reader.old) (R.left reader.new) reads
         × Writes (W.writes writer.old) (W.writes writer.new) (W.written writer.old) (W.written writer.new) writes
         × (length reads ≤ most)
-        × ScriptRuns PAGES most (triple_of session.old) result reads writes }
+        × ScriptRuns PAGES most (triple_of session.old) result reads writes
+        × (moments : List Moment) × (order.new ≡ order.old ++ moments)
+        × AnswersFirst PAGES (triple_of session.old) (record { reads = R.reads reader.old; writes = W.writes writer.old }) [] reads moments }
 {
     let mut line = LineBuffer::new();
     let mut piece = [0u8; PIECE_BYTES];
     for _made in 0..most {
-        let count = match reader.read(&mut piece) {
+        let count = match order.read(reader, writer, &mut piece) {
             Err(_) => return Err(RunFault::ReadFault),
             Ok(0) => return end_script(session, &line, writer),
             Ok(count) => count,

@@ -1,8 +1,8 @@
 //! The program on its input: an image and a log, and then a script.
-ghost use Rattle.std.specs.Prelude.{◌≡◌, ◌+◌, ◌≤◌, IfErr, List, MatchResult, length};
-ghost use Rattle.wb_io.specs.Calls.{Call, Reads, Writes, bytes_moved};
+ghost use Rattle.std.specs.Prelude.{◌≡◌, ◌+◌, ◌≤◌, ◌++◌, IfErr, List, MatchResult, length};
+ghost use Rattle.wb_io.specs.Calls.{Call, Moment, Reads, Writes, bytes_moved};
 ghost use Rattle.workbench.specs.Runs.{max_reads};
-ghost use Rattle.workbench.specs.Serve.{IsFrontFault, IsJudgement, Makes, ReadsAll, Serves, image_of, log_of};
+ghost use Rattle.workbench.specs.Serve.{IsFrontFault, IsJudgement, Makes, ReadsAll, Serves, ServesInOrder, image_of, log_of};
 ghost use Rattle.timeline.specs.Sizes.{AreSizes};
 
 use crate::script::{MAX_READS, run_with};
@@ -10,7 +10,7 @@ use input_log::{Log, read_log};
 use r3k_asm::assemble;
 use r3k_image::{Image, raw_rom, read_image};
 use std::alloc::Global;
-use wb_io::{PIECE_BYTES, Sink, Source};
+use wb_io::{Order, PIECE_BYTES, Sink, Source};
 use wb_options::{Kind, Options, RunFault};
 
 /// Reads the bytes of image and log, as many as the options say, makes both, and runs the script that follows on a machine with
@@ -31,6 +31,28 @@ pub fn serve<const PAGES: u32, const SPAN: u32, R: Source, W: Sink>(
         × (length reads ≤ max_reads)
         × Serves PAGES (record { kind = options.kind; size = options.size; log_size = options.log_size }) result reads writes }
 {
+    let mut order = Order::new();
+    serve_in_order::<PAGES, SPAN, R, W>(alloc, options, reader, writer, &mut order)
+}
+
+/// The same. Before each read of the script all complete lines that were read are answered, and the replies are written whole.
+/// `order` sees each read of the script.
+pub(crate) fn serve_in_order<const PAGES: u32, const SPAN: u32, R: Source, W: Sink>(
+    alloc: Global,
+    options: Options,
+    reader: &mut R,
+    writer: &mut W,
+    order: &mut Order<R, W>,
+) -> Result<(), RunFault>
+    requires sizes { AreSizes PAGES SPAN }
+    ensures { (reads : List Call) × (writes : List Call)
+        × Reads (R.reads reader.old) (R.reads reader.new) (R.left reader.old) (R.left reader.new) reads
+        × Writes (W.writes writer.old) (W.writes writer.new) (W.written writer.old) (W.written writer.new) writes
+        × (length reads ≤ max_reads)
+        × Serves PAGES (record { kind = options.kind; size = options.size; log_size = options.log_size }) result reads writes
+        × (moments : List Moment) × (order.new ≡ order.old ++ moments)
+        × ServesInOrder PAGES (record { kind = options.kind; size = options.size; log_size = options.log_size }) result reads writes (record { reads = R.reads reader.old; writes = W.writes writer.old }) moments }
+{
     let size = options.size as usize;
     let front = match read_front(alloc, size + options.log_size as usize, reader) {
         Err(fault) => return Err(fault),
@@ -45,7 +67,7 @@ pub fn serve<const PAGES: u32, const SPAN: u32, R: Source, W: Sink>(
         Err(fault) => return Err(fault),
         Ok(log) => log,
     };
-    run_with::<PAGES, SPAN, R, W>(alloc, image, log, reader, writer, front.reads_left)
+    run_with::<PAGES, SPAN, R, W>(alloc, image, log, reader, writer, order, front.reads_left)
 }
 
 // The bytes before the script, and how many reads are left.

@@ -3,6 +3,7 @@ use Rattle.r3k_machine.specs.Flow.{with_flow}
 use Rattle.r3k_machine.specs.Quiet.{IsIndexIn}
 use Rattle.r3k_live.specs.Living.{state_of}
 use Rattle.r3k_live.proofs.Quick.{address_of, at_next, fewer_than, goes_nowhere, if_so, more_to, not_at, word_here}
+use Rattle.r3k_live.proofs.stretch.step_straight.Goals.{in-Word, in-WordAfterHiLo, in-WordAfterNone}
 use Rattle.r3k_live.proofs.stretch.step_straight.Goals as goal
 
 pub loop-flow-init : goal.loop-flow-init
@@ -77,16 +78,41 @@ loop-flow-preserved-in-WordAfterLoad g c = record {
 
 pub loop-flow-2-init : goal.loop-flow-2-init
 loop-flow-2-init g c =
-    let next = rw c.in-Word.is at c.in_ok-quick.ensures.next in record {
-      at = at_next c.step_quickly.new.core c.step_quickly.new.flow c.step_quickly.new.memory.words.items (rw c.steps.ensures.steps at c.last_of-last.ensures.ends) c.loop-flow.invariant.at
-          (more_to c.loop-flow.index c.args.first c.last_of-last.result c.args.recorder.now.steps c.loop-flow.recorder.steps c.steps-in-loop-flow.result c.steps-in-loop-flow.ensures.steps
-          c.loop-flow.invariant.at.count c.loop-flow.invariant.at.low c.loop-flow-test.true)
-          c.loop-flow.invariant.free (rw c.pin_straight.ensures at c.in_ok-quick.ensures.leads) (rw c.pin_straight.ensures at c.in_ok-quick.ensures.goes) c.note_again-in-Word.ensures;
-      free = next.1;
-      unloaded = next.0;
-      opened = c.step_quickly.ensures.opened;
-      least = omega arith;
-    }
+    elim c.match-quick.branch [
+      | in-Word w ↦
+          let next = rw w.in-Word.is at c.in_ok-quick.ensures.next in rw (w.recorder-is, w.index-is) record {
+            at = at_next c.step_quickly.new.core c.step_quickly.new.flow c.step_quickly.new.memory.words.items (rw c.steps.ensures.steps at c.last_of-last.ensures.ends) c.loop-flow.invariant.at
+                (more_to c.loop-flow.index c.args.first c.last_of-last.result c.args.recorder.now.steps c.loop-flow.recorder.steps c.steps-in-loop-flow.result c.steps-in-loop-flow.ensures.steps
+                c.loop-flow.invariant.at.count c.loop-flow.invariant.at.low c.loop-flow-test.true)
+                c.loop-flow.invariant.free (rw c.pin_straight.ensures at c.in_ok-quick.ensures.leads) (rw c.pin_straight.ensures at c.in_ok-quick.ensures.goes) w.note_again-in-Word.ensures;
+            free = next.1;
+            unloaded = next.0;
+            opened = c.step_quickly.ensures.opened;
+            least = omega arith;
+          }
+      | in-WordAfterHiLo w ↦
+          let next = rw w.in-WordAfterHiLo.is at c.in_ok-quick.ensures.next in rw (w.recorder-is, w.index-is) record {
+            at = at_next c.step_quickly.new.core c.step_quickly.new.flow c.step_quickly.new.memory.words.items (rw c.steps.ensures.steps at c.last_of-last.ensures.ends) c.loop-flow.invariant.at
+                (more_to c.loop-flow.index c.args.first c.last_of-last.result c.args.recorder.now.steps c.loop-flow.recorder.steps c.steps-in-loop-flow.result c.steps-in-loop-flow.ensures.steps
+                c.loop-flow.invariant.at.count c.loop-flow.invariant.at.low c.loop-flow-test.true)
+                c.loop-flow.invariant.free (rw c.pin_straight.ensures at c.in_ok-quick.ensures.leads) (rw c.pin_straight.ensures at c.in_ok-quick.ensures.goes) w.note_again-in-WordAfterHiLo.ensures;
+            free = next.1;
+            unloaded = next.0;
+            opened = c.step_quickly.ensures.opened;
+            least = omega arith;
+          }
+      | in-WordAfterNone w ↦
+          let next = rw w.in-WordAfterNone.is at c.in_ok-quick.ensures.next in rw (w.recorder-is, w.index-is) record {
+            at = at_next c.step_quickly.new.core c.step_quickly.new.flow c.step_quickly.new.memory.words.items (rw c.steps.ensures.steps at c.last_of-last.ensures.ends) c.loop-flow.invariant.at
+                (more_to c.loop-flow.index c.args.first c.last_of-last.result c.args.recorder.now.steps c.loop-flow.recorder.steps c.steps-in-loop-flow.result c.steps-in-loop-flow.ensures.steps
+                c.loop-flow.invariant.at.count c.loop-flow.invariant.at.low c.loop-flow-test.true)
+                c.loop-flow.invariant.free (rw c.pin_straight.ensures at c.in_ok-quick.ensures.leads) (rw c.pin_straight.ensures at c.in_ok-quick.ensures.goes) w.note_again-in-WordAfterNone.ensures;
+            free = next.1;
+            unloaded = next.0;
+            opened = c.step_quickly.ensures.opened;
+            least = omega arith;
+          }
+    ]
 
 pub loop-flow-preserved-in-loop-flow-2 : goal.loop-flow-preserved-in-loop-flow-2
 loop-flow-preserved-in-loop-flow-2 g c = record {
@@ -148,8 +174,8 @@ loop-flow-preserved g c = record {
   opened = c.step_quickly-in-loop-flow-2.ensures.opened;
 }
 
-pub loop-flow-2-preserved : goal.loop-flow-2-preserved
-loop-flow-2-preserved g c =
+pub loop-flow-2-preserved-in-Word-next : goal.loop-flow-2-preserved-in-Word-next
+loop-flow-2-preserved-in-Word-next g c =
     let next = rw c.in-Word-next.is at c.in_ok-quick-2.ensures.next in record {
       at = at_next c.step_quickly-in-loop-flow-2.new.core c.step_quickly-in-loop-flow-2.new.flow c.step_quickly-in-loop-flow-2.new.memory.words.items (rw c.steps.ensures.steps at c.last_of-last.ensures.ends) c.loop-flow-2.invariant.at
           (more_to c.loop-flow-2.index c.args.first c.last_of-last.result c.args.recorder.now.steps c.loop-flow-2.recorder.steps c.steps-in-loop-flow-2.result c.steps-in-loop-flow-2.ensures.steps
@@ -159,6 +185,32 @@ loop-flow-2-preserved g c =
       unloaded = next.0;
       opened = c.step_quickly-in-loop-flow-2.ensures.opened;
       least = omega (arith, c.loop-flow-2.invariant.least, c.note_again-in-Word-next.ensures.steps);
+    }
+
+pub loop-flow-2-preserved-in-WordAfterHiLo-next : goal.loop-flow-2-preserved-in-WordAfterHiLo-next
+loop-flow-2-preserved-in-WordAfterHiLo-next g c =
+    let next = rw c.in-WordAfterHiLo-next.is at c.in_ok-quick-2.ensures.next in record {
+      at = at_next c.step_quickly-in-loop-flow-2.new.core c.step_quickly-in-loop-flow-2.new.flow c.step_quickly-in-loop-flow-2.new.memory.words.items (rw c.steps.ensures.steps at c.last_of-last.ensures.ends) c.loop-flow-2.invariant.at
+          (more_to c.loop-flow-2.index c.args.first c.last_of-last.result c.args.recorder.now.steps c.loop-flow-2.recorder.steps c.steps-in-loop-flow-2.result c.steps-in-loop-flow-2.ensures.steps
+          c.loop-flow-2.invariant.at.count c.loop-flow-2.invariant.at.low c.loop-flow-2-test.true)
+          c.loop-flow-2.invariant.free (rw (c.pin_unloaded.ensures, c.pin_straight-in-loop-flow-2.ensures) at c.in_ok-quick-2.ensures.leads) (rw (c.pin_unloaded.ensures, c.pin_straight-in-loop-flow-2.ensures) at c.in_ok-quick-2.ensures.goes) c.note_again-in-WordAfterHiLo-next.ensures;
+      free = next.1;
+      unloaded = next.0;
+      opened = c.step_quickly-in-loop-flow-2.ensures.opened;
+      least = omega (arith, c.loop-flow-2.invariant.least, c.note_again-in-WordAfterHiLo-next.ensures.steps);
+    }
+
+pub loop-flow-2-preserved : goal.loop-flow-2-preserved
+loop-flow-2-preserved g c =
+    let next = rw c.in-WordAfterNone-next.is at c.in_ok-quick-2.ensures.next in record {
+      at = at_next c.step_quickly-in-loop-flow-2.new.core c.step_quickly-in-loop-flow-2.new.flow c.step_quickly-in-loop-flow-2.new.memory.words.items (rw c.steps.ensures.steps at c.last_of-last.ensures.ends) c.loop-flow-2.invariant.at
+          (more_to c.loop-flow-2.index c.args.first c.last_of-last.result c.args.recorder.now.steps c.loop-flow-2.recorder.steps c.steps-in-loop-flow-2.result c.steps-in-loop-flow-2.ensures.steps
+          c.loop-flow-2.invariant.at.count c.loop-flow-2.invariant.at.low c.loop-flow-2-test.true)
+          c.loop-flow-2.invariant.free (rw (c.pin_unloaded.ensures, c.pin_straight-in-loop-flow-2.ensures) at c.in_ok-quick-2.ensures.leads) (rw (c.pin_unloaded.ensures, c.pin_straight-in-loop-flow-2.ensures) at c.in_ok-quick-2.ensures.goes) c.note_again-in-WordAfterNone-next.ensures;
+      free = next.1;
+      unloaded = next.0;
+      opened = c.step_quickly-in-loop-flow-2.ensures.opened;
+      least = omega (arith, c.loop-flow-2.invariant.least, c.note_again-in-WordAfterNone-next.ensures.steps);
     }
 
 pub returns-clause-goes : goal.returns-clause-goes
