@@ -9,7 +9,7 @@ use Rattle.r3k_live.specs.Living.{counted}
 use Rattle.span_fact.specs.Span.{Span}
 use Rattle.checkpoints.specs.Kept.{AreFar, IsNear, promoted, row_at}
 use Rattle.present_run.specs.History.{History}
-use Rattle.present_run.specs.Reuse.{HasServing, Holding, IsServing, Lacks, Reaches, Serves, ServesFirst, Spends, Turns, kept_at, put_one, span_of, stay, use_one}
+use Rattle.present_run.specs.Reuse.{HasServing, Holding, IsServing, Lacks, Serves, Spends, Turns, kept_at, put_one, span_of, stay, use_one}
 
 -- where one serves for each, none is lacking
 pub lacks_none : (pages span : ℕ) (h : Holding) (count lacking : ℕ) → ((index : ℕ) → index < count → Serves pages span h index)
@@ -104,12 +104,6 @@ serves_same pages span mid new index history same serves =
         let s : Span = span_of pages span h.image h.log index in
         ¬ AreFar pages span row s.start s.events
 
-pub first_same : (pages span : ℕ) (mid new : Holding) (index : ℕ) → new.history ≡ mid.history → kept_at new index ≡ kept_at mid index
-    → ServesFirst pages span mid index → ServesFirst pages span new index
-first_same pages span mid new index history same serves =
-    subst (λ (row : List Span). IsServing pages span new.history index (slice_get row 0)) (sym same)
-    (subst (λ (h : History). IsServing pages span h index (slice_get (kept_at mid index) 0)) (sym history) serves)
-
 -- a record that is used comes first
 pub first_used : (pages span place : ℕ) (old new : List Span) (start : State) (events : List LogEvent) → IsNear pages span (slice_get old place) start events
     → new ≡ promoted place old → IsNear pages span (slice_get new 0) start events
@@ -157,17 +151,3 @@ spends_more pages span count first more old mid new spends history pasts rows gr
   where
     within : (lacking : ℕ) → mid.steps ≤ old.steps + (lacking * span + first) → new.steps ≤ old.steps + (lacking * span + (first + more))
     within lacking before = omega (arith, before, steps)
-
--- up to a position from whole spans
-pub spends_rest : (pages span count more : ℕ) (old mid new : Holding) → Spends pages span count 0 old mid → new.history ≡ mid.history → new.pasts ≡ mid.pasts → new.rows ≡ mid.rows
-    → mid.steps ≤ new.steps → new.steps ≤ mid.steps + more → Spends pages span count more old new
-spends_rest pages span count more old mid new spends history pasts rows grows steps =
-    subst (λ (n : ℕ). Spends pages span count n old new) (let e : 0 + more ≡ more = omega arith in e)
-    (spends_more pages span count 0 more old mid new spends history pasts rows grows steps)
-
-pub reaches_more : (pages span count : ℕ) (old mid new : Holding) → Reaches pages span count old mid → new.history ≡ mid.history → new.rows ≡ mid.rows
-    → mid.steps ≤ new.steps → Reaches pages span count old new
-reaches_more pages span count old mid new reaches history rows steps = record {
-  least = λ lacking lacks. le_trans (reaches.least lacking lacks) steps;
-  there = λ index below. first_same pages span mid new index history (ap (λ (s : List (List Span)). row_at s index) rows) (reaches.there index below);
-}

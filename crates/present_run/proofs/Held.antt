@@ -1,6 +1,5 @@
 -- States of the run that are kept.
 use Rattle.std.proofs.Common.{◌≡◌, ◌⊎◌, inl, inr, ℕ, zero, suc, ◌∷◌, length, get_or, ◌+◌, ◌*◌, ◌/◌, ◌%◌, ◌<◌, ◌≤◌, List, [], Contains, nat_eq, take, Result, Ok, Err, OnOk, OnErr, refl, sym, ap, ◌∙◌, subst, arith}
-use Rattle.std.proofs.Math.Nat.{le_trans}
 use Rattle.std.specs.Set.{remove_key}
 use Rattle.r3k_machine.specs.Run.{state_at}
 use Rattle.r3k_machine.specs.State.{State}
@@ -128,11 +127,6 @@ keeps_not span position states result is absent same = record {
     err_all : {A E P : Type 0} (r : Result A E) → P → OnErr r P
     err_all (Ok x) p = tt
     err_all (Err e) p = p
-
--- each of these states is still one of the run where as many spans are joined, or more
-pub recent_over : (pages span : ℕ) (h : History) (old new : ℕ) (states : List (ℕ × State)) → old ≤ new → AreRecentStates pages span h old states → AreRecentStates pages span h new states
-recent_over pages span h old new states more all e there =
-    let recent = all e there in record { is = recent.is; inside = recent.inside; joined = le_trans recent.joined more }
 
 -- what stays over two calls
 pub stays_on : {pages span : ℕ} {old mid new : Present pages span} → Stays old mid → Stays mid new → Stays old new

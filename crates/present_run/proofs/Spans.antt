@@ -1,9 +1,8 @@
 -- The run from reset by spans.
-use Rattle.std.proofs.Common.{◌≡◌, ℕ, zero, suc, ◌≤◌, ◌==◌, None, IfSome, inl, inr, ◌+◌, ◌-◌, ◌*◌, List, Option, Some, unwrap_or, Result, Ok, Err, IfOk, MatchResult, nat_eq, true, sym, ap, ◌∙◌, subst, arith, zero-add, refl, ◌++◌, [], ◌∷◌, MatchOption}
+use Rattle.std.proofs.Common.{◌≡◌, ℕ, zero, suc, ◌≤◌, ◌==◌, None, IfSome, inl, inr, ◌+◌, ◌-◌, ◌*◌, List, Option, Some, unwrap_or, Result, Ok, Err, IfOk, MatchResult, sym, ap, ◌∙◌, subst, arith, zero-add, refl, ◌++◌, [], ◌∷◌, MatchOption}
 use Rattle.std.proofs.Math.Nat.{add-mul}
 use Rattle.std.proofs.Math.Path.{ap₂}
-use Rattle.std.specs.Option.{option_eq}
-use Rattle.std.proofs.lemmas.Bool.{cases_Bool, eqb-true, false≢true}
+use Rattle.std.proofs.lemmas.Bool.{cases_Bool}
 use Rattle.r3k_live.specs.Visits.{first_visit}
 use Rattle.input_log.specs.Event.{LogEvent}
 use Rattle.input_log.specs.Log.{window_of}
@@ -58,11 +57,6 @@ ok_all (Err e) X there = tt
 -- the value of an option that is known
 pub if_some : {A : Type 0} (P : A → Type 0) (o : Option A) (x : A) → o ≡ Some x → IfSome o P → P x
 if_some P o x is p = subst (λ o. IfSome o P) is p
-
--- the value of an option of a number that a test found equal
-pub same_some : (o : Option ℕ) (n : ℕ) → option_eq nat_eq o (Some n) ≡ true → o ≡ Some n
-same_some None n is = absurd (false≢true is)
-same_some (Some m) n is = ap (λ (x : ℕ). Some x) (eqb-true m n is)
 
 -- going on from a position
 pub gone_within : (pages : ℕ) (image : Boot) (log : List LogEvent) (time to n : ℕ) → time + n ≤ to
@@ -137,9 +131,6 @@ visit_split pages image log address position (suc m) n =
 pub visit_end : (pages : ℕ) (image : Boot) (log : List LogEvent) (address last : ℕ) → next_visit pages image log address last (last - last) ≡ None
 unfolding next_visit
 visit_end pages image log address last = ap (next_visit pages image log address last) (let e : last - last ≡ 0 = omega arith in e)
-
-pub into_some : {A : Type 0} (P : A → Type 0) (o : Option A) (x : A) → o ≡ Some x → P x → IfSome o P
-into_some P o x is p = subst (λ o. IfSome o P) (sym is) p
 
 pub match_map : {A : Type 0} {P P' : Type 0} {Q Q' : A → Type 0} (o : Option A) → (P → P') → ((x : A) → Q x → Q' x) → MatchOption o P Q → MatchOption o P' Q'
 match_map None f h is = f is

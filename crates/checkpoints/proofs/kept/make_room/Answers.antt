@@ -1,9 +1,8 @@
-use Rattle.std.proofs.Common.{◌≡◌, ◌<◌, IfSome, List, Option, inl, inr, length, slice_set, sym, ap, subst, ◌∙◌, arith}
+use Rattle.std.proofs.Common.{◌<◌, List, inl, inr, length, slice_set, sym, ap, ◌∙◌, arith}
 use Rattle.std.proofs.lemmas.Bool.{cases_eq}
-use Rattle.std.proofs.lemmas.List.{length-set}
 use Rattle.checkpoints.specs.Kept.{row_at}
 use Rattle.checkpoints.specs.Rows.{Places, records_of}
-use Rattle.checkpoints.proofs.Rows.{if_ok, item, row_is, row_other, row_pushed, row_set, set_same}
+use Rattle.checkpoints.proofs.Rows.{item, row_is, row_other, row_pushed, row_set}
 use Rattle.checkpoints.proofs.kept.make_room.Goals as goal
 
 pub loop-alloc-preserved : goal.loop-alloc-preserved
@@ -26,15 +25,3 @@ returns-clause-rows g c = λ i.
       | inr other ↦ row_other places n i q other
     ]
     ∙ c.loop-alloc.invariant i
-
-pub returns-clause-room : goal.returns-clause-room
-returns-clause-room g c =
-    let places = c.loop-alloc.rows.items in
-    let n = c.args.index in
-    let q = c.make_room.new.self in
-    let within : n < length places = omega (arith, c.loop-alloc-test.false) in
-    if_ok c.make_room.result _ _ c.make_room.ensures.room
-    (λ room. record {
-      there = omega (arith, within, length-set places n q);
-      room = subst (λ (o : Option Places). IfSome o (λ p. ¬ (length p.records ≡ c.args.most) → length p.records < p.room)) (sym (set_same places n q within)) room;
-    })
