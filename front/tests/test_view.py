@@ -595,6 +595,8 @@ class Line(unittest.TestCase):
 
     def test_sigterm_keeps_what_is_not_saved(self) -> None:
         """As a session in a file, whose name is said. Where all is saved nothing is."""
+        # `nohup` ignores it, and so does what is started below.
+        self.addCleanup(signal.signal, signal.SIGHUP, signal.signal(signal.SIGHUP, signal.SIG_DFL))
         words = [sys.executable, str(ROOT / "front/bezhakkom"), "view", *LOGIN]
         for number, edits in ((signal.SIGTERM, [{"number": 1, "do": "delete", "id": 2, "gesture": 1}]), (signal.SIGHUP, [])):
             with subprocess.Popen(words, stdin=subprocess.DEVNULL, stdout=subprocess.PIPE, stderr=subprocess.PIPE, text=True) as process:
