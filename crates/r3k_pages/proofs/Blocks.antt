@@ -1,9 +1,10 @@
 -- The words of a page by its blocks.
-use Rattle.std.proofs.Common.{◌≡◌, ℕ, ◌+◌, ◌-◌, ◌*◌, ◌/◌, ◌%◌, ◌<◌, ◌≤◌, nat_lt, List, [], length, map, length-set, slice_index, slice_index_or, slice_set, inl, inr, sym, ap, subst, ◌∙◌, arith}
+use Rattle.std.proofs.Common.{◌≡◌, ℕ, zero, suc, ◌+◌, ◌-◌, ◌*◌, ◌/◌, ◌%◌, ◌<◌, ◌≤◌, nat_lt, List, [], drop, length, map, length-set, slice_index, slice_index_or, slice_set, inl, inr, sym, ap, subst, ◌∙◌, arith}
 use Rattle.std.proofs.lemmas.List.FromFn.{get_or-map-range_with_len, length-map-range_with_len}
-use Rattle.std.proofs.lemmas.List.{get_or-map, get_or-set_same, get_or-set_other, length-map}
+use Rattle.std.proofs.lemmas.List.{get_or-drop, get_or-map, get_or-set_same, get_or-set_other, get_or-take, length-map}
 use Rattle.std.proofs.lemmas.Bool.{cases_Bool, ltb-true, ltb-false}
 use Rattle.std.proofs.lemmas.Grind.{same_number_lists}
+use Rattle.std.specs.Simd.{first_chunks}
 use Rattle.r3k_word.specs.declared.layout.TheConstants.{PAGE_WORDS}
 use Rattle.r3k_pages.specs.declared.page.TheConstants.{PAGE_BLOCKS}
 use Rattle.r3k_pages.specs.declared.block.TheConstants.{BLOCK_WORDS}
@@ -82,6 +83,17 @@ word_set blocks block word before offset inside low long is =
                 ∙ ap (λ (n : ℕ). slice_index (slice_set (words_of blocks) place word) (n * BLOCK_WORDS + at)) (sym here)
           ])
     ])
+
+-- a part of the words of a page
+pub part_at : (count : ℕ) (words : List ℕ) (block place : ℕ) → block < count → place < BLOCK_WORDS
+    → slice_index (slice_index_or (first_chunks BLOCK_WORDS count words) block []) place ≡ slice_index words (block * BLOCK_WORDS + place)
+part_at zero words block place inside low = absurd (let e : ⊥ = omega (arith, inside) in e)
+part_at (suc count) words zero place inside low =
+    get_or-take BLOCK_WORDS words place 0 low ∙ ap (slice_index words) (let e : place ≡ 0 * BLOCK_WORDS + place = omega arith in e)
+part_at (suc count) words (suc block) place inside low =
+    part_at count (drop BLOCK_WORDS words) block place (omega (arith, inside)) low
+    ∙ get_or-drop BLOCK_WORDS words (block * BLOCK_WORDS + place) 0
+    ∙ ap (slice_index words) (let e : BLOCK_WORDS + (block * BLOCK_WORDS + place) ≡ suc block * BLOCK_WORDS + place = omega arith in e)
 
 -- one block more of a page is the same
 pub same_still : (a b x y : List ℕ) (block : ℕ) → IsBlockOf a block x → IsBlockOf b block y → x ≡ y

@@ -1,6 +1,6 @@
 -- How a snapshot keeps pages (own): by groups, so that the table of a snapshot is short.
 use Rattle.std.specs.Prelude.{◌≡◌, ℕ, ◌+◌, ◌/◌, ◌%◌, ◌<◌, Bool, List, [], map, nat_eq, slice_index, slice_index_or}
-use Rattle.std.specs.List.{list_all, list_any, range_with_len}
+use Rattle.std.specs.List.{list_all, range_with_len}
 use Rattle.r3k_word.specs.Layout.{page_of_place, word_count_of}
 use Rattle.r3k_word.specs.declared.layout.TheConstants.{PAGE_WORDS}
 use Rattle.r3k_pages.specs.declared.group.TheConstants.{GROUP_PAGES}
@@ -18,10 +18,6 @@ word_in groups place =
 -- all words
 abbrev pub words_in : ℕ → List (List (List ℕ)) → List ℕ
 words_in pages groups = map (word_in groups) (range_with_len 0 (word_count_of pages))
-
--- whether a list has a page of a group
-abbrev pub lists : List ℕ → ℕ → Bool
-lists pages group = list_any (λ page. nat_eq (page / GROUP_PAGES) group) pages
 
 -- whether all words of a page are 0
 abbrev pub is_blank : List ℕ → Bool

@@ -1,4 +1,4 @@
-//! A block of a page: 128 words that stay as they are.
+//! A block of a page: 64 words that stay as they are.
 
 ghost use Rattle.std.specs.Prelude.{◌≡◌, ◌<◌, ◌↔◌, IfOk, IsTrue, length, slice_set};
 ghost use Rattle.r3k_pages.specs.declared.block.TheConstants.{BLOCK_WORDS};
@@ -8,12 +8,12 @@ use std::marker::Model;
 use std::rc::Rc;
 
 /// How many words a block has.
-pub(crate) const BLOCK_WORDS: usize = 128;
+pub(crate) const BLOCK_WORDS: usize = 64;
 
 /// The words of a block.
 #[derive(Drop)]
 pub(crate) struct Block {
-    words: [u32; 128],
+    words: [u32; BLOCK_WORDS],
 }
 
 impl Model for Block {
@@ -29,13 +29,17 @@ impl Model for Block {
 
 impl Block {
     /// A block with these words.
-    pub(crate) fn new(alloc: Global, words: &[u32]) -> Result<Rc<Block>, AllocError>
-        requires { length words.now ≡ BLOCK_WORDS }
-        ensures { IfOk result (λ block. block.value ≡ words.now) }
+    pub(crate) fn new(alloc: Global, words: [u32; BLOCK_WORDS]) -> Result<Rc<Block>, AllocError>
+        ensures { IfOk result (λ block. block.value ≡ words) }
     {
-        let mut own = [0; 128];
-        own.copy_from_slice(words);
-        Rc::new(alloc, Block { words: own }).map_err(|_| AllocError)
+        Rc::new(alloc, Block { words }).map_err(|_| AllocError)
+    }
+
+    /// Whether it has these words.
+    pub(crate) fn has(&self, words: &[u32; BLOCK_WORDS]) -> bool
+        ensures { IsTrue result ↔ (self.now ≡ words.now) }
+    {
+        self.words == *words
     }
 
     /// The block with the word at a place of it set.

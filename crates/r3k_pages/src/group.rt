@@ -3,11 +3,11 @@
 ghost use Rattle.std.specs.Prelude.{◌≡◌, ◌+◌, ◌/◌, ◌^◌, ◌<◌, ◌≤◌, ℕ, IfOk, IfSome, IsFalse, if◌then◌else◌, length, map, not, slice_index_or, slice_set, []};
 ghost use Rattle.r3k_word.specs.Layout.{word_count_of};
 ghost use Rattle.r3k_word.specs.declared.layout.TheConstants.{MAX_RAM_PAGES, PAGE_WORDS};
-ghost use Rattle.r3k_pages.specs.Groups.{IsGroupOf, IsPageOf, group_count_of, lists};
+ghost use Rattle.r3k_pages.specs.Groups.{IsGroupOf, IsPageOf, group_count_of};
 ghost use Rattle.r3k_pages.specs.Pages.{SameOutside, holds, page_count_of};
 
 use crate::page::{Page, shared};
-use crate::page_marks::PageMarks;
+use crate::page_marks::{PageMarks, touches};
 use crate::snapshot::{Snapshot, page_count};
 use r3k_word::layout::PAGE_WORDS;
 use std::alloc::{AllocError, Global};
@@ -95,31 +95,6 @@ impl Group {
         pages[index] = self.page(index).with_word(alloc, place, word)?;
         Group::new(alloc, pages)
     }
-}
-
-/// Whether a page of a group is in a set of pages.
-pub(crate) fn touches<const PAGES: u32>(set: &PageMarks<PAGES>, group: usize) -> bool
-    requires { group < 2 ^ 26 }
-    ensures { IsFalse result → (page : ℕ) → page / GROUP_PAGES ≡ group → IsFalse (holds set.now page) }
-{
-    if set.pages().len() < GROUP_PAGES {
-        return lists(set.pages(), group);
-    }
-    for index in 0..GROUP_PAGES {
-        if set.holds((group * GROUP_PAGES + index) as u32) {
-            return true;
-        }
-    }
-    false
-}
-
-// Whether a page of a group is in a list of pages.
-fn lists(pages: &[u32], group: usize) -> bool
-    ensures { result ≡ lists pages.now group }
-{
-    pages
-        .iter()
-        .any(|page| *page as usize / GROUP_PAGES == group)
 }
 
 // A page of memory: the earlier one where it stayed, or else a copy, which shares the blocks that stayed. Where there is no earlier one, it

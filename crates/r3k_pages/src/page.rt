@@ -9,16 +9,17 @@ ghost use Rattle.r3k_pages.specs.Groups.{is_blank};
 
 use crate::block::{BLOCK_WORDS, Block};
 use std::alloc::{AllocError, Global};
+use std::array;
 use std::marker::Model;
 use std::rc::Rc;
 
 /// How many blocks a page has.
-pub(crate) const PAGE_BLOCKS: usize = 8;
+pub(crate) const PAGE_BLOCKS: usize = 16;
 
 /// The words of a page.
 #[derive(Drop)]
 pub(crate) struct Page {
-    blocks: Vec<Rc<Block>>,
+    blocks: [Rc<Block>; PAGE_BLOCKS],
     // Whether it is known that all of them are 0.
     blank: bool,
 }
@@ -31,10 +32,10 @@ impl Model for Page {
 
     ghost Value = { List ℕ };
 
-    ghost view = { λ page. words_of (map (λ block. block.value) page.blocks.items) };
+    ghost view = { λ page. words_of (map (λ block. block.value) page.blocks) };
 
-    ghost invariant = { λ page. (length page.blocks.items ≡ PAGE_BLOCKS)
-        × (IsTrue page.blank → IsTrue (is_blank (words_of (map (λ block. block.value) page.blocks.items)))) };
+    ghost invariant = { λ page. (length page.blocks ≡ PAGE_BLOCKS)
+        × (IsTrue page.blank → IsTrue (is_blank (words_of (map (λ block. block.value) page.blocks)))) };
 }
 
 impl Page {
@@ -47,20 +48,25 @@ impl Page {
         requires { length words.now ≡ PAGE_WORDS }
         ensures { IfOk result (λ page. page.value ≡ words.now) }
     {
-        let mut blocks = Vec::with_capacity(alloc, PAGE_BLOCKS)?;
+        let mut blocks = blocks_of(alloc, earlier)?;
+        let (parts, _) = words.as_chunks::<BLOCK_WORDS>();
         for index in 0..PAGE_BLOCKS {
-            let start = index * BLOCK_WORDS;
-            let words = &words[start..start + BLOCK_WORDS];
-            blocks.push(block_of(alloc, words, earlier, index)?)?;
+            if !blocks[index].has(&parts[index]) {
+                blocks[index] = Block::new(alloc, parts[index])?;
+            }
         }
         Page::of(alloc, blocks, is_blank(words))
     }
 
     // A page of these blocks.
-    fn of(alloc: Global, blocks: Vec<Rc<Block>>, blank: bool) -> Result<Rc<Page>, AllocError>
-        requires blocks { length blocks.items ≡ PAGE_BLOCKS }
-        requires blank { IsTrue blank → IsTrue (is_blank (words_of (map (λ block. block.value) blocks.items))) }
-        ensures { IfOk result (λ page. page.value ≡ words_of (map (λ block. block.value) blocks.items)) }
+    fn of(
+        alloc: Global,
+        blocks: [Rc<Block>; PAGE_BLOCKS],
+        blank: bool,
+    ) -> Result<Rc<Page>, AllocError>
+        requires blocks { length blocks ≡ PAGE_BLOCKS }
+        requires blank { IsTrue blank → IsTrue (is_blank (words_of (map (λ block. block.value) blocks))) }
+        ensures { IfOk result (λ page. page.value ≡ words_of (map (λ block. block.value) blocks)) }
     {
         Rc::new(alloc, Page { blocks, blank }).map_err(|_| AllocError)
     }
@@ -78,7 +84,7 @@ impl Page {
     {
         self.whole();
         let index = place / BLOCK_WORDS;
-        let mut blocks = shared(alloc, &self.blocks)?;
+        let mut blocks = self.blocks.clone()?;
         blocks[index] = self
             .block(index)
             .with_word(alloc, place % BLOCK_WORDS, word)?;
@@ -146,24 +152,18 @@ impl Page {
     }
 }
 
-// A block of these words: that of an earlier page, if it has the same ones, or else a new one.
-fn block_of(
+// The blocks of an earlier page, or else a blank one, as often as a page has blocks.
+fn blocks_of(
     alloc: Global,
-    words: &[u32],
     earlier: Option<&Rc<Page>>,
-    index: usize,
-) -> Result<Rc<Block>, AllocError>
-    requires words { length words.now ≡ BLOCK_WORDS }
-    requires index { index < PAGE_BLOCKS }
-    ensures { IfOk result (λ block. block.value ≡ words.now) }
+) -> Result<[Rc<Block>; PAGE_BLOCKS], AllocError>
+    ensures { IfOk result (λ blocks. length blocks ≡ PAGE_BLOCKS) }
 {
     if let Some(earlier) = earlier {
-        let block = earlier.block(index);
-        if block.words() == words {
-            return block.clone();
-        }
+        return earlier.blocks.clone();
     }
-    Block::new(alloc, words)
+    let blank = Block::new(alloc, [0; BLOCK_WORDS])?;
+    array::try_from_fn(|_| blank.clone())
 }
 
 // Whether all words are 0.

@@ -1,12 +1,13 @@
 //! A set of pages with room for all of them, made once.
 
-ghost use Rattle.std.specs.Prelude.{◌≡◌, ◌<◌, ◌≤◌, ◌||◌, ◌&&◌, ◌↔◌, ◌⊎◌, ℕ, [], All, IfOk, IsFalse, IsTrue, false, filter, length, nat_eq, not, slice_index_or, vec_capacity};
+ghost use Rattle.std.specs.Prelude.{◌≡◌, ◌/◌, ◌^◌, ◌<◌, ◌≤◌, ◌||◌, ◌&&◌, ◌↔◌, ◌⊎◌, ℕ, [], All, IfOk, IsFalse, IsTrue, false, filter, length, nat_eq, not, slice_index_or, vec_capacity};
 ghost use Rattle.std.specs.List.{IsDistinct};
 ghost use Rattle.r3k_word.specs.declared.layout.TheConstants.{MAX_RAM_PAGES};
+ghost use Rattle.r3k_pages.specs.declared.group.TheConstants.{GROUP_PAGES};
 ghost use Rattle.r3k_pages.specs.Marking.{AreMarked};
 ghost use Rattle.r3k_pages.specs.Pages.{IsPageSet, SameOutside, SamePage, holds, page_count_of, pages_where};
 
-use crate::group::{GROUP_PAGES, touches};
+use crate::group::GROUP_PAGES;
 use crate::snapshot::{Snapshot, page_count};
 use r3k_word::layout::ROM_PAGES;
 use std::alloc::{AllocError, Global};
@@ -213,6 +214,16 @@ fn keep_marked(marks: &[bool], pages: &mut Vec<u32>)
     ensures room { vec_capacity pages.new ≡ vec_capacity pages.old }
 {
     pages.retain(|page| is_marked(marks, *page));
+}
+
+/// Whether a page of a group is in a set of pages.
+pub(crate) fn touches<const PAGES: u32>(set: &PageMarks<PAGES>, group: usize) -> bool
+    requires { group < 2 ^ 26 }
+    ensures { IsFalse result → (page : ℕ) → page / GROUP_PAGES ≡ group → IsFalse (holds set.now page) }
+{
+    let start = (group * GROUP_PAGES).min(set.marks.len());
+    let end = (start + GROUP_PAGES).min(set.marks.len());
+    set.marks[start..end].contains(&true)
 }
 
 // Whether a page has a mark.

@@ -6,9 +6,9 @@ ghost use Rattle.r3k_word.specs.declared.layout.TheConstants.{MAX_RAM_PAGES, PAG
 ghost use Rattle.r3k_pages.specs.Groups.{IsGroupOf, IsPageOf, group_count_of};
 ghost use Rattle.r3k_pages.specs.Pages.{SameOutside, SamePage, holds, overlaid, page_count_of};
 
-use crate::group::{GROUP_PAGES, Group, group_of, touches};
+use crate::group::{GROUP_PAGES, Group, group_of};
 use crate::page::{Page, shared};
-use crate::page_marks::PageMarks;
+use crate::page_marks::{PageMarks, touches};
 use r3k_word::layout::{PAGE_WORDS, ROM_PAGES, page_of};
 use std::alloc::{AllocError, Global};
 use std::marker::Model;

@@ -6,6 +6,5 @@ use Rattle.r3k_pages.proofs.page.Page.block.Goals as goal
 pub returns : goal.returns
 returns c =
     λ place low.
-    ap (λ block. slice_index block.value place) c.index.ensures
-    ∙ kept_block (λ block. block.value) c.self.inside.blocks.items c.index.result.now c.args.index place (rw c.self.invariant.0 c.requires) low
+    kept_block (λ block. block.value) c.self.inside.blocks c.index-self-index.result c.args.index place (rw c.self.invariant.0 c.requires) low
     ∙ ap (λ (words : List ℕ). slice_index words (c.args.index * BLOCK_WORDS + place)) c.self.view_is

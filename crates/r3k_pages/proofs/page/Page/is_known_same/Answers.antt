@@ -8,7 +8,7 @@ returns-then-self c =
     λ blank.
     sym c.self.view_is
     ∙ blank_same _ _
-    (page_long (λ block. block.value) c.self.inside.blocks.items c.self.invariant.0
-    ∙ sym (page_long (λ block. block.value) c.other.inside.blocks.items c.other.invariant.0))
+    (page_long (λ block. block.value) c.self.inside.blocks c.self.invariant.0
+    ∙ sym (page_long (λ block. block.value) c.other.inside.blocks c.other.invariant.0))
     (c.self.invariant.1 c.if-self.true) (c.other.invariant.1 blank)
     ∙ c.other.view_is

@@ -1,29 +1,80 @@
-use Rattle.std.proofs.Common.{◌≡◌, ◌∙◌, ◌+◌, ◌*◌, ◌<◌, ◌≤◌, List, ℕ, [], IsTrue, sym, subst, map, length, slice_index, slice_index_or, arith}
-use Rattle.std.proofs.lemmas.List.{length-map}
+use Rattle.std.proofs.Common.{◌≡◌, ◌∙◌, ◌+◌, ◌<◌, ◌≤◌, ◌/◌, List, ℕ, [], IsTrue, inl, inr, length-set, refl, sym, ap, subst, map, length, slice_index, slice_index_or, slice_set, arith}
+use Rattle.std.specs.Simd.{first_chunks}
+use Rattle.std.proofs.lemmas.List.{get_or-map, get_or-set_other, get_or-set_same, length-map, map-set}
 use Rattle.r3k_word.specs.declared.layout.TheConstants.{PAGE_WORDS}
 use Rattle.r3k_pages.specs.declared.block.TheConstants.{BLOCK_WORDS}
 use Rattle.r3k_pages.specs.declared.page.TheConstants.{PAGE_BLOCKS}
 use Rattle.r3k_pages.specs.Blocks.{words_of}
 use Rattle.r3k_pages.specs.Groups.{is_blank}
-use Rattle.r3k_pages.proofs.Blocks.{words_are}
+use Rattle.r3k_pages.proofs.Blocks.{part_at, words_are}
 use Rattle.r3k_pages.proofs.Kept.{if_ok}
+use Rattle.r3k_pages.proofs.Set.{which}
 use Rattle.r3k_pages.proofs.page.Page.new.Goals as goal
+use Rattle.r3k_pages.proofs.page.Page.new.Goals.{then-not-has+in_ok-blocks-2, else-not-has}
+
+-- one block more is that of the page
+one_more : (before after parts : List (List ℕ)) (index : ℕ) → ((block : ℕ) → block < index → slice_index_or before block [] ≡ slice_index_or parts block [])
+    → ((block : ℕ) → ¬ (block ≡ index) → slice_index_or after block [] ≡ slice_index_or before block [])
+    → slice_index_or after index [] ≡ slice_index_or parts index []
+    → (block : ℕ) → block < index + 1 → slice_index_or after block [] ≡ slice_index_or parts block []
+one_more before after parts index each others here block within =
+    elim (which block index) [
+      | inl same ↦ ap (λ (n : ℕ). slice_index_or after n []) same ∙ here ∙ ap (λ (n : ℕ). slice_index_or parts n []) (sym same)
+      | inr other ↦ others block other ∙ each block (omega (arith, within, other))
+    ]
+
+-- it was, or it is put there
+kept_more : {A : Type 0} (f : A → List ℕ) (items after : List A) (d : A) (parts : List (List ℕ)) (index : ℕ) → after ≡ items → index < length items
+    → f (slice_index_or items index d) ≡ slice_index_or parts index []
+    → ((block : ℕ) → block < index → slice_index_or (map f items) block [] ≡ slice_index_or parts block [])
+    → (block : ℕ) → block < index + 1 → slice_index_or (map f after) block [] ≡ slice_index_or parts block []
+kept_more {A = A} f items after d parts index same inside is each block within =
+    ap (λ (xs : List A). slice_index_or (map f xs) block []) same
+    ∙ one_more (map f items) (map f items) parts index each (λ other apart. refl) (get_or-map f items index d [] inside ∙ is) block within
+
+set_more : {A : Type 0} (f : A → List ℕ) (items after : List A) (item : A) (parts : List (List ℕ)) (index : ℕ) → after ≡ slice_set items index item → index < length items
+    → f item ≡ slice_index_or parts index []
+    → ((block : ℕ) → block < index → slice_index_or (map f items) block [] ≡ slice_index_or parts block [])
+    → (block : ℕ) → block < index + 1 → slice_index_or (map f after) block [] ≡ slice_index_or parts block []
+set_more f items after item parts index set inside is each block within =
+    ap (λ (xs : List (List ℕ)). slice_index_or xs block []) (ap (map f) set ∙ map-set f items index item)
+    ∙ one_more (map f items) (slice_set (map f items) index (f item)) parts index each
+    (λ other apart. get_or-set_other (map f items) index other (f item) [] apart)
+    (get_or-set_same (map f items) index (f item) [] (omega (arith, inside, length-map items f)) ∙ is) block within
+
+pub loop-index-preserved : goal.loop-index-preserved
+loop-index-preserved c =
+    let inside : c.loop-index.index < length c.loop-index.blocks = omega (arith, c.loop-index-test.true, c.loop-index.invariant.count) in
+    elim c.if-not-has.branch [
+      | then-not-has+in_ok-blocks-2 w ↦ record {
+        count = ap length w.blocks-is ∙ length-set c.loop-index.blocks c.loop-index.index w.in_ok-blocks-2.field-0 ∙ c.loop-index.invariant.count;
+        blocks = set_more (λ block. block.value) c.loop-index.blocks c.if-not-has.blocks w.in_ok-blocks-2.field-0 c.as_chunks.result.0.now c.loop-index.index
+            w.blocks-is inside (w.in_ok-blocks-2.ensures {u = tt}) c.loop-index.invariant.blocks;
+      }
+      | else-not-has w ↦ record {
+        count = ap length w.blocks-is ∙ c.loop-index.invariant.count;
+        blocks = kept_more (λ block. block.value) c.loop-index.blocks c.if-not-has.blocks c.index-blocks-index.result c.as_chunks.result.0.now c.loop-index.index
+            w.blocks-is inside (sym c.deref.ensures ∙ c.has.ensures.0 w.if-not-has.false) c.loop-index.invariant.blocks;
+      }
+    ]
 
 -- all blocks are there
-made : {A : Type 0} (f : A → List ℕ) (items : List A) (words : List ℕ) (index : ℕ) → PAGE_BLOCKS ≤ index → index ≤ PAGE_BLOCKS → length items ≡ index → length words ≡ PAGE_WORDS
-    → ((block place : ℕ) → block < index → place < BLOCK_WORDS
-    → slice_index (slice_index_or (map f items) block []) place ≡ slice_index words (block * BLOCK_WORDS + place))
-    → words_of (map f items) ≡ words
-made f items words index least most count long each =
-    let all : length (map f items) ≡ index = length-map items f ∙ count in
-    words_are (map f items) words (omega (arith, long, all, least, most)) (λ block place inside low. each block place (omega (arith, inside, all)) low)
+made : {A : Type 0} (f : A → List ℕ) (items : List A) (parts : List (List ℕ)) (words : List ℕ) (index : ℕ) → PAGE_BLOCKS ≤ index → length items ≡ PAGE_BLOCKS
+    → length words ≡ PAGE_WORDS → parts ≡ first_chunks BLOCK_WORDS (length words / BLOCK_WORDS) words
+    → ((block : ℕ) → block < index → slice_index_or (map f items) block [] ≡ slice_index_or parts block []) → words_of (map f items) ≡ words
+made f items parts words index most count long cut each =
+    let all : length (map f items) ≡ PAGE_BLOCKS = length-map items f ∙ count in
+    words_are (map f items) words (omega (arith, long, all))
+    (λ block place inside low.
+    ap (λ (part : List ℕ). slice_index part place) (each block (omega (arith, inside, all, most)) ∙ ap (λ (xs : List (List ℕ)). slice_index_or xs block []) cut)
+    ∙ part_at (length words / BLOCK_WORDS) words block place (omega (arith, inside, all, long)) low)
 
 pub of-requires-clause-blank : goal.of-requires-clause-blank
 of-requires-clause-blank c =
     λ blank.
     subst (λ (words : List ℕ). IsTrue (is_blank words))
-    (sym (made (λ block. block.value) c.loop-index.blocks.items c.args.words.now c.loop-index.index c.loop-index-test.false c.loop-index.auto.index-end
-    c.loop-index.invariant.count c.requires c.loop-index.invariant.blocks))
+    (sym (made (λ block. block.value) c.loop-index.blocks c.as_chunks.result.0.now c.args.words.now c.loop-index.index c.loop-index-test.false
+    c.loop-index.invariant.count c.requires c.as_chunks.ensures.front c.loop-index.invariant.blocks))
     (sym c.is_blank.ensures ∙ blank)
 
 pub returns : goal.returns
@@ -31,5 +82,5 @@ returns c =
     if_ok _ _ c.of.result c.of.ensures
     (λ page is.
     is
-    ∙ made (λ block. block.value) c.loop-index.blocks.items c.args.words.now c.loop-index.index c.loop-index-test.false c.loop-index.auto.index-end
-    c.loop-index.invariant.count c.requires c.loop-index.invariant.blocks)
+    ∙ made (λ block. block.value) c.loop-index.blocks c.as_chunks.result.0.now c.args.words.now c.loop-index.index c.loop-index-test.false
+    c.loop-index.invariant.count c.requires c.as_chunks.ensures.front c.loop-index.invariant.blocks)

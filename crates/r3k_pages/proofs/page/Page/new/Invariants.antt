@@ -1,11 +1,10 @@
-use Rattle.std.proofs.Common.{◌≡◌, ◌<◌, ◌*◌, ◌+◌, ℕ, [], map, length, slice_index, slice_index_or}
-use Rattle.r3k_pages.specs.declared.block.TheConstants.{BLOCK_WORDS}
+use Rattle.std.proofs.Common.{◌≡◌, ◌<◌, ℕ, [], map, length, slice_index_or}
+use Rattle.r3k_pages.specs.declared.page.TheConstants.{PAGE_BLOCKS}
 use Rattle.r3k_pages.proofs.page.Page.new.Given as goal
 
 -- the blocks so far
 abbrev pub invariant-loop-index : goal.invariant-loop-index
 invariant-loop-index l = record {
-  count : length l.blocks.items ≡ l.index;
-  blocks : (block place : ℕ) → block < l.index → place < BLOCK_WORDS →
-      slice_index (slice_index_or (map (λ block. block.value) l.blocks.items) block []) place ≡ slice_index l.words (block * BLOCK_WORDS + place);
+  count : length l.blocks ≡ PAGE_BLOCKS;
+  blocks : (block : ℕ) → block < l.index → slice_index_or (map (λ block. block.value) l.blocks) block [] ≡ slice_index_or l.parts block [];
 }

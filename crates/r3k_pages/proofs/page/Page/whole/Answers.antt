@@ -3,4 +3,4 @@ use Rattle.r3k_pages.proofs.Blocks.{page_long}
 use Rattle.r3k_pages.proofs.page.Page.whole.Goals as goal
 
 pub returns : goal.returns
-returns c = ap length (sym c.self.view_is) ∙ page_long (λ block. block.value) c.self.inside.blocks.items c.self.invariant.0
+returns c = ap length (sym c.self.view_is) ∙ page_long (λ block. block.value) c.self.inside.blocks c.self.invariant.0

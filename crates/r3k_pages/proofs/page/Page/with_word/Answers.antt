@@ -1,4 +1,6 @@
-use Rattle.std.proofs.Common.{◌≡◌, ◌∙◌, ◌+◌, ◌*◌, ◌/◌, ◌%◌, ◌<◌, List, ℕ, sym, ap, map, length, slice_index, slice_set, arith}
+use Rattle.std.proofs.Common.{◌≡◌, ◌∙◌, ◌+◌, ◌*◌, ◌/◌, ◌%◌, ◌<◌, List, [], ◌∷◌, ℕ, refl, sym, ap, map, length, slice_index, slice_set, arith}
+use Rattle.std.proofs.Math.Path.{ap₂}
+use Rattle.std.specs.List.{AllZip}
 use Rattle.std.proofs.lemmas.List.{length-map}
 use Rattle.r3k_word.specs.declared.layout.TheConstants.{PAGE_WORDS}
 use Rattle.r3k_pages.specs.declared.block.TheConstants.{BLOCK_WORDS}
@@ -8,6 +10,13 @@ use Rattle.r3k_pages.proofs.Blocks.{word_set}
 use Rattle.r3k_pages.proofs.Kept.{if_ok}
 use Rattle.r3k_pages.proofs.Set.{pointer_set}
 use Rattle.r3k_pages.proofs.page.Page.with_word.Goals as goal
+
+-- pointers and their clones
+same_behind : {A : Type 0} (f : A → List ℕ) (items copies : List A) → AllZip (λ item copy. f copy ≡ f item) items copies → map f copies ≡ map f items
+same_behind f [] [] each = refl
+same_behind f [] (copy ∷ copies) each = absurd each
+same_behind f (item ∷ items) [] each = absurd each
+same_behind f (item ∷ items) (copy ∷ copies) each = ap₂ (λ (x : List ℕ) (xs : List (List ℕ)). x ∷ xs) each.0 (same_behind f items copies each.1)
 
 -- a page with one of its pointers set
 set_behind : {A : Type 0} (f : A → List ℕ) (blocks old : List A) (after : A) (block words : List ℕ) (place word : ℕ)
@@ -29,6 +38,6 @@ returns-clause-set c =
     if_ok _ _ c.of.result c.of.ensures
     (λ page is.
     is
-    ∙ set_behind (λ block. block.value) c.in_ok-blocks.blocks.items c.self.inside.blocks.items c.in_ok-blocks-2.field-0 c.deref.result.now c.args.self.now
-    c.args.place c.args.word (c.in_ok-blocks.ensures {u = tt}) c.self.view_is c.self.invariant.0 c.requires set.whole
+    ∙ set_behind (λ block. block.value) c.in_ok-blocks.blocks c.self.inside.blocks c.in_ok-blocks-2.field-0 c.deref.result.now c.args.self.now
+    c.args.place c.args.word (same_behind (λ block. block.value) _ _ (c.in_ok-blocks.ensures {u = tt}).cases.whole) c.self.view_is c.self.invariant.0 c.requires set.whole
     (λ at low. ap (λ (xs : List ℕ). slice_index xs at) c.deref.ensures ∙ c.block.ensures at low) set.set)
