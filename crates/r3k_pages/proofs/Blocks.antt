@@ -84,16 +84,16 @@ word_set blocks block word before offset inside low long is =
           ])
     ])
 
--- a part of the words of a page
-pub part_at : (count : ℕ) (words : List ℕ) (block place : ℕ) → block < count → place < BLOCK_WORDS
-    → slice_index (slice_index_or (first_chunks BLOCK_WORDS count words) block []) place ≡ slice_index words (block * BLOCK_WORDS + place)
-part_at zero words block place inside low = absurd (let e : ⊥ = omega (arith, inside) in e)
-part_at (suc count) words zero place inside low =
-    get_or-take BLOCK_WORDS words place 0 low ∙ ap (slice_index words) (let e : place ≡ 0 * BLOCK_WORDS + place = omega arith in e)
-part_at (suc count) words (suc block) place inside low =
-    part_at count (drop BLOCK_WORDS words) block place (omega (arith, inside)) low
-    ∙ get_or-drop BLOCK_WORDS words (block * BLOCK_WORDS + place) 0
-    ∙ ap (slice_index words) (let e : BLOCK_WORDS + (block * BLOCK_WORDS + place) ≡ suc block * BLOCK_WORDS + place = omega arith in e)
+-- an element of a chunk
+pub chunk_at : {A : Type 0} (size count : ℕ) (items : List A) (chunk place : ℕ) (c : List A) (d : A) → chunk < count → place < size
+    → slice_index_or (slice_index_or (first_chunks size count items) chunk c) place d ≡ slice_index_or items (chunk * size + place) d
+chunk_at size zero items chunk place c d inside low = absurd (let e : ⊥ = omega (arith, inside) in e)
+chunk_at size (suc count) items zero place c d inside low =
+    get_or-take size items place d low ∙ ap (λ (n : ℕ). slice_index_or items n d) (let e : place ≡ 0 * size + place = omega arith in e)
+chunk_at size (suc count) items (suc chunk) place c d inside low =
+    chunk_at size count (drop size items) chunk place c d (omega (arith, inside)) low
+    ∙ get_or-drop size items (chunk * size + place) d
+    ∙ ap (λ (n : ℕ). slice_index_or items n d) (let e : size + (chunk * size + place) ≡ suc chunk * size + place = grind arith in e)
 
 -- one block more of a page is the same
 pub same_still : (a b x y : List ℕ) (block : ℕ) → IsBlockOf a block x → IsBlockOf b block y → x ≡ y

@@ -221,9 +221,11 @@ pub(crate) fn touches<const PAGES: u32>(set: &PageMarks<PAGES>, group: usize) ->
     requires { group < 2 ^ 26 }
     ensures { IsFalse result → (page : ℕ) → page / GROUP_PAGES ≡ group → IsFalse (holds set.now page) }
 {
-    let start = (group * GROUP_PAGES).min(set.marks.len());
-    let end = (start + GROUP_PAGES).min(set.marks.len());
-    set.marks[start..end].contains(&true)
+    let (groups, rest) = set.marks.as_chunks::<GROUP_PAGES>();
+    match groups.get(group) {
+        Some(marks) => marks.contains(&true),
+        None => rest.contains(&true),
+    }
 }
 
 // Whether a page has a mark.

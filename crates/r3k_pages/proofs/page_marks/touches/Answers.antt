@@ -1,35 +1,48 @@
-use Rattle.std.proofs.Common.{◌≡◌, ◌∙◌, ℕ, ◌-◌, ◌+◌, ◌<◌, ◌≤◌, Bool, true, false, List, drop, length, slice_index_or, inl, inr, refl, sym, ap, arith}
-use Rattle.std.specs.List.{list_any, slice_range}
-use Rattle.std.proofs.lemmas.Bool.{cases_Bool, cases_lt, true≢false}
-use Rattle.std.proofs.lemmas.List.{get_or-drop, get_or-take, get_or_past, length-drop, length-take}
+use Rattle.std.proofs.Common.{◌≡◌, ◌∙◌, ℕ, ◌-◌, ◌+◌, ◌*◌, ◌/◌, ◌%◌, Bool, true, false, List, length, slice_index_or, inl, inr, refl, sym, ap, arith}
+use Rattle.std.specs.List.{list_any}
+use Rattle.std.proofs.lemmas.Bool.{cases_Bool, cases_lt, ltb-false, ltb-true, true≢false}
+use Rattle.std.proofs.lemmas.List.{get_or-drop, get_or_past}
 use Rattle.std.proofs.lemmas.List.Folds.{list_any_at}
+use Rattle.r3k_pages.specs.declared.group.TheConstants.{GROUP_PAGES}
 use Rattle.r3k_pages.specs.Pages.{holds}
+use Rattle.r3k_pages.proofs.Blocks.{chunk_at}
 use Rattle.r3k_pages.proofs.page_marks.touches.Goals as goal
 
--- a mark of a part without one
-not_marked : (test : Bool → Bool) (marks : List Bool) (start stop page : ℕ) → test true ≡ true → start ≤ page → page < stop → stop ≤ length marks
-    → list_any test (slice_range marks start stop) ≡ false → slice_index_or marks page false ≡ false
-not_marked test marks start stop page passes least below fits none =
-    let part = slice_range marks start stop in
-    let at = page - start in
-    let inside : at < length part = omega (arith, least, below, fits, length-take (stop - start) (drop start marks), length-drop start marks) in
-    let same : slice_index_or part at false ≡ slice_index_or marks page false =
-    get_or-take (stop - start) (drop start marks) at false (omega (arith, least, below)) ∙ get_or-drop start marks at false
-    ∙ ap (λ (n : ℕ). slice_index_or marks n false) (let e : start + at ≡ page = omega (arith, least) in e)
-    in
-    elim (cases_Bool (slice_index_or marks page false)) [
-      | inl is ↦ absurd (true≢false (sym (list_any_at test part at false inside (ap test (same ∙ is) ∙ passes)) ∙ none))
-      | inr other ↦ other
+-- among marks of which none is set
+unmarked : (test : Bool → Bool) (marks : List Bool) (place : ℕ) → test true ≡ true → list_any test marks ≡ false → slice_index_or marks place false ≡ false
+unmarked test marks place passes none =
+    elim (cases_lt place (length marks)) [
+      | inl inside ↦
+          elim (cases_Bool (slice_index_or marks place false)) [
+            | inl is ↦ absurd (true≢false (sym (list_any_at test marks place false inside (ap test is ∙ passes)) ∙ none))
+            | inr other ↦ other
+          ]
+      | inr past ↦ get_or_past marks place false (omega (arith, past))
     ]
 
-pub returns : goal.returns
-returns g c =
+pub returns-in-Some : goal.returns-in-Some
+returns-in-Some g c =
     λ none page of.
     let marks = c.deref.result.now in
+    let found = (c.in-Some.ensures {u = tt}).lookup in
+    let place = page % GROUP_PAGES in
     ap (λ (set : List ℕ). holds set page) (sym c.set.view_is)
     ∙ sym (ap (λ (xs : List Bool). slice_index_or xs page false) c.deref.ensures.value ∙ c.set.invariant.marked page)
-    ∙ elim (cases_lt page (length marks)) [
-      | inl within ↦ not_marked _ marks c.min-start.result c.min-end.result page refl (omega (arith, of, c.min-start.ensures)) (omega (arith, of, within, c.min-start.ensures, c.min-end.ensures, c.len.ensures, c.len-2.ensures, c.deref.ensures.len))
-          (omega (arith, c.min-end.ensures, c.len-2.ensures, c.deref.ensures.len)) (sym c.contains.ensures.value ∙ none)
-      | inr past ↦ get_or_past marks page false (omega (arith, past))
-    ]
+    ∙ ap (λ (n : ℕ). slice_index_or marks n false) (let e : page ≡ c.args.group * GROUP_PAGES + place = omega (arith, of) in e)
+    ∙ sym (chunk_at GROUP_PAGES (length marks / GROUP_PAGES) marks c.args.group place c.in-Some.marks.now false
+    (omega (arith, ltb-true _ _ (sym found.0), c.as_chunks.ensures.front_len)) (omega arith))
+    ∙ sym (ap (λ (xs : List Bool). slice_index_or xs place false) (found.1 ∙ ap (λ (xs : List (List Bool)). slice_index_or xs c.args.group c.in-Some.marks.now) c.as_chunks.ensures.front))
+    ∙ unmarked _ c.in-Some.marks.now place refl (sym c.contains.ensures.value ∙ none)
+
+pub returns-in-None : goal.returns-in-None
+returns-in-None g c =
+    λ none page of.
+    let marks = c.deref.result.now in
+    let past = (c.in-None.ensures {u = tt}).lookup in
+    let start = length marks / GROUP_PAGES * GROUP_PAGES in
+    let least = ltb-false _ _ (sym past.0) in
+    ap (λ (set : List ℕ). holds set page) (sym c.set.view_is)
+    ∙ sym (ap (λ (xs : List Bool). slice_index_or xs page false) c.deref.ensures.value ∙ c.set.invariant.marked page)
+    ∙ ap (λ (n : ℕ). slice_index_or marks n false) (let e : page ≡ start + (page - start) = omega (arith, of, least, c.as_chunks.ensures.front_len) in e)
+    ∙ sym (ap (λ (xs : List Bool). slice_index_or xs (page - start) false) c.as_chunks.ensures.back ∙ get_or-drop start marks (page - start) false)
+    ∙ unmarked _ c.as_chunks.result.1.now (page - start) refl (sym c.contains-in-None.ensures.value ∙ none)

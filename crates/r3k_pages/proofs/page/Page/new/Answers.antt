@@ -6,7 +6,7 @@ use Rattle.r3k_pages.specs.declared.block.TheConstants.{BLOCK_WORDS}
 use Rattle.r3k_pages.specs.declared.page.TheConstants.{PAGE_BLOCKS}
 use Rattle.r3k_pages.specs.Blocks.{words_of}
 use Rattle.r3k_pages.specs.Groups.{is_blank}
-use Rattle.r3k_pages.proofs.Blocks.{part_at, words_are}
+use Rattle.r3k_pages.proofs.Blocks.{chunk_at, words_are}
 use Rattle.r3k_pages.proofs.Kept.{if_ok}
 use Rattle.r3k_pages.proofs.Set.{which}
 use Rattle.r3k_pages.proofs.page.Page.new.Goals as goal
@@ -67,7 +67,7 @@ made f items parts words index most count long cut each =
     words_are (map f items) words (omega (arith, long, all))
     (λ block place inside low.
     ap (λ (part : List ℕ). slice_index part place) (each block (omega (arith, inside, all, most)) ∙ ap (λ (xs : List (List ℕ)). slice_index_or xs block []) cut)
-    ∙ part_at (length words / BLOCK_WORDS) words block place (omega (arith, inside, all, long)) low)
+    ∙ chunk_at BLOCK_WORDS (length words / BLOCK_WORDS) words block place [] 0 (omega (arith, inside, all, long)) low)
 
 pub of-requires-clause-blank : goal.of-requires-clause-blank
 of-requires-clause-blank c =
