@@ -1,8 +1,11 @@
-use Rattle.std.proofs.Common.{◌≡◌, ◌∙◌, ◌+◌, ◌<◌, ◌≤◌, ◌/◌, List, ℕ, [], IsTrue, inl, inr, length-set, refl, sym, ap, subst, map, length, slice_index, slice_index_or, slice_set, arith}
+use Rattle.std.proofs.Common.{◌≡◌, ◌∙◌, ◌+◌, ◌<◌, ◌≤◌, ◌/◌, List, ℕ, [], IsTrue, inl, inr, length-set, sym, ap, subst, map, length, slice_index, slice_index_or, slice_set, arith}
+use Rattle.std.specs.declared.rc.Rc.{Rc}
+use Rattle.std.specs.declared.alloc.Global.{Global}
 use Rattle.std.specs.Simd.{first_chunks}
-use Rattle.std.proofs.lemmas.List.{get_or-map, get_or-set_other, get_or-set_same, length-map, map-set}
+use Rattle.std.proofs.lemmas.List.{get_or-map, get_or-set_other, get_or-set_same, length-map, map-set, set-get_or}
 use Rattle.r3k_word.specs.declared.layout.TheConstants.{PAGE_WORDS}
 use Rattle.r3k_pages.specs.declared.block.TheConstants.{BLOCK_WORDS}
+use Rattle.r3k_pages.specs.declared.block.Block.{Block}
 use Rattle.r3k_pages.specs.declared.page.TheConstants.{PAGE_BLOCKS}
 use Rattle.r3k_pages.specs.Blocks.{words_of}
 use Rattle.r3k_pages.specs.Groups.{is_blank}
@@ -13,48 +16,36 @@ use Rattle.r3k_pages.proofs.page.Page.new.Goals as goal
 use Rattle.r3k_pages.proofs.page.Page.new.Goals.{then-not-has+in_ok-blocks-2, else-not-has}
 
 -- one block more is that of the page
-one_more : (before after parts : List (List ℕ)) (index : ℕ) → ((block : ℕ) → block < index → slice_index_or before block [] ≡ slice_index_or parts block [])
-    → ((block : ℕ) → ¬ (block ≡ index) → slice_index_or after block [] ≡ slice_index_or before block [])
-    → slice_index_or after index [] ≡ slice_index_or parts index []
+one_more : (before after : List (List ℕ)) (part : List ℕ) (parts : List (List ℕ)) (index : ℕ) → after ≡ slice_set before index part → index < length before
+    → part ≡ slice_index_or parts index [] → ((block : ℕ) → block < index → slice_index_or before block [] ≡ slice_index_or parts block [])
     → (block : ℕ) → block < index + 1 → slice_index_or after block [] ≡ slice_index_or parts block []
-one_more before after parts index each others here block within =
-    elim (which block index) [
-      | inl same ↦ ap (λ (n : ℕ). slice_index_or after n []) same ∙ here ∙ ap (λ (n : ℕ). slice_index_or parts n []) (sym same)
-      | inr other ↦ others block other ∙ each block (omega (arith, within, other))
+one_more before after part parts index set inside is each block within =
+    ap (λ (xs : List (List ℕ)). slice_index_or xs block []) set
+    ∙ elim (which block index) [
+      | inl same ↦
+          ap (λ (n : ℕ). slice_index_or (slice_set before index part) n []) same ∙ get_or-set_same before index part [] inside ∙ is
+          ∙ ap (λ (n : ℕ). slice_index_or parts n []) (sym same)
+      | inr other ↦ get_or-set_other before index block part [] other ∙ each block (omega (arith, within, other))
     ]
-
--- it was, or it is put there
-kept_more : {A : Type 0} (f : A → List ℕ) (items after : List A) (d : A) (parts : List (List ℕ)) (index : ℕ) → after ≡ items → index < length items
-    → f (slice_index_or items index d) ≡ slice_index_or parts index []
-    → ((block : ℕ) → block < index → slice_index_or (map f items) block [] ≡ slice_index_or parts block [])
-    → (block : ℕ) → block < index + 1 → slice_index_or (map f after) block [] ≡ slice_index_or parts block []
-kept_more {A = A} f items after d parts index same inside is each block within =
-    ap (λ (xs : List A). slice_index_or (map f xs) block []) same
-    ∙ one_more (map f items) (map f items) parts index each (λ other apart. refl) (get_or-map f items index d [] inside ∙ is) block within
-
-set_more : {A : Type 0} (f : A → List ℕ) (items after : List A) (item : A) (parts : List (List ℕ)) (index : ℕ) → after ≡ slice_set items index item → index < length items
-    → f item ≡ slice_index_or parts index []
-    → ((block : ℕ) → block < index → slice_index_or (map f items) block [] ≡ slice_index_or parts block [])
-    → (block : ℕ) → block < index + 1 → slice_index_or (map f after) block [] ≡ slice_index_or parts block []
-set_more f items after item parts index set inside is each block within =
-    ap (λ (xs : List (List ℕ)). slice_index_or xs block []) (ap (map f) set ∙ map-set f items index item)
-    ∙ one_more (map f items) (slice_set (map f items) index (f item)) parts index each
-    (λ other apart. get_or-set_other (map f items) index other (f item) [] apart)
-    (get_or-set_same (map f items) index (f item) [] (omega (arith, inside, length-map items f)) ∙ is) block within
 
 pub loop-index-preserved : goal.loop-index-preserved
 loop-index-preserved c =
-    let inside : c.loop-index.index < length c.loop-index.blocks = omega (arith, c.loop-index-test.true, c.loop-index.invariant.count) in
+    let blocks = c.loop-index.blocks in
+    let index = c.loop-index.index in
+    let f : Rc Block Global → List ℕ = λ block. block.value in
+    let low : index < length blocks = omega (arith, c.loop-index-test.true, c.loop-index.invariant.count) in
+    let inside : index < length (map f blocks) = omega (arith, low, length-map blocks f) in
     elim c.if-not-has.branch [
       | then-not-has+in_ok-blocks-2 w ↦ record {
-        count = ap length w.blocks-is ∙ length-set c.loop-index.blocks c.loop-index.index w.in_ok-blocks-2.field-0 ∙ c.loop-index.invariant.count;
-        blocks = set_more (λ block. block.value) c.loop-index.blocks c.if-not-has.blocks w.in_ok-blocks-2.field-0 c.as_chunks.result.0.now c.loop-index.index
-            w.blocks-is inside (w.in_ok-blocks-2.ensures {u = tt}) c.loop-index.invariant.blocks;
+        count = ap length w.blocks-is ∙ length-set blocks index w.in_ok-blocks-2.field-0 ∙ c.loop-index.invariant.count;
+        blocks = one_more (map f blocks) (map f c.if-not-has.blocks) w.in_ok-blocks-2.field-0.value c.as_chunks.result.0.now index
+            (ap (map f) w.blocks-is ∙ map-set f blocks index w.in_ok-blocks-2.field-0) inside (w.in_ok-blocks-2.ensures {u = tt}) c.loop-index.invariant.blocks;
       }
       | else-not-has w ↦ record {
         count = ap length w.blocks-is ∙ c.loop-index.invariant.count;
-        blocks = kept_more (λ block. block.value) c.loop-index.blocks c.if-not-has.blocks c.index-blocks-index.result c.as_chunks.result.0.now c.loop-index.index
-            w.blocks-is inside (sym c.deref.ensures ∙ c.has.ensures.0 w.if-not-has.false) c.loop-index.invariant.blocks;
+        blocks = one_more (map f blocks) (map f c.if-not-has.blocks) (slice_index_or (map f blocks) index []) c.as_chunks.result.0.now index
+            (ap (map f) w.blocks-is ∙ sym (set-get_or (map f blocks) index [])) inside
+            (get_or-map f blocks index c.index-blocks-index.result [] low ∙ sym c.deref.ensures ∙ c.has.ensures.0 w.if-not-has.false) c.loop-index.invariant.blocks;
       }
     ]
 
