@@ -15,6 +15,7 @@ pub(crate) struct Span {
 }
 
 // What each line sent in the spans below one.
+#[tactic(auto, using(crate::proofs::Spans::totals_at, crate::proofs::Spans::zeros), unfolding(crate::specs::Counts::total))]
 fn totals_below(spans: &[Span], end: usize) -> [u64; 4]
     requires within { end ≤ length spans.now }
     requires totals { HasTotals end spans.now }
@@ -38,6 +39,7 @@ pub(crate) fn whole_before(spans: &[Span], line: SerialLine, place: u64) -> usiz
 }
 
 /// What a line sent in the spans below one, where the first `summed` ones have their totals.
+#[tactic(auto, using(crate::proofs::Spans::counts_at, crate::proofs::Sums::total_next, crate::proofs::Sums::total_small))]
 pub(crate) fn total_below(spans: &[Span], summed: usize, line: SerialLine, end: usize) -> u64
     requires within { end ≤ length spans.now }
     requires summed { summed ≤ end }

@@ -1,5 +1,5 @@
 -- In which pages the PC was, as it is kept.
-use Rattle.std.proofs.Common.{◌≡◌, ◌↔◌, ◌⊎◌, ℕ, List, [], IsTrue, inl, inr, sym, subst}
+use Rattle.std.proofs.Common.{◌≡◌, ◌↔◌, ℕ, List, [], IsTrue, inl, inr}
 use Rattle.std.proofs.lemmas.Bool.{false≢true}
 use Rattle.input_log.specs.Event.{LogEvent}
 use Rattle.r3k_machine.specs.State.{State}
@@ -11,15 +11,8 @@ pub from_none : (pages : ℕ) (log : List LogEvent) (time : ℕ) (s start : Stat
     → AddsCodePages pages log time s n before after → before ≡ [] → kept ≡ after → s ≡ start
     → (page : ℕ) → IsTrue (holds kept page) ↔ RunsIn pages log time start n page
 from_none pages log time s start n before after kept code_pages none same here page =
-    subst (λ (start : State). IsTrue (holds kept page) ↔ RunsIn pages log time start n page) here
-    (subst (λ (kept : List ℕ). IsTrue (holds kept page) ↔ RunsIn pages log time s n page) (sym same) (
-      λ held. by_none ((code_pages page).0 held),
-      λ stands. (code_pages page).1 (inr stands),
-    ))
-  where
-    empty : (set : List ℕ) → set ≡ [] → IsTrue (holds set page) → ⊥
-    empty set is held = false≢true (subst (λ (set : List ℕ). IsTrue (holds set page)) is held)
-
-    by_none : IsTrue (holds before page) ⊎ RunsIn pages log time s n page → RunsIn pages log time s n page
-    by_none (inl held) = absurd (empty before none held)
-    by_none (inr stands) = stands
+    let adds = rw none at code_pages page in
+    rw (← here, same) (
+      λ held. elim (adds.0 held) [ inl empty ↦ absurd (false≢true empty) | inr stands ↦ stands ],
+      λ stands. adds.1 (inr stands),
+    )

@@ -1,16 +1,18 @@
 -- Ascending lists, joined.
-use Rattle.std.proofs.Common.{◌≡◌, ℕ, zero, suc, ◌+◌, ◌-◌, ◌<◌, ◌≤◌, Bool, true, false, ◌||◌, List, [], ◌∷◌, ◌++◌, length, take, drop, slice_index, refl, sym, ap, ◌∙◌, subst, arith, nat_eq, inl, inr, Result, Ok, Err, is_ok, ◌⊎◌}
+use Rattle.std.proofs.Common.{◌≡◌, ℕ, ◌+◌, ◌-◌, ◌<◌, ◌≤◌, Bool, true, false, ◌||◌, List, [], ◌∷◌, ◌++◌, length, take, drop, slice_index, refl, sym, ap, ◌∙◌, arith, nat_eq, inl, inr, Result, Ok, Err, is_ok, ◌⊎◌}
 use Rattle.std.specs.List.Sorted.{IsBinarySearchResult, IsStrictlyIncreasing}
 use Rattle.std.specs.Ordering.{nat_cmp}
 use Rattle.std.proofs.Math.Nat.{eq-or-lt_of_le}
 use Rattle.std.proofs.Math.ListN.{drop_of_length-le, get_or-append}
 use Rattle.std.proofs.Math.Seq.{take-length}
-use Rattle.std.proofs.lemmas.List.{append-nil, get_or-append_right, get_or-drop, length-append, length-drop, take-append-drop, take_all, take_more}
+use Rattle.std.proofs.lemmas.List.{append-nil, get_or-append_right, get_or-drop, length-append, length-drop, take-append-drop, take_all}
 use Rattle.std.proofs.lemmas.List.Kept.{AllPairs-from_increasing}
 use Rattle.std.proofs.lemmas.List.Sorted.{searched}
-use Rattle.std.proofs.lemmas.Bool.{cases_Bool, eq-eqb, eqb-true, true≢false, cases_lt}
-use Rattle.std.proofs.lemmas.List.Folds.{list_any-append}
+use Rattle.std.proofs.Math.Bool.{or-false, or-true, or_assoc, or_comm, or_self}
+use Rattle.std.proofs.lemmas.Bool.{cases_Bool, eq-eqb, cases_lt}
+use Rattle.std.proofs.lemmas.List.Folds.{list_any-append, list_any_at, list_any_more}
 use Rattle.r3k_pages.specs.Pages.{holds}
+use Rattle.r3k_pages.proofs.Kept.{held_at}
 use Rattle.write_index.specs.Pages.{IsUnion}
 
 -- the first pages of both
@@ -22,27 +24,6 @@ pub record IsMerged (a b : List ℕ) (i j : ℕ) (pages : List ℕ) : Type 0 whe
   pub under_b : (k : ℕ) → k < length pages → j < length b → slice_index pages k < slice_index b j
   pub union : IsUnion (take i a) (take j b) pages
 
--- whether a page is in a list
-pub held_at : (set : List ℕ) (page : ℕ) → holds set page ≡ true → (k : ℕ) × (k < length set) × (slice_index set k ≡ page)
-held_at [] page is = absurd (true≢false (sym is))
-held_at (other ∷ set) page is =
-    elim (cases_Bool (nat_eq other page)) [
-      | inl here ↦ (0, omega arith, eqb-true other page here)
-      | inr apart ↦
-          let rest = held_at set page (sym (ap (λ (b : Bool). b || holds set page) apart) ∙ is) in
-          (suc rest.0, omega (arith, rest.1), rest.2)
-    ]
-
-or_true : (a : Bool) → (a || true) ≡ true
-or_true true = refl
-or_true false = refl
-
-pub held_from : (set : List ℕ) (k page : ℕ) → k < length set → slice_index set k ≡ page → holds set page ≡ true
-held_from [] k page within is = absurd (omega (arith, within))
-held_from (other ∷ set) zero page within is = ap (λ (b : Bool). b || holds set page) (eq-eqb other page is)
-held_from (other ∷ set) (suc k) page within is =
-    ap (λ (b : Bool). nat_eq other page || b) (held_from set k page (omega (arith, within)) is) ∙ or_true (nat_eq other page)
-
 pub rising : (xs : List ℕ) → IsStrictlyIncreasing xs → (i j : ℕ) → i ≤ j → j < length xs → slice_index xs i ≤ slice_index xs j
 rising xs up i j below within =
     elim (eq-or-lt_of_le below) [
@@ -52,7 +33,7 @@ rising xs up i j below within =
 
 -- what a search in an ascending list gives
 pub searched_for : (xs : List ℕ) (x : ℕ) (r : Result ℕ ℕ) → IsStrictlyIncreasing xs → IsBinarySearchResult (λ y. nat_cmp y x) xs r → is_ok r ≡ holds xs x
-searched_for xs x (Ok i) up found = let at = searched xs x (Ok i) found (rising xs up) in sym (held_from xs i x at.0 at.1)
+searched_for xs x (Ok i) up found = let at = searched xs x (Ok i) found (rising xs up) in sym (list_any_at (λ other. nat_eq other x) xs i 0 at.0 (eq-eqb _ x at.1))
 searched_for xs x (Err i) up found =
     let at = searched xs x (Err i) found (rising xs up) in
     elim (cases_Bool (holds xs x)) [
@@ -100,32 +81,34 @@ ascending_drop xs i up k within =
     let place = ap (slice_index xs) (let e : i + (k + 1) ≡ i + k + 1 = omega arith in e) in
     omega (arith, e, here, next, place)
 
+-- the same with the lists the other way round
+swap : (a b : List ℕ) (i j : ℕ) (pages : List ℕ) → IsMerged a b i j pages → IsMerged b a j i pages
+swap a b i j pages m = record {
+  in_a = m.in_b;
+  in_b = m.in_a;
+  ascending = m.ascending;
+  under_a = m.under_b;
+  under_b = m.under_a;
+  union = λ page. m.union page ∙ or_comm (holds (take i a) page) (holds (take j b) page);
+}
+
 -- the three tests in other orders
 or_last : (a b x : Bool) → ((a || b) || x) ≡ ((a || x) || b)
-or_last true b x = refl
-or_last false true true = refl
-or_last false true false = refl
-or_last false false true = refl
-or_last false false false = refl
-
-or_right : (a b x : Bool) → ((a || b) || x) ≡ (a || (b || x))
-or_right true b x = refl
-or_right false b x = refl
+or_last a b x = or_assoc a b x ∙ (ap (λ (y : Bool). a || y) (or_comm b x) ∙ sym (or_assoc a x b))
 
 or_both : (a b x : Bool) → ((a || b) || x) ≡ ((a || x) || (b || x))
 or_both true b x = refl
-or_both false true x = sym (or_true x)
-or_both false false true = refl
-or_both false false false = refl
+or_both false true x = sym (or-true x)
+or_both false false x = sym (or_self x)
 
 -- pages after those so far
 more : (pages rest : List ℕ) (page : ℕ) (a b : Bool) → holds pages page ≡ (a || b) → holds (pages ++ rest) page ≡ ((a || b) || holds rest page)
 more pages rest page a b is = list_any-append (λ other. nat_eq other page) pages rest ∙ ap (λ (x : Bool). x || holds rest page) is
 
 -- the rest of the longer one
-pub merged_rest_a : (a b : List ℕ) (i j : ℕ) (pages : List ℕ) → IsMerged a b i j pages → IsStrictlyIncreasing a → length b ≤ j
+merged_rest : (a b : List ℕ) (i j : ℕ) (pages : List ℕ) → IsMerged a b i j pages → IsStrictlyIncreasing a → length b ≤ j
     → IsStrictlyIncreasing (pages ++ drop i a) × IsUnion a b (pages ++ drop i a)
-merged_rest_a a b i j pages so_far up past = (
+merged_rest a b i j pages so_far up past = (
   ascending_append pages (drop i a) so_far.ascending (ascending_drop a i up)
       (λ k front some.
       let e = so_far.under_a k front (omega (arith, some, length-drop i a)) in let first = get_or-drop i a 0 0 in let at = ap (slice_index a) (let z : i + 0 ≡ i = omega arith in z) in omega (arith, e, first, at)),
@@ -138,50 +121,22 @@ merged_rest_a a b i j pages so_far up past = (
       ∙ (ap (λ (x : Bool). x || holds (take j b) page) (sym all ∙ whole) ∙ ap (λ (x : Bool). holds a page || x) other)),
 )
 
-pub merged_rest_b : (a b : List ℕ) (i j : ℕ) (pages : List ℕ) → IsMerged a b i j pages → IsStrictlyIncreasing b → length a ≤ i
-    → IsStrictlyIncreasing (pages ++ drop j b) × IsUnion a b (pages ++ drop j b)
-merged_rest_b a b i j pages so_far up past = (
-  ascending_append pages (drop j b) so_far.ascending (ascending_drop b j up)
-      (λ k front some.
-      let within : j < length b = omega (arith, some, length-drop j b) in
-      let e = so_far.under_b k front within in
-      let first = get_or-drop j b 0 0 in
-      let at = ap (slice_index b) (let z : j + 0 ≡ j = omega arith in z) in
-      omega (arith, e, first, at)),
-  λ page.
-      let all = list_any-append (λ other. nat_eq other page) (take j b) (drop j b) in
-      let whole = ap (λ (xs : List ℕ). holds xs page) (take-append-drop j b) in
-      let other = ap (λ (xs : List ℕ). holds xs page) (take_all i a past) in
-      more pages (drop j b) page (holds (take i a) page) (holds (take j b) page) (so_far.union page)
-      ∙ (or_right (holds (take i a) page) (holds (take j b) page) (holds (drop j b) page)
-      ∙ (ap (λ (x : Bool). holds (take i a) page || x) (sym all ∙ whole) ∙ ap (λ (x : Bool). x || holds b page) other)),
-)
-
--- the rest of both, of which one is empty
-pub merged_rest : (a b : List ℕ) (i j : ℕ) (pages : List ℕ) → IsMerged a b i j pages → IsStrictlyIncreasing a → IsStrictlyIncreasing b
-    → (length a ≤ i) ⊎ (length b ≤ j) → IsStrictlyIncreasing ((pages ++ drop i a) ++ drop j b) × IsUnion a b ((pages ++ drop i a) ++ drop j b)
-merged_rest a b i j pages so_far up_a up_b (inl past) =
-    let none : pages ++ drop i a ≡ pages = ap (λ (xs : List ℕ). pages ++ xs) (drop_of_length-le a past) ∙ append-nil pages in
-    subst (λ (xs : List ℕ). IsStrictlyIncreasing (xs ++ drop j b) × IsUnion a b (xs ++ drop j b)) (sym none) (merged_rest_b a b i j pages so_far up_b past)
-merged_rest a b i j pages so_far up_a up_b (inr past) =
-    let none : (pages ++ drop i a) ++ drop j b ≡ pages ++ drop i a = ap (λ (xs : List ℕ). (pages ++ drop i a) ++ xs) (drop_of_length-le b past) ∙ append-nil (pages ++ drop i a) in
-    subst (λ (xs : List ℕ). IsStrictlyIncreasing xs × IsUnion a b xs) (sym none) (merged_rest_a a b i j pages so_far up_a past)
-
 taken_all : (xs : List ℕ) (i : ℕ) → take (length xs - i) (drop i xs) ≡ drop i xs
 taken_all xs i = ap (λ (n : ℕ). take n (drop i xs)) (sym (length-drop i xs)) ∙ take-length (drop i xs)
 
+-- the rest of both, of which one is empty
 pub merged_all : (a b : List ℕ) (i j : ℕ) (pages one two : List ℕ) → IsMerged a b i j pages → IsStrictlyIncreasing a → IsStrictlyIncreasing b
     → (length a ≤ i) ⊎ (length b ≤ j) → one ≡ pages ++ take (length a - i) (drop i a) → two ≡ one ++ take (length b - j) (drop j b)
     → IsStrictlyIncreasing two × IsUnion a b two
-merged_all a b i j pages one two so_far up_a up_b past is_one is_two =
-    let first : one ≡ pages ++ drop i a = is_one ∙ ap (λ (xs : List ℕ). pages ++ xs) (taken_all a i) in
-    let both : two ≡ (pages ++ drop i a) ++ drop j b = is_two ∙ (ap (λ (xs : List ℕ). one ++ xs) (taken_all b j) ∙ ap (λ (xs : List ℕ). xs ++ drop j b) first) in
-    subst (λ (xs : List ℕ). IsStrictlyIncreasing xs × IsUnion a b xs) (sym both) (merged_rest a b i j pages so_far up_a up_b past)
+merged_all a b i j pages one two so_far up_a up_b (inl past) is_one is_two =
+    let rest = merged_rest b a j i pages (swap a b i j pages so_far) up_b past in
+    rw (is_two, is_one, taken_all a i, taken_all b j, drop_of_length-le a past, append-nil pages)
+    (rest.0, λ page. rest.1 page ∙ or_comm (holds b page) (holds a page))
+merged_all a b i j pages one two so_far up_a up_b (inr past) is_one is_two =
+    rw (is_two, is_one, taken_all a i, taken_all b j, drop_of_length-le b past, append-nil (pages ++ drop i a)) (merged_rest a b i j pages so_far up_a past)
 
 take_holds : (xs : List ℕ) (i page z : ℕ) → i < length xs → slice_index xs i ≡ z → holds (take (i + 1) xs) page ≡ (holds (take i xs) page || holds (z ∷ []) page)
-take_holds xs i page z within is =
-    ap (λ (ys : List ℕ). holds ys page) (take_more xs i 0 within)
-    ∙ (list_any-append (λ other. nat_eq other page) (take i xs) (slice_index xs i ∷ []) ∙ ap (λ (z : ℕ). holds (take i xs) page || holds (z ∷ []) page) is)
+take_holds xs i page z within is = rw (list_any_more (λ other. nat_eq other page) xs i 0 within, is, or-false (nat_eq z page)) refl
 
 under_push : (pages : List ℕ) (z bound : ℕ) → ((k : ℕ) → k < length pages → slice_index pages k < z) → z < bound
     → (k : ℕ) → k < length (pages ++ z ∷ []) → slice_index (pages ++ z ∷ []) k < bound
@@ -218,9 +173,7 @@ merged_a a b i j z pages so_far up within_a within_b is less =
 pub merged_b : (a b : List ℕ) (i j z : ℕ) (pages : List ℕ) → IsMerged a b i j pages → IsStrictlyIncreasing b → i < length a → j < length b
     → slice_index b j ≡ z → z < slice_index a i → IsMerged a b i (j + 1) (pages ++ z ∷ [])
 merged_b a b i j z pages so_far up within_a within_b is less =
-    merged_push a b i j i (j + 1) z pages so_far so_far.in_a (omega (arith, within_b))
-    (λ k front. let e = so_far.under_b k front within_b in omega (arith, e, is)) (λ inside. less) (λ inside. let e = up j inside in omega (arith, e, is))
-    (λ page. or_right (holds (take i a) page) (holds (take j b) page) (holds (z ∷ []) page) ∙ ap (λ (x : Bool). holds (take i a) page || x) (sym (take_holds b j page z within_b is)))
+    swap b a (j + 1) i _ (merged_a b a j i z pages (swap a b i j pages so_far) up within_b within_a is less)
 
 pub merged_both : (a b : List ℕ) (i j z : ℕ) (pages : List ℕ) → IsMerged a b i j pages → IsStrictlyIncreasing a → IsStrictlyIncreasing b
     → i < length a → j < length b → slice_index a i ≡ z → slice_index b j ≡ z → IsMerged a b (i + 1) (j + 1) (pages ++ z ∷ [])

@@ -1,26 +1,12 @@
 -- A tree where a span is put, or room is made.
-use Rattle.std.proofs.Common.{◌≡◌, ℕ, zero, suc, ◌+◌, ◌*◌, ◌/◌, ◌<◌, ◌≤◌, ◌⊎◌, List, [], ◌∷◌, ◌++◌, length, length-set, take, max, Result, Ok, Err, IfOk, OnErr, slice_set, refl, sym, ap, ◌∙◌, subst, arith, inl, inr, nat_eq}
+use Rattle.std.proofs.Common.{◌≡◌, ℕ, zero, suc, ◌+◌, ◌*◌, ◌/◌, ◌<◌, ◌≤◌, List, [], ◌∷◌, ◌++◌, length, length-set, take, max, Result, Ok, Err, OnErr, slice_set, refl, sym, ap, ◌∙◌, subst, arith, inl, inr}
 use Rattle.std.proofs.Math.Path.{ap₂}
 use Rattle.std.proofs.Math.Seq.{take-append_seam}
-use Rattle.std.proofs.lemmas.Bool.{cases_Bool, eq-eqb, eqb-true, true≢false, cases_lt}
+use Rattle.std.proofs.lemmas.Bool.{cases_eq, cases_lt}
 use Rattle.std.proofs.lemmas.List.{get_or-set_same, get_or-set_other, get_or-take, get_or_past, length-take}
 use Rattle.write_index.specs.Pages.{IsUnion, pages_at}
 use Rattle.write_index.specs.declared.tree.TheConstants.{LEVELS}
 use Rattle.write_index.specs.Tree.{Grown, HasRoom, IsIndex, IsLevel, IsLevelBut, IsPut, IsTree, IsTreeBut, Same, bottom}
-
-which : (i index : ℕ) → (i ≡ index) ⊎ ¬ (i ≡ index)
-which i index =
-    elim (cases_Bool (nat_eq i index)) [
-      | inl here ↦ inl (eqb-true i index here)
-      | inr apart ↦ inr (λ same. true≢false (sym (eq-eqb i index same) ∙ apart))
-    ]
-
--- a node that is put, and the others
-pub put_same : (level : List (List ℕ)) (set : List ℕ) (node : ℕ) → node < length level → pages_at (slice_set level node set) node ≡ set
-put_same level set node within = get_or-set_same level node set [] within
-
-pub put_other : (level : List (List ℕ)) (set : List ℕ) (node m : ℕ) → ¬ (m ≡ node) → pages_at (slice_set level node set) m ≡ pages_at level m
-put_other level set node m other = get_or-set_other level node m set [] other
 
 union_of : (a b c a' b' c' : List ℕ) → a' ≡ a → b' ≡ b → c' ≡ c → IsUnion a b c → IsUnion a' b' c'
 union_of a b c a' b' c' is_a is_b is_c union =
@@ -30,7 +16,7 @@ other_unions : (level parents : List (List ℕ)) (node count : ℕ) (set : List 
     → (m : ℕ) → m < count / 2 → ¬ (m ≡ node / 2)
     → IsUnion (pages_at (slice_set level node set) (2 * m)) (pages_at (slice_set level node set) (2 * m + 1)) (pages_at parents m)
 other_unions level parents node count set but m within other =
-    union_of _ _ _ _ _ _ (put_other level set node (2 * m) (λ e. other (omega (arith, e)))) (put_other level set node (2 * m + 1) (λ e. other (omega (arith, e)))) refl
+    union_of _ _ _ _ _ _ (get_or-set_other level node (2 * m) set [] (λ e. other (omega (arith, e)))) (get_or-set_other level node (2 * m + 1) set [] (λ e. other (omega (arith, e)))) refl
     (but.unions m within other)
 
 -- with the union above it
@@ -41,12 +27,12 @@ pub put_pair : (level old parents : List (List ℕ)) (node count : ℕ) (set bot
 put_pair level old parents node count set both but there put union = record {
   whole = omega (arith, but.whole, length-set level node set);
   unions = λ m within.
-      elim (which m (node / 2)) [
+      elim (cases_eq m (node / 2)) [
         | inl here ↦
             subst (λ (n : ℕ). IsUnion (pages_at (slice_set level node set) (2 * n)) (pages_at (slice_set level node set) (2 * n + 1)) (pages_at parents n)) (sym here)
-            (union_of _ _ _ _ _ _ refl refl (ap (λ (x : List (List ℕ)). pages_at x (node / 2)) put ∙ put_same old both (node / 2) there) union)
+            (union_of _ _ _ _ _ _ refl refl (ap (λ (x : List (List ℕ)). pages_at x (node / 2)) put ∙ get_or-set_same old (node / 2) both [] there) union)
         | inr other ↦
-            union_of _ _ _ _ _ _ refl refl (ap (λ (x : List (List ℕ)). pages_at x m) put ∙ put_other old both (node / 2) m other)
+            union_of _ _ _ _ _ _ refl refl (ap (λ (x : List (List ℕ)). pages_at x m) put ∙ get_or-set_other old (node / 2) m both [] other)
             (other_unions level old node count set but m within other)
       ];
 }
@@ -147,14 +133,6 @@ written_back new rest long is = subst (λ (n : ℕ). take n (new ++ rest) ≡ ne
 pub on_err : {A E : Type 0} (r : Result A E) (P : Type 0) → P → OnErr r P
 on_err (Ok x) P p = tt
 on_err (Err e) P p = p
-
-pub on_err_then : {A E : Type 0} (r : Result A E) (P Q : Type 0) → OnErr r P → (P → Q) → OnErr r Q
-on_err_then (Ok x) P Q p f = tt
-on_err_then (Err e) P Q p f = f p
-
-pub if_ok_then : {A E : Type 0} (r : Result A E) (P Q : Type 0) → IfOk r (λ _. P) → (P → Q) → IfOk r (λ _. Q)
-if_ok_then (Ok x) P Q p f = f p
-if_ok_then (Err e) P Q p f = tt
 
 pub same_take : (held : ℕ) (a b : List (List ℕ)) → held ≤ length a → held ≤ length b → Same held a b → take held b ≡ take held a
 same_take zero a b long_a long_b same = refl

@@ -3,13 +3,10 @@ use Rattle.std.proofs.Common.{◌≡◌, ℕ, zero, suc, ◌+◌, ◌*◌, ◌/�
 use Rattle.std.proofs.lemmas.Bool.{true≢false, cases_lt}
 use Rattle.std.proofs.Math.Nat.{pow-suc}
 use Rattle.std.proofs.lemmas.List.{get_or-take, get_or_past, length-take}
+use Rattle.r3k_pages.proofs.Kept.{neither}
 use Rattle.r3k_pages.specs.Pages.{holds}
 use Rattle.write_index.specs.Pages.{IsLast, pages_at}
 use Rattle.write_index.specs.Tree.{IsTree, bottom}
-
-neither : (a b : Bool) → (a || b) ≡ false → (a ≡ false) × (b ≡ false)
-neither true b is = absurd (true≢false is)
-neither false b is = (refl, is)
 
 first_then : (a b : Bool) → (a || b) ≡ true → b ≡ false → a ≡ true
 first_then true b is none = refl

@@ -30,6 +30,7 @@ pub(crate) fn deepen(alloc: Global, levels: &mut Vec<Level>) -> Result<(), Alloc
 }
 
 /// Puts the pages of a span in their place. There may be fewer spans before, or more. Where memory is refused, the spans stay.
+#[tactic(auto, using(crate::proofs::Putting::tree_grown, crate::proofs::Putting::same_grown, crate::proofs::Putting::less_room, crate::proofs::Putting::tree_but, crate::proofs::Putting::tree_less))]
 pub(crate) fn update(
     alloc: Global,
     levels: &mut [Level],
@@ -52,6 +53,7 @@ pub(crate) fn update(
 }
 
 // Makes room for `count` spans.
+#[tactic(auto, using(crate::proofs::Putting::grown_same, crate::proofs::Putting::room_none))]
 fn grow(alloc: Global, levels: &mut [Level], count: usize) -> Result<(), AllocError>
     requires { count < 2 ^ length levels.old }
     ensures grown { Grown levels.old levels.new }
@@ -70,6 +72,7 @@ fn grow(alloc: Global, levels: &mut [Level], count: usize) -> Result<(), AllocEr
 }
 
 // Puts spans with no pages after the first `count` ones, up to `end`.
+#[tactic(auto, using(crate::proofs::Putting::less_room, crate::proofs::Putting::tree_but, crate::proofs::Putting::tree_less))]
 fn fill(alloc: Global, levels: &mut [Level], count: usize, end: usize) -> Result<(), AllocError>
     requires tree { IsTree count levels.old }
     requires room { HasRoom end levels.old }
