@@ -22,15 +22,6 @@ regroup : (front : List WordsAt) (s : WordsAt) (read : Result (List WordsAt × L
 regroup front s (Ok x) = ap (λ (ss : List WordsAt). Ok (ss, x.1)) (simp append_assoc)
 regroup front s (Err f) = refl
 
-starts_value : (read : Result (List WordsAt × List ℕ) ImageKind) → with_front [] read ≡ read
-starts_value (Ok x) = refl
-starts_value (Err f) = refl
-
-pub starts : (count : ℕ) (bytes : List ℕ) → Reads count 0 0 bytes bytes []
-starts count bytes =
-    let all : count - 0 ≡ count = omega arith in
-    record { value = ap (λ n. with_front [] (segments_at n 0 bytes)) all ∙ starts_value (segments_at count 0 bytes); first = inr (refl, refl) }
-
 -- the first segment is whole where the one read now is
 whole_first : (start : ℕ) (bytes rest : List ℕ) → IsOk (segment_at start rest) → IsOk (segment_at 0 bytes) ⊎ ((start ≡ 0) × (rest ≡ bytes)) → IsOk (segment_at 0 bytes)
 whole_first start bytes rest here (inl first) = first
@@ -56,9 +47,6 @@ ends_value (Bad kind) count counter start bytes rest front lt h so_far =
     let k : count - counter ≡ suc (count - (counter + 1)) = omega arith in
     let one : with_front front (segments_at (count - counter) start rest) ≡ Err kind = rw (k, h) refl in
     sym so_far.value ∙ one
-
-pub ends_memory : (count counter start : ℕ) (bytes rest : List ℕ) (front : List WordsAt) → IsOk (segment_at start rest) → Reads count counter start bytes rest front → IsOk (segment_at 0 bytes)
-ends_memory count counter start bytes rest front here so_far = whole_first start bytes rest here so_far.first
 
 pub is_done : (count counter start : ℕ) (bytes rest : List ℕ) (front : List WordsAt) → count ≤ counter → Reads count counter start bytes rest front → segments_at count 0 bytes ≡ Ok (front, rest)
 unfolding segments_at

@@ -13,13 +13,6 @@ use Rattle.r3k_image.proofs.Patching.{Patched, Found, found, write_over, write_a
 use Rattle.r3k_image.proofs.patch.put_word.Goals as goal
 use Rattle.r3k_image.proofs.patch.put_word.Goals.{then-count-gt0+else-offset-len+else-offset-len-2, else-count-gt0}
 
-pub overflow_sub-offset : goal.overflow_sub-offset
-overflow_sub-offset c =
-    let here : Found c.args.address c.args.segments.now.items c.count_up_to-count.result c.index_mut-segment.result.now =
-    found c.args.address c.args.segments.now.items c.deref.result.now c.count_up_to-count.result c.index_mut-segment.result.now
-    c.deref.ensures.value c.requires.stand c.count_up_to-count.ensures.parted c.count_up_to-count.ensures.bound c.if-count-gt0.true c.index_mut-segment.ensures.value in
-    here.below
-
 over : (c : goal.After-segments-1) → Patched 0 c.args.address c.args.word (views c.args.segments.now.items) (views (set c.args.segments.now.items (c.count_up_to-count.result - 1)
     (record { address = c.index_mut-segment.result.now.address; words = with_item c.index_mut-segment.result.now.words ((c.args.address - c.index_mut-segment.result.now.address) / 4) c.args.word })))
 over c =

@@ -6,7 +6,7 @@ use Rattle.r3k_image.specs.Writing.{runs_in, bytes_of_image}
 use Rattle.r3k_image.proofs.Format.{image_at_again}
 use Rattle.r3k_image.proofs.LongestRuns.{longest-runs_of, words_in-runs_of}
 use Rattle.r3k_image.proofs.SetWords.{runs_stand, boot_entries, map_of_entries}
-use Rattle.r3k_image.proofs.Patched.{boot_patched, fits_patched, patch_taken_in}
+use Rattle.r3k_image.proofs.Patched.{boot_patched, fits_patched}
 use Rattle.r3k_image.proofs.writing.image_laws.Goals as goal
 
 pub returns-clause-read : goal.returns-clause-read
@@ -34,6 +34,3 @@ returns-clause-patched c = boot_patched
 
 pub returns-clause-fits : goal.returns-clause-fits
 returns-clause-fits c = fits_patched
-
-pub returns-clause-taken : goal.returns-clause-taken
-returns-clause-taken c = patch_taken_in

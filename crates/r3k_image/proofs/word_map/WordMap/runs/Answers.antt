@@ -1,5 +1,5 @@
 -- The words so far, and those that are left.
-use Rattle.std.proofs.Common.{◌≡◌, ◌++◌, sym, ap, subst, ◌∙◌, append_assoc}
+use Rattle.std.proofs.Common.{◌≡◌, ◌++◌, sym, ap, subst, ◌∙◌}
 use Rattle.std.specs.FinMap as map
 use Rattle.std.specs.Map.Iter.{deref_pair}
 use Rattle.std.proofs.lemmas.List.{append-nil}
@@ -35,9 +35,3 @@ returns-clause-stand c =
     sym (entries_of_words 0 es c.self.invariant) ∙ ap map.entries c.self.view_is in
     let is : views c.loop-address.runs.items ≡ runs_of (map.entries c.args.self.now) = returns-clause-runs c in
     subst (AreSegments 0) (sym is) (runs_stand 0 (map.entries c.args.self.now) (subst (AreEntries 0) whole c.self.invariant))
-
-pub loop-address-preserved : goal.loop-address-preserved
-loop-address-preserved c = record {
-  words = rw (c.in_ok-push_words.ensures.words, append_assoc) (rw c.in-Some.ensures.steps at c.loop-address.invariant.words);
-  longest = c.in_ok-push_words.ensures.longest;
-}
