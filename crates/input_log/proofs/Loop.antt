@@ -21,15 +21,6 @@ regroup : (front : List LogEvent) (e : LogEvent) (read : Result (List LogEvent �
 regroup front e (Ok x) = ap (λ (es : List LogEvent). Ok (es, x.1)) (simp append_assoc)
 regroup front e (Err f) = refl
 
-starts_value : (read : Result (List LogEvent × List ℕ) LogKind) → with_front [] read ≡ read
-starts_value (Ok x) = refl
-starts_value (Err f) = refl
-
-pub starts : (version : Version) (count : ℕ) (bytes : List ℕ) → Reads version count 0 0 bytes bytes []
-starts version count bytes =
-    let all : count - 0 ≡ count = omega arith in
-    record { value = ap (λ n. with_front [] (events_at version n 0 bytes)) all ∙ starts_value (events_at version count 0 bytes); first = inr (refl, refl) }
-
 -- the first event is whole where the one read now is
 whole_first : (version : Version) (last : ℕ) (bytes rest : List ℕ) → IsOk (event_at version last rest) → IsOk (event_at version 0 bytes) ⊎ ((last ≡ 0) × (rest ≡ bytes)) → IsOk (event_at version 0 bytes)
 whole_first version last bytes rest here (inl first) = first
@@ -51,9 +42,6 @@ ends_value version kind count counter last bytes rest front lt h so_far =
     let k : count - counter ≡ suc (count - (counter + 1)) = omega arith in
     let one : with_front front (events_at version (count - counter) last rest) ≡ Err kind = rw (k, h) refl in
     sym so_far.value ∙ one
-
-pub ends_memory : (version : Version) (count counter last : ℕ) (bytes rest : List ℕ) (front : List LogEvent) → IsOk (event_at version last rest) → Reads version count counter last bytes rest front → IsOk (event_at version 0 bytes)
-ends_memory version count counter last bytes rest front here so_far = whole_first version last bytes rest here so_far.first
 
 pub is_done : (version : Version) (count counter last : ℕ) (bytes rest : List ℕ) (front : List LogEvent) → count ≤ counter → Reads version count counter last bytes rest front → events_at version count 0 bytes ≡ Ok (front, rest)
 unfolding events_at

@@ -1,5 +1,4 @@
-use Rattle.std.proofs.Common.{arith, refl}
-use Rattle.input_log.specs.Reading.{log_at}
+use Rattle.std.proofs.Common.{arith}
 use Rattle.input_log.proofs.Logs.{is_log}
 use Rattle.input_log.proofs.reading.read_all.Goals as goal
 
@@ -7,7 +6,3 @@ pub invariant_of-result : goal.invariant_of-result
 invariant_of-result c =
     is_log c.in_ok-version.version c.args.bytes.now c.in_ok-version.rest.now c.in_ok-count.rest.now c.in_ok-events.rest.now c.in_ok-count.count
     c.in_ok-events.events.items (λ i. omega (arith, c.type_inv.bytes i)) c.in_ok-version.ensures c.in_ok-count.ensures c.in_ok-events.ensures.value
-
-pub returns-clause-exact : goal.returns-clause-exact
-unfolding log_at
-returns-clause-exact c = rw (c.in_ok-version.ensures, c.in_ok-count.ensures, c.in_ok-events.ensures.value, ← c.if-not-is_empty.ensures) refl

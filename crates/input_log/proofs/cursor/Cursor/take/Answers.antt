@@ -1,4 +1,3 @@
-use Rattle.std.proofs.Common.{rules}
 use Rattle.input_log.proofs.Window.{taken, left}
 use Rattle.input_log.proofs.cursor.Cursor.take.Goals as goal
 
@@ -23,6 +22,3 @@ returns-clause-left c =
       ← c.self.view_is,
     )
     (left c.args.time c.self.inside.rest.now c.self.invariant.0)
-
-pub invariant_of-self : goal.invariant_of-self
-invariant_of-self c = (search rules, c.first_time-self-inside.ensures)

@@ -30,9 +30,3 @@ returns-clause-log c =
     ∙ ap (moving c.in_ok-from.from c.args.time) (sym c.self.view_is)
     ∙ relocated c.in_ok-from.from c.args.time c.self.inside.events.items c.index-event.result.now (omega arith) (within c) c.index-event.ensures
     ∙ ap (λ events. Ok events) (sym (made c))
-
-pub returns-clause-place : goal.returns-clause-place
-returns-clause-place c =
-    c.place_of_moved-to.ensures.place
-    ∙ ap (λ events. length (up_to c.args.time (without c.in_ok-from.from events))) (c.deref.ensures.value ∙ c.self.view_is)
-    ∙ ap (λ n. length (up_to c.args.time (without n c.args.self.now))) c.in_ok-from.ensures.found.0

@@ -39,7 +39,3 @@ pub returns-clause-log : goal.returns-clause-log
 returns-clause-log c =
     let event : LogEvent = put c.args.time c.args.kind c.args.line c.args.byte in
     ap (adding event) (sym c.self.view_is) ∙ added event c.self.inside.events.items (is_event c) (omega arith) ∙ ap (λ events. Ok events) (sym (made c))
-
-pub returns-clause-place : goal.returns-clause-place
-returns-clause-place c =
-    c.place_after-place.ensures.place ∙ ap (λ events. length (up_to c.args.time events)) (c.deref.ensures.value ∙ c.self.view_is)
