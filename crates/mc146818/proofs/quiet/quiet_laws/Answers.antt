@@ -1,4 +1,4 @@
-use Rattle.mc146818.proofs.Passed.{passes, line_stays, time_stays, flags_stay, greatest, next_is, in_parts, passed_in_parts, stays_quiet}
+use Rattle.mc146818.proofs.Passed.{passes, line_stays, time_stays, flags_stay, greatest, next_is, in_parts, stays_quiet}
 use Rattle.mc146818.proofs.quiet.quiet_laws.Goals as goal
 
 pub returns-clause-passes : goal.returns-clause-passes
@@ -21,9 +21,6 @@ returns-clause-next c = next_is
 
 pub returns-clause-in_parts : goal.returns-clause-in_parts
 returns-clause-in_parts c = in_parts
-
-pub returns-clause-passed_in_parts : goal.returns-clause-passed_in_parts
-returns-clause-passed_in_parts c = passed_in_parts
 
 pub returns-clause-stays_quiet : goal.returns-clause-stays_quiet
 returns-clause-stays_quiet c = stays_quiet
