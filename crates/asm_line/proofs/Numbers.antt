@@ -11,10 +11,6 @@ use Rattle.asm_line.specs.Statement.{numbers_at}
 abbrev pub with_front : List ℕ → Option (List ℕ) → Option (List ℕ)
 with_front front numbers = option_map (λ more. front ++ more) numbers
 
-pub starts : (numbers : Option (List ℕ)) → with_front [] numbers ≡ numbers
-starts None = refl
-starts (Some more) = refl
-
 regroup : (front : List ℕ) (n : ℕ) (numbers : Option (List ℕ)) → with_front front (numbers >>= λ more. Some (n ∷ more)) ≡ with_front (front ++ n ∷ []) numbers
 regroup front n None = refl
 regroup front n (Some more) = ap Some (simp append_assoc)

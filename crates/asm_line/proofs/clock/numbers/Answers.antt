@@ -1,13 +1,10 @@
 -- One more number.
-use Rattle.std.proofs.Common.{◌≡◌, ◌-◌, ◌+◌, suc, ◌∷◌, [], ◌++◌, take, set, arith, sym, ap, ◌∙◌, refl, cond, Some, None}
+use Rattle.std.proofs.Common.{◌≡◌, ◌-◌, ◌+◌, suc, ◌∷◌, [], ◌++◌, take, set, arith, sym, ap, ◌∙◌, cond, Some, None}
 use Rattle.std.proofs.lemmas.List.{take_all, take_more_set, length-set}
 use Rattle.asm_line.specs.Operand.{number_at}
 use Rattle.asm_line.specs.Statement.{numbers_at}
-use Rattle.asm_line.proofs.Numbers.{with_front, starts, one_more, no_more, ends}
+use Rattle.asm_line.proofs.Numbers.{with_front, one_more, no_more, ends}
 use Rattle.asm_line.proofs.clock.numbers.Goals as goal
-
-pub loop-place-init : goal.loop-place-init
-loop-place-init c = record { numbers = starts (numbers_at 12 c.args.text.now); len = refl }
 
 pub returns-in_err-number : goal.returns-in_err-number
 returns-in_err-number c =
