@@ -4,7 +4,6 @@ use Rattle.std.proofs.lemmas.Result.{err_from_is_err_and}
 use Rattle.std.specs.Prelude.{unwrap_or}
 use Rattle.r3k_image.specs.Boot.{Boot, plain_byte_time, plain_clock_start, plain_unit}
 use Rattle.r3k_asm.specs.declared.fault.AsmFault.{AsmFault}
-use Rattle.r3k_asm.specs.declared.fault.AsmFault.TheVariants.{Memory}
 use Rattle.r3k_asm.specs.Source.{seen}
 use Rattle.r3k_asm.specs.Meaning.{Answers, FailsOrLacks, linked, image_of}
 use Rattle.r3k_asm.proofs.Links.{first_fails, second_fails, both_pass, finished}
@@ -15,13 +14,6 @@ returns-in_err-words-clause-exact c =
     let p = err_from_is_err_and c.from_residual.result c.from_residual.ensures.1 in
     let is : c.from_residual.result ≡ Err c.in_err-words.field-0.0 = p.1 ∙ ap (λ (f : AsmFault). Err f) p.2 in
     subst (λ r. Answers (λ (b : Boot). b) r (image_of c.args.text.now)) (sym is) (first_fails c.args.text.now c.in_err-words.field-0.0 c.in_err-words.ensures.lines)
-
-pub returns-in_err-words-clause-memory : goal.returns-in_err-words-clause-memory
-returns-in_err-words-clause-memory c = λ lacks.
-    let p = err_from_is_err_and c.from_residual.result c.from_residual.ensures.1 in
-    let is : c.from_residual.result ≡ Err c.in_err-words.field-0.0 = p.1 ∙ ap (λ (f : AsmFault). Err f) p.2 in
-    let e : c.in_err-words.field-0.0 ≡ Memory = cc in
-    c.in_err-words.ensures.memory (ap (λ (f : AsmFault). Err f) e)
 
 pub returns-in_err-words-2-clause-exact : goal.returns-in_err-words-2-clause-exact
 returns-in_err-words-2-clause-exact c =
