@@ -1,4 +1,0 @@
-use Rattle.kn02_bus.proofs.parts.Parts.csr.Goals as goal
-
-pub returns : goal.returns
-returns c = rw (← c.self.view_is) cc
