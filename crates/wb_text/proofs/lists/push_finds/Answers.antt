@@ -1,17 +1,8 @@
 -- One step more, and then none.
-use Rattle.std.proofs.Common.{arith, ap, rules, sym, ◌∙◌, ◌++◌, append_assoc, append-nil, length, codes}
-use Rattle.std.specs.Fmt.{decimal}
+use Rattle.std.proofs.Common.{arith, ap, rules, sym, ◌∙◌, ◌++◌, append-nil}
 use Rattle.wb_text.specs.Lists.{sender_text}
-use Rattle.wb_text.specs.Text.{line, numbered}
 use Rattle.wb_text.proofs.Shown.{numbered-end, numbered-on}
 use Rattle.wb_text.proofs.lists.push_finds.Goals as goal
-
-pub loop-step-init : goal.loop-step-init
-loop-step-init c = record {
-  items = ap (λ t. t ++ numbered sender_text c.args.first c.args.steps.now) c.push_number.ensures.items
-      ∙ append_assoc c.args.text.now.items (line (codes "finds " ++ decimal (length c.args.steps.now))) (numbered sender_text c.args.first c.args.steps.now);
-  room = omega arith;
-}
 
 pub loop-step-preserved : goal.loop-step-preserved
 loop-step-preserved c = record {

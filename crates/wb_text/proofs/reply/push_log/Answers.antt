@@ -1,17 +1,8 @@
 -- One event more, and then none.
-use Rattle.std.proofs.Common.{arith, ap, sym, ◌∙◌, ◌++◌, append_assoc, append-nil, codes}
-use Rattle.std.specs.Fmt.{decimal}
-use Rattle.wb_text.specs.Text.{line, numbered}
+use Rattle.std.proofs.Common.{arith, ap, sym, ◌∙◌, ◌++◌, append-nil}
 use Rattle.wb_text.specs.Reply.{event_text}
 use Rattle.wb_text.proofs.Shown.{numbered-end, numbered-on}
 use Rattle.wb_text.proofs.reply.push_log.Goals as goal
-
-pub loop-event-init : goal.loop-event-init
-loop-event-init c = record {
-  items = ap (λ t. t ++ numbered event_text c.args.first c.args.events.now) c.push_number.ensures.items
-      ∙ append_assoc c.args.text.now.items (line (codes "log " ++ decimal c.args.total)) (numbered event_text c.args.first c.args.events.now);
-  room = omega arith;
-}
 
 pub loop-event-preserved : goal.loop-event-preserved
 loop-event-preserved c = record {
