@@ -2,7 +2,7 @@
 use Rattle.std.proofs.Common.{◌≡◌, ◌⊎◌, ◌∙◌, ap, refl, sym, inl, inr, Bool, true, false, List, [], ◌∷◌, Option, Some, None, codes, bytes_eq}
 use Rattle.std.proofs.lemmas.Slice.Eq.{bytes_eq-Decides}
 use Rattle.clap.specs.Words.{Kinds, Row, Rule, Text, first_of}
-use Rattle.clap.specs.Simple.{Shape, built}
+use Rattle.clap.specs.Simple.{Shape}
 use Rattle.clap.specs.Walk.{has_row, without, with_values, Held, Walk, Waiting, arg_by_long, walked, used}
 use Rattle.clap.specs.Simple.{help_rule, new_shape}
 use Rattle.clap.specs.Faults.{settle_fault, turn_fault, use_fault, walk_fault}
@@ -14,8 +14,7 @@ use Rattle.clap.specs.declared.builder.value_parser.Reading.{Reading}
 use Rattle.clap.specs.declared.builder.value_parser.Reading.TheVariants.{AsWritten}
 use Rattle.clap.specs.declared.parser.matches.ValueSource.{ValueSource}
 use Rattle.clap.specs.declared.parser.matches.ValueSource.TheVariants.{CommandLine}
-use Rattle.clap.proofs.OnLiterals.{clap_on_literals}
-use Rattle.wb_options.specs.Options.{command_line, option_rule}
+use Rattle.wb_options.specs.Options.{option_rule}
 
 -- the rules as clap fills them in
 abbrev pub kind_filled : Rule
@@ -54,10 +53,6 @@ shape = record (new_shape (codes "r3kwb")) {
   disable_help_subcommand = true;
   is_built = true;
 }
-
-shape_is : (built command_line).top ≡ shape
-unfolding clap_on_literals
-shape_is = refl
 
 -- the three options: the kind, the size, and the log's size
 pub data Choice : Type 0 where
