@@ -1,16 +1,17 @@
 -- The rows of records, after one of them changes.
-use Rattle.std.proofs.Common.{◌≡◌, ◌⊎◌, inl, inr, ℕ, zero, suc, ◌+◌, ◌-◌, ◌<◌, ◌≤◌, List, [], ◌∷◌, ◌++◌, length, take, drop, Contains, Option, Some, None, IfOk, IfSome, IsOk, IsSome, IsSomeAnd, Result, Ok, Err, slice_get, slice_index_or, slice_set, refl, sym, ap, subst, ◌∙◌, arith}
+use Rattle.std.proofs.Common.{◌≡◌, ◌⊎◌, inl, inr, ℕ, zero, suc, ◌+◌, ◌-◌, ◌<◌, ◌≤◌, List, max, map, [], ◌∷◌, ◌++◌, length, take, drop, Contains, Option, Some, None, IfOk, IfSome, IsOk, IsSome, IsSomeAnd, Result, Ok, Err, slice_get, slice_index_or, slice_set, refl, sym, ap, subst, ◌∙◌, arith}
 use Rattle.std.specs.List.{remove}
 use Rattle.std.specs.Option.{option_map, option_map_or}
 use Rattle.std.proofs.lemmas.Bool.{cases_eq, cases_lt, false≢true}
-use Rattle.std.proofs.lemmas.List.{length-map, get_or-set_same, get_or-set_other, get_or_past, map-set, map-append, take-map, drop-map, take-append-drop, length-take, length-set}
+use Rattle.std.proofs.lemmas.List.{length-map, get_or-set_same, get_or-set_other, get_or_past, map-set, map-append, take-map, drop-map, take-append-drop, length-append, length-drop, length-take, length-set}
 use Rattle.std.proofs.lemmas.List.Elements.{Contains-append_cases, Contains-append_left, Contains-append_right}
 use Rattle.std.proofs.Math.ListN.{get_or-map}
 use Rattle.std.proofs.lemmas.Option.{slice_get_within, slice_get-get_or, IfSome_then, slice_get-map}
 use Rattle.std.proofs.lemmas.List.Edits.{length-remove}
+use Rattle.r3k_machine.specs.State.{State}
 use Rattle.span_fact.specs.Span.{Span, end_of}
 use Rattle.checkpoints.specs.Kept.{Follows, first_at, promoted, row_at}
-use Rattle.checkpoints.specs.Rows.{AreRows, IsOwnName, IsRoom, Places, Linked, records_of, rows_of, spans_of, with_next}
+use Rattle.checkpoints.specs.Rows.{AreRows, IsOwnName, IsRoom, Places, Linked, ends_in, ends_of, records_of, rows_of, spans_of, with_next}
 
 -- what is in a list
 pub in_cons : {A : Type 0} (x : A) (xs : List A) (r : A) → Contains (x ∷ xs) r → (x ≡ r) ⊎ Contains xs r
@@ -395,3 +396,53 @@ row_pushed (q ∷ places) p (suc i) none = row_pushed places p i none
 
 pub not_both : {A E : Type 0} (r : Result A E) (e : E) → r ≡ Err e → ¬ IsOk r
 not_both {A} {E} r e is ok = false≢true (subst (λ (r : Result A E). IsOk r) is ok)
+
+-- ---- where spans end
+
+-- of a row only this changes
+pub kept_by : {A : Type 0} (of : Places → A) (places : List Places) (index : ℕ) (p q : Places) → slice_get places index ≡ Some p → of q ≡ of p
+    → map of (slice_set places index q) ≡ map of places
+kept_by of [] index p q there is = refl
+kept_by {A} of (r ∷ places) zero p q there is = ap (λ (a : A). a ∷ map of places) (is ∙ ap of (let e : p ≡ r = cc in e))
+kept_by {A} of (r ∷ places) (suc index) p q there is = ap (λ (all : List A). of r ∷ all) (kept_by of places index p q there is)
+
+pub ends_within : (n : ℕ) (ends : List (Option State)) → length (ends_of n ends) ≤ length ends
+unfolding ends_of
+ends_within zero ends = omega arith
+ends_within (suc n) [] = omega arith
+ends_within (suc n) (None ∷ ends) = omega arith
+ends_within (suc n) (Some end ∷ ends) = let rest = ends_within n ends in omega (arith, rest)
+
+pub ends_at : (n : ℕ) (ends : List (Option State)) (i : ℕ) (o : Option State) → length (ends_of n ends) ≡ n → i < n → slice_get ends i ≡ Some o
+    → slice_get (ends_of n ends) i ≡ o
+unfolding ends_of
+ends_at zero ends i o all within is = absurd (let e : ⊥ = omega (arith, within) in e)
+ends_at (suc n) [] i o all within is = absurd (let e : ⊥ = omega (arith, all) in e)
+ends_at (suc n) (None ∷ ends) i o all within is = absurd (let e : ⊥ = omega (arith, all) in e)
+ends_at (suc n) (Some end ∷ ends) zero o all within is = cc
+ends_at (suc n) (Some end ∷ ends) (suc i) o all within is = ends_at n ends i o (omega (arith, all)) (omega (arith, within)) is
+
+pub ends_pushed : (n : ℕ) (ends : List (Option State)) → ends_of n (ends ++ None ∷ []) ≡ ends_of n ends
+unfolding ends_of
+ends_pushed zero ends = refl
+ends_pushed (suc n) [] = refl
+ends_pushed (suc n) (None ∷ ends) = refl
+ends_pushed (suc n) (Some end ∷ ends) = ap (λ (all : List State). end ∷ all) (ends_pushed n ends)
+
+pub ends_set : (i n m : ℕ) (ends : List (Option State)) (end : State) → length (ends_of n ends) ≡ n → i ≤ n → i < length ends → m ≡ max n (suc i)
+    → ends_of m (slice_set ends i (Some end)) ≡ take i (ends_of n ends) ++ end ∷ drop (suc i) (ends_of n ends)
+unfolding ends_of
+ends_set i n m [] end all next within is = absurd (let e : ⊥ = omega (arith, within) in e)
+ends_set zero zero m (e ∷ ends) end all next within is =
+    ap (λ (m : ℕ). ends_of m (Some end ∷ ends)) (let same : m ≡ 1 = omega (arith, is) in same)
+ends_set (suc i) zero m (e ∷ ends) end all next within is = absurd (let e : ⊥ = omega (arith, next) in e)
+ends_set i (suc n) m (None ∷ ends) end all next within is = absurd (let e : ⊥ = omega (arith, all) in e)
+ends_set zero (suc n) m (Some e ∷ ends) end all next within is =
+    ap (λ (m : ℕ). ends_of m (Some end ∷ ends)) (let same : m ≡ suc n = omega (arith, is) in same)
+ends_set (suc i) (suc n) m (Some e ∷ ends) end all next within is =
+    ap (λ (m : ℕ). ends_of m (Some e ∷ slice_set ends i (Some end))) (let same : m ≡ suc (m - 1) = omega (arith, is) in same)
+    ∙ ap (λ (all : List State). e ∷ all) (ends_set i n (m - 1) ends end (omega (arith, all)) (omega (arith, next)) (omega (arith, within)) (omega (arith, is)))
+
+pub ends_long : {A : Type 0} (all : List A) (i : ℕ) (x : A) → i ≤ length all → length (take i all ++ x ∷ drop (suc i) all) ≡ max (length all) (suc i)
+ends_long all i x within =
+    omega (arith, within, length-append (take i all) (x ∷ drop (suc i) all), length-take i all, length-drop (suc i) all)

@@ -9,12 +9,13 @@ use Rattle.r3k_live.specs.Record.{touched_pages}
 use Rattle.span_fact.specs.Span.{Span, end_of, steps_of}
 
 -- Records of spans: a row for each number, of at most so many, the one that was used last first. The first ones of so many rows are
--- those of the present run. Of one number there may be room for a record.
+-- those of the present run. Of one number there may be room for a record. Of the first numbers there is the state where a span ends.
 pub record Kept : Type 0 where
   pub rows : List (List Span)
   pub valid : ℕ
   pub most : ℕ
   pub reserved : Option ℕ
+  pub ends : List State
 
 -- the row of a number
 abbrev pub row_at : {A : Type 0} → List (List A) → ℕ → List A

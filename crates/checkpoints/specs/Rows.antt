@@ -1,5 +1,6 @@
 -- How the records of a number are held (own): each has a name, and may know by name the record that follows it.
-use Rattle.std.specs.Prelude.{◌≡◌, ℕ, ◌+◌, ◌<◌, ◌≤◌, List, [], ◌∷◌, length, map, Contains, Option, Some, IfSome, slice_get}
+use Rattle.std.specs.Prelude.{◌≡◌, ℕ, zero, suc, ◌+◌, ◌<◌, ◌≤◌, List, [], ◌∷◌, length, map, Contains, Option, None, Some, IfSome, slice_get}
+use Rattle.r3k_machine.specs.State.{State}
 use Rattle.span_fact.specs.Span.{Span, end_of}
 use Rattle.checkpoints.specs.Kept.{row_at}
 
@@ -9,10 +10,11 @@ pub record Linked : Type 0 where
   pub name : ℕ
   pub next : Option ℕ
 
--- a row, and how many records it has room for
+-- a row, how many records it has room for, and where a span of its number ends
 pub record Places : Type 0 where
   pub records : List Linked
   pub room : ℕ
+  pub end : Option State
 
 abbrev pub spans_of : List Linked → List Span
 spans_of records = map (λ r. r.span) records
@@ -22,6 +24,16 @@ records_of places = map (λ p. p.records) places
 
 abbrev pub rows_of : List Places → List (List Span)
 rows_of places = map spans_of (records_of places)
+
+abbrev pub ends_in : List Places → List (Option State)
+ends_in places = map (λ p. p.end) places
+
+-- the ends of the first rows, as far as each has one
+unfoldable pub ends_of : ℕ → List (Option State) → List State
+ends_of zero ends = []
+ends_of (suc n) [] = []
+ends_of (suc n) (None ∷ ends) = []
+ends_of (suc n) (Some end ∷ ends) = end ∷ ends_of n ends
 
 -- a record can be put into the row of a number without memory
 pub record IsRoom (places : List Places) (most index : ℕ) : Type 0 where

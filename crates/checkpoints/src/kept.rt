@@ -1,13 +1,13 @@
-//! The records that are kept: of each span at most so many, of different pasts.
+//! What is kept of each span: records of at most so many different pasts, and where it ends.
 
-ghost use Rattle.std.specs.Prelude.{◌≡◌, ◌∷◌, ◌+◌, ◌-◌, ◌^◌, ◌<◌, ◌≤◌, ◌↔◌, ◌⊎◌, ℕ, [], All, Contains, IfOk, IfSome, IsOk, IsSome, IsSomeAnd, IsTrue, List, MatchOption, None, OnErr, Option, Some, length, min, slice_get, slice_index_or, take};
+ghost use Rattle.std.specs.Prelude.{◌≡◌, ◌∷◌, ◌++◌, ◌+◌, ◌-◌, ◌^◌, ◌<◌, ◌≤◌, ◌↔◌, ◌⊎◌, ℕ, suc, [], All, Contains, IfOk, IfSome, IsOk, IsSome, IsSomeAnd, IsTrue, List, MatchOption, None, OnErr, Option, Some, drop, length, min, slice_get, slice_index_or, take};
 ghost use Rattle.r3k_machine.specs.State.{State};
 ghost use Rattle.r3k_pages.specs.Layout.{word_count_of};
 ghost use Rattle.r3k_pages.specs.Pages.{SameOutside, SamePage, page_count_of};
 ghost use Rattle.r3k_live.specs.Record.{touched_pages};
 ghost use Rattle.span_fact.specs.Span.{Span, end_of, steps_of};
 ghost use Rattle.checkpoints.specs.Kept.{AreFar, Follows, IsNear, NearlyApplies, SameOn, first_at, promoted, row_at};
-ghost use Rattle.checkpoints.specs.Rows.{IsOwnName, IsRoom, records_of};
+ghost use Rattle.checkpoints.specs.Rows.{IsOwnName, IsRoom, ends_in, ends_of, records_of};
 
 use crate::row::{Record, Row};
 use input_log::{Event, same_events};
@@ -16,9 +16,11 @@ use r3k_pages::{PageMarks, Snapshot};
 use span_fact::Fact;
 use std::alloc::{AllocError, Global};
 use std::marker::Model;
+use std::rc::Rc;
 
 /// Records of spans by their numbers: of each number at most so many, the one that was used last first. The first ones of as many
-/// numbers as are valid are those of the present run. All others may be of other runs.
+/// numbers as are valid are those of the present run. All others may be of other runs. Of the first numbers it is noted where a
+/// span ends.
 #[derive(Drop)]
 pub struct Kept<const PAGES: u32, const SPAN: u32> {
     alloc: Global,
@@ -30,25 +32,28 @@ pub struct Kept<const PAGES: u32, const SPAN: u32> {
     names: u64,
     // The number of which a record can be put without memory, if there is one.
     reserved: Option<u64>,
+    // How many rows, from 0 on, have an end that counts. Later ones are forgotten.
+    ended: u64,
 }
 
 impl<const PAGES: u32, const SPAN: u32> Model for Kept<PAGES, SPAN> {
     ghost use Rattle.std.specs.Prelude.{◌≡◌, ◌<◌, ◌⊎◌, IfSome, length};
     ghost use Rattle.checkpoints.specs.Kept.{Kept, row_at};
-    ghost use Rattle.checkpoints.specs.Rows.{AreRows, IsRoom, records_of, rows_of};
+    ghost use Rattle.checkpoints.specs.Rows.{AreRows, IsRoom, ends_in, ends_of, records_of, rows_of};
 
     ghost Value = { Kept };
 
-    ghost view = { λ k. record { rows = rows_of k.rows.items; valid = k.valid; most = k.most; reserved = k.reserved } };
+    ghost view = { λ k. record { rows = rows_of k.rows.items; valid = k.valid; most = k.most; reserved = k.reserved; ends = ends_of k.ended (ends_in k.rows.items) } };
 
-    ghost invariant = { λ k. AreRows PAGES SPAN (records_of k.rows.items) k.valid k.most k.names × IfSome k.reserved (IsRoom k.rows.items k.most) };
+    ghost invariant = { λ k. AreRows PAGES SPAN (records_of k.rows.items) k.valid k.most k.names × IfSome k.reserved (IsRoom k.rows.items k.most) × (length (ends_of k.ended (ends_in k.rows.items)) ≡ k.ended) };
 }
 
 impl<const PAGES: u32, const SPAN: u32> Kept<PAGES, SPAN> {
     /// No records, and at most so many of each number. It takes no memory.
+    #[tactic(auto, unfolding(crate::specs::Rows::ends_of))]
     pub fn new(alloc: Global, most: usize) -> Kept<PAGES, SPAN>
         requires { 0 < most }
-        ensures { result ≡ record { rows = []; valid = 0; most = most; reserved = None } }
+        ensures { result ≡ record { rows = []; valid = 0; most = most; reserved = None; ends = [] } }
     {
         Kept {
             alloc,
@@ -57,6 +62,7 @@ impl<const PAGES: u32, const SPAN: u32> Kept<PAGES, SPAN> {
             most,
             names: 0,
             reserved: None,
+            ended: 0,
         }
     }
 
@@ -181,6 +187,7 @@ impl<const PAGES: u32, const SPAN: u32> Kept<PAGES, SPAN> {
         ensures valid { self.new.valid ≡ self.old.valid }
         ensures most { self.new.most ≡ self.old.most }
         ensures reserved { self.new.reserved ≡ self.old.reserved }
+        ensures ends { self.new.ends ≡ self.old.ends }
     {
         self.rows[index as usize].promote(place);
     }
@@ -191,6 +198,7 @@ impl<const PAGES: u32, const SPAN: u32> Kept<PAGES, SPAN> {
         ensures rows { (i : ℕ) → row_at self.new.rows i ≡ row_at self.old.rows i }
         ensures valid { self.new.valid ≡ self.old.valid }
         ensures most { self.new.most ≡ self.old.most }
+        ensures ends { self.new.ends ≡ self.old.ends }
         ensures free { self.old.reserved ≡ Some index → IsOk result }
     {
         if self.reserved == Some(index) {
@@ -210,6 +218,7 @@ impl<const PAGES: u32, const SPAN: u32> Kept<PAGES, SPAN> {
         ensures same { OnErr result ((i : ℕ) → row_at self.new.rows i ≡ row_at self.old.rows i) }
         ensures valid { self.new.valid ≡ self.old.valid }
         ensures most { self.new.most ≡ self.old.most }
+        ensures ends { self.new.ends ≡ self.old.ends }
         ensures free { self.old.reserved ≡ Some fact.entry.index → IsOk result }
     {
         let index = fact.index();
@@ -246,6 +255,41 @@ impl<const PAGES: u32, const SPAN: u32> Kept<PAGES, SPAN> {
         ensures { self.new ≡ record self.old { valid = min self.old.valid index } }
     {
         self.valid = self.valid.min(index);
+    }
+
+    /// Where the span of a number ends, or ended in an earlier run, if that is noted.
+    pub fn end(&self, index: u64) -> Option<&Rc<Boundary<PAGES>>>
+        ensures { MatchOption result (slice_get self.now.ends index ≡ None) (λ end. slice_get self.now.ends index ≡ Some end.now.value) }
+    {
+        if index >= self.ended {
+            return None;
+        }
+        self.rows[index as usize].end()
+    }
+
+    /// Of how many numbers, from 0 on, it is noted where a span ends.
+    pub fn end_count(&self) -> u64
+        ensures { result ≡ length self.now.ends }
+    {
+        self.ended
+    }
+
+    /// Notes that the span of a number ends there. It is the first number without an end, or one before it. It takes no memory.
+    pub fn set_end(&mut self, index: u64, end: Rc<Boundary<PAGES>>)
+        requires there { IsSome (first_at self.old.rows index) }
+        requires next { index ≤ length self.old.ends }
+        ensures { self.new ≡ record self.old { ends = take index self.old.ends ++ end.entry.value ∷ drop (suc index) self.old.ends } }
+    {
+        self.rows[index as usize].set_end(end);
+        self.ended = self.ended.max(index + 1);
+    }
+
+    /// No number has an end any more. Each row drops its own once another is set.
+    #[tactic(auto, unfolding(crate::specs::Rows::ends_of))]
+    pub fn forget_ends(&mut self)
+        ensures { self.new ≡ record self.old { ends = [] } }
+    {
+        self.ended = 0;
     }
 
     // The place of the record that is known to start where the one before it ends, if it nearly applies. The cores are not compared:
@@ -333,6 +377,7 @@ fn make_room<const PAGES: u32, const SPAN: u32>(
 ) -> Result<(), AllocError>
     ensures rows { (i : ℕ) → row_at (records_of rows.new.items) i ≡ row_at (records_of rows.old.items) i }
     ensures room { IfOk result (λ _. IsRoom rows.new.items most index) }
+    ensures ends { (n : ℕ) → ends_of n (ends_in rows.new.items) ≡ ends_of n (ends_in rows.old.items) }
 {
     while rows.len() <= index {
         rows.push(Row::new(alloc))?;

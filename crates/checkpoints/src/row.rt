@@ -1,12 +1,14 @@
 //! The records of a number.
 
-ghost use Rattle.std.specs.Prelude.{◌≡◌, ◌∷◌, ◌-◌, ◌≤◌, ◌<◌, [], IfOk, IfSome, IsSomeAnd, MatchOption, length, slice_get, take};
+ghost use Rattle.std.specs.Prelude.{◌≡◌, ◌∷◌, ◌-◌, ◌≤◌, ◌<◌, [], IfOk, IfSome, IsSomeAnd, MatchOption, None, Some, length, slice_get, take};
 ghost use Rattle.checkpoints.specs.Kept.{promoted};
 ghost use Rattle.checkpoints.specs.Rows.{IsOwnName, with_next};
 
+use r3k_live::Boundary;
 use span_fact::Fact;
 use std::alloc::{AllocError, Global};
 use std::marker::Model;
+use std::rc::Rc;
 
 /// A record of a span.
 #[derive(Drop)]
@@ -26,28 +28,33 @@ impl<const PAGES: u32, const SPAN: u32> Model for Record<PAGES, SPAN> {
     ghost view = { λ r. record { span = r.fact; name = r.name; next = r.next } };
 }
 
-/// Records of one number, the one that was used last first.
+/// What is kept of one number: records, the one that was used last first, and where a span of it ends.
 #[derive(Drop)]
 pub(crate) struct Row<const PAGES: u32, const SPAN: u32> {
     records: Vec<Record<PAGES, SPAN>>,
+    // Where the span of the present run ends, or ended in an earlier one.
+    end: Option<Rc<Boundary<PAGES>>>,
 }
 
 impl<const PAGES: u32, const SPAN: u32> Model for Row<PAGES, SPAN> {
     ghost use Rattle.std.specs.Prelude.{vec_capacity};
+    ghost use Rattle.std.specs.Option.{option_map};
     ghost use Rattle.checkpoints.specs.Rows.{Places};
 
     ghost Value = { Places };
 
-    ghost view = { λ r. record { records = r.records.items; room = vec_capacity r.records } };
+    ghost view = { λ r. record { records = r.records.items; room = vec_capacity r.records; end = option_map (λ end. end.value) r.end } };
 }
 
 impl<const PAGES: u32, const SPAN: u32> Row<PAGES, SPAN> {
-    /// No records. It takes no memory.
+    /// No records, and no end. It takes no memory.
     pub(crate) fn new(alloc: Global) -> Row<PAGES, SPAN>
-        ensures { result.records ≡ [] }
+        ensures records { result.records ≡ [] }
+        ensures end { result.end ≡ None }
     {
         Row {
             records: Vec::new(alloc),
+            end: None,
         }
     }
 
@@ -69,6 +76,7 @@ impl<const PAGES: u32, const SPAN: u32> Row<PAGES, SPAN> {
     pub(crate) fn make_room(&mut self, most: usize) -> Result<(), AllocError>
         ensures records { self.new.records ≡ self.old.records }
         ensures room { IfOk result (λ _. ¬ (length self.new.records ≡ most) → length self.new.records < self.new.room) }
+        ensures end { self.new.end ≡ self.old.end }
     {
         if self.records.len() == most {
             return Ok(());
@@ -81,7 +89,8 @@ impl<const PAGES: u32, const SPAN: u32> Row<PAGES, SPAN> {
         requires some { 0 < most }
         requires few { length self.old.records ≤ most }
         requires room { ¬ (length self.old.records ≡ most) → length self.old.records < self.old.room }
-        ensures { self.new.records ≡ first.entry ∷ take (most - 1) self.old.records }
+        ensures records { self.new.records ≡ first.entry ∷ take (most - 1) self.old.records }
+        ensures end { self.new.end ≡ self.old.end }
     {
         if self.records.len() == most {
             drop(self.records.pop());
@@ -96,6 +105,7 @@ impl<const PAGES: u32, const SPAN: u32> Row<PAGES, SPAN> {
         requires { place < length self.old.records }
         ensures records { self.new.records ≡ promoted place self.old.records }
         ensures room { self.new.room ≡ self.old.room }
+        ensures end { self.new.end ≡ self.old.end }
     {
         let used = self.records.remove(place);
         let Ok(()) = self.records.insert(0, used) else {
@@ -132,9 +142,26 @@ impl<const PAGES: u32, const SPAN: u32> Row<PAGES, SPAN> {
     pub(crate) fn note_next(&mut self, name: u64)
         ensures records { self.new.records ≡ with_next name self.old.records }
         ensures room { self.new.room ≡ self.old.room }
+        ensures end { self.new.end ≡ self.old.end }
     {
         if let Some(first) = self.records.first_mut() {
             first.next = Some(name);
         }
+    }
+
+    /// Where the span ends, if that was set.
+    pub(crate) fn end(&self) -> Option<&Rc<Boundary<PAGES>>>
+        ensures { MatchOption result (self.now.end ≡ None) (λ end. self.now.end ≡ Some end.now.value) }
+    {
+        self.end.as_ref()
+    }
+
+    /// The span ends there.
+    pub(crate) fn set_end(&mut self, end: Rc<Boundary<PAGES>>)
+        ensures records { self.new.records ≡ self.old.records }
+        ensures room { self.new.room ≡ self.old.room }
+        ensures end { self.new.end ≡ Some end.entry.value }
+    {
+        self.end = Some(end);
     }
 }

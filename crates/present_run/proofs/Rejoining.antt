@@ -1,10 +1,8 @@
 -- Spans that go on from where one of them ends, and logs that are the same outside some times.
-use Rattle.std.proofs.Common.{◌≡◌, ℕ, zero, suc, ◌+◌, ◌-◌, ◌*◌, ◌/◌, ◌<◌, ◌≤◌, ◌⊎◌, List, [], ◌∷◌, ◌++◌, inl, inr, length, map, Option, Some, slice_get, slice_index_or, slice_set, refl, sym, ap, subst, ◌∙◌, arith}
+use Rattle.std.proofs.Common.{◌≡◌, ℕ, zero, suc, ◌+◌, ◌-◌, ◌*◌, ◌/◌, ◌<◌, ◌≤◌, ◌⊎◌, List, [], ◌∷◌, ◌++◌, inl, inr, length, Option, Some, drop, slice_get, take, refl, sym, ap, subst, ◌∙◌, arith}
 use Rattle.std.proofs.Math.Nat.{div-mul-le_self, lt-div-mul-add, mul-le-mul_right}
 use Rattle.std.proofs.Math.Path.{ap₂}
-use Rattle.std.specs.Option.{option_map}
-use Rattle.std.proofs.lemmas.List.{length-set, set-get_or}
-use Rattle.std.proofs.lemmas.Option.{get_or_from_slice_get, slice_get-map, slice_get_within}
+use Rattle.std.proofs.lemmas.Option.{slice_get_within}
 use Rattle.std.proofs.lemmas.Bool.{cases_eq, cases_lt}
 use Rattle.input_log.specs.Event.{LogEvent}
 use Rattle.input_log.specs.Edits.{AreSameOutside}
@@ -14,10 +12,10 @@ use Rattle.r3k_machine.specs.Run.{run, state_at}
 use Rattle.r3k_machine.specs.State.{State}
 use Rattle.r3k_machine.proofs.Splits.{run_own}
 use Rattle.span_fact.specs.Span.{Span, end_of}
-use Rattle.present_run.specs.Ends.{AreEnds, GoesOn, IsJoined, IsJoinedFrom, IsPut}
+use Rattle.present_run.specs.Ends.{AreEnds, GoesOn, IsJoined, IsJoinedFrom}
 use Rattle.present_run.specs.Reuse.{span_from, span_of}
 use Rattle.checkpoints.specs.Kept.{Kept, first_at}
-use Rattle.checkpoints.proofs.Rows.{item, set_other, set_same}
+use Rattle.checkpoints.proofs.Rows.{ends_long}
 use Rattle.present_run.specs.Index.{Agrees, Has, Index}
 use Rattle.present_run.specs.declared.frontier.Frontier.{Frontier}
 use Rattle.present_run.specs.declared.records.SpanRecords.{SpanRecords}
@@ -32,39 +30,38 @@ at [] index within = absurd (omega (arith, within))
 at (first ∷ rest) zero within = (first, refl)
 at (first ∷ rest) (suc index) within = at rest index (omega (arith, within))
 
-pub got : {A : Type 0} (value : A → State) (all : List A) (index : ℕ) (end : A) → index < length all → end ≡ slice_index_or all index end
-    → slice_get (map value all) index ≡ Some (value end)
-got value all index end inside is = slice_get-map value all index ∙ ap (option_map value) (item all index end inside is)
+-- an end is put after all others or in place of one
+pub record IsPut (index : ℕ) (end : State) (old new : List State) : Type 0 where
+  pub within : index < length new
+  pub there : slice_get new index ≡ Some end
+  pub others : (i : ℕ) → ¬ (i ≡ index) → slice_get new i ≡ slice_get old i
+  pub same : slice_get old index ≡ Some end → new ≡ old
 
-pub put_in_place : (all : List State) (index : ℕ) (end : State) → index < length all → IsPut index end all (slice_set all index end)
-put_in_place all index end inside = record {
-  within = let long = length-set all index end in omega (arith, long, inside);
-  there = set_same all index end inside;
-  others = λ i other. set_other all index i end other;
-  same = λ is. ap (slice_set all index) (sym (get_or_from_slice_get all index end end is)) ∙ set-get_or all index end;
-}
-
-pub put_last : (all : List State) (end : State) → IsPut (length all) end all (all ++ end ∷ [])
-put_last all end = record {
-  within = long all;
-  there = there all;
-  others = others all;
-  same = λ is. let e = slice_get_within all (length all) end is in absurd (omega (arith, e));
+pub put : (all : List State) (index : ℕ) (end : State) → index ≤ length all → IsPut index end all (take index all ++ end ∷ drop (suc index) all)
+put all index end within = record {
+  within = let long = ends_long all index end within in omega (arith, long);
+  there = there all index within;
+  others = others all index within;
+  same = same all index;
 }
   where
-    long : (all : List State) → length all < length (all ++ end ∷ [])
-    long [] = omega arith
-    long (first ∷ rest) = let e = long rest in omega (arith, e)
+    there : (all : List State) (i : ℕ) → i ≤ length all → slice_get (take i all ++ end ∷ drop (suc i) all) i ≡ Some end
+    there all zero within = refl
+    there [] (suc i) within = absurd (let e : ⊥ = omega (arith, within) in e)
+    there (first ∷ rest) (suc i) within = there rest i (omega (arith, within))
 
-    there : (all : List State) → slice_get (all ++ end ∷ []) (length all) ≡ Some end
-    there [] = refl
-    there (first ∷ rest) = there rest
+    others : (all : List State) (i : ℕ) → i ≤ length all → (k : ℕ) → ¬ (k ≡ i) → slice_get (take i all ++ end ∷ drop (suc i) all) k ≡ slice_get all k
+    others all zero within zero other = absurd (other refl)
+    others [] zero within (suc k) other = refl
+    others (first ∷ rest) zero within (suc k) other = refl
+    others [] (suc i) within k other = absurd (let e : ⊥ = omega (arith, within) in e)
+    others (first ∷ rest) (suc i) within zero other = refl
+    others (first ∷ rest) (suc i) within (suc k) other = others rest i (omega (arith, within)) k (λ e. other (ap (λ n. suc n) e))
 
-    others : (all : List State) (i : ℕ) → ¬ (i ≡ length all) → slice_get (all ++ end ∷ []) i ≡ slice_get all i
-    others [] zero other = absurd (other refl)
-    others [] (suc i) other = refl
-    others (first ∷ rest) zero other = refl
-    others (first ∷ rest) (suc i) other = others rest i (λ e. other (ap suc e))
+    same : (all : List State) (i : ℕ) → slice_get all i ≡ Some end → take i all ++ end ∷ drop (suc i) all ≡ all
+    same [] i is = absurd (let e : ⊥ = cc in e)
+    same (first ∷ rest) zero is = ap (λ (s : State). s ∷ rest) (let e : end ≡ first = cc in e)
+    same (first ∷ rest) (suc i) is = ap (λ (all : List State). first ∷ all) (same rest i is)
 
 -- the ends of the spans of a run, with one more
 pub more_ends : (pages span : ℕ) (image : Boot) (log : List LogEvent) (count : ℕ) (old new : List State) (end : State) → AreEnds pages span image log count old
@@ -237,10 +234,16 @@ goes_on_put pages span log before after old new end place index same put past go
     (sym (put.others (index + 1) (λ e. let x : ⊥ = omega (arith, e, past) in x)) ∙ to_is))
 
 -- and so does putting a record
-pub goes_on_kept : (pages span : ℕ) (log : List LogEvent) (before after : List (List Span)) (all : List State) (index : ℕ)
-    → first_at after (index + 1) ≡ first_at before (index + 1) → GoesOn pages span log before all index → GoesOn pages span log after all index
-goes_on_kept pages span log before after all index same goes start to start_is to_is =
-    subst (λ (o : Option Span). IsJoinedFrom pages span log (index + 1) o start to) (sym same) (goes start to start_is to_is)
+pub goes_on_kept : (pages span : ℕ) (log : List LogEvent) (old new : Kept) (index : ℕ) → first_at new.rows (index + 1) ≡ first_at old.rows (index + 1) → new.ends ≡ old.ends
+    → GoesOn pages span log old.rows old.ends index → GoesOn pages span log new.rows new.ends index
+goes_on_kept pages span log old new index same ends_are goes start to start_is to_is =
+    subst (λ (o : Option Span). IsJoinedFrom pages span log (index + 1) o start to) (sym same)
+    (goes start to (sym (ap (λ (all : List State). slice_get all index) ends_are) ∙ start_is) (sym (ap (λ (all : List State). slice_get all (index + 1)) ends_are) ∙ to_is))
+
+pub same_ends : (pages span : ℕ) (image : Boot) (log : List LogEvent) (old new : Kept) → new.valid ≡ old.valid → new.ends ≡ old.ends
+    → AreEnds pages span image log old.valid old.ends → AreEnds pages span image log new.valid new.ends
+same_ends pages span image log old new valid_is ends_are are =
+    subst (λ (n : ℕ). AreEnds pages span image log n new.ends) (sym valid_is) (subst (λ (all : List State). AreEnds pages span image log old.valid all) (sym ends_are) are)
 
 -- ---- what an edit leaves
 
@@ -279,16 +282,16 @@ goes_on_over pages span image log changed spans all from to valid rejoin_from no
 
 -- the same with other kept values, of the same records
 pub over_kept : {pages span : ℕ} (image : Boot) (log : List LogEvent) (records : SpanRecords pages span) (kept : Kept) (reports : Index)
-    → ((i : ℕ) → first_at kept.rows i ≡ first_at records.kept.rows i) → kept.valid ≡ records.kept.valid → Agrees pages span reports kept.rows
+    → ((i : ℕ) → first_at kept.rows i ≡ first_at records.kept.rows i) → kept.valid ≡ records.kept.valid → kept.ends ≡ records.kept.ends → Agrees pages span reports kept.rows
     → AreRecords image log records → AreRecords image log (record records { kept = kept; reports = reports })
-over_kept {pages} {span} image log records kept reports same valid_is agrees of = record {
+over_kept {pages} {span} image log records kept reports same valid_is ends_are agrees of = record {
   sizes = of.sizes;
   start = of.start;
   joined = λ i within.
       subst (λ (o : Option Span). IsJoined pages span i o (span_of pages span image log i)) (sym (same i)) (of.joined i (subst (λ (n : ℕ). i < n) valid_is within));
-  ends = subst (λ (n : ℕ). AreEnds pages span image log n (map (λ end. end.value) records.ends.items)) (sym valid_is) of.ends;
+  ends = same_ends pages span image log records.kept kept valid_is ends_are of.ends;
   rejoin_from = λ index first past.
-      goes_on_kept pages span log records.kept.rows kept.rows (map (λ end. end.value) records.ends.items) index (same (index + 1)) (of.rejoin_from index first (omega (arith, valid_is, past)));
+      goes_on_kept pages span log records.kept kept index (same (index + 1)) ends_are (of.rejoin_from index first (omega (arith, valid_is, past)));
   known = known_by span records.kept.rows kept.rows (λ n. state_at pages image log (n * span)) records.frontier same of.known;
   agrees = agrees;
 }
@@ -303,19 +306,19 @@ over_known {pages} {span} image log records kept f same known of =
 -- and with another first record of the next span
 pub over_next : {pages span : ℕ} (image : Boot) (log : List LogEvent) (records : SpanRecords pages span) (kept : Kept) (reports : Index) (f : Frontier pages) (s : Span)
     → ((i : ℕ) → ¬ (i ≡ records.kept.valid) → first_at kept.rows i ≡ first_at records.kept.rows i) → kept.valid ≡ records.kept.valid
-    → first_at kept.rows records.kept.valid ≡ Some s → s.index ≡ records.kept.valid → Has pages span reports s.index (Some s)
+    → kept.ends ≡ records.kept.ends → first_at kept.rows records.kept.valid ≡ Some s → s.index ≡ records.kept.valid → Has pages span reports s.index (Some s)
     → ((i : ℕ) (o : Option Span) → ¬ (i ≡ s.index) → Has pages span records.reports i o → Has pages span reports i o)
     → IsKnown span kept.rows (λ n. state_at pages image log (n * span)) f → AreRecords image log records → AreRecords image log (record records { kept = kept; reports = reports; frontier = f })
-over_next {pages} {span} image log records kept reports f s others valid_is here number there rest known of = record {
+over_next {pages} {span} image log records kept reports f s others valid_is ends_are here number there rest known of = record {
   sizes = of.sizes;
   start = of.start;
   joined = λ i within.
       let below = subst (λ (n : ℕ). i < n) valid_is within in
       subst (λ (o : Option Span). IsJoined pages span i o (span_of pages span image log i)) (sym (others i (λ same. let e : ⊥ = omega (arith, below, same) in e))) (of.joined i below);
-  ends = subst (λ (n : ℕ). AreEnds pages span image log n (map (λ end. end.value) records.ends.items)) (sym valid_is) of.ends;
+  ends = same_ends pages span image log records.kept kept valid_is ends_are of.ends;
   rejoin_from = λ index first past.
-      goes_on_kept pages span log records.kept.rows kept.rows (map (λ end. end.value) records.ends.items) index
-      (others (index + 1) (λ same. let e : ⊥ = omega (arith, valid_is, past, same) in e)) (of.rejoin_from index first (omega (arith, valid_is, past)));
+      goes_on_kept pages span log records.kept kept index
+      (others (index + 1) (λ same. let e : ⊥ = omega (arith, valid_is, past, same) in e)) ends_are (of.rejoin_from index first (omega (arith, valid_is, past)));
   known = known;
   agrees = λ i. elim (cases_eq i records.kept.valid) [
     | inl is ↦

@@ -28,10 +28,3 @@ pub record IsJoinedFrom (pages span : ℕ) (log : List LogEvent) (index : ℕ) (
 abbrev pub GoesOn : (pages span : ℕ) → List LogEvent → List (List Span) → List State → ℕ → Type 0
 GoesOn pages span log spans ends index = (start end : State) → slice_get ends index ≡ Some start → slice_get ends (index + 1) ≡ Some end
     → IsJoinedFrom pages span log (index + 1) (first_at spans (index + 1)) start end
-
--- an end is put after all others or in place of one
-pub record IsPut (index : ℕ) (end : State) (old new : List State) : Type 0 where
-  pub within : index < length new
-  pub there : slice_get new index ≡ Some end
-  pub others : (i : ℕ) → ¬ (i ≡ index) → slice_get new i ≡ slice_get old i
-  pub same : slice_get old index ≡ Some end → new ≡ old

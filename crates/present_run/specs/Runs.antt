@@ -1,5 +1,5 @@
 -- The present run of a history, as it is kept (own).
-use Rattle.std.specs.Prelude.{◌≡◌, ℕ, ◌+◌, ◌-◌, ◌*◌, ◌/◌, ◌%◌, ◌<◌, ◌≤◌, IfSome, IsTrue, List, Contains, Option, Some, None, map}
+use Rattle.std.specs.Prelude.{◌≡◌, ℕ, ◌+◌, ◌-◌, ◌*◌, ◌/◌, ◌%◌, ◌<◌, ◌≤◌, IfSome, IsTrue, List, Contains, Option, Some, None}
 use Rattle.std.specs.Coded.{Coded-set, codes}
 use Rattle.std.proofs.Props.{props}
 use Rattle.input_log.specs.Event.{LogEvent}
@@ -58,9 +58,9 @@ pub record AreRecords {pages span : ℕ} (image : Boot) (log : List LogEvent) (r
   pub sizes : AreSizes pages span
   pub start : records.reset.value ≡ reset pages image
   pub joined : (index : ℕ) → index < records.kept.valid → IsJoined pages span index (first_at records.kept.rows index) (span_of pages span image log index)
-  pub ends : AreEnds pages span image log records.kept.valid (map (λ end. end.value) records.ends.items)
+  pub ends : AreEnds pages span image log records.kept.valid records.kept.ends
   pub rejoin_from : (index : ℕ) → records.rejoin_from ≤ index → records.kept.valid ≤ index →
-      GoesOn pages span log records.kept.rows (map (λ end. end.value) records.ends.items) index
+      GoesOn pages span log records.kept.rows records.kept.ends index
   pub known : IsKnown span records.kept.rows (λ index. state_at pages image log (index * span)) records.frontier
   pub agrees : Agrees pages span records.reports records.kept.rows
 

@@ -64,6 +64,7 @@ impl<const PAGES: u32> Frontier<PAGES> {
         ensures others { (i : ℕ) → ¬ (i ≡ kept.old.valid) → row_at kept.new.rows i ≡ row_at kept.old.rows i }
         ensures valid { kept.new.valid ≡ kept.old.valid }
         ensures most { kept.new.most ≡ kept.old.most }
+        ensures ends { kept.new.ends ≡ kept.old.ends }
         ensures known { (starts : ℕ → State) → starts (kept.old.valid + 1) ≡ end_of PAGES SPAN fact.entry → IsKnown SPAN kept.new.rows starts self.new }
     {
         let index = fact.index();

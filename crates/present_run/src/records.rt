@@ -1,4 +1,4 @@
-//! The records that are kept of spans of this run and of earlier ones, and where the spans of this one end.
+//! What is kept of the spans of this run and of earlier ones.
 
 ghost use Rattle.std.specs.Prelude.{◌≡◌, ◌∷◌, ◌⊎◌, ◌+◌, ◌-◌, ◌*◌, ◌^◌, ◌<◌, ◌≤◌, ℕ, IfOk, IsSome, List, MatchOption, OnErr, slice_get, slice_set, take};
 ghost use Rattle.input_log.specs.Event.{LogEvent};
@@ -16,23 +16,22 @@ ghost use Rattle.present_run.specs.Runs.{AreRecords};
 use crate::frontier::Frontier;
 use crate::index::SpanIndex;
 use crate::inputs::Inputs;
-use crate::joining::{join_up_to, joined_by, put_end, share, start_in};
+use crate::joining::{join_up_to, joined_by, share, start_in};
 use checkpoints::Kept;
 use r3k_live::Boundary;
 use span_fact::Fact;
 use std::alloc::{AllocError, Global};
 use std::rc::Rc;
 
-/// The records of spans, and where the joined ones end.
+/// What is kept of each span, and what is known over them.
 #[derive(Drop)]
 pub(crate) struct SpanRecords<const PAGES: u32, const SPAN: u32> {
+    // By number: its records, and where the span of this run ends. Later spans have the ends of an earlier run.
     pub(crate) kept: Kept<PAGES, SPAN>,
     // What the first records reported, by page and by line.
     pub(crate) reports: SpanIndex,
     // Where the run starts, at reset.
     pub(crate) reset: Rc<Boundary<PAGES>>,
-    // Where each joined span ends, and after these where later spans ended in an earlier run.
-    pub(crate) ends: Vec<Rc<Boundary<PAGES>>>,
     // The first of the later spans from which on each goes on from where the one before it ended, with the events of the log.
     pub(crate) rejoin_from: u64,
     // What is known where the next span starts.
@@ -56,7 +55,7 @@ impl<const PAGES: u32, const SPAN: u32> SpanRecords<PAGES, SPAN> {
             self.rejoin_from,
             last,
             joined,
-            self.ends.len() as u64,
+            self.kept.end_count(),
         );
         self.kept.truncate_valid(index);
         self.frontier.cut(index);
@@ -85,7 +84,7 @@ impl<const PAGES: u32, const SPAN: u32> SpanRecords<PAGES, SPAN> {
         self.reset = start;
         self.frontier.cut(0);
         self.kept.truncate_valid(0);
-        self.ends.clear();
+        self.kept.forget_ends();
     }
 
     /// Where a span starts, which is at most the first that is not joined.
@@ -94,7 +93,7 @@ impl<const PAGES: u32, const SPAN: u32> SpanRecords<PAGES, SPAN> {
         requires joined { index ≤ self.now.kept.valid }
         ensures { result.now.value ≡ state_at PAGES inputs.now.image inputs.now.log (index * SPAN) }
     {
-        start_in(&self.reset, &self.ends, index)
+        start_in(&self.reset, &self.kept, index)
     }
 
     /// The place of a record of the first span that is not joined which serves for this run: its steps report the same.
@@ -157,7 +156,8 @@ impl<const PAGES: u32, const SPAN: u32> SpanRecords<PAGES, SPAN> {
         ensures pasts { self.new.kept.most ≡ self.old.kept.most }
     {
         let end = self.carry_over(alloc, inputs, start)?;
-        self.join(inputs, end)
+        self.join(inputs, end);
+        Ok(())
     }
 
     // Goes over the next span, whose first record serves, and gives where it ends.
@@ -204,28 +204,22 @@ impl<const PAGES: u32, const SPAN: u32> SpanRecords<PAGES, SPAN> {
     }
 
     /// Joins the record of the next span. Where the span ends where it ended before, joins again all spans that go on from there.
-    pub(crate) fn join(
-        &mut self,
-        inputs: &Inputs,
-        end: Rc<Boundary<PAGES>>,
-    ) -> Result<(), AllocError>
+    pub(crate) fn join(&mut self, inputs: &Inputs, end: Rc<Boundary<PAGES>>)
         requires of { AreRecords {pages = PAGES} {span = SPAN} inputs.now.image inputs.now.log self.old }
         requires there { IsJoined PAGES SPAN self.old.kept.valid (first_at self.old.kept.rows self.old.kept.valid)
             (span_of PAGES SPAN inputs.now.image inputs.now.log self.old.kept.valid) }
         requires end { end.value ≡ state_at PAGES inputs.now.image inputs.now.log ((self.old.kept.valid + 1) * SPAN) }
         requires few { self.old.kept.valid < max_spans }
         ensures of { AreRecords {pages = PAGES} {span = SPAN} inputs.now.image inputs.now.log self.new }
-        ensures joined { IfOk result (λ _. self.old.kept.valid < self.new.kept.valid) }
+        ensures joined { self.old.kept.valid < self.new.kept.valid }
         ensures rows { self.new.kept.rows ≡ self.old.kept.rows }
-        ensures grows { self.old.kept.valid ≤ self.new.kept.valid }
         ensures pasts { self.new.kept.most ≡ self.old.kept.most }
     {
         let index = self.kept.valid();
-        let count = joined_by(&self.ends, self.rejoin_from, index, &end);
-        put_end(&mut self.ends, index, end)?;
+        let count = joined_by(&self.kept, self.rejoin_from, index, &end);
+        self.kept.set_end(index, end);
         join_up_to(&mut self.kept, count);
         self.reports.sum_up_to(count);
-        Ok(())
     }
 }
 

@@ -52,7 +52,6 @@ impl<const PAGES: u32, const SPAN: u32> Runs<PAGES, SPAN> {
             kept: Kept::new(alloc, pasts),
             reports: SpanIndex::new(alloc),
             reset,
-            ends: Vec::new(alloc),
             rejoin_from: 0,
             frontier: Frontier::new(alloc)?,
         };
@@ -136,7 +135,8 @@ impl<const PAGES: u32, const SPAN: u32> Runs<PAGES, SPAN> {
             .run_span(alloc, inputs, start, self.records.kept.valid())?;
         let end = fact.end().clone()?;
         self.records.keep(inputs, fact)?;
-        self.records.join(inputs, end)
+        self.records.join(inputs, end);
+        Ok(())
     }
 
     /// Joins all spans before one.

@@ -21,4 +21,5 @@ invariant_of-self g c =
         follow = rows.follow;
       },
       c.self.invariant.1,
+      c.self.invariant.2,
     )

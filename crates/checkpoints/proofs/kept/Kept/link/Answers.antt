@@ -1,9 +1,11 @@
 use Rattle.std.proofs.Common.{◌+◌, List, length, slice_set, sym, ap, subst, ◌∙◌, arith}
+use Rattle.std.proofs.Math.Path.{ap₂}
 use Rattle.std.proofs.lemmas.Option.{IfSome_then}
+use Rattle.r3k_machine.specs.State.{State}
 use Rattle.span_fact.specs.Span.{Span}
 use Rattle.checkpoints.specs.Kept.{Follows, Kept, first_at, row_at}
-use Rattle.checkpoints.specs.Rows.{IsOwnName, Places, Linked, records_of, with_next}
-use Rattle.checkpoints.proofs.Rows.{followed, item, length_noted, room_kept, row_is, row_other, row_set, tie_kept, tied_row, tied_seen}
+use Rattle.checkpoints.specs.Rows.{IsOwnName, Places, Linked, ends_of, records_of, with_next}
+use Rattle.checkpoints.proofs.Rows.{followed, item, kept_by, length_noted, room_kept, row_is, row_other, row_set, tie_kept, tied_row, tied_seen}
 use Rattle.checkpoints.proofs.kept.Kept.link.Goals as goal
 
 pub index_mut-requires : goal.index_mut-requires
@@ -33,6 +35,7 @@ invariant_of-self g c =
           (λ j other. row_other places i j q other) c.if-name-self.true own (followed pages span places i follows),
       IfSome_then inside.reserved c.self.invariant.1
           (λ n is. room_kept places inside.most i n p q there (ap (λ (row : List Linked). length row) c.note_next.ensures.records ∙ length_noted c.in-Some.name p.records) c.note_next.ensures.room is),
+      ap (λ ends. length (ends_of inside.ended ends)) (kept_by (λ p. p.end) places i p q there c.note_next.ensures.end) ∙ c.self.invariant.2,
     )
 
 pub returns-then-name-self : goal.returns-then-name-self
@@ -44,6 +47,8 @@ returns-then-name-self g c =
     let follows = subst (λ (k : Kept). Follows g.row.PAGES g.row.SPAN (first_at k.rows i) (first_at k.rows (i + 1))) (sym c.self.view_is) c.requires.follows in
     let within = tied_row g.row.PAGES g.row.SPAN places i _ follows in
     let there = item places i p within c.index_mut.ensures.value in
-    ap (λ (rows : List (List Span)). let k : Kept = record { rows = rows; valid = c.self.inside.valid; most = c.self.inside.most; reserved = c.self.inside.reserved } in k)
+    ap₂ (λ (rows : List (List Span)) (ends : List State).
+    let k : Kept = record { rows = rows; valid = c.self.inside.valid; most = c.self.inside.most; reserved = c.self.inside.reserved; ends = ends } in k)
     (tied_seen places i c.in-Some.name p q there c.note_next.ensures.records)
+    (ap (ends_of c.self.inside.ended) (kept_by (λ p. p.end) places i p q there c.note_next.ensures.end))
     ∙ c.self.view_is

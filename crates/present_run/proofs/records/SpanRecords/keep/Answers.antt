@@ -14,7 +14,7 @@ pub returns-in_err-reserve-clause-of : goal.returns-in_err-reserve-clause-of
 returns-in_err-reserve-clause-of g c =
     let now = c.args.self.now in
     let firsts : (i : ℕ) → first_at c.reserve.new.self.rows i ≡ first_at now.kept.rows i = λ i. ap (λ (row : List Span). slice_get row 0) (c.reserve.ensures.rows i) in
-    over_kept c.args.inputs.now.image c.args.inputs.now.log now c.reserve.new.self now.reports firsts c.reserve.ensures.valid
+    over_kept c.args.inputs.now.image c.args.inputs.now.log now c.reserve.new.self now.reports firsts c.reserve.ensures.valid c.reserve.ensures.ends
     (agrees_same g.row.PAGES g.row.SPAN now.reports now.kept.rows c.reserve.new.self.rows firsts c.requires.of.agrees) c.requires.of
 
 pub returns-in_err-take_in-clause-of : goal.returns-in_err-take_in-clause-of
@@ -22,7 +22,7 @@ returns-in_err-take_in-clause-of g c =
     let now = c.args.self.now in
     let firsts : (i : ℕ) → first_at c.reserve.new.self.rows i ≡ first_at now.kept.rows i = λ i. ap (λ (row : List Span). slice_get row 0) (c.reserve.ensures.rows i) in
     let agrees = agrees_same g.row.PAGES g.row.SPAN now.reports now.kept.rows c.reserve.new.self.rows firsts c.requires.of.agrees in
-    over_kept c.args.inputs.now.image c.args.inputs.now.log now c.reserve.new.self c.take_in.new.self firsts c.reserve.ensures.valid
+    over_kept c.args.inputs.now.image c.args.inputs.now.log now c.reserve.new.self c.take_in.new.self firsts c.reserve.ensures.valid c.reserve.ensures.ends
     (λ i. (c.in_err-take_in.ensures {u = tt}).same i (first_at c.reserve.new.self.rows i) (agrees i)) c.requires.of
 
 pub run_over-requires : goal.run_over-requires
@@ -62,7 +62,7 @@ returns-clause-of g c =
     let now = c.run_over.new.kept in
     let room = c.reserve.ensures in
     over_next image log c.args.self.now now c.take_in.new.self c.run_over.new.self c.args.fact
-    (λ i other. ap (λ (row : List Span). slice_get row 0) (c.run_over.ensures.others i (λ same. other (same ∙ room.valid)) ∙ room.rows i)) (c.run_over.ensures.valid ∙ room.valid)
+    (λ i other. ap (λ (row : List Span). slice_get row 0) (c.run_over.ensures.others i (λ same. other (same ∙ room.valid)) ∙ room.rows i)) (c.run_over.ensures.valid ∙ room.valid) (c.run_over.ensures.ends ∙ room.ends)
     (ap (first_at now.rows) (sym room.valid) ∙ ap (λ (row : List Span). slice_get row 0) c.run_over.ensures.row) (ap (λ (s : Span). s.index) c.requires.fact)
     (c.in_ok-take_in.ensures {u = tt}).there (c.in_ok-take_in.ensures {u = tt}).others
     (c.run_over.ensures.known (λ n. state_at pages image log (n * span))

@@ -21,7 +21,7 @@ promote-requires g c =
 pub returns-in_err-take_in-clause-of : goal.returns-in_err-take_in-clause-of
 returns-in_err-take_in-clause-of g c =
     let now = c.args.self.now in
-    over_kept c.args.inputs.now.image c.args.inputs.now.log now now.kept c.take_in.new.self (λ i. refl) refl
+    over_kept c.args.inputs.now.image c.args.inputs.now.log now now.kept c.take_in.new.self (λ i. refl) refl refl
     (λ i. (c.in_err-take_in.ensures {u = tt}).same i (first_at now.kept.rows i) (c.requires.of.agrees i)) c.requires.of
 
 pub returns-clause-of : goal.returns-clause-of
@@ -39,7 +39,7 @@ returns-clause-of g c =
     let others : (i : ℕ) → ¬ (i ≡ valid) → first_at now.rows i ≡ first_at old.rows i = λ i other. ap (λ (row : List Span). slice_get row 0) (rows i other) in
     let here : first_at now.rows valid ≡ Some fact =
     ap (first_at now.rows) (sym n_is) ∙ (ap (λ (row : List Span). slice_get row 0) c.promote.ensures.row ∙ (first_promoted c.args.place (row_at old.rows n) fact fact_is)) in
-    over_next image log c.args.self.now now c.take_in.new.self c.cut.new.self fact others c.promote.ensures.valid here ((c.in-Some.ensures {u = tt}).index ∙ n_is)
+    over_next image log c.args.self.now now c.take_in.new.self c.cut.new.self fact others c.promote.ensures.valid c.promote.ensures.ends here ((c.in-Some.ensures {u = tt}).index ∙ n_is)
     (c.in_ok-take_in.ensures {u = tt}).there (c.in_ok-take_in.ensures {u = tt}).others
     (c.cut.ensures.known g.row.SPAN old.rows now.rows (λ n. state_at g.row.PAGES image log (n * g.row.SPAN)) (λ n. state_at g.row.PAGES image log (n * g.row.SPAN))
     (λ i below. rows i (λ same. let e : ⊥ = omega (arith, below, same, n_is) in e)) (λ i some before. refl) c.requires.of.known)

@@ -1,4 +1,4 @@
-use Rattle.std.proofs.Common.{◌≡◌, ℕ, ◌+◌, ◌-◌, ◌*◌, inl, inr, Some, map, slice_get, ap, sym, subst, ◌∙◌, arith}
+use Rattle.std.proofs.Common.{◌≡◌, ℕ, ◌+◌, ◌-◌, ◌*◌, inl, inr, Some, ap, sym, ◌∙◌, arith}
 use Rattle.std.proofs.lemmas.Bool.{cases_eq}
 use Rattle.r3k_machine.specs.Run.{state_at}
 use Rattle.present_run.proofs.Spans.{at_reset}
@@ -20,6 +20,5 @@ returns g c =
       | inr later ↦
           let next : index - 1 + 1 ≡ index = omega (arith, later) in
           c.start_in.ensures.later (state_at pages image log (index * span)) (omega (arith, later))
-          (subst (λ ends. slice_get (map (λ end. end.value) ends) (index - 1) ≡ Some (state_at pages image log (index * span))) (sym c.deref.ensures.value)
-          (of.ends.each (index - 1) (omega (arith, next, c.requires.joined)) ∙ ap (λ (n : ℕ). Some (state_at pages image log (n * span))) next))
+          (of.ends.each (index - 1) (omega (arith, next, c.requires.joined)) ∙ ap (λ (n : ℕ). Some (state_at pages image log (n * span))) next)
     ]

@@ -1,4 +1,4 @@
-use Rattle.std.proofs.Common.{ℕ, ◌+◌, ◌*◌, IfSome, Option, map, slice_get, ap, sym, ◌∙◌, arith, subst}
+use Rattle.std.proofs.Common.{ℕ, ◌+◌, ◌*◌, IfSome, Option, slice_get, ap, sym, ◌∙◌, arith, subst}
 use Rattle.std.proofs.lemmas.Option.{none-some}
 use Rattle.r3k_machine.specs.Run.{state_at}
 use Rattle.r3k_live.specs.Living.{Living}
@@ -23,8 +23,8 @@ returns-clause-of g c =
         sizes = c.requires.sizes;
         start = (c.in_ok-reset.ensures {u = tt}).kept ∙ ap (λ (l : Living). l.state) (c.in_ok-live.ensures {u = tt});
         joined = λ index within. absurd (let e : ⊥ = omega (arith, ap (λ (k : Kept). k.valid) c.new-3.ensures, within) in e);
-        ends = no_ends pages span image log _ _ (ap (λ (k : Kept). k.valid) c.new-3.ensures) (ap (map (λ end. end.value)) c.new-5.ensures.items);
-        rejoin_from = λ index first past start end is. absurd (none-some start (sym (ap (λ ends. slice_get (map (λ end. end.value) ends) index) c.new-5.ensures.items) ∙ is));
+        ends = no_ends pages span image log _ _ (ap (λ (k : Kept). k.valid) c.new-3.ensures) (ap (λ (k : Kept). k.ends) c.new-3.ensures);
+        rejoin_from = λ index first past start end is. absurd (none-some start (sym (ap (λ (k : Kept). slice_get k.ends index) c.new-3.ensures) ∙ is));
         known = subst (λ (o : Option ℕ). IfSome o (λ n. IsKnownAfter span c.new-3.result.rows n (state_at pages image log ((n + 1) * span)) c.in_ok-new-2.field-0)) (sym (c.in_ok-new-2.ensures {u = tt})) tt;
         agrees = subst (λ (k : Kept). Agrees pages span c.new-4.result k.rows) (sym c.new-3.ensures) (c.new-4.ensures.agrees pages span);
       };
