@@ -5,7 +5,6 @@ use Rattle.std.specs.Option.{option_map, option_map_or}
 use Rattle.std.proofs.lemmas.Bool.{cases_eq, cases_lt, false≢true}
 use Rattle.std.proofs.lemmas.List.{length-map, get_or-set_same, get_or-set_other, get_or_past, map-set, map-append, take-map, drop-map, take-append-drop, length-append, length-drop, length-take, length-set}
 use Rattle.std.proofs.lemmas.List.Elements.{Contains-append_cases, Contains-append_left, Contains-append_right}
-use Rattle.std.proofs.Math.ListN.{get_or-map}
 use Rattle.std.proofs.lemmas.Option.{slice_get_within, slice_get-get_or, IfSome_then, slice_get-map}
 use Rattle.std.proofs.lemmas.List.Edits.{length-remove}
 use Rattle.r3k_machine.specs.State.{State}
@@ -52,7 +51,9 @@ in_promoted {A} place xs r there = by_cases (slice_get xs place) refl there
 
 -- the rows that are seen are those of the records
 pub row_of : (places : List Places) (i : ℕ) → row_at (rows_of places) i ≡ spans_of (row_at (records_of places) i)
-row_of places i = get_or-map spans_of (records_of places) i []
+row_of [] i = refl
+row_of (p ∷ places) zero = refl
+row_of (p ∷ places) (suc i) = row_of places i
 
 pub span_at : (places : List Places) (i k : ℕ) → slice_get (row_at (rows_of places) i) k ≡ option_map (λ r. r.span) (slice_get (row_at (records_of places) i) k)
 span_at places i k = ap (λ (row : List Span). slice_get row k) (row_of places i) ∙ slice_get-map (λ (r : Linked). r.span) (row_at (records_of places) i) k
@@ -62,14 +63,6 @@ pub row_is : (places : List Places) (i : ℕ) (p : Places) → slice_get places 
 row_is [] i p is = absurd (let e : ⊥ = cc in e)
 row_is (q ∷ places) zero p is = ap (λ (p : Places). p.records) (let e : q ≡ p = cc in e)
 row_is (q ∷ places) (suc i) p is = row_is places i p is
-
--- a row that is not empty has a place among the rows
-pub has_place : {A : Type 0} (rows : List (List A)) (i k : ℕ) → k < length (row_at rows i) → i < length rows
-has_place rows i k within =
-    elim (cases_lt i (length rows)) [
-      | inl below ↦ below
-      | inr past ↦ absurd (let e : ⊥ = omega (arith, within, ap length (get_or_past rows i [] past)) in e)
-    ]
 
 -- one row is changed
 pub row_set : (places : List Places) (index : ℕ) (p : Places) → index < length places → row_at (records_of (slice_set places index p)) index ≡ p.records
@@ -290,9 +283,11 @@ place_within places index place within =
     in
     omega (arith, within, same)
 
+-- a row that is not empty has a place among the rows
 pub row_within : (places : List Places) (index place : ℕ) → place < length (row_at (records_of places) index) → index < length places
-row_within places index place within =
-    let less = has_place (records_of places) index place within in omega (arith, less, length-map places (λ (p : Places). p.records))
+row_within [] index place within = absurd (let e : ⊥ = omega (arith, within) in e)
+row_within (p ∷ places) zero place within = omega arith
+row_within (p ∷ places) (suc index) place within = let rest = row_within places index place within in omega (arith, rest)
 
 -- the spans of a row after one was used, or put
 pub spans_promoted : (place : ℕ) (records : List Linked) → spans_of (promoted place records) ≡ promoted place (spans_of records)
@@ -374,18 +369,6 @@ tied_row pages span places index o follows =
     by_cases : (row : List Span) → Follows pages span (slice_get row 0) o → 0 < length row
     by_cases [] follows = absurd follows
     by_cases (s ∷ row) follows = omega arith
-
-pub tied_seen : (places : List Places) (index name : ℕ) (p q : Places) → slice_get places index ≡ Some p → q.records ≡ with_next name p.records
-    → rows_of (slice_set places index q) ≡ rows_of places
-tied_seen [] index name p q there is = refl
-tied_seen (r ∷ places) zero name p q there is =
-    let same : r ≡ p = cc in
-    ap (λ (row : List Span). row ∷ rows_of places) (ap spans_of is ∙ (spans_noted name p.records ∙ ap (λ (p : Places). spans_of p.records) (sym same)))
-tied_seen (r ∷ places) (suc index) name p q there is = ap (λ (rows : List (List Span)). spans_of r.records ∷ rows) (tied_seen places index name p q there is)
-
-pub if_ok : {A E : Type 0} (r : Result A E) (P Q : Type 0) → IfOk r (λ _. P) → (P → Q) → IfOk r (λ _. Q)
-if_ok (Ok x) P Q there f = f there
-if_ok (Err e) P Q there f = tt
 
 -- an empty row more
 pub row_pushed : (places : List Places) (p : Places) (i : ℕ) → p.records ≡ [] → row_at (records_of (places ++ p ∷ [])) i ≡ row_at (records_of places) i

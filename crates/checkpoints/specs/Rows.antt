@@ -23,7 +23,7 @@ abbrev pub records_of : List Places → List (List Linked)
 records_of places = map (λ p. p.records) places
 
 abbrev pub rows_of : List Places → List (List Span)
-rows_of places = map spans_of (records_of places)
+rows_of places = map (λ p. spans_of p.records) places
 
 abbrev pub ends_in : List Places → List (Option State)
 ends_in places = map (λ p. p.end) places

@@ -104,22 +104,6 @@ serves_same pages span mid new index history same serves =
         let s : Span = span_of pages span h.image h.log index in
         ¬ AreFar pages span row s.start s.events
 
--- a record that is used comes first
-pub first_used : (pages span place : ℕ) (old new : List Span) (start : State) (events : List LogEvent) → IsNear pages span (slice_get old place) start events
-    → new ≡ promoted place old → IsNear pages span (slice_get new 0) start events
-first_used pages span place old new start events near is =
-    subst (λ (row : List Span). IsNear pages span (slice_get row 0) start events) (sym is) (by_cases (slice_get old place) near)
-  where
-    by_cases : (o : Option Span) → IsNear pages span o start events → IsNear pages span (slice_get (option_map_or (λ s. s ∷ remove old place) o old) 0) start events
-    by_cases None near = absurd near
-    by_cases (Some s) near = near
-
--- where a row turned, it has one that serves if it had
-pub serving_turned : (pages span : ℕ) (h : Holding) (index : ℕ) (row : List Span) → Turns pages span h index row → Serves pages span h index → HasServing pages span h.history index row
-serving_turned pages span h index _ (stay row is) serves = subst (λ (row : List Span). HasServing pages span h.history index row) (sym is) serves
-serving_turned pages span h index _ (use_one before row turns place near is) serves = λ far. far 0 (first_used pages span place before row _ _ near is)
-serving_turned pages span h index _ (put_one before row turns none is) serves = absurd (none (serving_turned pages span h index before turns serves))
-
 -- an equal row
 pub turned_to : (pages span : ℕ) (h : Holding) (index : ℕ) (row next : List Span) → next ≡ row → Turns pages span h index row → Turns pages span h index next
 turned_to pages span h index row next same turns = subst (λ (row : List Span). Turns pages span h index row) (sym same) turns
@@ -137,17 +121,3 @@ turned_on pages span old mid index _ history pasts first (put_one before row tur
     (is
     ∙ (ap (λ (h : History). span_of pages span h.image h.log index ∷ take (mid.pasts - 1) before) history
     ∙ ap (λ (n : ℕ). span_of pages span old.history.image old.history.log index ∷ take (n - 1) before) pasts))
-
--- more steps after those
-pub spends_more : (pages span count first more : ℕ) (old mid new : Holding) → Spends pages span count first old mid → new.history ≡ mid.history → new.pasts ≡ mid.pasts → new.rows ≡ mid.rows
-    → mid.steps ≤ new.steps → new.steps ≤ mid.steps + more → Spends pages span count (first + more) old new
-spends_more pages span count first more old mid new spends history pasts rows grows steps = record {
-  history = history ∙ spends.history;
-  pasts = pasts ∙ spends.pasts;
-  grows = le_trans spends.grows grows;
-  most = λ lacking lacks. within lacking (spends.most lacking lacks);
-  turns = λ index. turned_to pages span old index (kept_at mid index) (kept_at new index) (ap (λ (s : List (List Span)). row_at s index) rows) (spends.turns index);
-}
-  where
-    within : (lacking : ℕ) → mid.steps ≤ old.steps + (lacking * span + first) → new.steps ≤ old.steps + (lacking * span + (first + more))
-    within lacking before = omega (arith, before, steps)

@@ -21,11 +21,6 @@ led pages span set here None p near follows = absurd near
 led pages span set here (Some r) None near follows = tt
 led pages span set here (Some r) (Some s) near follows = subst (λ (start : State). SameOutside set start.words here.words) (sym follows) near
 
--- one record leads to the next
-pub tied : (pages span : ℕ) (here : State) (o p : Option Span) (s : Span) → EndsAt pages span o here → p ≡ Some s → s.start ≡ here → Follows pages span o p
-tied pages span here None p s ends is start = absurd ends
-tied pages span here (Some r) p s ends is start = subst (λ (p : Option Span). Follows pages span (Some r) p) (sym is) (start ∙ sym ends)
-
 -- where a span ends whose record serves
 pub end_known : (pages span : ℕ) (image : Boot) (log : List LogEvent) (index : ℕ) (start end : State) (o : Option Span) → start ≡ state_at pages image log (index * span)
     → IsServing pages span (record { image = image; log = log }) index o → IfSome o (λ s. s.index ≡ index) → IfSome o (λ s. end ≡ end_of pages span (record s { start = start }))

@@ -100,67 +100,21 @@ goes_on pages span image log spans all count index are joined below start end st
     subst (λ (s : State). IsJoinedFrom pages span log (index + 1) (first_at spans (index + 1)) s end) (sym from)
     (record { ends = to ∙ sym (ends pages span image log (index + 1)); joined = joined (index + 1) below })
 
--- where they end, from a known end on
-pub chain : (pages span : ℕ) (image : Boot) (log : List LogEvent) (spans : List (List Span)) (all : List State) (first : ℕ)
-    → slice_get all first ≡ Some (state_at pages image log ((first + 1) * span)) → ((index : ℕ) → first ≤ index → GoesOn pages span log spans all index)
-    → (more : ℕ) → first + more < length all → slice_get all (first + more) ≡ Some (state_at pages image log ((first + more + 1) * span))
-chain pages span image log spans all first known goes zero inside =
-    subst (λ (n : ℕ). slice_get all n ≡ Some (state_at pages image log ((n + 1) * span))) (let e : first ≡ first + 0 = omega arith in e) known
-chain pages span image log spans all first known goes (suc more) inside =
-    let index : ℕ = first + more in
-    let before = chain pages span image log spans all first known goes more (omega (arith, inside)) in
-    let next : index + 1 ≡ first + suc more = omega arith in
-    let there = at all (index + 1) (omega (arith, inside)) in
-    let from = goes index (omega arith) (state_at pages image log ((index + 1) * span)) there.0 before there.1 in
-    subst (λ (n : ℕ). slice_get all n ≡ Some (state_at pages image log ((n + 1) * span))) next
-    (there.1 ∙ ap (λ (s : State). Some s) (from.ends ∙ ends pages span image log (index + 1)))
-
-pub chain_at : (pages span : ℕ) (image : Boot) (log : List LogEvent) (spans : List (List Span)) (all : List State) (first index : ℕ)
-    → slice_get all first ≡ Some (state_at pages image log ((first + 1) * span)) → ((index : ℕ) → first ≤ index → GoesOn pages span log spans all index)
-    → first ≤ index → index < length all → slice_get all index ≡ Some (state_at pages image log ((index + 1) * span))
-chain_at pages span image log spans all first index known goes after inside =
-    let is : first + (index - first) ≡ index = omega (arith, after) in
-    subst (λ (n : ℕ). slice_get all n ≡ Some (state_at pages image log ((n + 1) * span))) is
-    (chain pages span image log spans all first known goes (index - first) (omega (arith, is, inside)))
-
--- each of them is joined
-pub joined_on : (pages span : ℕ) (image : Boot) (log : List LogEvent) (spans : List (List Span)) (all : List State) (first index : ℕ)
-    → slice_get all first ≡ Some (state_at pages image log ((first + 1) * span)) → ((index : ℕ) → first ≤ index → GoesOn pages span log spans all index)
-    → first < index → index < length all → IsJoined pages span index (first_at spans index) (span_of pages span image log index)
-joined_on pages span image log spans all first index known goes after inside =
-    let before : ℕ = index - 1 in
-    let next : before + 1 ≡ index = omega (arith, after) in
-    let here = chain_at pages span image log spans all first before known goes (omega (arith, after)) (omega (arith, inside, after)) in
-    let there = at all (before + 1) (omega (arith, inside, next)) in
-    subst (λ (n : ℕ). IsJoined pages span n (first_at spans n) (span_of pages span image log n)) next
-    (goes before (omega (arith, after)) (state_at pages image log ((before + 1) * span)) there.0 here there.1).joined
-
--- so all are joined, and where they end is known
-pub all_ends : (pages span : ℕ) (image : Boot) (log : List LogEvent) (spans : List (List Span)) (all : List State) (valid : ℕ) → 0 < valid
-    → AreEnds pages span image log valid all → ((index : ℕ) → valid ≤ index + 1 → GoesOn pages span log spans all index) → AreEnds pages span image log (length all) all
-all_ends pages span image log spans all valid some are goes =
-    let first : ℕ = valid - 1 in
-    record {
-      many = omega arith;
-      each = λ index inside. elim (cases_lt index valid) [
-        | inl below ↦ are.each index below
-        | inr past ↦
-            chain_at pages span image log spans all first index (are.each first (omega (arith, some))) (λ i after. goes i (omega (arith, after, some)))
-            (omega (arith, past)) inside
-      ];
-    }
-
-pub all_joined : (pages span : ℕ) (image : Boot) (log : List LogEvent) (spans : List (List Span)) (all : List State) (valid index : ℕ) → 0 < valid
+-- all whose ends are there are joined
+pub all_joined : (pages span : ℕ) (image : Boot) (log : List LogEvent) (spans : List (List Span)) (all : List State) (valid : ℕ) → 0 < valid
     → AreEnds pages span image log valid all → ((i : ℕ) → i < valid → IsJoined pages span i (first_at spans i) (span_of pages span image log i))
-    → ((index : ℕ) → valid ≤ index + 1 → GoesOn pages span log spans all index) → index < length all
-    → IsJoined pages span index (first_at spans index) (span_of pages span image log index)
-all_joined pages span image log spans all valid index some are joined goes inside =
-    let first : ℕ = valid - 1 in
-    elim (cases_lt index valid) [
-      | inl below ↦ joined index below
+    → ((index : ℕ) → valid ≤ index + 1 → GoesOn pages span log spans all index) → (index : ℕ) → index < length all
+    → (slice_get all index ≡ Some (state_at pages image log ((index + 1) * span))) × IsJoined pages span index (first_at spans index) (span_of pages span image log index)
+all_joined pages span image log spans all valid some are joined goes zero inside = (are.each 0 some, joined 0 some)
+all_joined pages span image log spans all valid some are joined goes (suc i) inside =
+    elim (cases_lt (suc i) valid) [
+      | inl below ↦ (are.each (suc i) below, joined (suc i) below)
       | inr past ↦
-          joined_on pages span image log spans all first index (are.each first (omega (arith, some))) (λ i after. goes i (omega (arith, after, some)))
-          (omega (arith, past, some)) inside
+          let before = all_joined pages span image log spans all valid some are joined goes i (omega (arith, inside)) in
+          let there = at all (i + 1) (omega (arith, inside)) in
+          let from = goes i (omega (arith, past)) (state_at pages image log ((i + 1) * span)) there.0 before.0 there.1 in
+          subst (λ (n : ℕ). (slice_get all n ≡ Some (state_at pages image log ((n + 1) * span))) × IsJoined pages span n (first_at spans n) (span_of pages span image log n))
+          (let next : i + 1 ≡ suc i = omega arith in next) (there.1 ∙ ap (λ (s : State). Some s) (from.ends ∙ ends pages span image log (i + 1)), from.joined)
     ]
 
 -- once one more end is put: its span is joined, and all others if they go on from it
@@ -179,10 +133,9 @@ joined_by pages span image log spans old new end valid index count rejoin_from i
           let same = put.same all.2 in
           let on : (i : ℕ) → valid + 1 ≤ i + 1 → GoesOn pages span log spans new i = λ i past.
           subst (λ (ends : List State). GoesOn pages span log spans ends i) (sym same) (goes i (omega (arith, all.0, past, is)) (omega (arith, past))) in
-          let many : count ≡ length new = all.1 ∙ ap (λ (ends : List State). length ends) (sym same) in (
-            subst (λ (n : ℕ). AreEnds pages span image log n new) (sym many) (all_ends pages span image log spans new (valid + 1) (omega arith) are on),
-            λ i below. all_joined pages span image log spans new (valid + 1) i (omega arith) are joined on (omega (arith, below, many)),
-          )
+          let many : count ≡ length new = all.1 ∙ ap (λ (ends : List State). length ends) (sym same) in
+          let each = all_joined pages span image log spans new (valid + 1) (omega arith) are joined on in
+          (record { many = omega (arith, many); each = λ i below. (each i (omega (arith, below, many))).0 }, λ i below. (each i (omega (arith, below, many))).1)
     ]
 
 -- ---- logs that are the same outside some times

@@ -1,8 +1,7 @@
-//! Where the spans of the run start and end.
+//! Where the spans of the run end.
 
 ghost use Rattle.std.specs.Prelude.{◌≡◌, ◌↔◌, ◌⊎◌, ◌+◌, ◌-◌, ◌^◌, ◌<◌, ◌≤◌, ℕ, IfOk, IsSome, IsTrue, Some, length, slice_get};
 ghost use Rattle.checkpoints.specs.Kept.{first_at};
-ghost use Rattle.r3k_machine.specs.State.{State};
 
 use checkpoints::Kept;
 use r3k_live::Boundary;
@@ -20,24 +19,6 @@ pub(crate) fn join_up_to<const PAGES: u32, const SPAN: u32>(
 {
     while kept.valid() < count {
         kept.join();
-    }
-}
-
-/// Where the span of a number starts: where the one before it ends, or else at reset.
-pub(crate) fn start_in<'a, const PAGES: u32, const SPAN: u32>(
-    reset: &'a Rc<Boundary<PAGES>>,
-    kept: &'a Kept<PAGES, SPAN>,
-    index: u64,
-) -> &'a Rc<Boundary<PAGES>>
-    ensures first { index ≡ 0 → result.now.value ≡ reset.now.value }
-    ensures later { (state : State) → 0 < index → slice_get kept.now.ends (index - 1) ≡ Some state → result.now.value ≡ state }
-{
-    if index == 0 {
-        return reset;
-    }
-    match kept.end(index - 1) {
-        Some(end) => end,
-        None => reset,
     }
 }
 

@@ -16,7 +16,7 @@ ghost use Rattle.present_run.specs.Runs.{AreRecords};
 use crate::frontier::Frontier;
 use crate::index::SpanIndex;
 use crate::inputs::Inputs;
-use crate::joining::{join_up_to, joined_by, share, start_in};
+use crate::joining::{join_up_to, joined_by, share};
 use checkpoints::Kept;
 use r3k_live::Boundary;
 use span_fact::Fact;
@@ -51,12 +51,7 @@ impl<const PAGES: u32, const SPAN: u32> SpanRecords<PAGES, SPAN> {
         let index = from / SPAN as u64;
         let last = last / SPAN as u64;
         let joined = self.kept.valid();
-        self.rejoin_from = rejoin_after_edit(
-            self.rejoin_from,
-            last,
-            joined,
-            self.kept.end_count(),
-        );
+        self.rejoin_from = rejoin_after_edit(self.rejoin_from, last, joined, self.kept.end_count());
         self.kept.truncate_valid(index);
         self.frontier.cut(index);
     }
@@ -93,7 +88,13 @@ impl<const PAGES: u32, const SPAN: u32> SpanRecords<PAGES, SPAN> {
         requires joined { index ≤ self.now.kept.valid }
         ensures { result.now.value ≡ state_at PAGES inputs.now.image inputs.now.log (index * SPAN) }
     {
-        start_in(&self.reset, &self.kept, index)
+        if index == 0 {
+            return &self.reset;
+        }
+        match self.kept.end(index - 1) {
+            Some(end) => end,
+            None => &self.reset,
+        }
     }
 
     /// The place of a record of the first span that is not joined which serves for this run: its steps report the same.

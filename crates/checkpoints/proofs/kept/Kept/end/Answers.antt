@@ -1,9 +1,9 @@
-use Rattle.std.proofs.Common.{◌≡◌, MatchOption, None, Some, length, sym, ap, subst, ◌∙◌, arith, slice_get}
+use Rattle.std.proofs.Common.{◌≡◌, MatchOption, None, Some, sym, ap, subst, ◌∙◌, arith, slice_get}
 use Rattle.std.proofs.lemmas.List.{length-map}
-use Rattle.std.proofs.lemmas.Option.{slice_get-map, slice_get_past}
+use Rattle.std.proofs.lemmas.Option.{slice_get-map}
 use Rattle.std.specs.Option.{option_map}
 use Rattle.checkpoints.specs.Kept.{Kept}
-use Rattle.checkpoints.specs.Rows.{Places, ends_in, ends_of}
+use Rattle.checkpoints.specs.Rows.{Places, ends_in}
 use Rattle.checkpoints.proofs.Rows.{ends_at, ends_within, item}
 use Rattle.checkpoints.proofs.kept.Kept.end.Goals as goal
 
@@ -23,9 +23,3 @@ returns g c =
     let is = ends_at inside.ended (ends_in places) i p.end c.self.invariant.2 (omega (arith, c.if-index-self.false))
     (slice_get-map (λ (p : Places). p.end) places i ∙ ap (option_map (λ (p : Places). p.end)) there) in
     subst (λ o. MatchOption c.end.result (o ≡ None) (λ end. o ≡ Some end.now.value)) (sym is ∙ ap (λ (k : Kept). slice_get k.ends i) c.self.view_is) c.end.ensures
-
-pub returns-then-index-self : goal.returns-then-index-self
-returns-then-index-self g c =
-    let inside = c.self.inside in
-    ap (λ (k : Kept). slice_get k.ends c.args.index) (sym c.self.view_is)
-    ∙ slice_get_past (ends_of inside.ended (ends_in inside.rows.items)) c.args.index (omega (arith, c.self.invariant.2, c.if-index-self.true))

@@ -4,8 +4,8 @@ use Rattle.std.proofs.lemmas.Option.{IfSome_then}
 use Rattle.r3k_machine.specs.State.{State}
 use Rattle.span_fact.specs.Span.{Span}
 use Rattle.checkpoints.specs.Kept.{Follows, Kept, first_at, row_at}
-use Rattle.checkpoints.specs.Rows.{IsOwnName, Places, Linked, ends_of, records_of, with_next}
-use Rattle.checkpoints.proofs.Rows.{followed, item, kept_by, length_noted, room_kept, row_is, row_other, row_set, tie_kept, tied_row, tied_seen}
+use Rattle.checkpoints.specs.Rows.{IsOwnName, Places, Linked, ends_of, records_of, spans_of, with_next}
+use Rattle.checkpoints.proofs.Rows.{followed, item, kept_by, length_noted, room_kept, row_is, row_other, row_set, tie_kept, spans_noted, tied_row}
 use Rattle.checkpoints.proofs.kept.Kept.link.Goals as goal
 
 pub index_mut-requires : goal.index_mut-requires
@@ -49,6 +49,6 @@ returns-then-name-self g c =
     let there = item places i p within c.index_mut.ensures.value in
     ap₂ (λ (rows : List (List Span)) (ends : List State).
     let k : Kept = record { rows = rows; valid = c.self.inside.valid; most = c.self.inside.most; reserved = c.self.inside.reserved; ends = ends } in k)
-    (tied_seen places i c.in-Some.name p q there c.note_next.ensures.records)
+    (kept_by (λ p. spans_of p.records) places i p q there (ap spans_of c.note_next.ensures.records ∙ spans_noted c.in-Some.name p.records))
     (ap (ends_of c.self.inside.ended) (kept_by (λ p. p.end) places i p q there c.note_next.ensures.end))
     ∙ c.self.view_is

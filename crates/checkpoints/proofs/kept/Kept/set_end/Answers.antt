@@ -45,7 +45,7 @@ returns g c =
     let long = ap (λ (k : Kept). length k.ends) c.self.view_is in
     ap₂ (λ (rows : List (List Span)) (ends : List State).
     let k : Kept = record { rows = rows; valid = inside.valid; most = inside.most; reserved = inside.reserved; ends = ends } in k)
-    (ap (map spans_of) (kept_by (λ p. p.records) places i p q there c.set_end.ensures.records))
+    (kept_by (λ p. spans_of p.records) places i p q there (ap spans_of c.set_end.ensures.records))
     (ap (ends_of c.max-self-inside.result) (map-set (λ (p : Places). p.end) places i q ∙ ap (slice_set (ends_in places) i) c.set_end.ensures.end)
     ∙ ends_set i inside.ended c.max-self-inside.result (ends_in places) c.args.end.value c.self.invariant.2 (omega (arith, next, long, c.self.invariant.2))
     (omega (arith, within, length-map places (λ (p : Places). p.end))) (omega (arith, c.max-self-inside.ensures)))
