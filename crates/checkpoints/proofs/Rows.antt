@@ -1,16 +1,16 @@
 -- The rows of records, after one of them changes.
-use Rattle.std.proofs.Common.{◌≡◌, ◌⊎◌, inl, inr, ℕ, zero, suc, ◌+◌, ◌-◌, ◌<◌, ◌≤◌, List, max, map, [], ◌∷◌, ◌++◌, length, take, drop, Contains, Option, Some, None, IfOk, IfSome, IsOk, IsSome, IsSomeAnd, Result, Ok, Err, slice_get, slice_index_or, slice_set, refl, sym, ap, subst, ◌∙◌, arith}
+use Rattle.std.proofs.Common.{◌≡◌, ◌⊎◌, inl, inr, ℕ, zero, suc, ◌+◌, ◌-◌, ◌<◌, ◌≤◌, List, max, map, [], ◌∷◌, ◌++◌, length, take, drop, Contains, Option, Some, None, IfSome, IsOk, IsSome, IsSomeAnd, Result, Err, slice_get, slice_index_or, slice_set, refl, sym, ap, subst, ◌∙◌, arith}
 use Rattle.std.specs.List.{remove}
 use Rattle.std.specs.Option.{option_map, option_map_or}
-use Rattle.std.proofs.lemmas.Bool.{cases_eq, cases_lt, false≢true}
-use Rattle.std.proofs.lemmas.List.{length-map, get_or-set_same, get_or-set_other, get_or_past, map-set, map-append, take-map, drop-map, take-append-drop, length-append, length-drop, length-take, length-set}
+use Rattle.std.proofs.lemmas.Bool.{cases_eq, false≢true}
+use Rattle.std.proofs.lemmas.List.{length-map, get_or-set_same, get_or-set_other, map-set, map-append, take-map, drop-map, take-append-drop, length-append, length-drop, length-take, length-set}
 use Rattle.std.proofs.lemmas.List.Elements.{Contains-append_cases, Contains-append_left, Contains-append_right}
 use Rattle.std.proofs.lemmas.Option.{slice_get_within, slice_get-get_or, IfSome_then, slice_get-map}
 use Rattle.std.proofs.lemmas.List.Edits.{length-remove}
 use Rattle.r3k_machine.specs.State.{State}
 use Rattle.span_fact.specs.Span.{Span, end_of}
 use Rattle.checkpoints.specs.Kept.{Follows, first_at, promoted, row_at}
-use Rattle.checkpoints.specs.Rows.{AreRows, IsOwnName, IsRoom, Places, Linked, ends_in, ends_of, records_of, rows_of, spans_of, with_next}
+use Rattle.checkpoints.specs.Rows.{AreRows, IsOwnName, IsRoom, Places, Linked, ends_of, records_of, rows_of, spans_of, with_next}
 
 -- what is in a list
 pub in_cons : {A : Type 0} (x : A) (xs : List A) (r : A) → Contains (x ∷ xs) r → (x ≡ r) ⊎ Contains xs r

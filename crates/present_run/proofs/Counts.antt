@@ -1,15 +1,11 @@
 -- How many spans have no record that serves, and what steps that costs.
-use Rattle.std.proofs.Common.{◌≡◌, inl, inr, ℕ, zero, suc, ◌+◌, ◌-◌, ◌*◌, ◌<◌, ◌≤◌, List, ◌∷◌, Option, Some, None, slice_get, take, sym, ap, ◌∙◌, subst, arith}
-use Rattle.std.proofs.Math.Nat.{add-mul, le_trans, mul-le-mul_right}
-use Rattle.std.specs.List.{remove}
-use Rattle.std.specs.Option.{option_map_or}
-use Rattle.input_log.specs.Event.{LogEvent}
-use Rattle.r3k_machine.specs.State.{State}
+use Rattle.std.proofs.Common.{◌≡◌, inl, inr, ℕ, zero, suc, ◌+◌, ◌-◌, ◌*◌, ◌<◌, ◌≤◌, List, ◌∷◌, slice_get, take, sym, ap, ◌∙◌, subst, arith}
+use Rattle.std.proofs.Math.Nat.{add-mul, mul-le-mul_right}
 use Rattle.r3k_live.specs.Living.{counted}
 use Rattle.span_fact.specs.Span.{Span}
-use Rattle.checkpoints.specs.Kept.{AreFar, IsNear, promoted, row_at}
+use Rattle.checkpoints.specs.Kept.{AreFar}
 use Rattle.present_run.specs.History.{History}
-use Rattle.present_run.specs.Reuse.{HasServing, Holding, IsServing, Lacks, Serves, Spends, Turns, kept_at, put_one, span_of, stay, use_one}
+use Rattle.present_run.specs.Reuse.{HasServing, Holding, IsServing, Lacks, Serves, Turns, kept_at, put_one, span_of, stay, use_one}
 
 -- where one serves for each, none is lacking
 pub lacks_none : (pages span : ℕ) (h : Holding) (count lacking : ℕ) → ((index : ℕ) → index < count → Serves pages span h index)
