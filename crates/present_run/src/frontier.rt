@@ -8,7 +8,6 @@ ghost use Rattle.span_fact.specs.Span.{Span, end_of};
 ghost use Rattle.checkpoints.specs.Kept.{Follows, NearlyApplies, first_at, row_at};
 ghost use Rattle.present_run.specs.Runs.{EndsAt, IsKnown, IsKnownAfter};
 
-use crate::joining::share;
 use checkpoints::Kept;
 use r3k_live::Boundary;
 use r3k_pages::PageMarks;
@@ -211,4 +210,14 @@ fn end_with<const PAGES: u32, const SPAN: u32>(
     }
     let end = fact.end().overlay(alloc, pages, other)?;
     share(alloc, end)
+}
+
+/// A boundary that several spans can share.
+pub(crate) fn share<const PAGES: u32>(
+    alloc: Global,
+    boundary: Boundary<PAGES>,
+) -> Result<Rc<Boundary<PAGES>>, AllocError>
+    ensures { IfOk result (λ shared. shared.value ≡ boundary.entry) }
+{
+    Rc::new(alloc, boundary).map_err(|_| AllocError)
 }

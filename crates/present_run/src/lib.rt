@@ -8,7 +8,6 @@ mod frontier;
 mod going;
 mod index;
 mod inputs;
-mod joining;
 mod laws;
 mod machine;
 mod present;

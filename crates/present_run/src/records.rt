@@ -1,6 +1,6 @@
 //! What is kept of the spans of this run and of earlier ones.
 
-ghost use Rattle.std.specs.Prelude.{◌≡◌, ◌∷◌, ◌⊎◌, ◌+◌, ◌-◌, ◌*◌, ◌^◌, ◌<◌, ◌≤◌, ℕ, IfOk, IsSome, List, MatchOption, OnErr, slice_get, slice_set, take};
+ghost use Rattle.std.specs.Prelude.{◌≡◌, ◌↔◌, ◌∷◌, ◌⊎◌, ◌+◌, ◌-◌, ◌*◌, ◌^◌, ◌<◌, ◌≤◌, ℕ, IfOk, IsSome, IsTrue, List, MatchOption, OnErr, Some, length, slice_get, slice_set, take};
 ghost use Rattle.input_log.specs.Event.{LogEvent};
 ghost use Rattle.input_log.specs.Edits.{AreSameOutside};
 ghost use Rattle.r3k_image.specs.Boot.{Boot};
@@ -13,10 +13,9 @@ ghost use Rattle.present_run.specs.Index.{max_spans};
 ghost use Rattle.present_run.specs.Reuse.{HasServing, IsServing, span_of};
 ghost use Rattle.present_run.specs.Runs.{AreRecords};
 
-use crate::frontier::Frontier;
+use crate::frontier::{Frontier, share};
 use crate::index::SpanIndex;
 use crate::inputs::Inputs;
-use crate::joining::{join_up_to, joined_by, share};
 use checkpoints::Kept;
 use r3k_live::Boundary;
 use span_fact::Fact;
@@ -233,4 +232,43 @@ fn rejoin_after_edit(rejoin_from: u64, last: u64, joined: u64, ends: u64) -> u64
         return last;
     }
     rejoin_from.max(joined).max(last)
+}
+
+// Joins all records up to a number.
+fn join_up_to<const PAGES: u32, const SPAN: u32>(kept: &mut Kept<PAGES, SPAN>, count: u64)
+    requires there { (i : ℕ) → i < count → IsSome (first_at kept.old.rows i) }
+    requires more { kept.old.valid ≤ count }
+    ensures { kept.new ≡ record kept.old { valid = count } }
+{
+    while kept.valid() < count {
+        kept.join();
+    }
+}
+
+// How many spans are joined once the next one ends there: one more, or all, if it is known to end where it ended before. The states
+// are compared only if they are the same boundary, so it costs nothing if they differ.
+fn joined_by<const PAGES: u32, const SPAN: u32>(
+    kept: &Kept<PAGES, SPAN>,
+    rejoin_from: u64,
+    index: u64,
+    end: &Rc<Boundary<PAGES>>,
+) -> u64
+    requires { index < 2 ^ 64 - 1 }
+    ensures more { index < result }
+    ensures met { (result ≡ index + 1) ⊎ ((rejoin_from ≤ index) × (result ≡ length kept.now.ends) × (slice_get kept.now.ends index ≡ Some end.now.value)) }
+{
+    if index < rejoin_from || index + 1 >= kept.end_count() {
+        return index + 1;
+    }
+    match kept.end(index) {
+        Some(before) if Rc::ptr_eq(before, end) && is_same(before, end) => kept.end_count(),
+        _ => index + 1,
+    }
+}
+
+// Whether two states are the same.
+fn is_same<const PAGES: u32>(a: &Boundary<PAGES>, b: &Boundary<PAGES>) -> bool
+    ensures { IsTrue result ↔ (a.now ≡ b.now) }
+{
+    a.core() == b.core() && a.memory().equals(b.memory())
 }

@@ -4,7 +4,7 @@ use Rattle.std.proofs.lemmas.Bool.{true≢false}
 use Rattle.r3k_machine.specs.Core.{Core}
 use Rattle.r3k_machine.specs.State.{State}
 use Rattle.r3k_machine.specs.Same.{is_same_decides}
-use Rattle.present_run.proofs.joining.is_same.Goals as goal
+use Rattle.present_run.proofs.records.is_same.Goals as goal
 
 pub returns-then-eq : goal.returns-then-eq
 returns-then-eq g c =

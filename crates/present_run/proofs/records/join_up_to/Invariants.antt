@@ -1,6 +1,6 @@
 use Rattle.std.proofs.Common.{◌≡◌, ◌-◌, ◌≤◌}
 use Rattle.checkpoints.specs.Kept.{Kept}
-use Rattle.present_run.proofs.joining.join_up_to.Given as goal
+use Rattle.present_run.proofs.records.join_up_to.Given as goal
 
 -- how many are joined so far
 abbrev pub invariant-loop-kept : goal.invariant-loop-kept
