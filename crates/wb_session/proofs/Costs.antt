@@ -1,12 +1,14 @@
 -- What queries cost, as replies report it, and what several at one position cost together.
-use Rattle.std.proofs.Common.{◌≡◌, ◌⊎◌, inl, inr, ℕ, zero, suc, ◌+◌, ◌-◌, ◌*◌, ◌/◌, ◌%◌, ◌<◌, ◌≤◌, ◌∷◌, nat_eq, cond, slice_get, take, List, Bool, Contains, Result, Ok, Err, refl, sym, ap, ◌∙◌, subst, arith}
+use Rattle.std.proofs.Common.{◌≡◌, ◌⊎◌, inl, inr, ℕ, zero, suc, ◌+◌, ◌-◌, ◌*◌, ◌/◌, ◌%◌, ◌<◌, ◌≤◌, ◌∷◌, nat_eq, cond, slice_get, take, List, Bool, Contains, Option, None, Some, Result, Ok, Err, refl, sym, ap, ◌∙◌, subst, arith}
 use Rattle.std.proofs.Math.Nat.{add-mul, div-mul-le_self, mul-le-mul_right}
 use Rattle.std.proofs.lemmas.Nat.{le-div}
 use Rattle.std.proofs.lemmas.Bool.{eq-eqb}
+use Rattle.std.specs.List.{remove}
+use Rattle.std.specs.Option.{option_map_or}
 use Rattle.std.specs.Set.{remove_key}
 use Rattle.timeline.specs.Reuse.{Holding, IsServing, Lacks, Reaches, ServesFirst, Spends, Turns, kept_at, put_one, stay, use_one}
 use Rattle.timeline.specs.History.{History}
-use Rattle.timeline.proofs.Counts.{first_used, serving_turned, turned_on}
+use Rattle.timeline.proofs.Counts.{turned_on}
 use Rattle.refusal.specs.declared.fault.Fault.{Fault}
 use Rattle.refusal.specs.declared.fault.Fault.TheVariants.{Memory}
 use Rattle.timeline.specs.TimelineView.{Asks, AsksFault, TimelineView, KeepsState, holding}
@@ -89,13 +91,20 @@ spends_more pages span count less more old new within spends = record {
   turns = spends.turns;
 }
 
+-- a record that serves and is used comes first
+used_first : (pages span : ℕ) (h : History) (index place : ℕ) (before : List _) (o : Option _) → IsServing pages span h index o
+    → IsServing pages span h index (slice_get (option_map_or (λ s. s ∷ remove before place) o before) 0)
+used_first pages span h index place before None near = absurd near
+used_first pages span h index place before (Some s) near = near
+
 -- where queries turned a row, the record that was used last serves if it did before
 first_turned : (pages span : ℕ) (h : Holding) (index : ℕ) (row : List _) → Turns pages span h index row → ServesFirst pages span h index
     → IsServing pages span h.history index (slice_get row 0)
 first_turned pages span h index _ (stay row is) serves = subst (λ row. IsServing pages span h.history index (slice_get row 0)) (sym is) serves
-first_turned pages span h index _ (use_one before row turns place near is) serves = first_used pages span place before row _ _ near is
+first_turned pages span h index _ (use_one before row turns place near is) serves =
+    subst (λ row. IsServing pages span h.history index (slice_get row 0)) (sym is) (used_first pages span h.history index place before (slice_get before place) near)
 first_turned pages span h index _ (put_one before row turns none is) serves =
-    absurd (none (serving_turned pages span h index before turns (λ far. far 0 serves)))
+    absurd (none (λ far. far 0 (first_turned pages span h index before turns serves)))
 
 still_first : (pages span count more : ℕ) (now new : Holding) (index : ℕ) → Spends pages span count more now new → ServesFirst pages span now index
     → ServesFirst pages span new index
