@@ -189,58 +189,54 @@ fn step_straight<const PAGES: u32, const SPAN: u32>(
 }
 
 // Makes quick steps in an open page that was touched before, up to `most` in all after `begun`, and ends after one that comes to an
-// address. Their ticks and falls of Random are still to come. It makes none where the core does not stand straight. It has one caller, so
-// that all of a step is in line.
-#[inline(never)]
+// address. Their ticks and falls of Random are still to come. It makes none where the core does not stand straight.
+#[inline(always)]
 fn quick_steps<const PAGES: u32, const SPAN: u32>(
     core: &mut Core,
-    mut flow: Flow,
+    flow: &mut Flow,
     memory: &mut FlatMemory<PAGES>,
     page: CodePage,
     begun: u32,
     most: u32,
     stop: u64,
     recorder: &mut Recorder<PAGES, SPAN>,
-) -> Flow
-    requires may { MayGoOn PAGES most page (with_flow core.old flow) recorder.old }
+)
+    requires may { MayGoOn PAGES most page (with_flow core.old flow.old) recorder.old }
     requires page { IsPage PAGES page.page }
     requires opened { IsTrue (is_open PAGES memory.old.opened.items page.page) }
     requires begun { begun ≤ recorder.old.steps }
     requires made { recorder.old.steps ≤ begun + most }
     requires room { begun + most ≤ SPAN }
     ensures goes { GoesOn PAGES most stop page (recorder.old.steps - begun) (recorder.new.steps - begun)
-        (state_of (with_flow core.old flow) memory.old) (state_of (with_flow core.new result) memory.new) recorder.old recorder.new }
+        (state_of (with_flow core.old flow.old) memory.old) (state_of (with_flow core.new flow.new) memory.new) recorder.old recorder.new }
     ensures least { recorder.old.steps ≤ recorder.new.steps }
     ensures opened { IsTrue (is_open PAGES memory.new.opened.items page.page) }
 {
     if !flow.is_straight() {
-        return flow;
+        return;
     }
     let halt = halt_in(page, stop);
     loop {
         let Some(index) = page.index(flow.pc()) else {
-            return flow;
+            return;
         };
-        let Some(slot) = step_straight(
-            core, &mut flow, memory, page, index, halt, begun, most, recorder,
-        ) else {
-            return flow;
+        let Some(slot) = step_straight(core, flow, memory, page, index, halt, begun, most, recorder)
+        else {
+            return;
         };
-        let Some(quick) = step_quickly(core, &mut flow, memory, page, slot) else {
-            return flow;
+        let Some(quick) = step_quickly(core, flow, memory, page, slot) else {
+            return;
         };
         recorder.note_again(quick.done);
         if flow.delay() {
-            return flow;
+            return;
         }
     }
 }
 
-/// Makes quick steps in an open page that was touched before, and goes on with them from page to page, as long as these were touched
-/// before. They are at most `most`, and it ends after one that comes to an address. Their ticks and falls of Random are still to come.
-/// The page of the last of them is open.
+// The same, where the flow stands apart from the core.
 #[inline(always)]
-pub(crate) fn quick_pages<const PAGES: u32, const SPAN: u32>(
+fn steps_over_pages<const PAGES: u32, const SPAN: u32>(
     core: &mut Core,
     flow: &mut Flow,
     memory: &mut FlatMemory<PAGES>,
@@ -263,15 +259,14 @@ pub(crate) fn quick_pages<const PAGES: u32, const SPAN: u32>(
     let begun = recorder.steps();
     loop {
         let before = recorder.steps();
-        *flow = quick_steps(core, *flow, memory, *page, begun, most, stop, recorder);
+        quick_steps(core, flow, memory, *page, begun, most, stop, recorder);
         let here = flow.pc() / PAGE_BYTES;
         recorder.note_code_page(here);
         let steps = recorder.steps();
         if steps == before || steps - begun == most || here == page.number {
             return steps - begun;
         }
-        core.set_flow(*flow);
-        let Some(next) = code_page(core, memory) else {
+        let Some(next) = code_page(core, *flow, memory, page.over_bus) else {
             return steps - begun;
         };
         if !recorder.has_touched(next.page) {
@@ -280,6 +275,36 @@ pub(crate) fn quick_pages<const PAGES: u32, const SPAN: u32>(
         memory.open_page(next.page);
         *page = next;
     }
+}
+
+/// Makes quick steps in an open page that was touched before, and goes on with them from page to page, as long as these were touched
+/// before. They are at most `most`, and it ends after one that comes to an address. Their ticks and falls of Random are still to come.
+/// The page of the last of them is open. It is never in line, so that the compiler can keep all that a step needs in registers.
+#[inline(never)]
+pub(crate) fn quick_pages<const PAGES: u32, const SPAN: u32>(
+    core: &mut Core,
+    memory: &mut FlatMemory<PAGES>,
+    page: &mut CodePage,
+    most: u32,
+    stop: u64,
+    recorder: &mut Recorder<PAGES, SPAN>,
+) -> u32
+    requires may { MayGoOn PAGES most page.old core.old recorder.old }
+    requires page { IsPage PAGES page.old.page }
+    requires opened { IsTrue (is_open PAGES memory.old.opened.items page.old.page) }
+    requires room { recorder.old.steps + most ≤ SPAN }
+    ensures goes { GoesOver PAGES most stop result (state_of core.old memory.old) (state_of core.new memory.new) recorder.old recorder.new }
+    ensures code { IsCodePage PAGES core.new page.new }
+    ensures page { IsPage PAGES page.new.page }
+    ensures opened { IsTrue (is_open PAGES memory.new.opened.items page.new.page) }
+{
+    // Copies, which nothing else refers to.
+    let mut flow = core.flow();
+    let mut here = *page;
+    let made = steps_over_pages(core, &mut flow, memory, &mut here, most, stop, recorder);
+    core.set_flow(flow);
+    *page = here;
+    made
 }
 
 // Whether one more step is wanted after some of at most `most` steps: there is room for it, and none of them came to the address where
@@ -345,9 +370,7 @@ fn run_in<const PAGES: u32, const SPAN: u32>(
         HasGoneFor PAGES log from start stop made result recorder.old (state_of core.new memory.new) recorder.new }
 {
     quiet_laws();
-    let mut flow = core.flow();
-    let made = quick_pages(core, &mut flow, memory, &mut page, most, stop, recorder);
-    core.set_flow(flow);
+    let made = quick_pages(core, memory, &mut page, most, stop, recorder);
     core.elapse(made);
     learn(memory, page, core.pc());
     let wanted = goes_on(made, most, core.pc(), stop);
@@ -385,7 +408,7 @@ pub(crate) fn get_ready<const PAGES: u32, const SPAN: u32>(
     if steps == 0 {
         return None;
     }
-    let page = code_page(core, memory)?;
+    let page = code_page(core, core.flow(), memory, core.over_bus())?;
     if !recorder.has_touched(page.page) {
         return None;
     }

@@ -184,17 +184,7 @@ fn go_round_again<const PAGES: u32, const SPAN: u32>(
         return Turn { steps: 0, found };
     };
     let processor = core.processor();
-    let mut flow = core.flow();
-    let steps = quick_pages(
-        core,
-        &mut flow,
-        memory,
-        &mut ready.page,
-        turn,
-        stop,
-        recorder,
-    );
-    core.set_flow(flow);
+    let steps = quick_pages(core, memory, &mut ready.page, turn, stop, recorder);
     if steps < turn {
         core.elapse(steps);
         let found = Found::NotBack;

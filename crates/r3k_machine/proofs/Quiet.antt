@@ -477,6 +477,12 @@ pub code_at : (core : Core) (pages at place : ℕ) (physical : Physical) → mea
 unfolding meaning
 code_at core pages at place physical is stands = code_of core pages at place physical (segment_of core.cop0 (at % 4 == 0) at) refl is stands
 
+-- so it is wherever the processor stands
+pub code_in : (core : Core) (pages : ℕ) (flow : Flow) (at page : ℕ) → IsFetchedFrom pages core (at / 4096) page
+    → IsFetchedFrom pages (with_flow core flow) (at / 4096) page
+unfolding meaning
+code_in core pages flow at page fetched = λ address here aligned. fetched address here aligned
+
 -- the word of the page that is run in is fetched
 pub fetched_from : (pages : ℕ) (words : List ℕ) (page offset physical : ℕ) → offset < 1024
     → place_of_word pages (physical / 4 * 4) ≡ Some (page * 1024 + offset)

@@ -73,8 +73,9 @@ impl Core {
         }
     }
 
-    // How many bytes from kseg0 on loads and stores reach over the bus.
-    fn over_bus(&self) -> u32
+    /// How many bytes from kseg0 on loads and stores reach over the bus: all of kseg0 and kseg1, or none.
+    #[inline]
+    pub fn over_bus(&self) -> u32
         ensures { IsOverBusFor result self.now }
     {
         if self.cop0().in_user_mode() || self.cop0().is_isolated() {
@@ -162,19 +163,21 @@ impl CodePage {
     }
 }
 
-/// The page of the PC, where its words are fetched without an exception. It changes nothing.
-pub fn code_page<M: Mem>(core: &mut Core, memory: &M) -> Option<CodePage>
-    ensures code { IfSome result (λ page. IsCodePage M.ram core.old page) }
+/// The page of the PC, where its words are fetched without an exception. It changes nothing. The core stands where the flow does.
+#[inline(always)]
+pub fn code_page<M: Mem>(core: &mut Core, flow: Flow, memory: &M, over_bus: u32) -> Option<CodePage>
+    requires over_bus { IsOverBusFor over_bus (with_flow core.old flow) }
+    ensures code { IfSome result (λ page. IsCodePage M.ram (with_flow core.old flow) page) }
     ensures page { IfSome result (λ page. IsPage M.ram page.page) }
     ensures core { core.new ≡ core.old }
 {
-    let address = core.pc();
+    let address = flow.pc();
     let physical = core.found(Use::Fetch, address % 4 == 0, address)?;
     let place = place_of(memory.ram_pages(), physical.address / 4 * 4)?;
     Some(CodePage {
         number: address / PAGE_BYTES,
         page: page_of(place) as u32,
-        over_bus: core.over_bus(),
+        over_bus,
     })
 }
 

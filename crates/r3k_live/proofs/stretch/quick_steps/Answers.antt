@@ -8,7 +8,7 @@ use Rattle.r3k_live.proofs.stretch.quick_steps.Goals as goal
 pub loop-index-init : goal.loop-index-init
 loop-index-init g c = record {
   goes =
-      goes_nowhere g.row.PAGES c.args.most c.args.stop c.args.page (c.args.recorder.now.steps - c.args.begun) (state_of (with_flow c.args.core.now c.args.flow) c.args.memory.now)
+      goes_nowhere g.row.PAGES c.args.most c.args.stop c.args.page (c.args.recorder.now.steps - c.args.begun) (state_of (with_flow c.args.core.now c.args.flow.now) c.args.memory.now)
       c.args.recorder.now (omega (arith, c.requires.begun, c.requires.made)) c.requires.may;
   straight = c.is_straight.ensures.0 c.if-not-is_straight.false;
   least = omega arith;
@@ -17,13 +17,13 @@ loop-index-init g c = record {
 
 pub returns-then-not-is_straight-clause-goes : goal.returns-then-not-is_straight-clause-goes
 returns-then-not-is_straight-clause-goes g c =
-    goes_nowhere g.row.PAGES c.args.most c.args.stop c.args.page (c.args.recorder.now.steps - c.args.begun) (state_of (with_flow c.args.core.now c.args.flow) c.args.memory.now)
+    goes_nowhere g.row.PAGES c.args.most c.args.stop c.args.page (c.args.recorder.now.steps - c.args.begun) (state_of (with_flow c.args.core.now c.args.flow.now) c.args.memory.now)
     c.args.recorder.now (omega (arith, c.requires.begun, c.requires.made)) c.requires.may
 
 pub returns-in_default-step_straight-clause-goes : goal.returns-in_default-step_straight-clause-goes
 returns-in_default-step_straight-clause-goes g c =
     goes_further g.row.PAGES c.args.most c.args.stop c.args.page (c.args.recorder.now.steps - c.args.begun) (c.loop-index.recorder.steps - c.args.begun) (c.step_straight.new.recorder.steps - c.args.begun)
-    (state_of (with_flow c.args.core.now c.args.flow) c.args.memory.now) (state_of (with_flow c.loop-index.core c.loop-index.flow) c.loop-index.memory)
+    (state_of (with_flow c.args.core.now c.args.flow.now) c.args.memory.now) (state_of (with_flow c.loop-index.core c.loop-index.flow) c.loop-index.memory)
     (state_of (with_flow c.step_straight.new.core c.step_straight.new.flow) c.step_straight.new.memory)
     c.args.recorder.now c.loop-index.recorder c.step_straight.new.recorder
     c.loop-index.invariant.goes (c.step_straight.ensures.goes c.args.stop c.halt_in-halt.ensures.word)
@@ -31,7 +31,7 @@ returns-in_default-step_straight-clause-goes g c =
 pub step_quickly-requires : goal.step_quickly-requires
 step_quickly-requires g c =
     let so_far = goes_further g.row.PAGES c.args.most c.args.stop c.args.page (c.args.recorder.now.steps - c.args.begun) (c.loop-index.recorder.steps - c.args.begun) (c.step_straight.new.recorder.steps - c.args.begun)
-    (state_of (with_flow c.args.core.now c.args.flow) c.args.memory.now) (state_of (with_flow c.loop-index.core c.loop-index.flow) c.loop-index.memory)
+    (state_of (with_flow c.args.core.now c.args.flow.now) c.args.memory.now) (state_of (with_flow c.loop-index.core c.loop-index.flow) c.loop-index.memory)
     (state_of (with_flow c.step_straight.new.core c.step_straight.new.flow) c.step_straight.new.memory)
     c.args.recorder.now c.loop-index.recorder c.step_straight.new.recorder
     c.loop-index.invariant.goes (c.step_straight.ensures.goes c.args.stop c.halt_in-halt.ensures.word) in
@@ -42,7 +42,7 @@ returns-in_default-step_quickly-clause-goes g c =
     let none = c.in_default-step_quickly.is in
     rw (c.step_quickly.ensures.core none, c.step_quickly.ensures.flow none, c.step_quickly.ensures.words none)
     (goes_further g.row.PAGES c.args.most c.args.stop c.args.page (c.args.recorder.now.steps - c.args.begun) (c.loop-index.recorder.steps - c.args.begun) (c.step_straight.new.recorder.steps - c.args.begun)
-    (state_of (with_flow c.args.core.now c.args.flow) c.args.memory.now) (state_of (with_flow c.loop-index.core c.loop-index.flow) c.loop-index.memory)
+    (state_of (with_flow c.args.core.now c.args.flow.now) c.args.memory.now) (state_of (with_flow c.loop-index.core c.loop-index.flow) c.loop-index.memory)
     (state_of (with_flow c.step_straight.new.core c.step_straight.new.flow) c.step_straight.new.memory)
     c.args.recorder.now c.loop-index.recorder c.step_straight.new.recorder
     c.loop-index.invariant.goes (c.step_straight.ensures.goes c.args.stop c.halt_in-halt.ensures.word))
@@ -50,7 +50,7 @@ returns-in_default-step_quickly-clause-goes g c =
 pub note_again-requires : goal.note_again-requires
 note_again-requires g c =
     let so_far = goes_further g.row.PAGES c.args.most c.args.stop c.args.page (c.args.recorder.now.steps - c.args.begun) (c.loop-index.recorder.steps - c.args.begun) (c.step_straight.new.recorder.steps - c.args.begun)
-    (state_of (with_flow c.args.core.now c.args.flow) c.args.memory.now) (state_of (with_flow c.loop-index.core c.loop-index.flow) c.loop-index.memory)
+    (state_of (with_flow c.args.core.now c.args.flow.now) c.args.memory.now) (state_of (with_flow c.loop-index.core c.loop-index.flow) c.loop-index.memory)
     (state_of (with_flow c.step_straight.new.core c.step_straight.new.flow) c.step_straight.new.memory)
     c.args.recorder.now c.loop-index.recorder c.step_straight.new.recorder
     c.loop-index.invariant.goes (c.step_straight.ensures.goes c.args.stop c.halt_in-halt.ensures.word) in
@@ -71,11 +71,11 @@ note_again-requires g c =
 pub returns-then-delay-clause-goes : goal.returns-then-delay-clause-goes
 returns-then-delay-clause-goes g c =
     let so_far = goes_further g.row.PAGES c.args.most c.args.stop c.args.page (c.args.recorder.now.steps - c.args.begun) (c.loop-index.recorder.steps - c.args.begun) (c.step_straight.new.recorder.steps - c.args.begun)
-    (state_of (with_flow c.args.core.now c.args.flow) c.args.memory.now) (state_of (with_flow c.loop-index.core c.loop-index.flow) c.loop-index.memory)
+    (state_of (with_flow c.args.core.now c.args.flow.now) c.args.memory.now) (state_of (with_flow c.loop-index.core c.loop-index.flow) c.loop-index.memory)
     (state_of (with_flow c.step_straight.new.core c.step_straight.new.flow) c.step_straight.new.memory)
     c.args.recorder.now c.loop-index.recorder c.step_straight.new.recorder
     c.loop-index.invariant.goes (c.step_straight.ensures.goes c.args.stop c.halt_in-halt.ensures.word) in
-    goes_straight g.row.PAGES c.args.most c.args.stop c.args.page c.args.begun (state_of (with_flow c.args.core.now c.args.flow) c.args.memory.now)
+    goes_straight g.row.PAGES c.args.most c.args.stop c.args.page c.args.begun (state_of (with_flow c.args.core.now c.args.flow.now) c.args.memory.now)
     (state_of (with_flow c.step_straight.new.core c.step_straight.new.flow) c.step_straight.new.memory) (state_of (with_flow c.step_quickly.new.core c.step_quickly.new.flow) c.step_quickly.new.memory)
     c.args.recorder.now c.step_straight.new.recorder c.note_again.new.self
     (omega (arith, c.requires.begun, c.loop-index.invariant.least, c.step_straight.ensures.least)) c.in-Some-step_straight.ensures.room c.note_again.ensures.steps
@@ -85,13 +85,13 @@ returns-then-delay-clause-goes g c =
 pub loop-index-preserved : goal.loop-index-preserved
 loop-index-preserved g c =
     let so_far = goes_further g.row.PAGES c.args.most c.args.stop c.args.page (c.args.recorder.now.steps - c.args.begun) (c.loop-index.recorder.steps - c.args.begun) (c.step_straight.new.recorder.steps - c.args.begun)
-    (state_of (with_flow c.args.core.now c.args.flow) c.args.memory.now) (state_of (with_flow c.loop-index.core c.loop-index.flow) c.loop-index.memory)
+    (state_of (with_flow c.args.core.now c.args.flow.now) c.args.memory.now) (state_of (with_flow c.loop-index.core c.loop-index.flow) c.loop-index.memory)
     (state_of (with_flow c.step_straight.new.core c.step_straight.new.flow) c.step_straight.new.memory)
     c.args.recorder.now c.loop-index.recorder c.step_straight.new.recorder
     c.loop-index.invariant.goes (c.step_straight.ensures.goes c.args.stop c.halt_in-halt.ensures.word) in
     let free = sym c.if-delay.ensures in record {
       goes =
-          goes_straight g.row.PAGES c.args.most c.args.stop c.args.page c.args.begun (state_of (with_flow c.args.core.now c.args.flow) c.args.memory.now)
+          goes_straight g.row.PAGES c.args.most c.args.stop c.args.page c.args.begun (state_of (with_flow c.args.core.now c.args.flow.now) c.args.memory.now)
           (state_of (with_flow c.step_straight.new.core c.step_straight.new.flow) c.step_straight.new.memory) (state_of (with_flow c.step_quickly.new.core c.step_quickly.new.flow) c.step_quickly.new.memory)
           c.args.recorder.now c.step_straight.new.recorder c.note_again.new.self
           (omega (arith, c.requires.begun, c.loop-index.invariant.least, c.step_straight.ensures.least)) c.in-Some-step_straight.ensures.room c.note_again.ensures.steps

@@ -1,7 +1,6 @@
 use Rattle.std.proofs.Common.{◌≡◌, ℕ, suc, ◌+◌, ◌-◌, ◌*◌, ◌<◌, List, All, Contains, length, slice_index, sym, subst, ap, ◌∙◌, arith, inl, inr}
 use Rattle.std.proofs.Math.Nat.{mul-suc}
 use Rattle.std.proofs.lemmas.Bool.{cases_lt}
-use Rattle.r3k_machine.specs.Flow.{with_flow}
 use Rattle.r3k_machine.specs.Quiet.{IsQuietFor, state_elapsed}
 use Rattle.r3k_machine.specs.Run.{trace}
 use Rattle.r3k_machine.specs.State.{State}
@@ -27,14 +26,14 @@ returns-then-steps-turn-clause-goes g c = λ log from start made now left gone.
     let here : HasGone g.row.PAGES log from start made (state_of c.get_ready.new.core c.get_ready.new.memory) c.args.recorder.now =
     rw (c.get_ready.ensures.core, c.get_ready.ensures.words) gone in
     let free = fewer_free log c.args.time (from + made) c.in-Some.ready.steps c.args.turn now (omega (arith, c.if-ready-turn.false)) (c.in-Some.ensures.free log left) in
-    let there = (rw c.flow-flow.ensures at c.quick_pages-steps.ensures.goes).runs log from start made free here in
-    rw (c.elapse.ensures, c.set_flow.ensures) there
+    let there = c.quick_pages-steps.ensures.goes.runs log from start made free here in
+    rw c.elapse.ensures there
 
 pub returns-clause-goes : goal.returns-clause-goes
 returns-clause-goes g c = λ log from start made now left gone.
     let pages = g.row.PAGES in
     let s = state_of c.get_ready.new.core c.get_ready.new.memory in
-    let t = state_of c.set_flow.new.self c.quick_pages-steps.new.memory in
+    let t = state_of c.quick_pages-steps.new.core c.quick_pages-steps.new.memory in
     let r = c.args.recorder.now in
     let mid = c.quick_pages-steps.new.recorder in
     let later = c.pass_turns-passed.new.recorder in
@@ -47,8 +46,7 @@ returns-clause-goes g c = λ log from start made now left gone.
     let few = fewer_free log c.args.time (from + made) c.in-Some.ready.steps turn now (omega (arith, c.if-ready-turn.false)) free in
     let whole : c.quick_pages-steps.result ≡ turn = omega (arith, c.if-steps-turn.false, c.quick_pages-steps.ensures.goes.bound) in
     let over : GoesOver pages turn c.args.stop turn s t r mid =
-    rw c.set_flow.ensures (subst (λ (n : ℕ). GoesOver pages turn c.args.stop n s (state_of (with_flow c.quick_pages-steps.new.core c.quick_pages-steps.new.flow) c.quick_pages-steps.new.memory) r mid) whole
-    (rw c.flow-flow.ensures at c.quick_pages-steps.ensures.goes)) in
+    subst (λ (n : ℕ). GoesOver pages turn c.args.stop n s t r mid) whole c.quick_pages-steps.ensures.goes in
     let first : HasGoneFor pages log from start c.args.stop made turn r (state_elapsed turn t) mid = over.runs log from start made few here in
     elim (cases_lt 0 passed) [
       | inl some ↦

@@ -4,7 +4,7 @@ use Rattle.r3k_machine.specs.Reports.{IsPage}
 use Rattle.r3k_live.specs.Going.{GoesOver, MayGoOn}
 use Rattle.r3k_live.specs.Living.{state_of}
 use Rattle.r3k_live.specs.Slots.{is_open}
-use Rattle.r3k_live.proofs.stretch.quick_pages.Given as goal
+use Rattle.r3k_live.proofs.stretch.steps_over_pages.Given as goal
 
 -- they went on, and may go on in the page
 abbrev pub invariant-loop-most : goal.invariant-loop-most
