@@ -189,7 +189,7 @@ fn step_straight<const PAGES: u32, const SPAN: u32>(
 }
 
 // Makes quick steps in an open page that was touched before, up to `most` in all after `begun`, and ends after one that comes to an
-// address. Their ticks and falls of Random are still to come. It makes none where the core does not stand straight.
+// address. Their ticks and falls of Random are still to come. It gives whether the core stands straight.
 #[inline(always)]
 fn quick_steps<const PAGES: u32, const SPAN: u32>(
     core: &mut Core,
@@ -200,36 +200,35 @@ fn quick_steps<const PAGES: u32, const SPAN: u32>(
     most: u32,
     stop: u64,
     recorder: &mut Recorder<PAGES, SPAN>,
-)
+) -> bool
     requires may { MayGoOn PAGES most page (with_flow core.old flow.old) recorder.old }
     requires page { IsPage PAGES page.page }
     requires opened { IsTrue (is_open PAGES memory.old.opened.items page.page) }
+    requires straight { IsStraight flow.old }
     requires begun { begun ≤ recorder.old.steps }
     requires made { recorder.old.steps ≤ begun + most }
     requires room { begun + most ≤ SPAN }
     ensures goes { GoesOn PAGES most stop page (recorder.old.steps - begun) (recorder.new.steps - begun)
         (state_of (with_flow core.old flow.old) memory.old) (state_of (with_flow core.new flow.new) memory.new) recorder.old recorder.new }
     ensures least { recorder.old.steps ≤ recorder.new.steps }
+    ensures straight { IsTrue result → IsStraight flow.new }
     ensures opened { IsTrue (is_open PAGES memory.new.opened.items page.page) }
 {
-    if !flow.is_straight() {
-        return;
-    }
     let halt = halt_in(page, stop);
     loop {
         let Some(index) = page.index(flow.pc()) else {
-            return;
+            return true;
         };
         let Some(slot) = step_straight(core, flow, memory, page, index, halt, begun, most, recorder)
         else {
-            return;
+            return flow.is_straight();
         };
         let Some(quick) = step_quickly(core, flow, memory, page, slot) else {
-            return;
+            return false;
         };
         recorder.note_again(quick.done);
         if flow.delay() {
-            return;
+            return false;
         }
     }
 }
@@ -256,14 +255,17 @@ fn steps_over_pages<const PAGES: u32, const SPAN: u32>(
     ensures opened { IsTrue (is_open PAGES memory.new.opened.items page.new.page) }
 {
     quiet_laws();
+    if !flow.is_straight() {
+        return 0;
+    }
     let begun = recorder.steps();
     loop {
         let before = recorder.steps();
-        quick_steps(core, flow, memory, *page, begun, most, stop, recorder);
+        let straight = quick_steps(core, flow, memory, *page, begun, most, stop, recorder);
         let here = flow.pc() / PAGE_BYTES;
         recorder.note_code_page(here);
         let steps = recorder.steps();
-        if steps == before || steps - begun == most || here == page.number {
+        if !straight || steps == before || steps - begun == most || here == page.number {
             return steps - begun;
         }
         let Some(next) = code_page(core, *flow, memory, page.over_bus) else {

@@ -10,15 +10,10 @@ loop-index-init g c = record {
   goes =
       goes_nowhere g.row.PAGES c.args.most c.args.stop c.args.page (c.args.recorder.now.steps - c.args.begun) (state_of (with_flow c.args.core.now c.args.flow.now) c.args.memory.now)
       c.args.recorder.now (omega (arith, c.requires.begun, c.requires.made)) c.requires.may;
-  straight = c.is_straight.ensures.0 c.if-not-is_straight.false;
+  straight = c.requires.straight;
   least = omega arith;
   opened = c.requires.opened;
 }
-
-pub returns-then-not-is_straight-clause-goes : goal.returns-then-not-is_straight-clause-goes
-returns-then-not-is_straight-clause-goes g c =
-    goes_nowhere g.row.PAGES c.args.most c.args.stop c.args.page (c.args.recorder.now.steps - c.args.begun) (state_of (with_flow c.args.core.now c.args.flow.now) c.args.memory.now)
-    c.args.recorder.now (omega (arith, c.requires.begun, c.requires.made)) c.requires.may
 
 pub returns-in_default-step_straight-clause-goes : goal.returns-in_default-step_straight-clause-goes
 returns-in_default-step_straight-clause-goes g c =

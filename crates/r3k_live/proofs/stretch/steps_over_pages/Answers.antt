@@ -16,50 +16,56 @@ loop-most-init g c = record {
       (over_none g.row.PAGES c.args.most c.args.stop c.args.page.now (state_of (with_flow c.args.core.now c.args.flow.now) c.args.memory.now) c.args.recorder.now
       c.quiet_laws.ensures.none c.requires.may);
   may = c.requires.may;
+  straight = c.is_straight.ensures.0 c.if-not-is_straight.false;
   page = c.requires.page;
   opened = c.requires.opened;
   least = omega (arith, c.steps-begun.ensures.steps);
 }
 
-pub returns-then-steps-before-clause-goes : goal.returns-then-steps-before-clause-goes
-returns-then-steps-before-clause-goes g c =
+pub returns-then-not-is_straight-clause-goes : goal.returns-then-not-is_straight-clause-goes
+returns-then-not-is_straight-clause-goes g c =
+    over_none g.row.PAGES c.args.most c.args.stop c.args.page.now (state_of (with_flow c.args.core.now c.args.flow.now) c.args.memory.now) c.args.recorder.now
+    c.quiet_laws.ensures.none c.requires.may
+
+pub returns-then-not-straight-clause-goes : goal.returns-then-not-straight-clause-goes
+returns-then-not-straight-clause-goes g c =
     subst (λ (n : ℕ). GoesOver g.row.PAGES c.args.most c.args.stop n (state_of (with_flow c.args.core.now c.args.flow.now) c.args.memory.now)
-    (state_of (with_flow c.quick_steps.new.core c.quick_steps.new.flow) c.quick_steps.new.memory) c.args.recorder.now c.note_code_page.new.self)
-    (let e : c.quick_steps.new.recorder.steps - c.steps-begun.result ≡ c.steps-steps.result - c.steps-begun.result = omega (arith, c.steps-steps.ensures.steps, c.note_code_page.ensures.steps) in e)
-    (over_more g.row.PAGES c.args.most c.args.stop c.loop-most.page (c.loop-most.recorder.steps - c.steps-begun.result) (c.quick_steps.new.recorder.steps - c.steps-begun.result)
+    (state_of (with_flow c.quick_steps-straight.new.core c.quick_steps-straight.new.flow) c.quick_steps-straight.new.memory) c.args.recorder.now c.note_code_page.new.self)
+    (let e : c.quick_steps-straight.new.recorder.steps - c.steps-begun.result ≡ c.steps-steps.result - c.steps-begun.result = omega (arith, c.steps-steps.ensures.steps, c.note_code_page.ensures.steps) in e)
+    (over_more g.row.PAGES c.args.most c.args.stop c.loop-most.page (c.loop-most.recorder.steps - c.steps-begun.result) (c.quick_steps-straight.new.recorder.steps - c.steps-begun.result)
     (state_of (with_flow c.args.core.now c.args.flow.now) c.args.memory.now) (state_of (with_flow c.loop-most.core c.loop-most.flow) c.loop-most.memory)
-    (state_of (with_flow c.quick_steps.new.core c.quick_steps.new.flow) c.quick_steps.new.memory)
-    c.args.recorder.now c.loop-most.recorder c.quick_steps.new.recorder c.note_code_page.new.self (omega (arith, c.quick_steps.ensures.least))
-    c.loop-most.invariant.goes c.quick_steps.ensures.goes c.note_code_page.ensures.records
-    (λ other. c.note_code_page.ensures.code_pages other ∙ ap (λ (pc : ℕ). holds c.quick_steps.new.recorder.code_pages other || nat_eq (pc / PAGE_BYTES) other) c.pc-here.ensures)
+    (state_of (with_flow c.quick_steps-straight.new.core c.quick_steps-straight.new.flow) c.quick_steps-straight.new.memory)
+    c.args.recorder.now c.loop-most.recorder c.quick_steps-straight.new.recorder c.note_code_page.new.self (omega (arith, c.quick_steps-straight.ensures.least))
+    c.loop-most.invariant.goes c.quick_steps-straight.ensures.goes c.note_code_page.ensures.records
+    (λ other. c.note_code_page.ensures.code_pages other ∙ ap (λ (pc : ℕ). holds c.quick_steps-straight.new.recorder.code_pages other || nat_eq (pc / PAGE_BYTES) other) c.pc-here.ensures)
     c.note_code_page.ensures.steps)
 
 pub returns-in_default-clause-goes : goal.returns-in_default-clause-goes
 returns-in_default-clause-goes g c =
     rw c.code_page.ensures.core
     (subst (λ (n : ℕ). GoesOver g.row.PAGES c.args.most c.args.stop n (state_of (with_flow c.args.core.now c.args.flow.now) c.args.memory.now)
-    (state_of (with_flow c.quick_steps.new.core c.quick_steps.new.flow) c.quick_steps.new.memory) c.args.recorder.now c.note_code_page.new.self)
-    (let e : c.quick_steps.new.recorder.steps - c.steps-begun.result ≡ c.steps-steps.result - c.steps-begun.result = omega (arith, c.steps-steps.ensures.steps, c.note_code_page.ensures.steps) in e)
-    (over_more g.row.PAGES c.args.most c.args.stop c.loop-most.page (c.loop-most.recorder.steps - c.steps-begun.result) (c.quick_steps.new.recorder.steps - c.steps-begun.result)
+    (state_of (with_flow c.quick_steps-straight.new.core c.quick_steps-straight.new.flow) c.quick_steps-straight.new.memory) c.args.recorder.now c.note_code_page.new.self)
+    (let e : c.quick_steps-straight.new.recorder.steps - c.steps-begun.result ≡ c.steps-steps.result - c.steps-begun.result = omega (arith, c.steps-steps.ensures.steps, c.note_code_page.ensures.steps) in e)
+    (over_more g.row.PAGES c.args.most c.args.stop c.loop-most.page (c.loop-most.recorder.steps - c.steps-begun.result) (c.quick_steps-straight.new.recorder.steps - c.steps-begun.result)
     (state_of (with_flow c.args.core.now c.args.flow.now) c.args.memory.now) (state_of (with_flow c.loop-most.core c.loop-most.flow) c.loop-most.memory)
-    (state_of (with_flow c.quick_steps.new.core c.quick_steps.new.flow) c.quick_steps.new.memory)
-    c.args.recorder.now c.loop-most.recorder c.quick_steps.new.recorder c.note_code_page.new.self (omega (arith, c.quick_steps.ensures.least))
-    c.loop-most.invariant.goes c.quick_steps.ensures.goes c.note_code_page.ensures.records
-    (λ other. c.note_code_page.ensures.code_pages other ∙ ap (λ (pc : ℕ). holds c.quick_steps.new.recorder.code_pages other || nat_eq (pc / PAGE_BYTES) other) c.pc-here.ensures)
+    (state_of (with_flow c.quick_steps-straight.new.core c.quick_steps-straight.new.flow) c.quick_steps-straight.new.memory)
+    c.args.recorder.now c.loop-most.recorder c.quick_steps-straight.new.recorder c.note_code_page.new.self (omega (arith, c.quick_steps-straight.ensures.least))
+    c.loop-most.invariant.goes c.quick_steps-straight.ensures.goes c.note_code_page.ensures.records
+    (λ other. c.note_code_page.ensures.code_pages other ∙ ap (λ (pc : ℕ). holds c.quick_steps-straight.new.recorder.code_pages other || nat_eq (pc / PAGE_BYTES) other) c.pc-here.ensures)
     c.note_code_page.ensures.steps))
 
 pub returns-then-not-has_touched-clause-goes : goal.returns-then-not-has_touched-clause-goes
 returns-then-not-has_touched-clause-goes g c =
     rw c.code_page.ensures.core
     (subst (λ (n : ℕ). GoesOver g.row.PAGES c.args.most c.args.stop n (state_of (with_flow c.args.core.now c.args.flow.now) c.args.memory.now)
-    (state_of (with_flow c.quick_steps.new.core c.quick_steps.new.flow) c.quick_steps.new.memory) c.args.recorder.now c.note_code_page.new.self)
-    (let e : c.quick_steps.new.recorder.steps - c.steps-begun.result ≡ c.steps-steps.result - c.steps-begun.result = omega (arith, c.steps-steps.ensures.steps, c.note_code_page.ensures.steps) in e)
-    (over_more g.row.PAGES c.args.most c.args.stop c.loop-most.page (c.loop-most.recorder.steps - c.steps-begun.result) (c.quick_steps.new.recorder.steps - c.steps-begun.result)
+    (state_of (with_flow c.quick_steps-straight.new.core c.quick_steps-straight.new.flow) c.quick_steps-straight.new.memory) c.args.recorder.now c.note_code_page.new.self)
+    (let e : c.quick_steps-straight.new.recorder.steps - c.steps-begun.result ≡ c.steps-steps.result - c.steps-begun.result = omega (arith, c.steps-steps.ensures.steps, c.note_code_page.ensures.steps) in e)
+    (over_more g.row.PAGES c.args.most c.args.stop c.loop-most.page (c.loop-most.recorder.steps - c.steps-begun.result) (c.quick_steps-straight.new.recorder.steps - c.steps-begun.result)
     (state_of (with_flow c.args.core.now c.args.flow.now) c.args.memory.now) (state_of (with_flow c.loop-most.core c.loop-most.flow) c.loop-most.memory)
-    (state_of (with_flow c.quick_steps.new.core c.quick_steps.new.flow) c.quick_steps.new.memory)
-    c.args.recorder.now c.loop-most.recorder c.quick_steps.new.recorder c.note_code_page.new.self (omega (arith, c.quick_steps.ensures.least))
-    c.loop-most.invariant.goes c.quick_steps.ensures.goes c.note_code_page.ensures.records
-    (λ other. c.note_code_page.ensures.code_pages other ∙ ap (λ (pc : ℕ). holds c.quick_steps.new.recorder.code_pages other || nat_eq (pc / PAGE_BYTES) other) c.pc-here.ensures)
+    (state_of (with_flow c.quick_steps-straight.new.core c.quick_steps-straight.new.flow) c.quick_steps-straight.new.memory)
+    c.args.recorder.now c.loop-most.recorder c.quick_steps-straight.new.recorder c.note_code_page.new.self (omega (arith, c.quick_steps-straight.ensures.least))
+    c.loop-most.invariant.goes c.quick_steps-straight.ensures.goes c.note_code_page.ensures.records
+    (λ other. c.note_code_page.ensures.code_pages other ∙ ap (λ (pc : ℕ). holds c.quick_steps-straight.new.recorder.code_pages other || nat_eq (pc / PAGE_BYTES) other) c.pc-here.ensures)
     c.note_code_page.ensures.steps))
 
 pub loop-most-preserved : goal.loop-most-preserved
@@ -68,17 +74,18 @@ loop-most-preserved g c = record {
       rw (c.open_page.ensures.words, c.code_page.ensures.core)
       (over_more g.row.PAGES c.args.most c.args.stop c.loop-most.page (c.loop-most.recorder.steps - c.steps-begun.result) (c.note_code_page.new.self.steps - c.steps-begun.result)
       (state_of (with_flow c.args.core.now c.args.flow.now) c.args.memory.now) (state_of (with_flow c.loop-most.core c.loop-most.flow) c.loop-most.memory)
-      (state_of (with_flow c.quick_steps.new.core c.quick_steps.new.flow) c.quick_steps.new.memory)
-      c.args.recorder.now c.loop-most.recorder c.quick_steps.new.recorder c.note_code_page.new.self (omega (arith, c.quick_steps.ensures.least, c.note_code_page.ensures.steps))
-      c.loop-most.invariant.goes (rw c.note_code_page.ensures.steps c.quick_steps.ensures.goes) c.note_code_page.ensures.records
-      (λ other. c.note_code_page.ensures.code_pages other ∙ ap (λ (pc : ℕ). holds c.quick_steps.new.recorder.code_pages other || nat_eq (pc / PAGE_BYTES) other) c.pc-here.ensures)
+      (state_of (with_flow c.quick_steps-straight.new.core c.quick_steps-straight.new.flow) c.quick_steps-straight.new.memory)
+      c.args.recorder.now c.loop-most.recorder c.quick_steps-straight.new.recorder c.note_code_page.new.self (omega (arith, c.quick_steps-straight.ensures.least, c.note_code_page.ensures.steps))
+      c.loop-most.invariant.goes (rw c.note_code_page.ensures.steps c.quick_steps-straight.ensures.goes) c.note_code_page.ensures.records
+      (λ other. c.note_code_page.ensures.code_pages other ∙ ap (λ (pc : ℕ). holds c.quick_steps-straight.new.recorder.code_pages other || nat_eq (pc / PAGE_BYTES) other) c.pc-here.ensures)
       c.note_code_page.ensures.steps);
   may = record {
-    quiet = rw c.code_page.ensures.core c.quick_steps.ensures.goes.may.quiet;
+    quiet = rw c.code_page.ensures.core c.quick_steps-straight.ensures.goes.may.quiet;
     code = rw c.code_page.ensures.core c.in-Some.ensures.code;
     again = sym c.has_touched.ensures ∙ c.if-not-has_touched.false;
   };
+  straight = c.quick_steps-straight.ensures.straight c.if-not-straight.false;
   page = c.in-Some.ensures.page;
   opened = c.open_page.ensures.opened;
-  least = omega (arith, c.loop-most.invariant.least, c.quick_steps.ensures.least, c.note_code_page.ensures.steps);
+  least = omega (arith, c.loop-most.invariant.least, c.quick_steps-straight.ensures.least, c.note_code_page.ensures.steps);
 }
