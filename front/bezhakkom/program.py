@@ -60,6 +60,10 @@ def words(kind: str, size: int, log_size: int) -> list[str]:
     return [path(), "--kind", kind, "--size", str(size), "--log", str(log_size)]
 
 
+# Large pages, where the system gives them to who asks: it starts and runs quicker, as its memory is in few large pieces.
+_LARGE_PAGES = "glibc.malloc.hugetlb=1"
+
+
 class Program:
     """A process of the program, in a session of its own, so that the terminal's Ctrl-C does not reach it."""
 
@@ -68,7 +72,7 @@ class Program:
         try:
             self._process = subprocess.Popen(
                 words(kind, len(content), len(log)), stdin=subprocess.PIPE, stdout=subprocess.PIPE, stderr=self._errors,
-                start_new_session=True, bufsize=0)
+                start_new_session=True, bufsize=0, env={"GLIBC_TUNABLES": _LARGE_PAGES, **os.environ})
         except OSError as error:
             self._errors.close()
             raise Problem(f"{path()} can't be started: {error.strerror}", 70) from None
