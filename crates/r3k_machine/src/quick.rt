@@ -451,8 +451,17 @@ fn perform_quick<M: Mem>(
             next = Next::WordAfterHiLo;
         }
         Effect::Jump { target } => {
-            core.complete_in(flow);
-            flow.branch(target);
+            // Taken or not, on ways apart: the compiler then makes no choice by a flag.
+            match target {
+                Some(_) => {
+                    core.complete_in(flow);
+                    flow.branch(target);
+                }
+                None => {
+                    core.complete_in(flow);
+                    flow.branch(target);
+                }
+            }
             next = Next::DelaySlot;
         }
         Effect::JumpAndLink {
