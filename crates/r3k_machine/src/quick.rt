@@ -451,17 +451,8 @@ fn perform_quick<M: Mem>(
             next = Next::WordAfterHiLo;
         }
         Effect::Jump { target } => {
-            // Taken or not, on ways apart: the compiler then makes no choice by a flag.
-            match target {
-                Some(_) => {
-                    core.complete_in(flow);
-                    flow.branch(target);
-                }
-                None => {
-                    core.complete_in(flow);
-                    flow.branch(target);
-                }
-            }
+            core.complete_in(flow);
+            flow.branch(target);
             next = Next::DelaySlot;
         }
         Effect::JumpAndLink {
