@@ -1,11 +1,12 @@
 -- The last segment of RAM shows how far the set words of RAM reach.
-use Rattle.std.proofs.Common.{◌≡◌, ℕ, ◌+◌, ◌-◌, ◌*◌, ◌/◌, ◌<◌, ◌≤◌, ◌⊎◌, inl, inr, List, [], ◌∷◌, length, get_or, Option, Some, None, unwrap_or, sym, ap, subst, ◌∙◌, arith}
+use Rattle.std.proofs.Common.{◌≡◌, ℕ, ◌+◌, ◌-◌, ◌*◌, ◌/◌, ◌%◌, ◌<◌, ◌≤◌, ◌⊎◌, inl, inr, List, [], ◌∷◌, length, get_or, Option, Some, None, unwrap_or, sym, ap, subst, ◌∙◌, arith}
 use Rattle.std.specs.Prelude.{IsTrue, is_some}
 use Rattle.std.specs.List.{slice_get}
 use Rattle.std.specs.FinMap.{get, contains_key}
 use Rattle.std.proofs.lemmas.Option.{slice_get-get_or, same_Some}
 use Rattle.r3k_word.specs.declared.layout.TheConstants.{PAGE_WORDS, ROM_START}
-use Rattle.r3k_image.specs.Boot.{Boot, ram_end, FitsRam}
+use Rattle.std.proofs.lemmas.Bool.{cases_lt}
+use Rattle.r3k_image.specs.Boot.{Boot, ram_end, FitsRam, IsBlank}
 use Rattle.r3k_image.specs.Segments.{WordsAt, end_of, AreSegments, last_at, IsMadeOf}
 use Rattle.r3k_image.proofs.Placing.{last_cases, is_last, cases_option}
 use Rattle.r3k_image.proofs.Lookup.{IsSet, is_set, get_aligned}
@@ -125,3 +126,53 @@ end_by_fits ss boot pages t made last fits =
     ∙ slice_get-get_or t.words (n - 1) 0 (omega (arith, p.some)) in
     let below : q < pages * (4 * PAGE_WORDS) = fits q (ap is_some value) (omega (arith, low)) in
     omega (arith, below, p.aligned, p.some)
+
+-- without a segment that begins before the end nothing is set there
+pub blank_none : (ss : List WordsAt) (boot : Boot) (start end_at : ℕ) → IsMadeOf ss boot → last_at (end_at - 1) ss ≡ None → IsBlank start end_at boot
+blank_none ss boot start end_at made none q above below =
+    elim (cases_option (get boot.words q)) [
+      | inl unset ↦ unset
+      | inr some ↦
+          let set = set_by_key ss boot made q (ap is_some some.1) in
+          absurd (stays q (end_at - 1) ss set.1.segment (omega (arith, below)) set.1.last none)
+    ]
+
+pub blank_by_end : (ss : List WordsAt) (boot : Boot) (start end_at : ℕ) (t : WordsAt) → IsMadeOf ss boot → last_at (end_at - 1) ss ≡ Some t → end t ≤ start → IsBlank start end_at boot
+blank_by_end ss boot start end_at t made last le q above below =
+    elim (cases_option (get boot.words q)) [
+      | inl unset ↦ unset
+      | inr some ↦
+          let set = set_by_key ss boot made q (ap is_some some.1) in
+          let s = set.1.segment in
+          let e = no_earlier 0 q (end_at - 1) ss s t made.stand (omega (arith, below)) set.1.last last in
+          let l = is_last 0 q ss s made.stand set.1.last in
+          absurd (let no : ⊥ = omega (arith, le, above, e, l.below, set.1.within) in no)
+    ]
+
+-- a word that a segment sets where it reaches past an address
+set_past : (ss : List WordsAt) (boot : Boot) (q p : ℕ) (t : WordsAt) → IsMadeOf ss boot → last_at p ss ≡ Some t → q ≤ p → t.address ≤ q → q % 4 ≡ 0 → q < end t
+    → get boot.words q ≡ None → ⊥
+set_past ss boot q p t made last low above aligned below none =
+    let l = is_last 0 p ss t made.stand last in
+    let again = same_last 0 q p ss t made.stand low above last in
+    let n = (q - t.address) / 4 in
+    let value : get boot.words q ≡ Some (get_or t.words n 0) =
+    ap (λ m. get m q) made.words
+    ∙ get_aligned q ss t made.stand again (omega (arith, aligned, above, l.good.place.aligned))
+    ∙ slice_get-get_or t.words n 0 (omega (arith, above, below)) in
+    none_is_not_some (get boot.words q) (get_or t.words n 0) none value
+
+pub end_by_blank : (ss : List WordsAt) (boot : Boot) (start end_at : ℕ) (t : WordsAt) → IsMadeOf ss boot → last_at (end_at - 1) ss ≡ Some t → start < end_at → start % 4 ≡ 0
+    → IsBlank start end_at boot → end t ≤ start
+end_by_blank ss boot start end_at t made last some aligned blank =
+    let l = is_last 0 (end_at - 1) ss t made.stand last in
+    elim (cases_lt start (end t)) [
+      | inr ends ↦ ends
+      | inl reaches ↦ elim (cases_lt start t.address) [
+        | inl before ↦
+            absurd (set_past ss boot t.address (end_at - 1) t made last l.below (omega arith) l.good.place.aligned (omega (arith, l.good.place.some))
+            (blank t.address (omega (arith, before)) (omega (arith, l.below, some))))
+        | inr within ↦
+            absurd (set_past ss boot start (end_at - 1) t made last (omega (arith, some)) within aligned reaches (blank start (omega arith) some))
+      ]
+    ]

@@ -1,5 +1,5 @@
 -- A boot image (own): the words that it sets, by their physical addresses, and three constants. All other words are 0.
-use Rattle.std.specs.Prelude.{◌≡◌, ℕ, ◌+◌, ◌*◌, ◌%◌, ◌^◌, ◌<◌, ◌≤◌, List, [], ◌∷◌, length, slice_index, All, IfSome, IsSome, IsTrue, refl}
+use Rattle.std.specs.Prelude.{◌≡◌, ℕ, ◌+◌, ◌*◌, ◌%◌, ◌^◌, ◌<◌, ◌≤◌, List, [], ◌∷◌, length, slice_index, All, IfSome, IsSome, IsTrue, None, refl}
 use Rattle.std.specs.Ordering.{nat_cmp}
 use Rattle.std.specs.FinMap as map
 use Rattle.std.specs.Coded.{Coded, code_by, coded×, coded_ℕ, coded_list}
@@ -62,3 +62,7 @@ pub record IsBoot (boot : Boot) : Type 0 where
 -- each set word of RAM lies in the first `pages` pages of RAM (own)
 abbrev pub FitsRam : ℕ → Boot → Type 0
 FitsRam pages boot = (address : ℕ) → IsTrue (map.contains_key boot.words address) → address < ram_end → address < pages * (4 * PAGE_WORDS)
+
+-- no word is set from one address on, up to another one
+abbrev pub IsBlank : (start end : ℕ) → Boot → Type 0
+IsBlank start end boot = (address : ℕ) → start ≤ address → address < end → map.get boot.words address ≡ None

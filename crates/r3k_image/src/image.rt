@@ -1,8 +1,8 @@
 //! The boot image.
 
-ghost use Rattle.std.specs.Prelude.{◌≡◌, ◌↔◌, IsTrue};
+ghost use Rattle.std.specs.Prelude.{◌≡◌, ◌%◌, ◌<◌, ◌↔◌, IsTrue};
 ghost use Rattle.std.specs.FinMap as map;
-ghost use Rattle.r3k_image.specs.Boot.{IsBoot, FitsRam};
+ghost use Rattle.r3k_image.specs.Boot.{IsBlank, IsBoot, FitsRam};
 
 use crate::segment::{Segment, last_segment_at};
 use r3k_word::layout::{PAGE_WORDS, ROM_START};
@@ -56,6 +56,21 @@ impl Image {
             Some(segment) => {
                 let end = u64::from(segment.address) + 4 * segment.words.len() as u64;
                 end <= 4 * u64::from(PAGE_WORDS) * u64::from(ram_pages)
+            }
+        }
+    }
+
+    /// Whether it sets no word from one physical address on, that of a word, up to another one.
+    pub fn is_blank(&self, start: u32, end: u32) -> bool
+        requires some { start < end }
+        requires aligned { start % 4 ≡ 0 }
+        ensures { IsTrue result ↔ IsBlank start end self.now }
+    {
+        match last_segment_at(&self.segments, end - 1) {
+            None => true,
+            Some(segment) => {
+                let last = u64::from(segment.address) + 4 * segment.words.len() as u64;
+                last <= u64::from(start)
             }
         }
     }

@@ -1,15 +1,15 @@
 -- What is kept of the words of open pages stays known of them.
-use Rattle.std.proofs.Common.{◌≡◌, ℕ, ◌+◌, ◌*◌, ◌/◌, ◌%◌, ◌<◌, IsTrue, List, length, nat_eq, slice_index, slice_index_or, slice_set, sym, ap, subst, ◌∙◌, arith, inl, inr}
+use Rattle.std.proofs.Common.{◌≡◌, ℕ, ◌+◌, ◌*◌, ◌/◌, ◌%◌, ◌<◌, ◌≤◌, IsTrue, List, length, nat_eq, slice_index, slice_index_or, slice_set, sym, ap, subst, ◌∙◌, arith, inl, inr}
 use Rattle.std.proofs.lemmas.Bool.{cases_Bool, eq-eqb, eqb-true, true≢false}
 use Rattle.std.proofs.lemmas.Bool.Decides.{nat_tests}
 use Rattle.std.proofs.lemmas.List.{get_or-set_same, get_or-set_other}
 use Rattle.std.proofs.Math.ListN.{length-set}
 use Rattle.r3k_decode.specs.Operation.{Operation}
 use Rattle.r3k_word.specs.Layout.{word_count_of}
-use Rattle.r3k_word.specs.declared.layout.TheConstants.{PAGE_WORDS, ROM_PAGES}
+use Rattle.r3k_word.specs.declared.layout.TheConstants.{MAX_RAM_PAGES, PAGE_WORDS, ROM_PAGES}
 use Rattle.r3k_machine.specs.Known.{IsDecoded, IsKnown, IsStop}
 use Rattle.r3k_live.specs.Slots.{AreKnown, is_open, slot_of}
-use Rattle.r3k_live.specs.declared.flat.TheConstants.{SLOTS}
+use Rattle.r3k_live.specs.declared.flat.TheConstants.{SLOTS, UNUSED}
 
 pub slot_within : (pages page : ℕ) → page < pages + ROM_PAGES → slot_of pages page < SLOTS
 slot_within pages page within = grind (arith, nat_tests)
@@ -38,6 +38,23 @@ all_closed pages words known opened room slots none = record {
       let there = eqb-true (slice_index opened (slot_of pages page)) (page + 1) is in
       let empty = none (slot_of pages page) (rw slots (slot_within pages page within)) in
       absurd (let e : ⊥ = omega (arith, there, empty) in e);
+  unused = λ slot index d within inside is.
+      let empty = none slot (rw slots within) in
+      absurd (let e : ⊥ = omega (arith, is, empty) in e);
+}
+
+-- where no page was open yet
+pub all_unused : (pages : ℕ) (words : List ℕ) (known : List Operation) (opened : List ℕ) (stop : Operation) → pages ≤ MAX_RAM_PAGES → IsStop stop
+    → length known ≡ SLOTS * PAGE_WORDS → length opened ≡ SLOTS → ((slot : ℕ) → slot < SLOTS → slice_index opened slot ≡ UNUSED)
+    → ((i : ℕ) (d : Operation) → i < SLOTS * PAGE_WORDS → slice_index_or known i d ≡ stop) → AreKnown pages words known opened
+all_unused pages words known opened stop few stops room slots unused nothing = record {
+  room = room;
+  slots = slots;
+  each = λ page index d within inside is.
+      let there = eqb-true (slice_index opened (slot_of pages page)) (page + 1) is in
+      let none = unused (slot_of pages page) (slot_within pages page within) in
+      absurd (let e : ⊥ = omega (arith, there, none, within, few) in e);
+  unused = λ slot index d within inside is. subst IsStop (sym (nothing (slot * PAGE_WORDS + index) d (omega (arith, within, inside)))) stops;
 }
 
 -- after a word was stored into
@@ -64,14 +81,24 @@ word_stored pages words known opened place value stop are stops within =
                 (subst (λ (word : ℕ). IsKnown word (slice_index_or known here d)) (sym (get_or-set_other words place (page * PAGE_WORDS + index) value 0 apart_place))
                 (are.each page index d page_within inside is))
           ];
+      unused = λ slot index d within inside is.
+          let here = slot * PAGE_WORDS + index in
+          elim (cases_Bool (nat_eq at here)) [
+            | inl same ↦
+                subst (λ (n : ℕ). IsStop (slice_index_or (slice_set known at stop) n d)) (eqb-true at here same)
+                (subst IsStop (sym (get_or-set_same known at stop d (rw are.room (omega (arith, slot_at))))) stops)
+            | inr apart ↦
+                subst IsStop (sym (get_or-set_other known at here stop d (λ same. true≢false (sym (eq-eqb at here (sym same)) ∙ apart))))
+                (are.unused slot index d within inside is)
+          ];
     }
 
 -- after a word of an open page was decoded
 pub word_learned : (pages : ℕ) (words : List ℕ) (known : List Operation) (opened : List ℕ) (page index : ℕ) (operation : Operation)
-    → AreKnown pages words known opened → page < pages + ROM_PAGES → index < PAGE_WORDS → IsTrue (is_open pages opened page)
+    → AreKnown pages words known opened → pages ≤ MAX_RAM_PAGES → page < pages + ROM_PAGES → index < PAGE_WORDS → IsTrue (is_open pages opened page)
     → IsDecoded (slice_index words (page * PAGE_WORDS + index)) operation
     → AreKnown pages words (slice_set known (slot_of pages page * PAGE_WORDS + index) operation) opened
-word_learned pages words known opened page index operation are page_within inside is decoded =
+word_learned pages words known opened page index operation are few page_within inside is decoded =
     let at = slot_of pages page * PAGE_WORDS + index in
     let slot_at = slot_within pages page page_within in record {
       room = length-set known at operation ∙ are.room;
@@ -92,5 +119,49 @@ word_learned pages words known opened page index operation are page_within insid
                 subst (λ (o : Operation). IsKnown (slice_index words (other * PAGE_WORDS + i)) o)
                 (sym (get_or-set_other known at here operation d (λ same. true≢false (sym (eq-eqb at here (sym same)) ∙ apart))))
                 (are.each other i d other_within other_inside other_is)
+          ];
+      unused = λ slot i d within inside_i none.
+          let here = slot * PAGE_WORDS + i in
+          elim (cases_Bool (nat_eq at here)) [
+            | inl same ↦
+                let same_at : at ≡ here = eqb-true at here same in
+                let same_slot : slot_of pages page ≡ slot = omega (arith, same_at, inside, inside_i) in
+                let there : slice_index opened slot ≡ page + 1 = ap (slice_index opened) (sym same_slot) ∙ eqb-true (slice_index opened (slot_of pages page)) (page + 1) is in
+                absurd (let e : ⊥ = omega (arith, there, none, page_within, few) in e)
+            | inr apart ↦
+                subst IsStop (sym (get_or-set_other known at here operation d (λ same. true≢false (sym (eq-eqb at here (sym same)) ∙ apart))))
+                (are.unused slot i d within inside_i none)
+          ];
+    }
+
+-- after a page took a slot of whose words nothing is known
+pub slot_taken : (pages : ℕ) (words : List ℕ) (known cleared : List Operation) (opened : List ℕ) (page slot : ℕ) → AreKnown pages words known opened
+    → pages ≤ MAX_RAM_PAGES → page < pages + ROM_PAGES → slot ≡ slot_of pages page → length cleared ≡ SLOTS * PAGE_WORDS
+    → ((index : ℕ) (d : Operation) → index < PAGE_WORDS → IsStop (slice_index_or cleared (slot * PAGE_WORDS + index) d))
+    → ((i : ℕ) (d : Operation) → ¬ (i / PAGE_WORDS ≡ slot) → slice_index_or cleared i d ≡ slice_index_or known i d)
+    → AreKnown pages words cleared (slice_set opened slot (page + 1))
+slot_taken pages words known cleared opened page slot are few page_within slot_is room here others =
+    let slot_at : slot < length opened = rw (are.slots, slot_is) (slot_within pages page page_within) in record {
+      room = room;
+      slots = length-set opened slot (page + 1) ∙ are.slots;
+      each = λ other index d within inside is.
+          elim (cases_Bool (nat_eq slot (slot_of pages other))) [
+            | inl same ↦ λ known_there.
+                absurd (known_there (subst (λ (n : ℕ). IsStop (slice_index_or cleared (n * PAGE_WORDS + index) d)) (eqb-true slot (slot_of pages other) same) (here index d inside)))
+            | inr apart ↦
+                let away : ¬ (slot_of pages other ≡ slot) = λ same. true≢false (sym (eq-eqb slot (slot_of pages other) (sym same)) ∙ apart) in
+                let far : ¬ ((slot_of pages other * PAGE_WORDS + index) / PAGE_WORDS ≡ slot) = λ same. away (sym (a_slot (slot_of pages other) index inside) ∙ same) in
+                subst (λ (o : Operation). IsKnown (slice_index words (other * PAGE_WORDS + index)) o) (sym (others (slot_of pages other * PAGE_WORDS + index) d far))
+                (are.each other index d within inside
+                (subst (λ (n : ℕ). IsTrue (nat_eq n (other + 1))) (get_or-set_other opened slot (slot_of pages other) (page + 1) 0 away) is))
+          ];
+      unused = λ other index d within inside is.
+          elim (cases_Bool (nat_eq slot other)) [
+            | inl same ↦ subst (λ (n : ℕ). IsStop (slice_index_or cleared (n * PAGE_WORDS + index) d)) (eqb-true slot other same) (here index d inside)
+            | inr apart ↦
+                let away : ¬ (other ≡ slot) = λ same. true≢false (sym (eq-eqb slot other (sym same)) ∙ apart) in
+                let far : ¬ ((other * PAGE_WORDS + index) / PAGE_WORDS ≡ slot) = λ same. away (sym (a_slot other index inside) ∙ same) in
+                subst IsStop (sym (others (other * PAGE_WORDS + index) d far))
+                (are.unused other index d within inside (sym (get_or-set_other opened slot other (page + 1) 0 away) ∙ is))
           ];
     }

@@ -1,22 +1,23 @@
 //! A plain memory: all words in one vector, and those of some pages decoded.
 
-ghost use Rattle.std.specs.Prelude.{◌≡◌, ◌+◌, ◌*◌, ◌/◌, ◌≤◌, ◌<◌, ℕ, IfOk, IsTrue, length, slice_index, slice_index_or};
+ghost use Rattle.std.specs.Prelude.{◌≡◌, ◌+◌, ◌*◌, ◌/◌, ◌≤◌, ◌<◌, ℕ, IfOk, IsTrue, length, map, slice_index, slice_index_or};
+ghost use Rattle.std.specs.List.{range_with_len};
 ghost use Rattle.r3k_decode.specs.Operation.{Operation};
 ghost use Rattle.r3k_word.specs.Layout.{word_count_of};
 ghost use Rattle.r3k_word.specs.declared.layout.TheConstants.{MAX_RAM_PAGES, PAGE_WORDS};
 ghost use Rattle.r3k_pages.specs.Pages.{SameOutside};
 ghost use Rattle.r3k_machine.specs.Known.{IsStop};
-ghost use Rattle.r3k_machine.specs.Reset.{reset_words};
+ghost use Rattle.r3k_machine.specs.Reset.{reset_word, reset_words};
 ghost use Rattle.r3k_machine.specs.Reports.{IsPage};
 ghost use Rattle.r3k_live.specs.Slots.{AreKnown, is_open, slot_of};
-ghost use Rattle.r3k_live.specs.declared.flat.TheConstants.{SLOTS};
+ghost use Rattle.r3k_live.specs.declared.flat.TheConstants.{SLOTS, UNUSED};
 
 use r3k_decode::Insn;
 use r3k_image::Image;
 use r3k_machine::{Mem, decoded, stop};
 use r3k_pages::{PageMarks, Snapshot};
 use r3k_table::mnemonic::Mnemonic;
-use r3k_word::layout::{PAGE_WORDS, address_of, word_count};
+use r3k_word::layout::{PAGE_BYTES, PAGE_WORDS, ROM_PAGES, address_of, word_count};
 use std::alloc::{AllocError, Global};
 
 // How many pages of RAM may be open.
@@ -28,13 +29,16 @@ const SLOTS: usize = 576;
 // Words in a page.
 const WORDS: usize = PAGE_WORDS as usize;
 
+// It stands for a page where none was open in a slot yet, so that nothing is known there.
+const UNUSED: u32 = u32::MAX;
+
 /// All words of RAM and ROM, in one vector. The words of some pages are kept decoded.
 #[derive(Debug, Drop)]
 pub struct FlatMemory<const PAGES: u32> {
     words: Vec<u32>,
     // What is known of the words of open pages, by slots.
     known: Vec<Insn>,
-    // For each slot one more than the page that is open in it, or 0.
+    // For each slot one more than the page that is open in it, or 0, or `UNUSED`.
     opened: Vec<u32>,
     // It stands for a word of which nothing is known.
     stop: Insn,
@@ -60,17 +64,18 @@ fn slot_of(ram_pages: u32, page: u32) -> usize
 
 // Slots of whose words nothing is known.
 fn unknown(alloc: Global, stop: Insn) -> Result<Vec<Insn>, AllocError>
-    ensures { IfOk result (λ known. length known.items ≡ SLOTS * PAGE_WORDS) }
+    ensures room { IfOk result (λ known. length known.items ≡ SLOTS * PAGE_WORDS) }
+    ensures nothing { IfOk result (λ known. (i : ℕ) (d : Operation) → i < SLOTS * PAGE_WORDS → slice_index_or known.items i d ≡ stop) }
 {
     vec![in alloc; stop; SLOTS * WORDS]
 }
 
-// Slots in which no page is open.
-fn closed(alloc: Global) -> Result<Vec<u32>, AllocError>
+// Slots in which no page was open yet.
+fn unused(alloc: Global) -> Result<Vec<u32>, AllocError>
     ensures long { IfOk result (λ opened. length opened.items ≡ SLOTS) }
-    ensures none { IfOk result (λ opened. (slot : ℕ) → slot < SLOTS → slice_index opened.items slot ≡ 0) }
+    ensures unused { IfOk result (λ opened. (slot : ℕ) → slot < SLOTS → slice_index opened.items slot ≡ UNUSED) }
 {
-    vec![in alloc; 0; SLOTS]
+    vec![in alloc; UNUSED; SLOTS]
 }
 
 // Nothing is known of the words of a slot any more.
@@ -96,6 +101,32 @@ fn close_all(opened: &mut Vec<u32>)
     }
 }
 
+// Adds the words of a page at reset. Of most pages the image sets none.
+fn add_page(
+    words: &mut Vec<u32>,
+    image: &Image,
+    ram_pages: u32,
+    page: u32,
+) -> Result<(), AllocError>
+    requires page { IsPage ram_pages page }
+    requires range { ram_pages ≤ MAX_RAM_PAGES }
+    requires so_far { words.old.items ≡ map (reset_word ram_pages image.now) (range_with_len 0 (page * PAGE_WORDS)) }
+    ensures { IfOk result (λ _. words.new.items ≡ map (reset_word ram_pages image.now) (range_with_len 0 ((page + 1) * PAGE_WORDS))) }
+{
+    let first = page as usize * WORDS;
+    let start = address_of(ram_pages, first);
+    let blank = image.is_blank(start, start + PAGE_BYTES);
+    for place in first..first + WORDS {
+        let word = if blank {
+            0
+        } else {
+            image.word(address_of(ram_pages, place)).unwrap_or(0)
+        };
+        words.push(word)?;
+    }
+    Ok(())
+}
+
 impl<const PAGES: u32> FlatMemory<PAGES> {
     /// The words at reset: those that the image sets, and all others 0.
     pub fn boot(alloc: Global, image: &Image) -> Result<FlatMemory<PAGES>, AllocError>
@@ -104,11 +135,10 @@ impl<const PAGES: u32> FlatMemory<PAGES> {
     {
         let stop = stop();
         let known = unknown(alloc, stop)?;
-        let opened = closed(alloc)?;
-        let count = word_count(PAGES);
-        let mut words = Vec::with_capacity(alloc, count)?;
-        for place in 0..count {
-            words.push(image.word(address_of(PAGES, place)).unwrap_or(0))?;
+        let opened = unused(alloc)?;
+        let mut words = Vec::with_capacity(alloc, word_count(PAGES))?;
+        for page in 0..PAGES + ROM_PAGES {
+            add_page(&mut words, image, PAGES, page)?;
         }
         Ok(FlatMemory {
             words,
@@ -150,7 +180,9 @@ impl<const PAGES: u32> FlatMemory<PAGES> {
         ensures opened { IsTrue (is_open PAGES self.new.opened.items page) }
         ensures words { self.new.words.items ≡ self.old.words.items }
     {
-        forget(&mut self.known, slot, self.stop);
+        if self.opened[slot] != UNUSED {
+            forget(&mut self.known, slot, self.stop);
+        }
         self.opened[slot] = page + 1;
     }
 }

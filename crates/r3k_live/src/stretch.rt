@@ -1,17 +1,19 @@
 //! Stretches of quick steps.
 
-ghost use Rattle.std.specs.Prelude.{◌≡◌, ◌+◌, ◌-◌, ◌*◌, ◌/◌, ◌^◌, ◌<◌, ◌≤◌, IfSome, IsFalse, IsTrue, None, Some, ℕ, [], List};
+ghost use Rattle.std.specs.Prelude.{◌≡◌, ◌+◌, ◌-◌, ◌*◌, ◌/◌, ◌^◌, ◌<◌, ◌≤◌, All, IfSome, IsFalse, IsTrue, None, Some, ℕ, [], List};
 ghost use Rattle.input_log.specs.Event.{LogEvent};
 ghost use Rattle.r3k_word.specs.declared.layout.TheConstants.{PAGE_BYTES, PAGE_WORDS};
+ghost use Rattle.r3k_machine.specs.declared.flow.Flow.{Flow};
 ghost use Rattle.r3k_machine.specs.Flow.{IsStraight, with_flow};
 ghost use Rattle.r3k_machine.specs.Locality.{fetched_page};
 ghost use Rattle.r3k_machine.specs.Quiet.{IsCodePage, IsIndexIn, IsQuietFor, LeadsOn, Leaves};
 ghost use Rattle.r3k_machine.specs.Run.{arriving};
 ghost use Rattle.r3k_machine.specs.State.{State};
-ghost use Rattle.r3k_machine.specs.Reports.{IsPage, IsReport};
+ghost use Rattle.r3k_machine.specs.Reports.{IsPage, IsRamWord, IsReport};
 ghost use Rattle.r3k_pages.specs.Pages.{holds};
 ghost use Rattle.r3k_live.specs.Going.{AreLeft, Ends, GoesOn, GoesOnBy, GoesOver, HasGone, HasGoneFor, IsFreeFor, IsWordAt, MayGoOn};
 ghost use Rattle.r3k_live.specs.Living.{state_of};
+ghost use Rattle.r3k_live.specs.Recording.{IsNoted};
 ghost use Rattle.r3k_live.specs.Slots.{is_open};
 
 use crate::flat::FlatMemory;
@@ -188,6 +190,44 @@ fn step_straight<const PAGES: u32, const SPAN: u32>(
     None
 }
 
+// Records a quick step from a page that was touched before, and says whether it leaves a delay slot. What may come next has a way of its
+// own each, as where it is straight.
+#[inline(always)]
+fn note_apart<const PAGES: u32, const SPAN: u32>(
+    quick: Quick,
+    recorder: &mut Recorder<PAGES, SPAN>,
+) -> bool
+    requires room { recorder.old.steps < SPAN }
+    requires stored { IfSome quick.done.stored (IsRamWord PAGES) }
+    requires touched { All (λ page. IfSome page (IsPage PAGES)) quick.done.touched }
+    requires again { IfSome (fetched_page quick.done) (λ page. IsTrue (holds recorder.old.touched page)) }
+    ensures noted { IsNoted PAGES quick.done recorder.old recorder.new }
+    ensures delay { (flow : Flow) → Leaves quick.next flow → result ≡ flow.delay }
+{
+    match quick.next {
+        Next::DelaySlot => {
+            recorder.note_again(quick.done);
+            true
+        }
+        Next::WordAfterLoad => {
+            recorder.note_again(quick.done);
+            false
+        }
+        Next::Word => {
+            recorder.note_again(quick.done);
+            false
+        }
+        Next::WordAfterHiLo => {
+            recorder.note_again(quick.done);
+            false
+        }
+        Next::WordAfterNone => {
+            recorder.note_again(quick.done);
+            false
+        }
+    }
+}
+
 // Makes quick steps in an open page that was touched before, up to `most` in all after `begun`, and ends after one that comes to an
 // address. Their ticks and falls of Random are still to come. It gives whether the core stands straight.
 #[inline(always)]
@@ -226,14 +266,13 @@ fn quick_steps<const PAGES: u32, const SPAN: u32>(
         let Some(quick) = step_quickly(core, flow, memory, page, slot) else {
             return false;
         };
-        recorder.note_again(quick.done);
-        if flow.delay() {
+        if note_apart(quick, recorder) {
             return false;
         }
     }
 }
 
-// The same, where the flow stands apart from the core.
+// Makes quick steps from page to page, as `quick_pages` does, where the flow stands apart from the core.
 #[inline(always)]
 fn steps_over_pages<const PAGES: u32, const SPAN: u32>(
     core: &mut Core,

@@ -167,6 +167,7 @@ impl CodePage {
 #[inline(always)]
 pub fn code_page<M: Mem>(core: &mut Core, flow: Flow, memory: &M, over_bus: u32) -> Option<CodePage>
     requires over_bus { IsOverBusFor over_bus (with_flow core.old flow) }
+    ensures number { IfSome result (λ page. page.number ≡ flow.pc / PAGE_BYTES) }
     ensures code { IfSome result (λ page. IsCodePage M.ram (with_flow core.old flow) page) }
     ensures page { IfSome result (λ page. IsPage M.ram page.page) }
     ensures core { core.new ≡ core.old }
@@ -451,8 +452,17 @@ fn perform_quick<M: Mem>(
             next = Next::WordAfterHiLo;
         }
         Effect::Jump { target } => {
-            core.complete_in(flow);
-            flow.branch(target);
+            // Each way is apart, so that the compiler knows there whether the branch is taken.
+            match target {
+                Some(address) => {
+                    core.complete_in(flow);
+                    flow.branch(Some(address));
+                }
+                None => {
+                    core.complete_in(flow);
+                    flow.branch(None);
+                }
+            }
             next = Next::DelaySlot;
         }
         Effect::JumpAndLink {

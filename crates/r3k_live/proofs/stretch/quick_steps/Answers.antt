@@ -1,4 +1,4 @@
-use Rattle.std.proofs.Common.{ℕ, ◌-◌, Option, IfSome, IsTrue, subst, sym, arith}
+use Rattle.std.proofs.Common.{ℕ, ◌∙◌, ◌-◌, Option, IfSome, IsTrue, subst, sym, arith}
 use Rattle.r3k_machine.specs.Flow.{with_flow}
 use Rattle.r3k_live.specs.Living.{state_of}
 use Rattle.r3k_pages.specs.Pages.{holds}
@@ -42,8 +42,8 @@ returns-in_default-step_quickly-clause-goes g c =
     c.args.recorder.now c.loop-index.recorder c.step_straight.new.recorder
     c.loop-index.invariant.goes (c.step_straight.ensures.goes c.args.stop c.halt_in-halt.ensures.word))
 
-pub note_again-requires : goal.note_again-requires
-note_again-requires g c =
+pub note_apart-requires : goal.note_apart-requires
+note_apart-requires g c =
     let so_far = goes_further g.row.PAGES c.args.most c.args.stop c.args.page (c.args.recorder.now.steps - c.args.begun) (c.loop-index.recorder.steps - c.args.begun) (c.step_straight.new.recorder.steps - c.args.begun)
     (state_of (with_flow c.args.core.now c.args.flow.now) c.args.memory.now) (state_of (with_flow c.loop-index.core c.loop-index.flow) c.loop-index.memory)
     (state_of (with_flow c.step_straight.new.core c.step_straight.new.flow) c.step_straight.new.memory)
@@ -63,8 +63,8 @@ note_again-requires g c =
       ),
     )
 
-pub returns-then-delay-clause-goes : goal.returns-then-delay-clause-goes
-returns-then-delay-clause-goes g c =
+pub returns-then-note_apart-clause-goes : goal.returns-then-note_apart-clause-goes
+returns-then-note_apart-clause-goes g c =
     let so_far = goes_further g.row.PAGES c.args.most c.args.stop c.args.page (c.args.recorder.now.steps - c.args.begun) (c.loop-index.recorder.steps - c.args.begun) (c.step_straight.new.recorder.steps - c.args.begun)
     (state_of (with_flow c.args.core.now c.args.flow.now) c.args.memory.now) (state_of (with_flow c.loop-index.core c.loop-index.flow) c.loop-index.memory)
     (state_of (with_flow c.step_straight.new.core c.step_straight.new.flow) c.step_straight.new.memory)
@@ -72,10 +72,10 @@ returns-then-delay-clause-goes g c =
     c.loop-index.invariant.goes (c.step_straight.ensures.goes c.args.stop c.halt_in-halt.ensures.word) in
     goes_straight g.row.PAGES c.args.most c.args.stop c.args.page c.args.begun (state_of (with_flow c.args.core.now c.args.flow.now) c.args.memory.now)
     (state_of (with_flow c.step_straight.new.core c.step_straight.new.flow) c.step_straight.new.memory) (state_of (with_flow c.step_quickly.new.core c.step_quickly.new.flow) c.step_quickly.new.memory)
-    c.args.recorder.now c.step_straight.new.recorder c.note_again.new.self
-    (omega (arith, c.requires.begun, c.loop-index.invariant.least, c.step_straight.ensures.least)) c.in-Some-step_straight.ensures.room c.note_again.ensures.steps
+    c.args.recorder.now c.step_straight.new.recorder c.note_apart.new.recorder
+    (omega (arith, c.requires.begun, c.loop-index.invariant.least, c.step_straight.ensures.least)) c.in-Some-step_straight.ensures.room c.note_apart.ensures.noted.steps
     (c.in-Some-step_straight.ensures.elsewhere c.args.stop c.halt_in-halt.ensures.word) so_far
-    (λ n less elsewhere may. c.in-Some-step_quickly.ensures.goes c.args.most c.args.stop n c.step_straight.new.recorder c.note_again.new.self less elsewhere may c.note_again.ensures)
+    (λ n less elsewhere may. c.in-Some-step_quickly.ensures.goes c.args.most c.args.stop n c.step_straight.new.recorder c.note_apart.new.recorder less elsewhere may c.note_apart.ensures.noted)
 
 pub loop-index-preserved : goal.loop-index-preserved
 loop-index-preserved g c =
@@ -84,15 +84,15 @@ loop-index-preserved g c =
     (state_of (with_flow c.step_straight.new.core c.step_straight.new.flow) c.step_straight.new.memory)
     c.args.recorder.now c.loop-index.recorder c.step_straight.new.recorder
     c.loop-index.invariant.goes (c.step_straight.ensures.goes c.args.stop c.halt_in-halt.ensures.word) in
-    let free = sym c.if-delay.ensures in record {
+    let free = sym (c.note_apart.ensures.delay c.step_quickly.new.flow c.in-Some-step_quickly.ensures.next) ∙ c.if-note_apart.false in record {
       goes =
           goes_straight g.row.PAGES c.args.most c.args.stop c.args.page c.args.begun (state_of (with_flow c.args.core.now c.args.flow.now) c.args.memory.now)
           (state_of (with_flow c.step_straight.new.core c.step_straight.new.flow) c.step_straight.new.memory) (state_of (with_flow c.step_quickly.new.core c.step_quickly.new.flow) c.step_quickly.new.memory)
-          c.args.recorder.now c.step_straight.new.recorder c.note_again.new.self
-          (omega (arith, c.requires.begun, c.loop-index.invariant.least, c.step_straight.ensures.least)) c.in-Some-step_straight.ensures.room c.note_again.ensures.steps
+          c.args.recorder.now c.step_straight.new.recorder c.note_apart.new.recorder
+          (omega (arith, c.requires.begun, c.loop-index.invariant.least, c.step_straight.ensures.least)) c.in-Some-step_straight.ensures.room c.note_apart.ensures.noted.steps
           (c.in-Some-step_straight.ensures.elsewhere c.args.stop c.halt_in-halt.ensures.word) so_far
-          (λ n less elsewhere may. c.in-Some-step_quickly.ensures.goes c.args.most c.args.stop n c.step_straight.new.recorder c.note_again.new.self less elsewhere may c.note_again.ensures);
+          (λ n less elsewhere may. c.in-Some-step_quickly.ensures.goes c.args.most c.args.stop n c.step_straight.new.recorder c.note_apart.new.recorder less elsewhere may c.note_apart.ensures.noted);
       straight = record { free = free; next = c.in-Some-step_quickly.ensures.leads.next free };
-      least = omega (arith, c.loop-index.invariant.least, c.step_straight.ensures.least, c.note_again.ensures.steps);
+      least = omega (arith, c.loop-index.invariant.least, c.step_straight.ensures.least, c.note_apart.ensures.noted.steps);
       opened = c.step_quickly.ensures.opened;
     }

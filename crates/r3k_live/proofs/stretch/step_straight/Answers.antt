@@ -1,7 +1,8 @@
-use Rattle.std.proofs.Common.{ℕ, ◌+◌, ◌-◌, refl, sym, subst, arith}
+use Rattle.std.proofs.Common.{ℕ, ◌+◌, ◌-◌, ◌<◌, ◌≤◌, ap, refl, sym, subst, arith}
 use Rattle.r3k_machine.specs.Flow.{with_flow}
 use Rattle.r3k_machine.specs.Quiet.{IsIndexIn}
 use Rattle.r3k_live.specs.Living.{state_of}
+use Rattle.r3k_live.specs.Recording.{Recording}
 use Rattle.r3k_live.proofs.Quick.{address_of, at_next, fewer_than, goes_nowhere, if_so, more_to, not_at, word_here}
 use Rattle.r3k_live.proofs.stretch.step_straight.Goals.{in-Word, in-WordAfterHiLo, in-WordAfterNone}
 use Rattle.r3k_live.proofs.stretch.step_straight.Goals as goal
@@ -215,3 +216,14 @@ loop-flow-2-preserved g c =
 
 pub returns-clause-goes : goal.returns-clause-goes
 returns-clause-goes g c = rw c.pin_straight-2.ensures c.loop-flow.invariant.at.goes
+
+pub loop-flow-smaller : goal.loop-flow-smaller
+loop-flow-smaller g c =
+    let first : c.loop-flow.recorder.steps ≤ c.match-quick.recorder.steps =
+    elim c.match-quick.branch [
+      | in-Word w ↦ omega (arith, ap (λ (r : Recording). r.steps) w.recorder-is, w.note_again-in-Word.ensures.steps)
+      | in-WordAfterHiLo w ↦ omega (arith, ap (λ (r : Recording). r.steps) w.recorder-is, w.note_again-in-WordAfterHiLo.ensures.steps)
+      | in-WordAfterNone w ↦ omega (arith, ap (λ (r : Recording). r.steps) w.recorder-is, w.note_again-in-WordAfterNone.ensures.steps)
+    ] in
+    let some : c.loop-flow-2.recorder.steps < c.last_of-last.result = omega (arith, c.steps-in-loop-flow-2.ensures.steps) in
+    omega (arith, first, some, c.loop-flow-2.invariant.least, c.note_again-in-WordAfterLoad-next.ensures.steps)

@@ -13,5 +13,5 @@ invariant_of-self-clause-kept g c =
     let word = c.index-2.ensures ∙ get_or_default_zero memory.words.items place c.index-2.result.now (omega (arith, memory.whole, c.requires.page, c.requires.index)) in
     subst (λ (slot : ℕ). AreKnown g.row.PAGES memory.words.items (slice_set memory.known.items (slot * PAGE_WORDS + c.args.index) c.in-Some.insn) memory.opened.items)
     (sym c.slot_of.ensures.slot)
-    (word_learned g.row.PAGES memory.words.items memory.known.items memory.opened.items c.args.page c.args.index c.in-Some.insn memory.kept c.requires.page c.requires.index
+    (word_learned g.row.PAGES memory.words.items memory.known.items memory.opened.items c.args.page c.args.index c.in-Some.insn memory.kept memory.range c.requires.page c.requires.index
     c.requires.opened (subst (λ (n : ℕ). IsDecoded n c.in-Some.insn) word (c.in-Some.ensures {u = tt})))
