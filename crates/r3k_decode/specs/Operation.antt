@@ -3,6 +3,8 @@ use Rattle.std.specs.Prelude.{ℕ, ◌+◌, ◌*◌, ◌^◌, ◌<◌, slice_get
 use Rattle.r3k_table.specs.declared.row.Shape.{Shape}
 use Rattle.r3k_table.specs.Fields.{fields_of}
 use Rattle.r3k_table.specs.Table.{instructions}
+use Rattle.r3k_table.specs.Mnemonics.{number_of}
+use Rattle.r3k_table.specs.declared.mnemonic.Mnemonic.TheVariants.{Addiu}
 use Rattle.r3k_word.specs.Word.{field_of}
 use Rattle.r3k_decode.specs.Kept.{kept, IsZeroUnless}
 
@@ -28,6 +30,10 @@ read_as row shape word = record {
   index = kept (fields_of shape).index (field_of 25 0 word);
   code = kept (fields_of shape).code (field_of 25 6 word);
 }
+
+-- the instruction addiu
+abbrev pub addiu_of : (rt rs imm : ℕ) → Operation
+addiu_of rt rs imm = record { row = number_of Addiu; rs = rs; rt = rt; rd = 0; sa = 0; imm = imm; index = 0; code = 0 }
 
 -- the fields of the shape where they stand in a word
 abbrev pub placed : Shape → Operation → ℕ

@@ -50,7 +50,7 @@ fn kept(has: bool, field: u32) -> u32
 
 impl Insn {
     ghost use Rattle.std.specs.Prelude.{◌^◌, slice_get, IsSomeAnd};
-    ghost use Rattle.r3k_decode.specs.Operation.{read_as, placed};
+    ghost use Rattle.r3k_decode.specs.Operation.{addiu_of, read_as, placed};
 
     /// What a word says as an instruction of this row and shape.
     #[inline]
@@ -68,6 +68,22 @@ impl Insn {
             imm: kept(has.imm, field::<15, 0>(word)) as u16,
             index: kept(has.index, field::<25, 0>(word)),
             code: kept(has.code, field::<25, 6>(word)),
+        }
+    }
+
+    /// The instruction `addiu rt, rs, imm`.
+    pub fn addiu(rt: Register, rs: Register, imm: u16) -> Insn
+        ensures { result ≡ addiu_of rt rs imm }
+    {
+        Insn {
+            mnemonic: Mnemonic::Addiu,
+            rs,
+            rt,
+            rd: Register::new(0),
+            sa: 0,
+            imm,
+            index: 0,
+            code: 0,
         }
     }
 

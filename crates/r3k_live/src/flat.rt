@@ -1,6 +1,6 @@
 //! A plain memory: all words in one vector, and those of some pages decoded.
 
-ghost use Rattle.std.specs.Prelude.{◌≡◌, ◌+◌, ◌*◌, ◌/◌, ◌≤◌, ◌<◌, ℕ, IfOk, IsTrue, length, map, slice_index, slice_index_or};
+ghost use Rattle.std.specs.Prelude.{◌≡◌, ◌+◌, ◌*◌, ◌/◌, ◌≤◌, ◌<◌, ℕ, IfOk, IsFalse, IsTrue, length, map, slice_index, slice_index_or};
 ghost use Rattle.std.specs.List.{range_with_len};
 ghost use Rattle.r3k_decode.specs.Operation.{Operation};
 ghost use Rattle.r3k_word.specs.Layout.{word_count_of};
@@ -78,14 +78,19 @@ fn unused(alloc: Global) -> Result<Vec<u32>, AllocError>
     vec![in alloc; UNUSED; SLOTS]
 }
 
-// Nothing is known of the words of a slot any more.
-fn forget(known: &mut Vec<Insn>, slot: usize, stop: Insn)
+// Nothing is known of the words of a slot any more. Where it was not used yet, nothing was.
+fn forget(known: &mut Vec<Insn>, slot: usize, used: bool, stop: Insn)
     requires room { length known.old.items ≡ SLOTS * PAGE_WORDS }
     requires slot { slot < SLOTS }
+    requires stop { IsStop stop }
+    requires unused { IsFalse used → (index : ℕ) (d : Operation) → index < PAGE_WORDS → IsStop (slice_index_or known.old.items (slot * PAGE_WORDS + index) d) }
     ensures room { length known.new.items ≡ SLOTS * PAGE_WORDS }
-    ensures there { (index : ℕ) (d : Operation) → index < PAGE_WORDS → slice_index_or known.new.items (slot * PAGE_WORDS + index) d ≡ stop }
+    ensures there { (index : ℕ) (d : Operation) → index < PAGE_WORDS → IsStop (slice_index_or known.new.items (slot * PAGE_WORDS + index) d) }
     ensures others { (i : ℕ) (d : Operation) → ¬ (i / PAGE_WORDS ≡ slot) → slice_index_or known.new.items i d ≡ slice_index_or known.old.items i d }
 {
+    if !used {
+        return;
+    }
     for index in 0..WORDS {
         known[slot * WORDS + index] = stop;
     }
@@ -180,9 +185,8 @@ impl<const PAGES: u32> FlatMemory<PAGES> {
         ensures opened { IsTrue (is_open PAGES self.new.opened.items page) }
         ensures words { self.new.words.items ≡ self.old.words.items }
     {
-        if self.opened[slot] != UNUSED {
-            forget(&mut self.known, slot, self.stop);
-        }
+        let used = self.opened[slot] != UNUSED;
+        forget(&mut self.known, slot, used, self.stop);
         self.opened[slot] = page + 1;
     }
 }

@@ -6,3 +6,4 @@ pub mod Elsewhere
 pub mod Quiet
 pub mod Splits
 pub mod Within
+pub mod Plain

@@ -2,7 +2,7 @@
 use Rattle.std.proofs.Math.Path.{ap₂}
 use Rattle.std.proofs.Common.{Err, Result, IfSome, IsTrue, inl, inr, ◌≡◌, ℕ, suc, ◌+◌, ◌*◌, ◌/◌, ◌%◌, ◌^◌, ◌<◌, ◌≤◌, Bool, true, false, not, ◌&&◌, ◌||◌, nat_le, nat_lt, List, [], IsFalse, Option, Some, None, Ok, slice_index, refl, sym, subst, ap, ◌∙◌, arith}
 use Rattle.std.specs.Prelude.{◌==◌, if◌then◌else◌}
-use Rattle.std.specs.Prelude.{nat_eq, slice_index_or, position, count_by, bit_and, bit_or}
+use Rattle.std.specs.Prelude.{is_some, nat_eq, slice_index_or, position, count_by, bit_and, bit_or}
 use Rattle.std.specs.Option.{option_map}
 use Rattle.std.proofs.lemmas.Nat.{and_block, and_le_l, and_le_r, and_mask, or_disjoint}
 use Rattle.std.proofs.lemmas.Nat.Bits.{and_high}
@@ -28,6 +28,7 @@ use Rattle.kn02_bus.specs.declared.region.Device.{Device}
 use Rattle.kn02_bus.specs.declared.region.Region.{Region}
 use Rattle.kn02_bus.specs.declared.region.Region.TheVariants.{Ram, Rom, Unassigned}
 use Rattle.kn02_bus.specs.declared.region.Region.TheVariants as region_is
+use Rattle.r3k_decode.specs.Decoding.{operation_of}
 use Rattle.r3k_decode.specs.Operation.{Operation}
 use Rattle.r3k_exec.specs.Access.{stored}
 use Rattle.r3k_exec.specs.Effects.{effect_of}
@@ -48,7 +49,7 @@ use Rattle.r3k_machine.specs.declared.exception.Exception.TheVariants.{AddressEr
 use Rattle.r3k_machine.specs.declared.load_store.Loaded.{Loaded}
 use Rattle.r3k_machine.specs.declared.load_store.Word.{Word}
 use Rattle.r3k_machine.specs.Address.{Meaning, found_for, meaning, meaning_in, meaning_of_found, met, segment_of}
-use Rattle.r3k_machine.specs.Core.{Core}
+use Rattle.r3k_machine.specs.Core.{Core, HoldsZero}
 use Rattle.r3k_machine.specs.State.{State}
 use Rattle.r3k_machine.specs.declared.flow.Flow.{Flow}
 use Rattle.r3k_machine.specs.Flow.{with_flow}
@@ -502,38 +503,62 @@ stop_traps operation operands is = subst (λ (o : Option Operation). IfSome o (�
 usable_then : (core : Core) (word : ℕ) → IsTrue (is_usable core.cop0) → IsFalse (is_unusable core word)
 usable_then core word usable = rw usable (and_false (field_of 31 26 word == 16))
 
-pub usable_by : (pages : ℕ) (s : State) (operation : Operation) (word : ℕ) → IsDecoded word operation
-    → IsQuickEffect pages s (effect_of operation (operands_of s.core operation)) → IsFalse (is_unusable s.core word)
+pub usable_by : (pages : ℕ) (s : State) (own : Operation) (word : ℕ) → (¬ IsMove own → (core : Core) → IsFalse (is_unusable core word))
+    → IsQuickEffect pages s (effect_of own (operands_of s.core own)) → IsFalse (is_unusable s.core word)
 unfolding IsMove
-usable_by pages s operation word decoded effect =
+usable_by pages s own word or_move effect =
     elim (cases_Bool (is_usable s.core.cop0)) [
       | inl usable ↦ usable_then s.core word usable
-      | inr unusable ↦ decoded.usable
-          (λ move. elim (move (operands_of s.core operation)) [
+      | inr unusable ↦ or_move
+          (λ move. elim (move (operands_of s.core own)) [
             | inl from ↦ true≢false (sym (subst (IsQuickEffect pages s) from effect).1 ∙ unusable)
             | inr to ↦ true≢false (sym (subst (IsQuickEffect pages s) to effect).1 ∙ unusable)
           ])
           s.core
     ]
 
+-- the instruction of a known word, which has the same effect, where that is quick
+pub record Own (word : ℕ) (operation : Operation) (core : Core) : Type 0 where
+  pub own : Operation
+  pub decoded : operation_of word ≡ Some own
+  pub same : effect_of operation (operands_of core operation) ≡ effect_of own (operands_of core own)
+  pub usable : ¬ IsMove own → (core : Core) → IsFalse (is_unusable core word)
+
+pub some_own : (o : Option Operation) → IsTrue (is_some o) → (own : Operation) × (o ≡ Some own)
+some_own None some = absurd cc
+some_own (Some own) some = (own, refl)
+
+abbrev pub own_of : (pages : ℕ) (s : State) (word : ℕ) (operation : Operation) → IsKnown word operation → HoldsZero s.core.registers
+    → (operands_of s.core operation).rs < 2 ^ 32 → IsQuickEffect pages s (effect_of operation (operands_of s.core operation)) → Own word operation s.core
+own_of pages s word operation known zero within effect =
+    let decoded : IsDecoded word operation = known (λ stops. rw (stop_traps operation (operands_of s.core operation) stops) at effect) in
+    let own = some_own (operation_of word) decoded.some in record {
+      own = own.0;
+      decoded = own.1;
+      same = decoded.same own.0 own.1 s.core zero within;
+      usable = decoded.usable own.0 own.1;
+    }
+
 -- a known instruction of the page that is quick
 abbrev pub quick_known : (pages : ℕ) (s : State) (page : CodePage) (index : ℕ) (operation : Operation) → IsCodePage pages s.core page
     → IsIndexIn page s.core.pc index → IsKnown (slice_index s.words (page.page * 1024 + index)) operation
+    → HoldsZero s.core.registers → (operands_of s.core operation).rs < 2 ^ 32
     → IsQuickEffect pages s (effect_of operation (operands_of s.core operation)) → IsQuick pages s
-quick_known pages s page index operation code at known effect =
+quick_known pages s page index operation code at known zero within effect =
     let found = code.fetched s.core.pc at.here at.aligned in
-    let decoded : IsDecoded (slice_index s.words (page.page * 1024 + index)) operation =
-    known (λ stops. rw (stop_traps operation (operands_of s.core operation) stops) at effect) in record {
+    let word = slice_index s.words (page.page * 1024 + index) in
+    let own = own_of pages s word operation known zero within effect in
+    let own_effect = subst (IsQuickEffect pages s) own.same effect in record {
       physical = found.0;
-      fetched = record { word = slice_index s.words (page.page * 1024 + index); page = page.page };
-      operation = operation;
+      fetched = record { word = word; page = page.page };
+      operation = own.own;
       means = aligned_fetch s.core at.aligned ∙ found.1;
       stands =
           fetched_from pages s.words page.page (s.core.pc % 4096 / 4) found.0.address (omega arith) found.2
           ∙ ap (λ (n : ℕ). Some (record { word = slice_index s.words (page.page * 1024 + n); page = page.page })) (sym at.is);
-      usable = usable_by pages s operation (slice_index s.words (page.page * 1024 + index)) decoded effect;
-      decoded = decoded.decoded;
-      effect = effect;
+      usable = usable_by pages s own.own word own.usable own_effect;
+      decoded = own.decoded;
+      effect = own_effect;
     }
 
 pub quick_ran : (pages : ℕ) (s : State) (quick : IsQuick pages s) (o : Outcome)
@@ -542,6 +567,17 @@ pub quick_ran : (pages : ℕ) (s : State) (quick : IsQuick pages s) (o : Outcome
 quick_ran pages s quick o completes =
     plain_fetch pages s (meaning_of_fetch s.core) quick.physical quick.fetched quick.means quick.stands
     ∙ ap (outcome_of_completion s quick.fetched.page) (quick_word pages s quick ∙ completes)
+
+-- so a known instruction of the page runs, where it completes
+pub known_ran : (pages : ℕ) (s : State) (page : CodePage) (index : ℕ) (operation : Operation) → IsCodePage pages s.core page
+    → IsIndexIn page s.core.pc index → IsKnown (slice_index s.words (page.page * 1024 + index)) operation
+    → HoldsZero s.core.registers → (operands_of s.core operation).rs < 2 ^ 32
+    → IsQuickEffect pages s (effect_of operation (operands_of s.core operation)) → (o : Outcome)
+    → completion_of_effect pages s page.page (effect_of operation (operands_of s.core operation)) ≡ Ok o → outcome_of_instruction pages s ≡ o
+known_ran pages s page index operation code at known zero within effect o completes =
+    quick_ran pages s (quick_known pages s page index operation code at known zero within effect) o
+    (subst (λ (e : Effect). completion_of_effect pages s page.page e ≡ Ok o)
+    (own_of pages s (slice_index s.words (page.page * 1024 + index)) operation known zero within effect).same completes)
 
 -- what holds of what a quick step reports, if it is one
 pub if_both : {A : Type 0} {P Q R : A → Type 0} (o : Option A) → IfSome o P → IfSome o Q → ((a : A) → P a → Q a → R a) → IfSome o R

@@ -6,6 +6,7 @@ ghost use Rattle.cop0.specs.Registers.{written};
 ghost use Rattle.r3k_machine.specs.Exceptions.{is_unusable};
 ghost use Rattle.r3k_machine.specs.Flow.{moved};
 ghost use Rattle.r3k_machine.specs.State.{landed, with_register};
+ghost use Rattle.r3k_machine.specs.Core.{HoldsZero};
 ghost use Rattle.r3k_machine.specs.Step.{IsCompletion, branched, completion_of_word, core_after_loading, operands_of, passed, completion_of_effect};
 ghost use Rattle.r3k_machine.specs.LoadSlot.{slot_after_load};
 ghost use Rattle.r3k_machine.specs.LoadStore.{core_after_load, loaded_from};
@@ -28,7 +29,8 @@ impl Core {
     // The values that an instruction at an address reads.
     #[inline]
     pub(crate) fn operands(&self, insn: &Insn, pc: u32) -> Operands
-        ensures { result ≡ record (operands_of self.now insn.now) { pc = pc } }
+        ensures operands { result ≡ record (operands_of self.now insn.now) { pc = pc } }
+        ensures zero { HoldsZero self.now.registers }
     {
         Operands {
             rs: self.processor.registers[insn.rs().index()],
