@@ -3,36 +3,37 @@
 ghost use Rattle.std.specs.Prelude.{◌≡◌, ◌<◌, ◌≤◌};
 ghost use Rattle.r3k_table.specs.Table.{instructions};
 ghost use Rattle.r3k_table.specs.Mnemonics.{number_of};
+ghost use Rattle.r3k_decode.specs.Fields.{fields_at};
 ghost use Rattle.r3k_decode.specs.Kept.{kept};
 
 use crate::register::Register;
 use r3k_table::mnemonic::Mnemonic;
-use r3k_table::row::Shape;
+use r3k_table::row::{Fields, Shape};
+use r3k_table::rows;
 use r3k_word::field::field;
 use std::marker::Model;
 
-/// An instruction: its mnemonic, and its fields. Each field fits its width, and is 0 where the shape of its row lacks it.
+/// An instruction: its mnemonic, and its fields. Each field fits its width, and is 0 where the shape of its row lacks it. It is small, as
+/// many are kept.
 #[derive(Clone, Copy, Debug)]
 pub struct Insn {
     mnemonic: Mnemonic,
     rs: Register,
     rt: Register,
     rd: Register,
-    sa: u8,
-    imm: u16,
-    index: u32,
-    code: u32,
+    // The one of `sa`, `imm`, `index` and `code` that it has, or 0.
+    rest: u32,
 }
 
 impl Model for Insn {
     ghost use Rattle.r3k_decode.specs.Operation.{Operation, IsOperation};
-    ghost use Rattle.r3k_decode.specs.Seen.{operation, inside, inside_again};
+    ghost use Rattle.r3k_decode.specs.Seen.{operation, inside, inside_again, IsInside};
 
     ghost Value = { Operation };
 
     ghost view = { operation };
 
-    ghost invariant = { λ i. IsOperation (operation i) };
+    ghost invariant = { IsInside };
 
     ghost inverse = { inside };
 
@@ -48,8 +49,24 @@ fn kept(has: bool, field: u32) -> u32
     if has { field } else { 0 }
 }
 
+macro_rules! by_shape {
+    (($mnemonic:ident) $(($name:ident, $text:ident, $mask:literal, $value:literal, $shape:ident))*) => {
+        match $mnemonic {
+            $(Mnemonic::$name => Shape::$shape,)*
+        }
+    };
+}
+
+// The fields that an instruction of this name has.
+fn fields(mnemonic: Mnemonic) -> Fields
+    ensures { result ≡ fields_at (number_of mnemonic) }
+{
+    let shape = rows!(all by_shape (mnemonic));
+    shape.fields()
+}
+
 impl Insn {
-    ghost use Rattle.std.specs.Prelude.{◌^◌, slice_get, IsSomeAnd};
+    ghost use Rattle.std.specs.Prelude.{◌^◌, slice_get, IsSomeAnd, IsTrue};
     ghost use Rattle.r3k_decode.specs.Operation.{addiu_of, read_as, placed};
 
     /// What a word says as an instruction of this row and shape.
@@ -64,10 +81,10 @@ impl Insn {
             rs: Register::new(kept(has.rs, field::<25, 21>(word)) as u8),
             rt: Register::new(kept(has.rt, field::<20, 16>(word)) as u8),
             rd: Register::new(kept(has.rd, field::<15, 11>(word)) as u8),
-            sa: kept(has.sa, field::<10, 6>(word)) as u8,
-            imm: kept(has.imm, field::<15, 0>(word)) as u16,
-            index: kept(has.index, field::<25, 0>(word)),
-            code: kept(has.code, field::<25, 6>(word)),
+            rest: kept(has.sa, field::<10, 6>(word))
+                + kept(has.imm, field::<15, 0>(word))
+                + kept(has.index, field::<25, 0>(word))
+                + kept(has.code, field::<25, 6>(word)),
         }
     }
 
@@ -80,10 +97,7 @@ impl Insn {
             rs,
             rt,
             rd: Register::new(0),
-            sa: 0,
-            imm,
-            index: 0,
-            code: 0,
+            rest: u32::from(imm),
         }
     }
 
@@ -98,10 +112,10 @@ impl Insn {
         (kept(has.rs, u32::from(insn.rs.number())) << 21)
             + (kept(has.rt, u32::from(insn.rt.number())) << 16)
             + (kept(has.rd, u32::from(insn.rd.number())) << 11)
-            + (kept(has.sa, u32::from(insn.sa)) << 6)
-            + kept(has.imm, u32::from(insn.imm))
-            + kept(has.index, insn.index)
-            + (kept(has.code, insn.code) << 6)
+            + (kept(has.sa, u32::from(insn.sa())) << 6)
+            + kept(has.imm, u32::from(insn.imm()))
+            + kept(has.index, insn.index())
+            + (kept(has.code, insn.code()) << 6)
     }
 
     /// Its mnemonic.
@@ -137,37 +151,62 @@ impl Insn {
     }
 
     /// The field `sa`, bits 10 to 6.
-    #[inline]
     pub fn sa(&self) -> u8
         ensures value { result ≡ self.now.sa }
         ensures within { result < 32 }
     {
-        self.sa
+        kept(fields(self.mnemonic).sa, self.rest) as u8
+    }
+
+    /// The same, of an instruction that has it.
+    #[inline]
+    pub fn shift(&self) -> u8
+        requires { IsTrue (fields_at self.now.row).sa }
+        ensures value { result ≡ self.now.sa }
+        ensures within { result < 32 }
+    {
+        self.rest as u8
     }
 
     /// The field `imm`, bits 15 to 0.
-    #[inline]
     pub fn imm(&self) -> u16
         ensures { result ≡ self.now.imm }
     {
-        self.imm
+        kept(fields(self.mnemonic).imm, self.rest) as u16
+    }
+
+    /// The same, of an instruction that has it.
+    #[inline]
+    pub fn immediate(&self) -> u16
+        requires { IsTrue (fields_at self.now.row).imm }
+        ensures { result ≡ self.now.imm }
+    {
+        self.rest as u16
     }
 
     /// The field `index` of a jump, bits 25 to 0.
-    #[inline]
     pub fn index(&self) -> u32
         ensures value { result ≡ self.now.index }
         ensures within { result < 2 ^ 26 }
     {
-        self.index
+        kept(fields(self.mnemonic).index, self.rest)
+    }
+
+    /// The same, of an instruction that has it.
+    #[inline]
+    pub fn target(&self) -> u32
+        requires { IsTrue (fields_at self.now.row).index }
+        ensures value { result ≡ self.now.index }
+        ensures within { result < 2 ^ 26 }
+    {
+        self.rest
     }
 
     /// The field `code` of a trap, bits 25 to 6.
-    #[inline]
     pub fn code(&self) -> u32
         ensures value { result ≡ self.now.code }
         ensures within { result < 2 ^ 20 }
     {
-        self.code
+        kept(fields(self.mnemonic).code, self.rest)
     }
 }

@@ -1,6 +1,7 @@
 //! Sums, differences, products and quotients.
 
-ghost use Rattle.std.specs.Prelude.{◌≡◌};
+ghost use Rattle.std.specs.Prelude.{◌≡◌, IsTrue};
+ghost use Rattle.r3k_decode.specs.Fields.{fields_at};
 ghost use Rattle.r3k_exec.specs.Effects.{mult_effect, multu_effect, div_effect, divu_effect, add_effect, addu_effect, sub_effect, subu_effect, addi_effect, addiu_effect, write_hi_lo, write_if_some};
 
 use crate::immediate::extended;
@@ -106,6 +107,7 @@ pub(crate) fn subu(insn: &Insn, operands: Operands) -> Effect
 /// Add immediate: Ov on signed overflow.
 #[inline]
 pub(crate) fn addi(insn: &Insn, operands: Operands) -> Effect
+    requires { IsTrue (fields_at insn.now.row).imm }
     ensures { result ≡ addi_effect insn.now operands }
 {
     write_or_trap(insn.rt(), checked_add(operands.rs, extended(insn)))
@@ -114,6 +116,7 @@ pub(crate) fn addi(insn: &Insn, operands: Operands) -> Effect
 /// Add immediate unsigned: no trap.
 #[inline]
 pub(crate) fn addiu(insn: &Insn, operands: Operands) -> Effect
+    requires { IsTrue (fields_at insn.now.row).imm }
     ensures { result ≡ addiu_effect insn.now operands }
 {
     Effect::Write {

@@ -1,6 +1,7 @@
 //! Bitwise operations, comparisons, and the load of an upper immediate.
 
-ghost use Rattle.std.specs.Prelude.{◌≡◌};
+ghost use Rattle.std.specs.Prelude.{◌≡◌, IsTrue};
+ghost use Rattle.r3k_decode.specs.Fields.{fields_at};
 ghost use Rattle.r3k_exec.specs.Effects.{and_effect, or_effect, xor_effect, nor_effect, slt_effect, sltu_effect, slti_effect, sltiu_effect, andi_effect, ori_effect, xori_effect, lui_effect};
 
 use crate::immediate::extended;
@@ -76,6 +77,7 @@ pub(crate) fn sltu(insn: &Insn, operands: Operands) -> Effect
 /// Set on less than immediate.
 #[inline]
 pub(crate) fn slti(insn: &Insn, operands: Operands) -> Effect
+    requires { IsTrue (fields_at insn.now.row).imm }
     ensures { result ≡ slti_effect insn.now operands }
 {
     Effect::Write {
@@ -87,6 +89,7 @@ pub(crate) fn slti(insn: &Insn, operands: Operands) -> Effect
 /// Set on less than immediate unsigned: the immediate is sign-extended all the same.
 #[inline]
 pub(crate) fn sltiu(insn: &Insn, operands: Operands) -> Effect
+    requires { IsTrue (fields_at insn.now.row).imm }
     ensures { result ≡ sltiu_effect insn.now operands }
 {
     Effect::Write {
@@ -98,43 +101,47 @@ pub(crate) fn sltiu(insn: &Insn, operands: Operands) -> Effect
 /// And immediate, zero-extended.
 #[inline]
 pub(crate) fn andi(insn: &Insn, operands: Operands) -> Effect
+    requires { IsTrue (fields_at insn.now.row).imm }
     ensures { result ≡ andi_effect insn.now operands }
 {
     Effect::Write {
         register: insn.rt(),
-        value: operands.rs & u32::from(insn.imm()),
+        value: operands.rs & u32::from(insn.immediate()),
     }
 }
 
 /// Or immediate, zero-extended.
 #[inline]
 pub(crate) fn ori(insn: &Insn, operands: Operands) -> Effect
+    requires { IsTrue (fields_at insn.now.row).imm }
     ensures { result ≡ ori_effect insn.now operands }
 {
     Effect::Write {
         register: insn.rt(),
-        value: operands.rs | u32::from(insn.imm()),
+        value: operands.rs | u32::from(insn.immediate()),
     }
 }
 
 /// Exclusive or immediate, zero-extended.
 #[inline]
 pub(crate) fn xori(insn: &Insn, operands: Operands) -> Effect
+    requires { IsTrue (fields_at insn.now.row).imm }
     ensures { result ≡ xori_effect insn.now operands }
 {
     Effect::Write {
         register: insn.rt(),
-        value: operands.rs ^ u32::from(insn.imm()),
+        value: operands.rs ^ u32::from(insn.immediate()),
     }
 }
 
 /// Load upper immediate.
 #[inline]
 pub(crate) fn lui(insn: &Insn, _operands: Operands) -> Effect
+    requires { IsTrue (fields_at insn.now.row).imm }
     ensures { result ≡ lui_effect insn.now _operands }
 {
     Effect::Write {
         register: insn.rt(),
-        value: u32::from(insn.imm()) << 16,
+        value: u32::from(insn.immediate()) << 16,
     }
 }

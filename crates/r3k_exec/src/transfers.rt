@@ -1,6 +1,7 @@
 //! Loads and stores.
 
-ghost use Rattle.std.specs.Prelude.{◌≡◌};
+ghost use Rattle.std.specs.Prelude.{◌≡◌, IsTrue};
+ghost use Rattle.r3k_decode.specs.Fields.{fields_at};
 ghost use Rattle.r3k_exec.specs.Effects.{lb_effect, lh_effect, lwl_effect, lw_effect, lbu_effect, lhu_effect, lwr_effect, sb_effect, sh_effect, swl_effect, sw_effect, swr_effect, address_of};
 
 use crate::access::{LoadKind, StoreKind};
@@ -12,6 +13,7 @@ use r3k_word::arithmetic::add;
 // The address of a load or a store.
 #[inline]
 fn address(insn: &Insn, operands: Operands) -> u32
+    requires { IsTrue (fields_at insn.now.row).imm }
     ensures { result ≡ address_of insn.now operands }
 {
     add(operands.rs, extended(insn))
@@ -20,6 +22,7 @@ fn address(insn: &Insn, operands: Operands) -> u32
 /// Load byte.
 #[inline]
 pub(crate) fn lb(insn: &Insn, operands: Operands) -> Effect
+    requires { IsTrue (fields_at insn.now.row).imm }
     ensures { result ≡ lb_effect insn.now operands }
 {
     Effect::Load {
@@ -32,6 +35,7 @@ pub(crate) fn lb(insn: &Insn, operands: Operands) -> Effect
 /// Load halfword.
 #[inline]
 pub(crate) fn lh(insn: &Insn, operands: Operands) -> Effect
+    requires { IsTrue (fields_at insn.now.row).imm }
     ensures { result ≡ lh_effect insn.now operands }
 {
     Effect::Load {
@@ -44,6 +48,7 @@ pub(crate) fn lh(insn: &Insn, operands: Operands) -> Effect
 /// Load word left.
 #[inline]
 pub(crate) fn lwl(insn: &Insn, operands: Operands) -> Effect
+    requires { IsTrue (fields_at insn.now.row).imm }
     ensures { result ≡ lwl_effect insn.now operands }
 {
     Effect::Load {
@@ -56,6 +61,7 @@ pub(crate) fn lwl(insn: &Insn, operands: Operands) -> Effect
 /// Load word.
 #[inline]
 pub(crate) fn lw(insn: &Insn, operands: Operands) -> Effect
+    requires { IsTrue (fields_at insn.now.row).imm }
     ensures { result ≡ lw_effect insn.now operands }
 {
     Effect::Load {
@@ -68,6 +74,7 @@ pub(crate) fn lw(insn: &Insn, operands: Operands) -> Effect
 /// Load byte unsigned.
 #[inline]
 pub(crate) fn lbu(insn: &Insn, operands: Operands) -> Effect
+    requires { IsTrue (fields_at insn.now.row).imm }
     ensures { result ≡ lbu_effect insn.now operands }
 {
     Effect::Load {
@@ -80,6 +87,7 @@ pub(crate) fn lbu(insn: &Insn, operands: Operands) -> Effect
 /// Load halfword unsigned.
 #[inline]
 pub(crate) fn lhu(insn: &Insn, operands: Operands) -> Effect
+    requires { IsTrue (fields_at insn.now.row).imm }
     ensures { result ≡ lhu_effect insn.now operands }
 {
     Effect::Load {
@@ -92,6 +100,7 @@ pub(crate) fn lhu(insn: &Insn, operands: Operands) -> Effect
 /// Load word right.
 #[inline]
 pub(crate) fn lwr(insn: &Insn, operands: Operands) -> Effect
+    requires { IsTrue (fields_at insn.now.row).imm }
     ensures { result ≡ lwr_effect insn.now operands }
 {
     Effect::Load {
@@ -104,6 +113,7 @@ pub(crate) fn lwr(insn: &Insn, operands: Operands) -> Effect
 /// Store byte.
 #[inline]
 pub(crate) fn sb(insn: &Insn, operands: Operands) -> Effect
+    requires { IsTrue (fields_at insn.now.row).imm }
     ensures { result ≡ sb_effect insn.now operands }
 {
     Effect::Store {
@@ -116,6 +126,7 @@ pub(crate) fn sb(insn: &Insn, operands: Operands) -> Effect
 /// Store halfword.
 #[inline]
 pub(crate) fn sh(insn: &Insn, operands: Operands) -> Effect
+    requires { IsTrue (fields_at insn.now.row).imm }
     ensures { result ≡ sh_effect insn.now operands }
 {
     Effect::Store {
@@ -128,6 +139,7 @@ pub(crate) fn sh(insn: &Insn, operands: Operands) -> Effect
 /// Store word left.
 #[inline]
 pub(crate) fn swl(insn: &Insn, operands: Operands) -> Effect
+    requires { IsTrue (fields_at insn.now.row).imm }
     ensures { result ≡ swl_effect insn.now operands }
 {
     Effect::Store {
@@ -140,6 +152,7 @@ pub(crate) fn swl(insn: &Insn, operands: Operands) -> Effect
 /// Store word.
 #[inline]
 pub(crate) fn sw(insn: &Insn, operands: Operands) -> Effect
+    requires { IsTrue (fields_at insn.now.row).imm }
     ensures { result ≡ sw_effect insn.now operands }
 {
     Effect::Store {
@@ -152,6 +165,7 @@ pub(crate) fn sw(insn: &Insn, operands: Operands) -> Effect
 /// Store word right.
 #[inline]
 pub(crate) fn swr(insn: &Insn, operands: Operands) -> Effect
+    requires { IsTrue (fields_at insn.now.row).imm }
     ensures { result ≡ swr_effect insn.now operands }
 {
     Effect::Store {

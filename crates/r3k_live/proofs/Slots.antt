@@ -1,5 +1,5 @@
 -- What is kept of the words of open pages stays known of them.
-use Rattle.std.proofs.Common.{◌≡◌, ℕ, ◌+◌, ◌*◌, ◌/◌, ◌%◌, ◌<◌, ◌≤◌, IsTrue, List, length, nat_eq, slice_index, slice_index_or, slice_set, sym, ap, subst, ◌∙◌, arith, inl, inr}
+use Rattle.std.proofs.Common.{◌≡◌, ℕ, ◌+◌, ◌*◌, ◌/◌, ◌%◌, ◌<◌, ◌≤◌, IsFalse, IsTrue, List, length, nat_eq, slice_index, slice_index_or, slice_set, sym, ap, subst, ◌∙◌, arith, inl, inr}
 use Rattle.std.proofs.lemmas.Bool.{cases_Bool, eq-eqb, eqb-true, true≢false}
 use Rattle.std.proofs.lemmas.Bool.Decides.{nat_tests}
 use Rattle.std.proofs.lemmas.List.{get_or-set_same, get_or-set_other}
@@ -92,6 +92,20 @@ word_stored pages words known opened place value stop are stops within =
                 (are.unused slot index d within inside is)
           ];
     }
+
+-- after a word of a page that is not open was stored into
+pub word_stored_apart : (pages : ℕ) (words : List ℕ) (known : List Operation) (opened : List ℕ) (place value : ℕ)
+    → AreKnown pages words known opened → IsFalse (is_open pages opened (place / PAGE_WORDS)) → AreKnown pages (slice_set words place value) known opened
+word_stored_apart pages words known opened place value are closed = record {
+  room = are.room;
+  slots = are.slots;
+  each = λ page index d page_within inside is.
+      let apart : ¬ (page * PAGE_WORDS + index ≡ place) = λ same.
+      true≢false (sym (subst (λ (n : ℕ). IsTrue (is_open pages opened n)) (sym (a_slot page index inside) ∙ ap (λ (n : ℕ). n / PAGE_WORDS) same) is) ∙ closed) in
+      subst (λ (word : ℕ). IsKnown word (slice_index_or known (slot_of pages page * PAGE_WORDS + index) d)) (sym (get_or-set_other words place (page * PAGE_WORDS + index) value 0 apart))
+      (are.each page index d page_within inside is);
+  unused = are.unused;
+}
 
 -- after a word of an open page was decoded
 pub word_learned : (pages : ℕ) (words : List ℕ) (known : List Operation) (opened : List ℕ) (page index : ℕ) (operation : Operation)

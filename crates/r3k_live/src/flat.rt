@@ -1,6 +1,6 @@
 //! A plain memory: all words in one vector, and those of some pages decoded.
 
-ghost use Rattle.std.specs.Prelude.{◌≡◌, ◌+◌, ◌*◌, ◌/◌, ◌≤◌, ◌<◌, ℕ, IfOk, IsFalse, IsTrue, length, map, slice_index, slice_index_or};
+ghost use Rattle.std.specs.Prelude.{◌≡◌, ◌+◌, ◌*◌, ◌/◌, ◌%◌, ◌≤◌, ◌<◌, ℕ, IfOk, IsFalse, IsTrue, length, map, slice_index, slice_index_or, slice_set};
 ghost use Rattle.std.specs.List.{range_with_len};
 ghost use Rattle.r3k_decode.specs.Operation.{Operation};
 ghost use Rattle.r3k_word.specs.Layout.{word_count_of};
@@ -93,6 +93,24 @@ fn forget(known: &mut Vec<Insn>, slot: usize, used: bool, stop: Insn)
     }
     for index in 0..WORDS {
         known[slot * WORDS + index] = stop;
+    }
+}
+
+// Nothing is known any more of a word that is stored into. Most such words lie in pages that are not open, of which nothing is said.
+#[inline(always)]
+fn forget_word<const PAGES: u32>(known: &mut Vec<Insn>, opened: &Vec<u32>, place: usize, stop: Insn)
+    requires range { PAGES ≤ MAX_RAM_PAGES }
+    requires place { place < word_count_of PAGES }
+    requires room { length known.old.items ≡ SLOTS * PAGE_WORDS }
+    requires slots { length opened.now.items ≡ SLOTS }
+    ensures opened { IsTrue (is_open PAGES opened.now.items (place / PAGE_WORDS)) →
+        known.new.items ≡ slice_set known.old.items (slot_of PAGES (place / PAGE_WORDS) * PAGE_WORDS + place % PAGE_WORDS) stop }
+    ensures closed { IsFalse (is_open PAGES opened.now.items (place / PAGE_WORDS)) → known.new.items ≡ known.old.items }
+{
+    let page = (place / WORDS) as u32;
+    let slot = slot_of(PAGES, page);
+    if opened[slot] == page + 1 {
+        known[slot * WORDS + place % WORDS] = stop;
     }
 }
 
@@ -210,8 +228,7 @@ impl<const PAGES: u32> Mem for FlatMemory<PAGES> {
 
     #[inline(always)]
     fn set_word(&mut self, place: usize, value: u32) {
-        let slot = slot_of(PAGES, (place / WORDS) as u32);
-        self.known[slot * WORDS + place % WORDS] = self.stop;
+        forget_word::<PAGES>(&mut self.known, &self.opened, place, self.stop);
         self.words[place] = value;
     }
 

@@ -1,13 +1,21 @@
-use Rattle.std.proofs.Common.{ℕ, ◌+◌, ◌*◌, ◌%◌, slice_set, sym, subst}
-use Rattle.r3k_live.specs.Slots.{AreKnown}
-use Rattle.r3k_live.proofs.Slots.{word_stored}
+use Rattle.std.proofs.Common.{◌/◌, List, slice_set, sym, subst, inl, inr}
+use Rattle.std.proofs.lemmas.Bool.{cases_Bool}
+use Rattle.r3k_decode.specs.Operation.{Operation}
+use Rattle.r3k_live.specs.Slots.{AreKnown, is_open}
+use Rattle.r3k_live.proofs.Slots.{word_stored, word_stored_apart}
 use Rattle.r3k_word.specs.declared.layout.TheConstants.{PAGE_WORDS}
 use Rattle.r3k_live.proofs.flat.FlatMemoryMem.set_word.Goals as goal
 
 pub invariant_of-self-clause-kept : goal.invariant_of-self-clause-kept
 invariant_of-self-clause-kept g c =
     let memory = c.args.self.now in
-    subst (λ (slot : ℕ). AreKnown g.row.PAGES (slice_set memory.words.items c.args.place c.args.value)
-    (slice_set memory.known.items (slot * PAGE_WORDS + c.args.place % PAGE_WORDS) memory.stop) memory.opened.items) (sym c.slot_of-slot.ensures.slot)
-    (word_stored g.row.PAGES memory.words.items memory.known.items memory.opened.items c.args.place c.args.value memory.stop memory.kept memory.stops
-    (rw memory.whole at c.requires))
+    let there = λ (known : List Operation). AreKnown g.row.PAGES (slice_set memory.words.items c.args.place c.args.value) known memory.opened.items in
+    elim (cases_Bool (is_open g.row.PAGES memory.opened.items (c.args.place / PAGE_WORDS))) [
+      | inl is ↦
+          subst there (sym (c.forget_word.ensures.opened is))
+          (word_stored g.row.PAGES memory.words.items memory.known.items memory.opened.items c.args.place c.args.value memory.stop memory.kept memory.stops
+          (rw memory.whole at c.requires))
+      | inr is ↦
+          subst there (sym (c.forget_word.ensures.closed is))
+          (word_stored_apart g.row.PAGES memory.words.items memory.known.items memory.opened.items c.args.place c.args.value memory.kept is)
+    ]
