@@ -138,14 +138,12 @@ fn add_page(
 {
     let first = page as usize * WORDS;
     let start = address_of(ram_pages, first);
-    let blank = image.is_blank(start, start + PAGE_BYTES);
+    if image.is_blank(start, start + PAGE_BYTES) {
+        words.resize(first + WORDS, 0)?;
+        return Ok(());
+    }
     for place in first..first + WORDS {
-        let word = if blank {
-            0
-        } else {
-            image.word(address_of(ram_pages, place)).unwrap_or(0)
-        };
-        words.push(word)?;
+        words.push(image.word(address_of(ram_pages, place)).unwrap_or(0))?;
     }
     Ok(())
 }

@@ -10,8 +10,8 @@ use r3k_word::field::field;
 // The word of `break`.
 const BREAK: u32 = 0xD;
 
-// An instruction that does the same: an addition for `nop` and moves, which most steps then are. So the processor guesses more often right
-// what comes next.
+// An instruction that does the same: an addition for `nop` and moves. So a third of what kernels run goes one way, and the processor
+// guesses more often right what comes next.
 fn plain(insn: Insn) -> Insn
     ensures { HasEffectOf insn result }
 {
