@@ -18,9 +18,9 @@ use std::marker::Model;
 #[derive(Clone, Copy, Debug)]
 pub struct Insn {
     mnemonic: Mnemonic,
-    rs: Register,
-    rt: Register,
-    rd: Register,
+    rs: u8,
+    rt: u8,
+    rd: u8,
     // The one of `sa`, `imm`, `index` and `code` that it has, or 0.
     rest: u32,
 }
@@ -78,9 +78,9 @@ impl Insn {
         let has = shape.fields();
         Insn {
             mnemonic,
-            rs: Register::new(kept(has.rs, field::<25, 21>(word)) as u8),
-            rt: Register::new(kept(has.rt, field::<20, 16>(word)) as u8),
-            rd: Register::new(kept(has.rd, field::<15, 11>(word)) as u8),
+            rs: kept(has.rs, field::<25, 21>(word)) as u8,
+            rt: kept(has.rt, field::<20, 16>(word)) as u8,
+            rd: kept(has.rd, field::<15, 11>(word)) as u8,
             rest: kept(has.sa, field::<10, 6>(word))
                 + kept(has.imm, field::<15, 0>(word))
                 + kept(has.index, field::<25, 0>(word))
@@ -94,9 +94,9 @@ impl Insn {
     {
         Insn {
             mnemonic: Mnemonic::Addiu,
-            rs,
-            rt,
-            rd: Register::new(0),
+            rs: rs.number(),
+            rt: rt.number(),
+            rd: 0,
             rest: u32::from(imm),
         }
     }
@@ -109,9 +109,9 @@ impl Insn {
     {
         let has = shape.fields();
         let insn = *self;
-        (kept(has.rs, u32::from(insn.rs.number())) << 21)
-            + (kept(has.rt, u32::from(insn.rt.number())) << 16)
-            + (kept(has.rd, u32::from(insn.rd.number())) << 11)
+        (kept(has.rs, u32::from(insn.rs)) << 21)
+            + (kept(has.rt, u32::from(insn.rt)) << 16)
+            + (kept(has.rd, u32::from(insn.rd)) << 11)
             + (kept(has.sa, u32::from(insn.sa())) << 6)
             + kept(has.imm, u32::from(insn.imm()))
             + kept(has.index, insn.index())
@@ -131,7 +131,7 @@ impl Insn {
     pub fn rs(&self) -> Register
         ensures { result ≡ self.now.rs }
     {
-        self.rs
+        Register::new(self.rs)
     }
 
     /// The field `rt`, bits 20 to 16.
@@ -139,7 +139,7 @@ impl Insn {
     pub fn rt(&self) -> Register
         ensures { result ≡ self.now.rt }
     {
-        self.rt
+        Register::new(self.rt)
     }
 
     /// The field `rd`, bits 15 to 11.
@@ -147,7 +147,7 @@ impl Insn {
     pub fn rd(&self) -> Register
         ensures { result ≡ self.now.rd }
     {
-        self.rd
+        Register::new(self.rd)
     }
 
     /// The field `sa`, bits 10 to 6.

@@ -4,10 +4,10 @@ ghost use Rattle.std.specs.Prelude.{◌≡◌, ◌<◌};
 
 use std::marker::Model;
 
-/// The number of a register, 0 to 31.
+/// The number of a register, 0 to 31. It is as wide as a place in a list, so that a step that uses it has not to widen it.
 #[derive(Clone, Copy, Debug, PartialEq, Eq)]
 pub struct Register {
-    number: u8,
+    number: usize,
 }
 
 impl Model for Register {
@@ -29,7 +29,9 @@ impl Register {
         requires { number < 32 }
         ensures { result ≡ number }
     {
-        Register { number }
+        Register {
+            number: number as usize,
+        }
     }
 
     /// Its number.
@@ -38,7 +40,7 @@ impl Register {
         ensures value { result ≡ self }
         ensures within { result < 32 }
     {
-        self.number
+        self.number as u8
     }
 
     /// Its place among the 32 registers.
@@ -47,6 +49,6 @@ impl Register {
         ensures value { result ≡ self }
         ensures within { result < 32 }
     {
-        self.number as usize
+        self.number
     }
 }
