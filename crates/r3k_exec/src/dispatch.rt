@@ -1,6 +1,7 @@
 //! The effect of an instruction, by its name.
 
 ghost use Rattle.std.specs.Prelude.{◌≡◌};
+ghost use Rattle.r3k_table.specs.Mnemonics.{number_of};
 ghost use Rattle.r3k_exec.specs.Effects.{effect_of};
 
 use crate::arithmetic::{add, addi, addiu, addu, div, divu, mult, multu, sub, subu};
@@ -16,17 +17,26 @@ use r3k_table::mnemonic::Mnemonic;
 use r3k_table::rows;
 
 macro_rules! by_name {
-    (($insn:ident, $operands:ident) $(($mnemonic:ident, $name:ident, $mask:literal, $value:literal, $shape:ident))*) => {
-        match $insn.mnemonic() {
-            $(Mnemonic::$mnemonic => $name($insn, $operands),)*
+    (($name:ident, $insn:ident, $operands:ident) $(($mnemonic:ident, $function:ident, $mask:literal, $value:literal, $shape:ident))*) => {
+        match $name {
+            $(Mnemonic::$mnemonic => $function($insn, $operands),)*
         }
     };
 }
 
-/// What an instruction does with the values that it reads, by its name.
+/// What an instruction does with the values that it reads.
 #[inline(always)]
 pub fn effect(insn: &Insn, operands: Operands) -> Effect
     ensures { result ≡ effect_of insn.now operands }
 {
-    rows!(all by_name (insn, operands))
+    effect_by_name(insn.mnemonic(), insn, operands)
+}
+
+/// The same, where its name is at hand before all else of it.
+#[inline(always)]
+pub fn effect_by_name(name: Mnemonic, insn: &Insn, operands: Operands) -> Effect
+    requires { number_of name ≡ insn.now.row }
+    ensures { result ≡ effect_of insn.now operands }
+{
+    rows!(all by_name (name, insn, operands))
 }

@@ -14,5 +14,5 @@ mod shifts;
 mod transfers;
 
 pub use access::{Covered, LoadKind, StoreKind};
-pub use dispatch::effect;
+pub use dispatch::{effect, effect_by_name};
 pub use operands::{Effect, Operands, Trap};

@@ -2,7 +2,6 @@
 use Rattle.std.proofs.Common.{◌≡◌, ℕ, ◌+◌, ◌<◌, ◌≤◌, List, [], ◌∷◌, ◌++◌, IsFalse, slice_index, sym, ap, subst, ◌∙◌, arith, inl, inr}
 use Rattle.std.proofs.lemmas.Bool.{cases_lt}
 use Rattle.input_log.specs.Event.{LogEvent}
-use Rattle.r3k_word.specs.Layout.{page_of_place}
 use Rattle.r3k_machine.specs.declared.step.Done.{Done}
 use Rattle.r3k_machine.specs.Run.{arriving, run, trace}
 use Rattle.r3k_machine.specs.State.{State}
@@ -11,7 +10,7 @@ use Rattle.r3k_machine.specs.Reports.{DifferAt}
 use Rattle.r3k_machine.specs.Quiet.{outcome_elapsed, state_elapsed}
 use Rattle.r3k_live.specs.Going.{AreLeft, HasGone, HasGoneFor, IsFreeFor}
 use Rattle.r3k_live.specs.CodePages.{AddsCodePages}
-use Rattle.r3k_live.specs.Record.{is_dirty}
+use Rattle.r3k_live.specs.Record.{is_stored_at}
 use Rattle.r3k_live.specs.Recording.{Recording, Records}
 use Rattle.r3k_live.proofs.Going.{run_more, trace_more}
 use Rattle.r3k_live.proofs.Recorded.{stayed}
@@ -29,7 +28,7 @@ one_more pages log from start made s t done r later gone step records differ =
       state = ap (λ (o : Outcome). o.state) (sym outcome) ∙ run_more pages log from start made;
       recorded = subst (λ (steps : List Done). Records pages steps later) steps (records so_far gone.recorded);
       stayed =
-          subst (λ (steps : List Done). (place : ℕ) → IsFalse (is_dirty steps (page_of_place place)) → slice_index start.words place ≡ slice_index t.words place) steps
+          subst (λ (steps : List Done). (place : ℕ) → IsFalse (is_stored_at steps place) → slice_index start.words place ≡ slice_index t.words place) steps
           (stayed so_far done start.words s.words t.words differ gone.stayed);
     }
 
@@ -65,11 +64,11 @@ pub gone_on : (pages : ℕ) (log : List LogEvent) (from : ℕ) (start : State) (
 gone_on pages log from start address made n more s t r mid later first second here =
     let same : made + n + more ≡ made + (n + more) = omega arith in record {
       gone = subst (λ (k : ℕ). HasGone pages log from start k t later) same second.gone;
-      passed = λ k after within there.
+      passed = λ small k after within there.
           elim (cases_lt k (made + n)) [
-            | inl earlier ↦ first.passed k after earlier there
+            | inl earlier ↦ first.passed small k after earlier there
             | inr late ↦ elim (cases_lt (made + n) k) [
-              | inl past ↦ second.passed k past (omega (arith, within)) there
+              | inl past ↦ second.passed small k past (omega (arith, within)) there
               | inr last ↦
                   let is : k ≡ made + n = omega (arith, late, last) in
                   here (omega (arith, after, is)) (omega (arith, within, is)) (ap (λ (n : ℕ). (run pages log from start n).core.pc) (sym is) ∙ there)
@@ -84,7 +83,7 @@ pub no_more : (pages : ℕ) (log : List LogEvent) (from : ℕ) (start : State) (
 no_more pages log from start address made s r gone =
     let same : made ≡ made + 0 = omega arith in record {
       gone = subst (λ (n : ℕ). HasGone pages log from start n s r) same gone;
-      passed = λ k after below there. omega (arith, after, below);
+      passed = λ small k after below there. omega (arith, after, below);
       code_pages = λ before code_pages. subst (λ (n : ℕ). AddsCodePages pages log from start n before r.code_pages) same code_pages;
     }
 

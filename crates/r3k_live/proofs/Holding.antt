@@ -13,7 +13,7 @@ use Rattle.r3k_live.specs.Recording.{Recording}
 use Rattle.r3k_live.specs.Stores.{AreInBlocks}
 use Rattle.r3k_live.specs.Waiting.{HasPassed, IsHeld, IsPassedBy, come_later, held_at, is_among, passed_by}
 use Rattle.r3k_live.specs.declared.stores.Held.{Held}
-use Rattle.r3k_live.specs.declared.stores.TheConstants.{BLOCK_WORDS}
+use Rattle.r3k_pages.specs.declared.block.TheConstants.{BLOCK_WORDS}
 
 -- the words of the places from one on and before another one are held, beside those that were
 pub record AreHeld (since first below : ℕ) (last words : List ℕ) (old held : List Held) : Type 0 where

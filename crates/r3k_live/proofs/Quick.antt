@@ -2,6 +2,7 @@
 use Rattle.std.proofs.Common.{◌≡◌, ℕ, ◌+◌, ◌-◌, ◌*◌, ◌/◌, ◌^◌, ◌<◌, ◌≤◌, ◌||◌, nat_eq, List, [], ◌∷◌, ◌++◌, Option, None, Some, IfSome, IsFalse, refl, sym, subst, ap, ◌∙◌, arith, inl, inr}
 use Rattle.std.proofs.lemmas.Bool.{cases_lt}
 use Rattle.r3k_word.specs.Word.{sum_of}
+use Rattle.r3k_decode.specs.Operation.{Operation}
 use Rattle.r3k_word.specs.declared.layout.TheConstants.{PAGE_BYTES, PAGE_WORDS}
 use Rattle.r3k_machine.specs.declared.quick.CodePage.{CodePage}
 use Rattle.r3k_machine.specs.declared.step.Done.{Done}
@@ -182,6 +183,14 @@ at_next {pages} {most} {begun} {first} {halt} {end} {index} {page} {s} {r} {core
 pub more_to : (index first last steps now result : ℕ) → result ≡ now → now ≡ steps + (index - first) → first ≤ index → result < last → index < first + (last - steps)
 more_to index first last steps now result is count low fewer = omega (arith, is, count, low, fewer)
 
+-- a name is that of what is known of a word, if the page has this word
+abbrev pub IsNamed : (ℕ → ℕ → Operation) → (page index name : ℕ) → Type 0
+IsNamed known page index name = index < PAGE_WORDS → name ≡ (known page index).row
+
+-- and stays that where what is known stays
+pub still_named : (known after : ℕ → ℕ → Operation) (page index name : ℕ) → after ≡ known → IsNamed known page index name → IsNamed after page index name
+still_named known after page index name same named = subst (λ (k : ℕ → ℕ → Operation). IsNamed k page index name) (sym same) named
+
 -- what is so of an answer, as something else is
 pub if_so : {A : Type 0} {P Q : A → Type 0} (o : Option A) → IfSome o P → ((a : A) → P a → Q a) → IfSome o Q
 if_so None p f = tt
@@ -220,7 +229,7 @@ over_more pages most address page made n s t u r mid quick later more over on re
       (gone_on pages log from start address before made (n - made) (state_elapsed made t) (state_elapsed n u) r mid later first
       (record {
         gone = subst (λ (k : ℕ). HasGone pages log from start k (state_elapsed n u) later) (sym sum) gone;
-        passed = λ k after below. second.passed k (omega (arith, after)) (omega (arith, below, sum));
+        passed = λ small k after below. second.passed k (omega (arith, after)) (omega (arith, below, sum));
         code_pages = λ set so_far.
             more_code_pages pages log from start (before + made) (n - made) page.number set mid.code_pages later.code_pages so_far
             (λ k above below. second.begins k above (omega (arith, below, sum)))

@@ -1,7 +1,9 @@
 -- What is recorded of a run, after one more step.
 use Rattle.std.proofs.Common.{◌≡◌, ℕ, zero, suc, ◌+◌, ◌*◌, ◌/◌, ◌%◌, ◌<◌, Bool, true, false, ◌||◌, ◌==◌, if◌then◌else◌, List, [], ◌∷◌, ◌++◌, length, Option, Some, None, IfSome, IsFalse, IsTrue, nat_eq, slice_index, slice_index_or, slice_set, refl, sym, ap, subst, ◌∙◌, arith, inl, inr, get_or}
 use Rattle.std.specs.List.{list_any}
-use Rattle.std.proofs.lemmas.Bool.{cases_Bool, eq-eqb, eqb-true, true≢false}
+use Rattle.std.proofs.Math.Path.{ap₂}
+use Rattle.std.proofs.lemmas.Bool.{cases_Bool, cases_lt, eq-eqb, eqb-true, true≢false}
+use Rattle.std.proofs.lemmas.Option.{none-some}
 use Rattle.std.proofs.lemmas.List.{get_or-set_same, get_or-set_other}
 use Rattle.dz_serial.specs.declared.write.Sent.{Sent}
 use Rattle.r3k_word.specs.Layout.{page_of_place}
@@ -12,9 +14,12 @@ use Rattle.r3k_machine.specs.Run.{is_stored, last_where, last_writer, later}
 use Rattle.r3k_machine.specs.Reports.{DifferAt, IsRamWord}
 use Rattle.r3k_machine.proofs.Splits.{where_split, writer_split}
 use Rattle.r3k_machine.specs.Locality.{is_page}
-use Rattle.r3k_pages.specs.Pages.{SameOutside, holds}
+use Rattle.r3k_pages.specs.Pages.{SameOutside, SameOutsideBlocks, holds}
+use Rattle.r3k_pages.specs.declared.block.TheConstants.{BLOCK_WORDS}
+use Rattle.r3k_pages.specs.declared.page.TheConstants.{PAGE_BLOCKS}
+use Rattle.r3k_live.specs.Stores.{AreInBlocks}
 use Rattle.r3k_pages.proofs.Ascending.{none_where}
-use Rattle.r3k_live.specs.Record.{dirty_pages, is_dirty, sent_from, stores_in, with_sent}
+use Rattle.r3k_live.specs.Record.{dirty_pages, is_dirty, is_stored_at, sent_from, stores_at, stores_in, with_sent}
 use Rattle.r3k_live.specs.Kept.{kept_step}
 use Rattle.r3k_live.specs.Recording.{Recording, Records, page_of_store, with_writer}
 use Rattle.r3k_live.specs.declared.recorder.SentAt.{SentAt}
@@ -107,20 +112,75 @@ neither : (a b : Bool) → IsFalse (a || b) → (a ≡ false) × (b ≡ false)
 neither true b h = absurd (true≢false h)
 neither false b h = (refl, h)
 
+-- a word that a step did not store into
+pub unchanged : (place : ℕ) (stored : Option ℕ) (old new : List ℕ) → DifferAt stored old new → IsFalse (stores_at place stored) → slice_index old place ≡ slice_index new place
+unchanged place None old new same clean = ap (λ (words : List ℕ). slice_index words place) (sym same)
+unchanged place (Some address) old new change clean =
+    sym (ap (λ (words : List ℕ). slice_index words place) change.1
+    ∙ get_or-set_other old (address / 4) place change.0 0 (λ same. true≢false (sym (eq-eqb (address / 4) place (sym same)) ∙ clean)))
+
 pub stayed : (steps : List Done) (done : Done) (first old new : List ℕ) → DifferAt done.stored old new
-    → ((place : ℕ) → IsFalse (is_dirty steps (page_of_place place)) → slice_index first place ≡ slice_index old place)
-    → (place : ℕ) → IsFalse (is_dirty (steps ++ done ∷ []) (page_of_place place)) → slice_index first place ≡ slice_index new place
+    → ((place : ℕ) → IsFalse (is_stored_at steps place) → slice_index first place ≡ slice_index old place)
+    → (place : ℕ) → IsFalse (is_stored_at (steps ++ done ∷ []) place) → slice_index first place ≡ slice_index new place
 stayed steps done first old new differ so_far place clean =
-    let parts = neither (is_dirty steps (page_of_place place)) (stores_in (page_of_place place) done.stored)
-    (sym (any_more (λ done. stores_in (page_of_place place) done.stored) steps done) ∙ clean) in
-    so_far place parts.0 ∙ by_store done.stored differ parts.1
+    let parts = neither (is_stored_at steps place) (stores_at place done.stored) (sym (any_more (λ done. stores_at place done.stored) steps done) ∙ clean) in
+    so_far place parts.0 ∙ unchanged place done.stored old new differ parts.1
+
+-- a page that no step stored into has no word that one did
+pub clean_word : (steps : List Done) (place : ℕ) → IsFalse (is_dirty steps (page_of_place place)) → IsFalse (is_stored_at steps place)
+clean_word [] place clean = refl
+clean_word (done ∷ steps) place clean =
+    let parts = neither (stores_in (page_of_place place) done.stored) (is_dirty steps (page_of_place place)) clean in
+    ap₂ (λ (a b : Bool). a || b) (by_page done.stored parts.0) (clean_word steps place parts.1)
   where
-    by_store : (stored : Option ℕ) → DifferAt stored old new → IsFalse (stores_in (page_of_place place) stored) → slice_index old place ≡ slice_index new place
-    by_store None same clean = ap (λ (words : List ℕ). slice_index words place) (sym same)
-    by_store (Some address) change clean =
-        sym (ap (λ (words : List ℕ). slice_index words place) change.1
-        ∙ get_or-set_other old (address / 4) place change.0 0
-        (λ same. true≢false (sym (eq-eqb (address / 4096) (page_of_place place) (omega (arith, same))) ∙ clean)))
+    by_page : (stored : Option ℕ) → IsFalse (stores_in (page_of_place place) stored) → stores_at place stored ≡ false
+    by_page None clean = refl
+    by_page (Some address) clean =
+        elim (cases_Bool (nat_eq (address / 4) place)) [
+          | inl here ↦ absurd (true≢false (sym (eq-eqb (address / 4096) (page_of_place place) (let at = eqb-true (address / 4) place here in omega (arith, at))) ∙ clean))
+          | inr apart ↦ apart
+        ]
+
+-- no step stored into a word that has no last writer
+none_stored : (steps : List Done) (place : ℕ) → ((address : ℕ) → address / 4 ≡ place → last_writer (Memory address) steps ≡ None) → IsFalse (is_stored_at steps place)
+none_stored [] place none = refl
+none_stored (done ∷ steps) place none =
+    ap₂ (λ (a b : Bool). a || b) (here done.stored (λ address at. (apart address at).1)) (none_stored steps place (λ address at. (apart address at).0))
+  where
+    split : (rest : Option ℕ) (now : Bool) → later 1 rest (if now then Some 0 else None) ≡ None → (rest ≡ None) × (now ≡ false)
+    split (Some place) now is = absurd (none-some _ (sym is))
+    split None true is = absurd (none-some _ (sym is))
+    split None false is = (refl, refl)
+
+    apart : (address : ℕ) → address / 4 ≡ place → (last_writer (Memory address) steps ≡ None) × (is_stored address done.stored ≡ false)
+    apart address at = split (last_writer (Memory address) steps) (is_stored address done.stored) (none address at)
+
+    here : (stored : Option ℕ) → ((address : ℕ) → address / 4 ≡ place → is_stored address stored ≡ false) → stores_at place stored ≡ false
+    here None other = refl
+    here (Some address) other =
+        elim (cases_Bool (nat_eq (address / 4) place)) [
+          | inl same ↦ absurd (true≢false (sym (eq-eqb address address refl) ∙ other address (eqb-true (address / 4) place same)))
+          | inr differs ↦ differs
+        ]
+
+-- a word of which no last step is recorded
+pub no_last : (pages : ℕ) (steps : List Done) (r : Recording) (place : ℕ) → Records pages steps r → slice_index r.last place ≡ 0 → IsFalse (is_stored_at steps place)
+no_last pages steps r place records zero_there =
+    none_stored steps place
+    (λ address at.
+    elim (cases_Bool (nat_eq (address % 4) 0)) [
+      | inl aligned ↦ elim (cases_lt place (pages * PAGE_WORDS)) [
+        | inl ram ↦
+            let is : address ≡ 4 * place = let even = eqb-true (address % 4) 0 aligned in omega (arith, at, even) in
+            ap (λ (address : ℕ). last_writer (Memory address) steps) is ∙ none_kept (last_writer (Memory (4 * place)) steps) (sym (records.last place ram) ∙ zero_there)
+        | inr outside ↦ records.ram address (λ ram. let inside = ram.1 in omega (arith, inside, at, outside))
+      ]
+      | inr odd ↦ records.ram address (λ ram. true≢false (sym (eq-eqb (address % 4) 0 ram.0) ∙ odd))
+    ])
+  where
+    none_kept : (last : Option ℕ) → kept_step last ≡ 0 → last ≡ None
+    none_kept None is = refl
+    none_kept (Some step) is = absurd (let e : ⊥ = omega (arith, is) in e)
 
 -- the pages that may have changed, after more steps
 pub widened : (pages : ℕ) (steps : List Done) (r : Recording) (before dirty after : List ℕ) (base old new : List ℕ) → Records pages steps r → dirty ≡ r.dirty
@@ -131,6 +191,27 @@ widened pages steps r before dirty after base old new recorded same wider so_far
     let parts = neither (holds before page) (holds dirty page) (sym (wider page) ∙ free) in
     let clean : is_dirty steps page ≡ false = sym (recorded.dirty page) ∙ (ap (λ (set : List ℕ). holds set page) (sym same) ∙ parts.1) in
     so_far place parts.0 ∙ stayed place (none_where pages (is_dirty steps) page clean)
+
+-- the same of marked blocks
+pub widened_blocks : (pages : ℕ) (steps : List Done) (r : Recording) (before more after : List Bool) (dirty base old new : List ℕ) → Records pages steps r → dirty ≡ r.dirty
+    → ((block : ℕ) → IsFalse (slice_index_or after block false) → IsFalse (slice_index_or before block false))
+    → ((block : ℕ) → IsTrue (holds dirty (block / PAGE_BLOCKS)) → IsFalse (slice_index_or after block false) → IsFalse (slice_index_or more block false))
+    → AreInBlocks r.last more → SameOutsideBlocks before base old → SameOutside (dirty_pages pages steps) old new
+    → ((place : ℕ) → slice_index r.last place ≡ 0 → slice_index old place ≡ slice_index new place) → SameOutsideBlocks after base new
+widened_blocks pages steps r before more after dirty base old new recorded same kept added marked so_far outside stayed place free =
+    let page = page_of_place place in
+    so_far place (kept (place / BLOCK_WORDS) free)
+    ∙ elim (cases_Bool (holds dirty page)) [
+      | inl held ↦
+          let here : page ≡ place / BLOCK_WORDS / PAGE_BLOCKS = omega arith in
+          let unmarked = added (place / BLOCK_WORDS) (subst (λ (page : ℕ). IsTrue (holds dirty page)) here held) free in
+          elim (cases_lt 0 (slice_index r.last place)) [
+            | inl some ↦ absurd (true≢false (sym (marked place some) ∙ unmarked))
+            | inr none ↦ stayed place (omega (arith, none))
+          ]
+      | inr apart ↦
+          outside place (none_where pages (is_dirty steps) page (sym (recorded.dirty page) ∙ (ap (λ (set : List ℕ). holds set page) (sym same) ∙ apart)))
+    ]
 
 -- no step stores into what is no word of RAM
 pub ram_more : (pages address : ℕ) (steps : List Done) (done : Done) → IfSome done.stored (IsRamWord pages) → ¬ IsRamWord pages address

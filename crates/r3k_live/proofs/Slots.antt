@@ -29,7 +29,7 @@ one_page pages opened a b same first second =
     omega (arith, both)
 
 -- where no page is open
-pub all_closed : (pages : ℕ) (words : List ℕ) (known : List Operation) (opened : List ℕ) → length known ≡ SLOTS * PAGE_WORDS → length opened ≡ SLOTS
+pub all_closed : (pages : ℕ) (words : List ℕ) (known : List Operation) (opened : List ℕ) → length known ≡ SLOTS * PAGE_WORDS + 1 → length opened ≡ SLOTS
     → ((slot : ℕ) → slot < length opened → slice_index opened slot ≡ 0) → AreKnown pages words known opened
 all_closed pages words known opened room slots none = record {
   room = room;
@@ -45,7 +45,7 @@ all_closed pages words known opened room slots none = record {
 
 -- where no page was open yet
 pub all_unused : (pages : ℕ) (words : List ℕ) (known : List Operation) (opened : List ℕ) (stop : Operation) → pages ≤ MAX_RAM_PAGES → IsStop stop
-    → length known ≡ SLOTS * PAGE_WORDS → length opened ≡ SLOTS → ((slot : ℕ) → slot < SLOTS → slice_index opened slot ≡ UNUSED)
+    → length known ≡ SLOTS * PAGE_WORDS + 1 → length opened ≡ SLOTS → ((slot : ℕ) → slot < SLOTS → slice_index opened slot ≡ UNUSED)
     → ((i : ℕ) (d : Operation) → i < SLOTS * PAGE_WORDS → slice_index_or known i d ≡ stop) → AreKnown pages words known opened
 all_unused pages words known opened stop few stops room slots unused nothing = record {
   room = room;
@@ -150,7 +150,7 @@ word_learned pages words known opened page index operation are few page_within i
 
 -- after a page took a slot of whose words nothing is known
 pub slot_taken : (pages : ℕ) (words : List ℕ) (known cleared : List Operation) (opened : List ℕ) (page slot : ℕ) → AreKnown pages words known opened
-    → pages ≤ MAX_RAM_PAGES → page < pages + ROM_PAGES → slot ≡ slot_of pages page → length cleared ≡ SLOTS * PAGE_WORDS
+    → pages ≤ MAX_RAM_PAGES → page < pages + ROM_PAGES → slot ≡ slot_of pages page → length cleared ≡ SLOTS * PAGE_WORDS + 1
     → ((index : ℕ) (d : Operation) → index < PAGE_WORDS → IsStop (slice_index_or cleared (slot * PAGE_WORDS + index) d))
     → ((i : ℕ) (d : Operation) → ¬ (i / PAGE_WORDS ≡ slot) → slice_index_or cleared i d ≡ slice_index_or known i d)
     → AreKnown pages words cleared (slice_set opened slot (page + 1))

@@ -10,7 +10,6 @@ use Rattle.std.proofs.lemmas.Option.{none-some}
 use Rattle.std.proofs.lemmas.List.Elements.{All-contains}
 use Rattle.std.proofs.lemmas.List.Folds.{list_any-append}
 use Rattle.input_log.specs.Event.{LogEvent}
-use Rattle.r3k_word.specs.Layout.{page_of_place}
 use Rattle.r3k_word.specs.declared.layout.TheConstants.{PAGE_BYTES, PAGE_WORDS}
 use Rattle.r3k_machine.specs.declared.step.Done.{Done}
 use Rattle.r3k_machine.specs.declared.target.Target.TheVariants.{Memory}
@@ -26,7 +25,7 @@ use Rattle.r3k_pages.specs.Pages.{holds}
 use Rattle.dz_serial.specs.declared.write.Sent.{Sent}
 use Rattle.r3k_live.specs.Going.{HasGone, HasGoneFor, IsFreeFor, LeadsTo, quick_run, quick_trace}
 use Rattle.r3k_live.specs.Kept.{kept_step}
-use Rattle.r3k_live.specs.Record.{is_dirty, sent_from, stores_in, with_sent}
+use Rattle.r3k_live.specs.Record.{is_stored_at, sent_from, stores_at, stores_in, with_sent}
 use Rattle.r3k_live.specs.Recording.{Recording, Records}
 use Rattle.r3k_live.specs.Waiting.{HasPassed, IsHeld, held_at, passed_by}
 use Rattle.r3k_live.specs.declared.stores.Held.{Held}
@@ -262,10 +261,10 @@ goes_round pages log from start address before n k most s r mid later none at_on
     let pc_at : (m : ℕ) → m ≤ total → (run pages log from start (before + m)).core.pc ≡ (quick_run pages s m).core.pc
     = λ m most_m. ap (λ (t : State). t.core.pc) (runs m most_m).state in
     let so_far = trace pages log from start before in
-    let dirty_same : (page : ℕ) → is_dirty (trace pages log from start (before + total)) page ≡ is_dirty (trace pages log from start (before + n)) page
-    = λ page.
-    ap (λ (steps : List Done). is_dirty steps page) all.steps
-    ∙ (after_any pages n k s (λ done. stores_in page done.stored) so_far once ∙ sym (ap (λ (steps : List Done). is_dirty steps page) turn.steps)) in
+    let stored_same : (place : ℕ) → is_stored_at (trace pages log from start (before + total)) place ≡ is_stored_at (trace pages log from start (before + n)) place
+    = λ place.
+    ap (λ (steps : List Done). is_stored_at steps place) all.steps
+    ∙ (after_any pages n k s (λ done. stores_at place done.stored) so_far once ∙ sym (ap (λ (steps : List Done). is_stored_at steps place) turn.steps)) in
     let stands_first : (i : ℕ) → before ≤ i → i ≤ before + total → (m : ℕ) × (m ≤ n) × ((run pages log from start i).core.pc ≡ (run pages log from start (before + m)).core.pc)
     = λ i low high.
     let at : before + (i - before) ≡ i = omega (arith, low) in
@@ -291,14 +290,14 @@ goes_round pages log from start address before n k most s r mid later none at_on
             subst (λ (steps : List Done). Records pages steps later) (sym all.steps)
             (passed_records pages n k s so_far mid later once (λ i less. sends_nothing (quick_run pages s i) (quick i less)) (leads.records so_far gone.recorded)
             (subst (λ (count : ℕ). HasPassed pages count (n * k) mid later) gone.recorded.count passed));
-        stayed = λ place clean. first.gone.stayed place (sym (dirty_same (page_of_place place)) ∙ clean);
+        stayed = λ place clean. first.gone.stayed place (sym (stored_same place) ∙ clean);
       };
-      passed = λ i above below there.
+      passed = λ small i above below there.
           let m = first_of pages n (suc k) s once (i - before) (omega (arith, above, below)) in
           let here = ap (λ (j : ℕ). (run pages log from start j).core.pc) (let e : before + (i - before) ≡ i = omega (arith, above) in e) ∙ there in
           let at : (quick_run pages s m.0).core.pc ≡ address = sym (ap (λ (t : State). t.core.pc) m.2) ∙ (sym (pc_at (i - before) (omega (arith, above, below))) ∙ here) in
           elim (cases_lt 0 m.0) [
-            | inl some ↦ first.passed (before + m.0) (omega (arith, some)) (omega (arith, m.1)) (pc_at m.0 (omega (arith, m.1, mul-suc n k)) ∙ at)
+            | inl some ↦ first.passed small (before + m.0) (omega (arith, some)) (omega (arith, m.1)) (pc_at m.0 (omega (arith, m.1, mul-suc n k)) ∙ at)
             | inr zero_there ↦ elsewhere (ap (λ (j : ℕ). (quick_run pages s j).core.pc) (let e : 0 ≡ m.0 = omega (arith, zero_there) in e) ∙ at)
           ];
       code_pages = λ set before_it page.

@@ -20,7 +20,7 @@ use Rattle.r3k_live.specs.Record.{AreWriters}
 use Rattle.r3k_live.specs.Kept.{kept_step}
 use Rattle.r3k_live.specs.Stores.{AreInBlocks, AreInPages, writers_in, written_at}
 use Rattle.r3k_live.specs.declared.recorder.Written.{Written}
-use Rattle.r3k_live.specs.declared.stores.TheConstants.{BLOCK_WORDS}
+use Rattle.r3k_pages.specs.declared.block.TheConstants.{BLOCK_WORDS}
 
 -- a word before a place, with its step
 abbrev Is : (n : ℕ) → (last : List ℕ) → Written → Type 0

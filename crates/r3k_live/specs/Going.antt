@@ -1,7 +1,6 @@
 -- How far a run has gone (own).
-use Rattle.std.specs.Prelude.{◌≡◌, ℕ, zero, suc, ◌+◌, ◌-◌, ◌*◌, ◌<◌, ◌≤◌, List, [], ◌∷◌, ◌++◌, IsFalse, IsTrue, None, slice_index}
+use Rattle.std.specs.Prelude.{◌≡◌, ℕ, zero, suc, ◌+◌, ◌-◌, ◌*◌, ◌^◌, ◌<◌, ◌≤◌, List, [], ◌∷◌, ◌++◌, IsFalse, IsTrue, None, slice_index}
 use Rattle.input_log.specs.Event.{LogEvent}
-use Rattle.r3k_word.specs.Layout.{page_of_place}
 use Rattle.r3k_word.specs.declared.layout.TheConstants.{PAGE_WORDS}
 use Rattle.r3k_machine.specs.declared.quick.CodePage.{CodePage}
 use Rattle.r3k_machine.specs.declared.step.Done.{Done}
@@ -12,26 +11,26 @@ use Rattle.r3k_machine.specs.Run.{arriving, last_writer, run, trace}
 use Rattle.r3k_machine.specs.State.{State}
 use Rattle.r3k_machine.specs.Step.{outcome_of_instruction}
 use Rattle.r3k_pages.specs.Pages.{holds}
-use Rattle.r3k_live.specs.Record.{is_dirty}
+use Rattle.r3k_live.specs.Record.{is_stored_at}
 use Rattle.r3k_live.specs.Recording.{IsNoted, Recording, Records}
 use Rattle.r3k_live.specs.CodePages.{BeginsIn, AddsCodePages}
 
--- `made` steps of the run from a state are made and recorded, and words of pages that they did not store into stayed
+-- `made` steps of the run from a state are made and recorded, and words that they did not store into stayed
 pub record HasGone (pages : ℕ) (log : List LogEvent) (from : ℕ) (start : State) (made : ℕ) (s : State) (r : Recording) : Type 0 where
   pub state : s ≡ run pages log from start made
   pub recorded : Records pages (trace pages log from start made) r
-  pub stayed : (place : ℕ) → IsFalse (is_dirty (trace pages log from start made) (page_of_place place))
+  pub stayed : (place : ℕ) → IsFalse (is_stored_at (trace pages log from start made) place)
       → slice_index start.words place ≡ slice_index s.words place
 
 -- none after one number of steps and before another one holds an address in PC
 abbrev pub PassesBy : (pages : ℕ) → List LogEvent → (from : ℕ) → State → (address above below : ℕ) → Type 0
 PassesBy pages log from start address above below = (k : ℕ) → above < k → k < below → ¬ ((run pages log from start k).core.pc ≡ address)
 
--- the steps of a run that follow `made` of them: n are made and recorded, none but the last comes to an address, and the pages in which
--- the PC stands are noted
+-- the steps of a run that follow `made` of them: n are made and recorded, none but the last comes to an address, if it is one, and the
+-- pages in which the PC stands are noted
 pub record HasGoneFor (pages : ℕ) (log : List LogEvent) (from : ℕ) (start : State) (address made n : ℕ) (r : Recording) (t : State) (later : Recording) : Type 0 where
   pub gone : HasGone pages log from start (made + n) t later
-  pub passed : PassesBy pages log from start address made (made + n)
+  pub passed : address < 2 ^ 32 → PassesBy pages log from start address made (made + n)
   pub code_pages : (before : List ℕ) → AddsCodePages pages log from start made before r.code_pages → AddsCodePages pages log from start (made + n) before later.code_pages
 
 -- the events that are left have all of a log from a time on

@@ -8,6 +8,7 @@ pub mod Record
 pub mod Marks
 pub mod Recording
 pub mod Visits
+pub mod Changes
 pub mod CodePages
 pub mod Living
 pub mod Going

@@ -34,6 +34,14 @@ stores_in page (Some address) = nat_eq (address / PAGE_BYTES) page
 abbrev pub is_dirty : List Done → ℕ → Bool
 is_dirty steps page = list_any (λ done. stores_in page done.stored) steps
 
+-- whether a step stored into the word at a place, and whether steps did
+abbrev pub stores_at : ℕ → Option ℕ → Bool
+stores_at place None = false
+stores_at place (Some address) = nat_eq (address / 4) place
+
+abbrev pub is_stored_at : List Done → ℕ → Bool
+is_stored_at steps place = list_any (λ done. stores_at place done.stored) steps
+
 -- the pages that steps stored into, and those that they touched
 abbrev pub dirty_pages : ℕ → List Done → List ℕ
 dirty_pages pages steps = pages_where pages (is_dirty steps)

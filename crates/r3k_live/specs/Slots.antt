@@ -13,9 +13,13 @@ slot_of pages page = if nat_lt page pages then page % RAM_SLOTS else RAM_SLOTS +
 abbrev pub is_open : (pages : ℕ) → List ℕ → ℕ → Bool
 is_open pages opened page = nat_eq (slice_index opened (slot_of pages page)) (page + 1)
 
+-- what is kept of a word of a page, by its number there, if that page is open
+abbrev pub known_at : (pages : ℕ) → List Operation → Operation → (page index : ℕ) → Operation
+known_at pages known default page index = slice_index_or known (slot_of pages page * PAGE_WORDS + index) default
+
 -- what is kept of the words of open pages is known of them, and nothing is known where no page was open yet
 pub record AreKnown (pages : ℕ) (words : List ℕ) (known : List Operation) (opened : List ℕ) : Type 0 where
-  pub room : length known ≡ SLOTS * PAGE_WORDS
+  pub room : length known ≡ SLOTS * PAGE_WORDS + 1
   pub slots : length opened ≡ SLOTS
   pub each : (page index : ℕ) (d : Operation) → page < pages + ROM_PAGES → index < PAGE_WORDS → IsTrue (is_open pages opened page)
       → IsKnown (slice_index words (page * PAGE_WORDS + index)) (slice_index_or known (slot_of pages page * PAGE_WORDS + index) d)

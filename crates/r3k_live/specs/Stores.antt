@@ -4,7 +4,8 @@ use Rattle.r3k_word.specs.Layout.{page_of_place}
 use Rattle.r3k_word.specs.declared.layout.TheConstants.{MAX_RAM_PAGES, PAGE_WORDS}
 use Rattle.r3k_pages.specs.Pages.{holds}
 use Rattle.r3k_live.specs.declared.recorder.Written.{Written}
-use Rattle.r3k_live.specs.declared.stores.TheConstants.{BLOCK_WORDS, PAGE_BLOCKS}
+use Rattle.r3k_pages.specs.declared.block.TheConstants.{BLOCK_WORDS}
+use Rattle.r3k_pages.specs.declared.page.TheConstants.{PAGE_BLOCKS}
 
 -- for each word of RAM one more than the last step that stored into it, or 0, and the pages that were stored into
 pub record Stores : Type 0 where

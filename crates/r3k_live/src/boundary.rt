@@ -3,8 +3,10 @@
 ghost use Rattle.std.specs.Prelude.{◌≡◌, ◌<◌, ◌≤◌, IfOk, length, slice_set};
 ghost use Rattle.r3k_word.specs.Layout.{word_count_of};
 ghost use Rattle.r3k_word.specs.declared.layout.TheConstants.{MAX_RAM_PAGES};
-ghost use Rattle.r3k_pages.specs.Pages.{SameOutside, overlaid};
+ghost use Rattle.r3k_pages.specs.Pages.{overlaid};
+ghost use Rattle.r3k_live.specs.Changes.{AreChanges};
 
+use crate::changes::Changes;
 use r3k_machine::{Core, KeptCore};
 use r3k_pages::{PageMarks, Snapshot};
 use std::alloc::{AllocError, Global};
@@ -46,24 +48,26 @@ impl<const PAGES: u32> Boundary<PAGES> {
         Rc::new(alloc, boundary).map_err(|_| AllocError)
     }
 
-    // A core, and words that are those of this state but for a set of pages. It shares these, and the cache arrays where they are
-    // equal.
+    // A core, and words that are those of this state but for some changes. It shares what did not change, and the cache arrays where they
+    // are equal.
     pub(crate) fn after(
         &self,
         alloc: Global,
         core: &mut Core,
         words: &[u32],
-        changed: &PageMarks<PAGES>,
+        changed: &Changes<PAGES>,
     ) -> Result<Rc<Boundary<PAGES>>, AllocError>
         requires pages { PAGES ≤ MAX_RAM_PAGES }
         requires whole { length words.now ≡ word_count_of PAGES }
-        requires same { SameOutside changed.now self.now.words words.now }
+        requires changes { AreChanges changed.now self.now.words words.now }
         ensures boundary { IfOk result (λ boundary. boundary.value ≡ record { core = core.old; words = words.now }) }
         ensures core { core.new ≡ core.old }
     {
         let boundary = Boundary {
             core: core.keep(alloc, Some(&self.core))?,
-            memory: Snapshot::capture(alloc, words, Some(&self.memory), changed)?,
+            memory: self
+                .memory
+                .after(alloc, words, changed.pages(), changed.blocks())?,
         };
         Rc::new(alloc, boundary).map_err(|_| AllocError)
     }

@@ -9,7 +9,7 @@ ghost use Rattle.r3k_pages.specs.Pages.{SameOutside};
 ghost use Rattle.r3k_machine.specs.Known.{IsStop};
 ghost use Rattle.r3k_machine.specs.Reset.{reset_word, reset_words};
 ghost use Rattle.r3k_machine.specs.Reports.{IsPage};
-ghost use Rattle.r3k_live.specs.Slots.{AreKnown, is_open, slot_of};
+ghost use Rattle.r3k_live.specs.Slots.{AreKnown, is_open, known_at, slot_of};
 ghost use Rattle.r3k_live.specs.declared.flat.TheConstants.{SLOTS, UNUSED};
 
 use r3k_decode::Insn;
@@ -36,7 +36,7 @@ const UNUSED: u32 = u32::MAX;
 #[derive(Debug, Drop)]
 pub struct FlatMemory<const PAGES: u32> {
     words: Vec<u32>,
-    // What is known of the words of open pages, by slots.
+    // What is known of the words of open pages, by slots. There is one more, so that one comes after each.
     known: Vec<Insn>,
     // For each slot one more than the page that is open in it, or 0, or `UNUSED`.
     opened: Vec<u32>,
@@ -64,10 +64,10 @@ fn slot_of(ram_pages: u32, page: u32) -> usize
 
 // Slots of whose words nothing is known.
 fn unknown(alloc: Global, stop: Insn) -> Result<Vec<Insn>, AllocError>
-    ensures room { IfOk result (λ known. length known.items ≡ SLOTS * PAGE_WORDS) }
+    ensures room { IfOk result (λ known. length known.items ≡ SLOTS * PAGE_WORDS + 1) }
     ensures nothing { IfOk result (λ known. (i : ℕ) (d : Operation) → i < SLOTS * PAGE_WORDS → slice_index_or known.items i d ≡ stop) }
 {
-    vec![in alloc; stop; SLOTS * WORDS]
+    vec![in alloc; stop; SLOTS * WORDS + 1]
 }
 
 // Slots in which no page was open yet.
@@ -80,11 +80,11 @@ fn unused(alloc: Global) -> Result<Vec<u32>, AllocError>
 
 // Nothing is known of the words of a slot any more. Where it was not used yet, nothing was.
 fn forget(known: &mut Vec<Insn>, slot: usize, used: bool, stop: Insn)
-    requires room { length known.old.items ≡ SLOTS * PAGE_WORDS }
+    requires room { length known.old.items ≡ SLOTS * PAGE_WORDS + 1 }
     requires slot { slot < SLOTS }
     requires stop { IsStop stop }
     requires unused { IsFalse used → (index : ℕ) (d : Operation) → index < PAGE_WORDS → IsStop (slice_index_or known.old.items (slot * PAGE_WORDS + index) d) }
-    ensures room { length known.new.items ≡ SLOTS * PAGE_WORDS }
+    ensures room { length known.new.items ≡ SLOTS * PAGE_WORDS + 1 }
     ensures there { (index : ℕ) (d : Operation) → index < PAGE_WORDS → IsStop (slice_index_or known.new.items (slot * PAGE_WORDS + index) d) }
     ensures others { (i : ℕ) (d : Operation) → ¬ (i / PAGE_WORDS ≡ slot) → slice_index_or known.new.items i d ≡ slice_index_or known.old.items i d }
 {
@@ -101,7 +101,7 @@ fn forget(known: &mut Vec<Insn>, slot: usize, used: bool, stop: Insn)
 fn forget_word<const PAGES: u32>(known: &mut Vec<Insn>, opened: &Vec<u32>, place: usize, stop: Insn)
     requires range { PAGES ≤ MAX_RAM_PAGES }
     requires place { place < word_count_of PAGES }
-    requires room { length known.old.items ≡ SLOTS * PAGE_WORDS }
+    requires room { length known.old.items ≡ SLOTS * PAGE_WORDS + 1 }
     requires slots { length opened.now.items ≡ SLOTS }
     ensures opened { IsTrue (is_open PAGES opened.now.items (place / PAGE_WORDS)) →
         known.new.items ≡ slice_set known.old.items (slot_of PAGES (place / PAGE_WORDS) * PAGE_WORDS + place % PAGE_WORDS) stop }
@@ -214,6 +214,8 @@ impl<const PAGES: u32> Mem for FlatMemory<PAGES> {
 
     ghost is_open = { λ memory page. is_open PAGES memory.opened.items page };
 
+    ghost known = { λ memory. known_at PAGES memory.known.items memory.stop };
+
     #[inline]
     fn ram_pages(&self) -> u32 {
         PAGES
@@ -241,6 +243,12 @@ impl<const PAGES: u32> Mem for FlatMemory<PAGES> {
     #[inline(always)]
     fn insn(&self, page: u32, index: usize) -> &Insn {
         &self.known[slot_of(PAGES, page) * WORDS + index]
+    }
+
+    #[inline(always)]
+    fn name_after(&self, page: u32, index: usize) -> Mnemonic {
+        let place = slot_of(PAGES, page) * WORDS + index;
+        self.known[place + 1].mnemonic()
     }
 
     #[inline(always)]

@@ -2,6 +2,7 @@
 #![tactic(auto)]
 
 mod boundary;
+mod changes;
 mod destinations;
 mod flat;
 mod laws;

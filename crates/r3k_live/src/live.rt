@@ -1,11 +1,12 @@
 //! The machine that runs.
 
-ghost use Rattle.std.specs.Prelude.{◌≡◌, ◌+◌, ◌-◌, ◌^◌, ◌||◌, ◌<◌, ◌≤◌, ℕ, [], IfOk, IfSome, None, length, min, slice_index, unwrap_or};
+ghost use Rattle.std.specs.Prelude.{◌≡◌, ◌+◌, ◌-◌, ◌^◌, ◌||◌, ◌<◌, ◌≤◌, ℕ, [], IfOk, IfSome, List, None, length, min, slice_index, unwrap_or};
 ghost use Rattle.r3k_word.specs.Layout.{word_count_of};
 ghost use Rattle.r3k_word.specs.declared.layout.TheConstants.{MAX_RAM_PAGES};
 ghost use Rattle.input_log.specs.Log.{AreInOrder, AreWithin};
 ghost use Rattle.r3k_pages.specs.Pages.{SameOutside, holds};
-ghost use Rattle.r3k_machine.specs.Reports.{IsRamWord};
+ghost use Rattle.r3k_machine.specs.Reports.{DifferAt, IsRamWord};
+ghost use Rattle.r3k_live.specs.Changes.{AreChanges};
 ghost use Rattle.r3k_machine.specs.Reset.{reset};
 ghost use Rattle.r3k_machine.specs.Run.{run, trace};
 ghost use Rattle.r3k_machine.specs.Step.{next};
@@ -17,6 +18,7 @@ ghost use Rattle.r3k_live.specs.CodePages.{AddsCodePages};
 ghost use Rattle.r3k_live.specs.Visits.{first_visit};
 
 use crate::boundary::Boundary;
+use crate::changes::Changes;
 use crate::flat::FlatMemory;
 use crate::recorder::Recorder;
 use crate::stretch::advance;
@@ -24,7 +26,6 @@ use crate::waiting::PATIENCE;
 use input_log::{Cursor, Event};
 use r3k_image::Image;
 use r3k_machine::{Core, Done, Mem, Traced, follow};
-use r3k_pages::PageMarks;
 use r3k_word::layout::PAGE_BYTES;
 use std::alloc::{AllocError, Global};
 use std::marker::Model;
@@ -36,21 +37,20 @@ pub struct Live<const PAGES: u32> {
     core: Core,
     memory: FlatMemory<PAGES>,
     steps: u64,
-    // A state at which it stood, and the pages that it may have changed since: where it stands is kept with the pages of that one,
-    // but for these.
+    // A state at which it stood, and what it may have changed since: where it stands is kept with the words of that one, but for these.
     base: Rc<Boundary<PAGES>>,
-    changed: PageMarks<PAGES>,
+    changed: Changes<PAGES>,
 }
 
 impl<const PAGES: u32> Model for Live<PAGES> {
     ghost use Rattle.r3k_live.specs.Living.{Living};
-    ghost use Rattle.r3k_pages.specs.Pages.{SameOutside};
+    ghost use Rattle.r3k_live.specs.Changes.{AreChanges};
 
     ghost Value = { Living };
 
     ghost view = { λ live. record { state = record { core = live.core; words = live.memory.words.items }; steps = live.steps } };
 
-    ghost invariant = { λ live. SameOutside live.changed live.base.value.words live.memory.words.items };
+    ghost invariant = { λ live. AreChanges live.changed live.base.value.words live.memory.words.items };
 }
 
 /// A count of steps after some more. It stands still at the greatest number.
@@ -71,8 +71,8 @@ impl<const PAGES: u32> Live<PAGES> {
     {
         let mut core = Core::reset(alloc, image)?;
         let memory = FlatMemory::<PAGES>::boot(alloc, image)?;
-        let changed = PageMarks::new(alloc)?;
-        let base = Boundary::new(alloc, &mut core, memory.words(), &changed)?;
+        let changed = Changes::new(alloc)?;
+        let base = Boundary::new(alloc, &mut core, memory.words(), changed.pages())?;
         Ok(Live {
             core,
             memory,
@@ -87,7 +87,8 @@ impl<const PAGES: u32> Live<PAGES> {
         ensures { self.new ≡ record { state = boundary.entry.value; steps = self.old.steps } }
     {
         let held = self.base.memory();
-        self.memory.load(boundary.memory(), held, &self.changed);
+        self.memory
+            .load(boundary.memory(), held, self.changed.pages());
         self.core.restore(boundary.core());
         self.base = boundary;
         self.changed.clear();
@@ -169,7 +170,7 @@ impl<const PAGES: u32> Live<PAGES> {
         requires time { from + steps < 2 ^ 64 }
         requires in_order { AreInOrder events.now }
         requires empty { Records PAGES [] recorder.old }
-        ensures found { result ≡ first_visit PAGES events.now from self.old.state stop 0 steps }
+        ensures found { stop < 2 ^ 32 → result ≡ first_visit PAGES events.now from self.old.state stop 0 steps }
         ensures never { 2 ^ 32 ≤ stop → result ≡ None }
         ensures state { self.new.state ≡ run PAGES events.now from self.old.state (unwrap_or result steps) }
         ensures count { self.new.steps ≡ counted self.old.steps (unwrap_or result steps) }
@@ -190,11 +191,12 @@ impl<const PAGES: u32> Live<PAGES> {
             recorder,
         );
         self.steps = counted(self.steps, stopped.unwrap_or(steps));
-        self.changed.add(recorder.dirty_marks().pages());
+        self.changed
+            .add(recorder.dirty_marks().pages(), recorder.blocks());
         stopped
     }
 
-    /// Keeps where it stands. It copies only the pages that may have changed since it last stood at a state that is kept.
+    /// Keeps where it stands. It copies only what may have changed since it last stood at a state that is kept.
     pub fn keep(&mut self, alloc: Global) -> Result<Rc<Boundary<PAGES>>, AllocError>
         ensures kept { IfOk result (λ boundary. boundary.value ≡ self.old.state) }
         ensures same { self.new ≡ self.old }
@@ -239,13 +241,13 @@ impl<const PAGES: u32> Live<PAGES> {
     }
 }
 
-// Marks the page that a step stored into.
-fn mark_stored<const PAGES: u32>(changed: &mut PageMarks<PAGES>, done: Done)
+// Marks the word that a step stored into.
+fn mark_stored<const PAGES: u32>(changed: &mut Changes<PAGES>, done: Done)
     requires { IfSome done.stored (IsRamWord PAGES) }
-    ensures { (page : ℕ) → holds changed.new page ≡ (holds changed.old page || stores_in page done.stored) }
+    ensures { (a b c : List ℕ) → AreChanges changed.old a b → DifferAt done.stored b c → AreChanges changed.new a c }
 {
     if let Some(address) = done.stored {
-        changed.mark(address / PAGE_BYTES);
+        changed.mark(address);
     }
 }
 
@@ -263,12 +265,13 @@ fn step_until<const PAGES: u32, const SPAN: u32>(
     requires steps { steps ≤ SPAN }
     requires time { from + steps < 2 ^ 64 }
     requires empty { Records PAGES [] recorder.old }
-    ensures found { result ≡ first_visit PAGES events.entry from (state_of core.old memory.old) stop 0 steps }
+    ensures found { stop < 2 ^ 32 → result ≡ first_visit PAGES events.entry from (state_of core.old memory.old) stop 0 steps }
     ensures never { 2 ^ 32 ≤ stop → result ≡ None }
     ensures state { state_of core.new memory.new ≡ run PAGES events.entry from (state_of core.old memory.old) (unwrap_or result steps) }
     ensures recorded { Records PAGES (trace PAGES events.entry from (state_of core.old memory.old) (unwrap_or result steps)) recorder.new }
     ensures dirty { SameOutside (dirty_pages PAGES (trace PAGES events.entry from (state_of core.old memory.old) (unwrap_or result steps)))
         memory.old.words.items memory.new.words.items }
+    ensures stayed { (place : ℕ) → slice_index recorder.new.last place ≡ 0 → slice_index memory.old.words.items place ≡ slice_index memory.new.words.items place }
     ensures bound { unwrap_or result steps ≤ steps }
     ensures code_pages { AddsCodePages PAGES events.entry from (state_of core.old memory.old) (unwrap_or result steps) recorder.old.code_pages recorder.new.code_pages }
 {

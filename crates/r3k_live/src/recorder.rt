@@ -9,7 +9,9 @@ ghost use Rattle.r3k_machine.specs.declared.target.Target.TheVariants.{Memory};
 ghost use Rattle.r3k_machine.specs.Locality.{fetched_page, is_page};
 ghost use Rattle.r3k_machine.specs.Run.{last_writer};
 ghost use Rattle.r3k_machine.specs.Reports.{IsPage, IsRamWord};
+ghost use Rattle.r3k_pages.specs.declared.page.TheConstants.{PAGE_BLOCKS};
 ghost use Rattle.r3k_live.specs.Marks.{marks_of};
+ghost use Rattle.r3k_live.specs.Stores.{AreInBlocks};
 ghost use Rattle.r3k_live.specs.Record.{AreDestinations, AreWriters, dirty_pages, sent_from, touched_pages, with_sent};
 ghost use Rattle.r3k_live.specs.Recording.{IsNoted, Records};
 ghost use Rattle.r3k_live.specs.Waiting.{HasPassed, IsHeld, held_at, is_among};
@@ -202,6 +204,14 @@ impl<const PAGES: u32, const SPAN: u32> Recorder<PAGES, SPAN> {
         ensures steps { self.new.steps ≡ self.old.steps }
     {
         self.code_pages.mark(page);
+    }
+
+    /// Marks for blocks of words. That of each word that was stored into has one.
+    pub(crate) fn blocks(&self) -> &[bool]
+        ensures marked { AreInBlocks self.now.last result.now }
+        ensures whole { length result.now ≡ PAGES * PAGE_BLOCKS }
+    {
+        self.stores.blocks()
     }
 
     /// The pages that were stored into.

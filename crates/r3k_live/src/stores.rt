@@ -11,20 +11,16 @@ ghost use Rattle.r3k_live.specs.Recording.{page_of_store, with_writer};
 ghost use Rattle.r3k_live.specs.Stores.{AreInBlocks, AreInPages, writers_in};
 ghost use Rattle.r3k_live.specs.Waiting.{IsHeld, IsPassedBy, come_later, held_at, is_among};
 ghost use Rattle.r3k_live.specs.declared.stores.Held.{Held};
-ghost use Rattle.r3k_live.specs.declared.stores.TheConstants.{BLOCK_WORDS, PAGE_BLOCKS};
+ghost use Rattle.r3k_pages.specs.declared.block.TheConstants.{BLOCK_WORDS};
+ghost use Rattle.r3k_pages.specs.declared.page.TheConstants.{PAGE_BLOCKS};
 
 use crate::destinations::step_of;
 use crate::recorder::Written;
 use arrayvec::ArrayVec;
-use r3k_pages::PageMarks;
+use r3k_pages::{BLOCK_WORDS, PAGE_BLOCKS, PageMarks};
 use r3k_word::layout::{PAGE_BYTES, PAGE_WORDS};
 use std::alloc::{AllocError, Global};
 use std::marker::Model;
-
-// How many words a block has, and a page blocks.
-const BLOCK_WORDS: usize = 32;
-
-const PAGE_BLOCKS: usize = 32;
 
 /// A word of RAM, by its place, with what it holds.
 #[derive(Clone, Copy, Debug, Default, PartialEq, Eq)]
@@ -148,6 +144,14 @@ impl<const PAGES: u32> Stores<PAGES> {
         ensures dirty { self.new.dirty ≡ self.old.dirty }
     {
         come_later(&mut self.last, passed, steps, held);
+    }
+
+    /// Marks for blocks of words. That of each word with a step has one.
+    pub fn blocks(&self) -> &[bool]
+        ensures marked { AreInBlocks self.now.last result.now }
+        ensures whole { length result.now ≡ PAGES * PAGE_BLOCKS }
+    {
+        &self.blocks
     }
 
     /// The pages that were stored into.

@@ -2,17 +2,18 @@
 
 ghost use Rattle.std.specs.Prelude.{◌≡◌, ◌+◌, ◌-◌, ◌*◌, ◌/◌, ◌^◌, ◌<◌, ◌≤◌, All, IfSome, IsFalse, IsTrue, None, Some, ℕ, [], List};
 ghost use Rattle.input_log.specs.Event.{LogEvent};
+ghost use Rattle.r3k_table.specs.Mnemonics.{number_of};
 ghost use Rattle.r3k_word.specs.declared.layout.TheConstants.{PAGE_BYTES, PAGE_WORDS};
 ghost use Rattle.r3k_machine.specs.declared.flow.Flow.{Flow};
 ghost use Rattle.r3k_machine.specs.Flow.{IsStraight, with_flow};
 ghost use Rattle.r3k_machine.specs.Locality.{fetched_page};
-ghost use Rattle.r3k_machine.specs.Quiet.{IsCodePage, IsIndexIn, IsQuietFor, LeadsOn, Leaves};
+ghost use Rattle.r3k_machine.specs.Quiet.{IsCodePage, IsIndexIn, IsQuietFor, Knows, LeadsOn, Leaves};
 ghost use Rattle.r3k_machine.specs.Run.{arriving};
 ghost use Rattle.r3k_machine.specs.State.{State};
 ghost use Rattle.r3k_machine.specs.Reports.{IsPage, IsRamWord, IsReport};
 ghost use Rattle.r3k_pages.specs.Pages.{holds};
 ghost use Rattle.r3k_live.specs.Going.{AreLeft, Ends, GoesOn, GoesOnBy, GoesOver, HasGone, HasGoneFor, IsFreeFor, IsWordAt, MayGoOn};
-ghost use Rattle.r3k_live.specs.Living.{state_of};
+ghost use Rattle.r3k_live.specs.Living.{known_in, state_of};
 ghost use Rattle.r3k_live.specs.Recording.{IsNoted};
 ghost use Rattle.r3k_live.specs.Slots.{is_open};
 
@@ -24,6 +25,7 @@ use r3k_machine::step::step;
 use r3k_machine::{
     CodePage, Core, Flow, Mem, Next, Quick, code_page, learn, quick_step, quiet_laws, quiet_step,
 };
+use r3k_table::mnemonic::Mnemonic;
 use r3k_word::layout::{PAGE_BYTES, PAGE_WORDS};
 
 // The number of the word at an address, if that is one of the page.
@@ -48,24 +50,27 @@ fn step_quickly<const PAGES: u32>(
     memory: &mut FlatMemory<PAGES>,
     page: CodePage,
     index: usize,
+    name: Mnemonic,
 ) -> Option<Quick>
     requires code { IsCodePage PAGES (with_flow core.old flow.old) page }
     requires page { IsPage PAGES page.page }
     requires opened { IsTrue (is_open PAGES memory.old.opened.items page.page) }
     requires here { IsIndexIn page flow.old.pc index }
+    requires named { number_of name ≡ (known_in PAGES memory.old page.page index).row }
     ensures goes { IfSome result (λ quick. GoesOnBy PAGES page quick.done (state_of (with_flow core.old flow.old) memory.old)
         (state_of (with_flow core.new flow.new) memory.new)) }
     ensures leads { IfSome result (λ _. LeadsOn (with_flow core.old flow.old) (with_flow core.new flow.new)) }
     ensures next { IfSome result (λ quick. Leaves quick.next flow.new) }
     ensures reports { IfSome result (λ quick. IsReport PAGES memory.old.words.items memory.new.words.items quick.done) }
     ensures fetched { IfSome result (λ quick. fetched_page quick.done ≡ Some page.page) }
+    ensures knows { IfSome result (λ quick. Knows quick.next (known_in PAGES memory.old) (known_in PAGES memory.new)) }
     ensures core { result ≡ None → core.new ≡ core.old }
     ensures flow { result ≡ None → flow.new ≡ flow.old }
     ensures words { result ≡ None → memory.new.words.items ≡ memory.old.words.items }
     ensures opened { IsTrue (is_open PAGES memory.new.opened.items page.page) }
 {
     quiet_laws();
-    quick_step(core, flow, memory, page, index)
+    quick_step(core, flow, memory, page, index, name)
 }
 
 // How many steps are recorded when straight steps from a word end at the latest: within the page, not past where all steps end, and before
@@ -98,7 +103,8 @@ fn delay_slot(index: usize, steps: u32, last: u32) -> Option<usize>
 
 // Makes quick steps from word to word, up to a jump, and gives the number of the word in the jump's delay slot, if its step may follow.
 // `begun` steps were recorded before the first one of the page, and `most` may be made in all. The count of recorded steps is at hand
-// after each, so it also ends the loops. Most steps find no load pending: they have a loop of their own, which keeps no load slot.
+// after each, so it also ends the loops. Most steps find no load pending: they have a loop of their own, which keeps no load slot. The name
+// of the next word is looked up before each step, so that a processor that guessed wrong what comes next finds that out sooner.
 #[inline(always)]
 fn step_straight<const PAGES: u32, const SPAN: u32>(
     core: &mut Core,
@@ -131,9 +137,12 @@ fn step_straight<const PAGES: u32, const SPAN: u32>(
 {
     let last = last_of(first, begun, most, recorder.steps(), halt);
     let mut index = first;
+    let mut ahead = memory.insn(page.page, first).mnemonic();
     while recorder.steps() < last {
         flow.pin_straight(page.address(index));
-        let quick = step_quickly(core, flow, memory, page, index)?;
+        let name = ahead;
+        ahead = memory.name_after(page.page, index);
+        let quick = step_quickly(core, flow, memory, page, index, name)?;
         match quick.next {
             Next::DelaySlot => {
                 recorder.note_again(quick.done);
@@ -154,13 +163,16 @@ fn step_straight<const PAGES: u32, const SPAN: u32>(
             }
             Next::WordAfterNone => {
                 recorder.note_again(quick.done);
+                ahead = memory.name_after(page.page, index);
                 index += 1;
             }
         }
         while recorder.steps() < last {
             flow.pin_straight(page.address(index));
             flow.pin_unloaded();
-            let quick = step_quickly(core, flow, memory, page, index)?;
+            let name = ahead;
+            ahead = memory.name_after(page.page, index);
+            let quick = step_quickly(core, flow, memory, page, index, name)?;
             match quick.next {
                 Next::DelaySlot => {
                     recorder.note_again(quick.done);
@@ -181,6 +193,7 @@ fn step_straight<const PAGES: u32, const SPAN: u32>(
                 }
                 Next::WordAfterNone => {
                     recorder.note_again(quick.done);
+                    ahead = memory.name_after(page.page, index);
                     index += 1;
                 }
             }
@@ -263,7 +276,8 @@ fn quick_steps<const PAGES: u32, const SPAN: u32>(
         else {
             return flow.is_straight();
         };
-        let Some(quick) = step_quickly(core, flow, memory, page, slot) else {
+        let name = memory.insn(page.page, slot).mnemonic();
+        let Some(quick) = step_quickly(core, flow, memory, page, slot, name) else {
             return false;
         };
         if note_apart(quick, recorder) {

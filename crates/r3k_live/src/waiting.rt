@@ -97,7 +97,34 @@ pub(crate) fn wait<const PAGES: u32, const SPAN: u32>(
     turn.steps + again.steps
 }
 
-// Makes steps, one at a time, until PC and registers are what they were, or this does not come soon.
+// Makes steps up to one that comes to an address, at most `most` and maybe fewer. Where they would also have to end at another one, they are
+// made one at a time.
+#[inline(always)]
+fn come_back<const PAGES: u32, const SPAN: u32>(
+    core: &mut Core,
+    memory: &mut FlatMemory<PAGES>,
+    time: u64,
+    events: &Cursor,
+    most: u32,
+    pc: u32,
+    stop: u64,
+    recorder: &mut Recorder<PAGES, SPAN>,
+) -> u32
+    requires some { 0 < most }
+    requires room { recorder.old.steps + most ≤ SPAN }
+    ensures bound { result ≤ most }
+    ensures steps { recorder.new.steps ≡ recorder.old.steps + result }
+    ensures goes { (log : List LogEvent) (from : ℕ) (start : State) (made : ℕ) → time ≡ from + made → AreLeft time events.now log →
+        HasGone PAGES log from start made (state_of core.old memory.old) recorder.old →
+        HasGoneFor PAGES log from start stop made result recorder.old (state_of core.new memory.new) recorder.new }
+{
+    if stop > u64::from(u32::MAX) {
+        return stretch(core, memory, time, events, most, u64::from(pc), recorder);
+    }
+    stretch(core, memory, time, events, 1, stop, recorder)
+}
+
+// Makes steps until PC and registers are what they were, or this does not come soon.
 fn go_round<const PAGES: u32, const SPAN: u32>(
     core: &mut Core,
     memory: &mut FlatMemory<PAGES>,
@@ -120,14 +147,24 @@ fn go_round<const PAGES: u32, const SPAN: u32>(
 {
     let pc = core.pc();
     let registers = *core.registers();
+    let longest = most.min(LONGEST);
     let mut returns = 0;
     let mut steps = 0;
-    while steps < most.min(LONGEST) {
-        let more = stretch(core, memory, time + steps as u64, events, 1, stop, recorder);
+    while steps < longest {
+        let more = come_back(
+            core,
+            memory,
+            time + steps as u64,
+            events,
+            longest - steps,
+            pc,
+            stop,
+            recorder,
+        );
         if more == 0 {
             break;
         }
-        steps += 1;
+        steps += more;
         if core.pc() as u64 == stop {
             break;
         }

@@ -1,16 +1,12 @@
 -- An addition of nothing has the effect of a shift by nothing, and of a sum or a union with r0.
-use Rattle.std.proofs.Common.{◌≡◌, ℕ, ◌+◌, ◌*◌, ◌%◌, ◌^◌, ◌<◌, refl, sym, ap, ◌∙◌, arith}
+use Rattle.std.proofs.Common.{◌≡◌, ℕ, ◌+◌, ◌*◌, ◌%◌, ◌^◌, refl, sym, ap, ◌∙◌, arith}
 use Rattle.std.specs.Prelude.{slice_index, bit_or}
 use Rattle.std.specs.Int.Bits.{or_zero_r}
 use Rattle.r3k_table.specs.Mnemonics.{number_of}
 use Rattle.r3k_table.specs.declared.mnemonic.Mnemonic.TheVariants.{Addu, Or, Sll}
 use Rattle.r3k_decode.specs.Operation.{Operation, addiu_of}
-use Rattle.r3k_exec.specs.declared.operands.Effect.{Effect}
 use Rattle.r3k_exec.specs.declared.operands.Effect.TheVariants.{Write}
-use Rattle.r3k_exec.specs.Effects.{effect_of}
-use Rattle.r3k_machine.specs.Core.{Core, HoldsZero}
 use Rattle.r3k_machine.specs.Known.{HasEffectOf}
-use Rattle.r3k_machine.specs.Step.{operands_of}
 
 pub itself : (i : Operation) → HasEffectOf i i
 itself i core zero within = refl

@@ -155,3 +155,11 @@ Leaves WordAfterHiLo flow = (flow.slot ≡ 0) × IsFalse flow.delay
 Leaves WordAfterNone flow = (flow.slot ≡ 0) × IsFalse flow.delay
 Leaves WordAfterLoad flow = IsFalse flow.delay
 Leaves DelaySlot flow = IsTrue flow.delay
+
+-- what is known of words is as it was after a quick step, but for one that may have stored
+abbrev pub Knows : Next → (old new : ℕ → ℕ → Operation) → Type 0
+Knows NextWord old new = new ≡ old
+Knows WordAfterHiLo old new = new ≡ old
+Knows WordAfterNone old new = Unit {0}
+Knows WordAfterLoad old new = new ≡ old
+Knows DelaySlot old new = new ≡ old

@@ -3,10 +3,13 @@
 ghost use Rattle.std.specs.Prelude.{◌≡◌, ℕ, ◌+◌, ◌*◌, ◌<◌, ◌≤◌, Bool, IsTrue, List, length, slice_index, slice_set};
 ghost use Rattle.r3k_word.specs.Layout.{word_count_of};
 ghost use Rattle.r3k_word.specs.declared.layout.TheConstants.{MAX_RAM_PAGES, PAGE_WORDS};
+ghost use Rattle.r3k_table.specs.Mnemonics.{number_of};
+ghost use Rattle.r3k_decode.specs.Operation.{Operation};
 ghost use Rattle.r3k_machine.specs.Known.{IsKnown};
 ghost use Rattle.r3k_machine.specs.Reports.{IsPage};
 
 use r3k_decode::Insn;
+use r3k_table::mnemonic::Mnemonic;
 
 /// The words of RAM and ROM, seen as one list: RAM pages first, then those of ROM. A read gives the list's word, and a
 /// write changes that word alone.
@@ -41,12 +44,23 @@ pub trait Mem {
         ensures opened { IsTrue (is_open self.new page) }
         ensures words { words self.new ≡ words self.old };
 
-    /// What is known of a word of an open page, by its number in the page: its instruction, or one that traps.
+    /// What is known of a word of an open page, by the numbers of page and word: its instruction, or one that traps.
+    ghost known: { Self → ℕ → ℕ → Operation };
+
+    /// What is known of a word of an open page, by its number in the page.
     fn insn(&self, page: u32, index: usize) -> &Insn
         requires page { IsPage ram page }
         requires opened { IsTrue (is_open self.now page) }
         requires index { index < PAGE_WORDS }
-        ensures { IsKnown (slice_index (words self.now) (page * PAGE_WORDS + index)) result.now };
+        ensures known { result.now ≡ known self.now page index }
+        ensures right { IsKnown (slice_index (words self.now) (page * PAGE_WORDS + index)) result.now };
+
+    /// The name of what is known of the next word, if the page has one.
+    fn name_after(&self, page: u32, index: usize) -> Mnemonic
+        requires page { IsPage ram page }
+        requires opened { IsTrue (is_open self.now page) }
+        requires index { index < PAGE_WORDS }
+        ensures { index + 1 < PAGE_WORDS → number_of result ≡ (known self.now page (index + 1)).row };
 
     /// Decodes a word of an open page, so that its instruction is known until the word is stored into. Says whether it was not
     /// known, and can be.

@@ -1,14 +1,16 @@
 //! Quick steps: those before which nothing happens but counting, and whose instruction touches registers, PC and memory alone.
 
-ghost use Rattle.std.specs.Prelude.{◌≡◌, ◌⊎◌, ◌*◌, ◌/◌, ◌^◌, ◌<◌, ◌≤◌, ℕ, [], IfSome, IsTrue, None, Ok, Some};
+ghost use Rattle.std.specs.Prelude.{◌≡◌, ◌⊎◌, ◌-◌, ◌*◌, ◌/◌, ◌%◌, ◌^◌, ◌<◌, ◌≤◌, ℕ, [], IfSome, IsTrue, None, Ok, Some, nat_eq};
 ghost use Rattle.r3k_exec.specs.declared.operands.Effect.TheVariants.{Load, Store};
+ghost use Rattle.r3k_table.specs.Mnemonics.{number_of};
 ghost use Rattle.r3k_word.specs.Layout.{place_of_word};
-ghost use Rattle.r3k_word.specs.Word.{sum_of};
+ghost use Rattle.r3k_machine.specs.declared.address.TheConstants.{KSEG0, KSEG2};
+ghost use Rattle.r3k_word.specs.Word.{difference_of, sum_of};
 ghost use Rattle.r3k_word.specs.declared.layout.TheConstants.{PAGE_BYTES, PAGE_WORDS};
 ghost use Rattle.kn02_bus.specs.Region.{region_of};
 ghost use Rattle.cop0.specs.Changes.{StaysQuiet};
 ghost use Rattle.cop0.specs.declared.number.TheConstants.{ENTRY_LO, STATUS};
-ghost use Rattle.r3k_machine.specs.Quiet.{IsCodePage, IsIndexIn, IsOverBusFor, IsQuick, IsQuickEffect, IsQuietFor, IsReached, Leaves, elapsed, steady_over_bus};
+ghost use Rattle.r3k_machine.specs.Quiet.{IsCodePage, IsIndexIn, IsOverBusFor, IsQuick, IsQuickEffect, IsQuietFor, IsReached, Knows, Leaves, elapsed, steady_over_bus};
 ghost use Rattle.r3k_machine.specs.Address.{meaning};
 ghost use Rattle.r3k_machine.specs.Flow.{with_flow};
 ghost use Rattle.r3k_machine.specs.Locality.{fetched_page};
@@ -25,7 +27,8 @@ use crate::step::{Done, run_fetched};
 use crate::target::Destination;
 use cop0::number::{ENTRY_LO, RANDOM, STATUS};
 use r3k_decode::Register;
-use r3k_exec::{Effect, LoadKind, StoreKind, effect};
+use r3k_exec::{Effect, LoadKind, StoreKind, effect_by_name};
+use r3k_table::mnemonic::Mnemonic;
 use r3k_word::arithmetic::{add, subtract};
 use r3k_word::layout::{PAGE_BYTES, PAGE_WORDS, page_of, place_of};
 
@@ -84,14 +87,23 @@ impl Core {
         KSEG2 - KSEG0
     }
 
-    // The physical address of a load or store that goes over the bus, where that is no exception and sets no TS. It changes nothing.
+    // The physical address of a load or store that goes over the bus, where that is no exception and sets no TS. It changes nothing. That
+    // it is of a whole word is said, so that one comparison is enough.
     #[inline(always)]
-    fn reached(&mut self, access: Use, aligned: bool, address: u32, over_bus: u32) -> Option<u32>
-        requires { IsOverBusFor over_bus self.old }
+    fn reached(
+        &mut self,
+        access: Use,
+        aligned: bool,
+        word: bool,
+        address: u32,
+        over_bus: u32,
+    ) -> Option<u32>
+        requires over_bus { IsOverBusFor over_bus self.old }
+        requires word { IsTrue word → aligned ≡ nat_eq (address % 4) 0 }
         ensures reached { IfSome result (IsReached self.old (meaning self.old access aligned address)) }
         ensures core { self.new ≡ self.old }
     {
-        if aligned && subtract(address, KSEG0) < over_bus {
+        if is_over_bus(aligned, word, address, over_bus) {
             return Some(address & 0x1FFF_FFFF);
         }
         // Taken apart, so that the compiler knows on each way whether there is one.
@@ -182,8 +194,24 @@ pub fn code_page<M: Mem>(core: &mut Core, flow: Flow, memory: &M, over_bus: u32)
     })
 }
 
+// Whether an address is aligned, and among those from kseg0 on that go over the bus.
+#[inline]
+fn is_over_bus(aligned: bool, word: bool, address: u32, over_bus: u32) -> bool
+    requires within { over_bus ≤ KSEG2 - KSEG0 }
+    requires word { IsTrue word → aligned ≡ nat_eq (address % 4) 0 }
+    ensures aligned { IsTrue result → IsTrue aligned }
+    ensures over { IsTrue result → difference_of address KSEG0 < over_bus }
+{
+    let offset = subtract(address, KSEG0);
+    if word {
+        // Rotated, so that one comparison finds what is not aligned and what is outside.
+        return offset / 4 + offset % 4 * 0x4000_0000 < over_bus / 4;
+    }
+    aligned && offset < over_bus
+}
+
 // What a load over the bus gives, where it is the same before ticks that only count and after them.
-#[inline(always)]
+#[inline]
 fn steady_over_bus<M: Mem>(core: &Core, memory: &M, physical: u32) -> Option<Loaded>
     ensures loaded { result ≡ steady_over_bus (M.words memory.now) core.now.bus (region_of M.ram physical)
         (place_of_word M.ram (physical / 4 * 4)) }
@@ -225,7 +253,13 @@ fn load_quick<M: Mem>(
     ensures core { result ≡ None → core.new ≡ core.old }
     ensures flow { result ≡ None → flow.new ≡ flow.old }
 {
-    let physical = core.reached(Use::Load, kind.is_aligned(address), address, over_bus)?;
+    let physical = core.reached(
+        Use::Load,
+        kind.is_aligned(address),
+        matches!(kind, LoadKind::Word),
+        address,
+        over_bus,
+    )?;
     kn02_bus::laws::quiet_laws();
     let loaded = steady_over_bus(core, memory, physical)?;
     core.complete_in(flow);
@@ -320,7 +354,13 @@ fn store_quick<M: Mem>(
     ensures words { result ≡ None → M.words memory.new ≡ M.words memory.old }
     ensures opened { (other : ℕ) → M.is_open memory.new other ≡ M.is_open memory.old other }
 {
-    let physical = core.reached(Use::Store, kind.is_aligned(address), address, over_bus)?;
+    let physical = core.reached(
+        Use::Store,
+        kind.is_aligned(address),
+        matches!(kind, StoreKind::Word),
+        address,
+        over_bus,
+    )?;
     let address = put(memory, physical, kind.stored(address, value))?;
     core.complete_in(flow);
     let stored = Stored {
@@ -424,6 +464,7 @@ fn perform_quick<M: Mem>(
     ensures within { IfSome result (λ quick. IsReport M.ram (M.words memory.old) (M.words memory.new) quick.done) }
     ensures fetched { IfSome result (λ quick. fetched_page quick.done ≡ Some page) }
     ensures next { IfSome result (λ quick. Leaves quick.next flow.new) }
+    ensures knows { IfSome result (λ quick. Knows quick.next (M.known memory.old) (M.known memory.new)) }
     ensures core { result ≡ None → core.new ≡ core.old }
     ensures flow { result ≡ None → flow.new ≡ flow.old }
     ensures words { result ≡ None → M.words memory.new ≡ M.words memory.old }
@@ -520,8 +561,8 @@ fn perform_quick<M: Mem>(
     Some(Quick { done, next })
 }
 
-/// Runs the instruction at the PC, which is a word of this open page, if it is known and quick. Else it changes nothing. The core
-/// stands where the flow does, which is kept apart from it.
+/// Runs the instruction at the PC, which is a word of this open page, if it is known and quick. Else it changes nothing. Its name was
+/// looked up before. The core stands where the flow does, which is kept apart from it.
 #[inline(always)]
 pub fn quick_step<M: Mem>(
     core: &mut Core,
@@ -529,24 +570,27 @@ pub fn quick_step<M: Mem>(
     memory: &mut M,
     page: CodePage,
     index: usize,
+    name: Mnemonic,
 ) -> Option<Quick>
     requires code { IsCodePage M.ram (with_flow core.old flow.old) page }
     requires page { IsPage M.ram page.page }
     requires opened { IsTrue (M.is_open memory.old page.page) }
     requires here { IsIndexIn page flow.old.pc index }
+    requires named { number_of name ≡ (M.known memory.old page.page index).row }
     ensures quick { IfSome result (λ quick. IsQuick M.ram (record { core = with_flow core.old flow.old; words = M.words memory.old })) }
     ensures ran { IfSome result (λ quick. outcome_of_instruction M.ram (record { core = with_flow core.old flow.old; words = M.words memory.old })
         ≡ record { state = record { core = with_flow core.new flow.new; words = M.words memory.new }; done = quick.done }) }
     ensures within { IfSome result (λ quick. IsReport M.ram (M.words memory.old) (M.words memory.new) quick.done) }
     ensures fetched { IfSome result (λ quick. fetched_page quick.done ≡ Some page.page) }
     ensures next { IfSome result (λ quick. Leaves quick.next flow.new) }
+    ensures knows { IfSome result (λ quick. Knows quick.next (M.known memory.old) (M.known memory.new)) }
     ensures core { result ≡ None → core.new ≡ core.old }
     ensures flow { result ≡ None → flow.new ≡ flow.old }
     ensures words { result ≡ None → M.words memory.new ≡ M.words memory.old }
     ensures opened { (other : ℕ) → M.is_open memory.new other ≡ M.is_open memory.old other }
 {
     let insn = memory.insn(page.page, index);
-    let effect = effect(insn, core.operands(insn, flow.pc()));
+    let effect = effect_by_name(name, insn, core.operands(insn, flow.pc()));
     perform_quick(core, flow, memory, page.page, page.over_bus, effect)
 }
 

@@ -1,10 +1,12 @@
 -- The words of a page by its blocks.
-use Rattle.std.proofs.Common.{◌≡◌, ℕ, zero, suc, ◌+◌, ◌-◌, ◌*◌, ◌/◌, ◌%◌, ◌<◌, ◌≤◌, nat_lt, List, [], drop, length, map, length-set, slice_index, slice_index_or, slice_set, inl, inr, sym, ap, subst, ◌∙◌, arith}
+use Rattle.std.proofs.Common.{◌≡◌, ℕ, zero, suc, ◌+◌, ◌-◌, ◌*◌, ◌/◌, ◌%◌, ◌<◌, ◌≤◌, nat_lt, List, [], ◌∷◌, refl, drop, length, map, length-set, slice_index, slice_index_or, slice_set, inl, inr, sym, ap, subst, ◌∙◌, arith}
 use Rattle.std.proofs.lemmas.List.FromFn.{get_or-map-range_with_len, length-map-range_with_len}
 use Rattle.std.proofs.lemmas.List.{get_or-drop, get_or-map, get_or-set_same, get_or-set_other, get_or-take, length-map}
 use Rattle.std.proofs.lemmas.Bool.{cases_Bool, ltb-true, ltb-false}
 use Rattle.std.proofs.lemmas.Grind.{same_number_lists}
 use Rattle.std.specs.Simd.{first_chunks}
+use Rattle.std.proofs.Math.Path.{ap₂}
+use Rattle.std.specs.List.{AllZip}
 use Rattle.r3k_word.specs.declared.layout.TheConstants.{PAGE_WORDS}
 use Rattle.r3k_pages.specs.declared.page.TheConstants.{PAGE_BLOCKS}
 use Rattle.r3k_pages.specs.declared.block.TheConstants.{BLOCK_WORDS}
@@ -109,3 +111,32 @@ same_still a b x y block of_a of_b same before place within =
           let back : block * BLOCK_WORDS + at ≡ place = omega (arith, least) in
           ap (slice_index a) (sym back) ∙ sym (of_a at low) ∙ ap (λ (words : List ℕ). slice_index words at) same ∙ of_b at low ∙ ap (slice_index b) back
     ]
+
+-- pointers and their clones
+pub same_behind : {A : Type 0} (f : A → List ℕ) (items copies : List A) → AllZip (λ item copy. f copy ≡ f item) items copies → map f copies ≡ map f items
+same_behind f [] [] each = refl
+same_behind f [] (copy ∷ copies) each = absurd each
+same_behind f (item ∷ items) [] each = absurd each
+same_behind f (item ∷ items) (copy ∷ copies) each = ap₂ (λ (x : List ℕ) (xs : List (List ℕ)). x ∷ xs) each.0 (same_behind f items copies each.1)
+
+-- a part of the words of a page
+pub part_of : (words : List ℕ) (parts : List (List ℕ)) (block : ℕ) → parts ≡ first_chunks BLOCK_WORDS (length words / BLOCK_WORDS) words → length words ≡ PAGE_WORDS
+    → block < PAGE_BLOCKS → IsBlockOf words block (slice_index_or parts block [])
+part_of words parts block cut long within = λ place low.
+    ap (λ (xs : List (List ℕ)). slice_index (slice_index_or xs block []) place) cut
+    ∙ chunk_at BLOCK_WORDS (length words / BLOCK_WORDS) words block place [] 0 (omega (arith, within, long)) low
+
+-- one block more
+pub one_block_more : (blocks : List (List ℕ)) (words : List ℕ) (index : ℕ) → IsBlockOf words index (slice_index_or blocks index [])
+    → ((block : ℕ) → block < index → IsBlockOf words block (slice_index_or blocks block []))
+    → (block : ℕ) → block < index + 1 → IsBlockOf words block (slice_index_or blocks block [])
+one_block_more blocks words index this each block within =
+    elim (which block index) [
+      | inl same ↦ subst (λ (block : ℕ). IsBlockOf words block (slice_index_or blocks block [])) (sym same) this
+      | inr other ↦ each block (omega (arith, within, other))
+    ]
+
+-- a block that is not the one that was set
+pub other_block : (blocks : List (List ℕ)) (words part : List ℕ) (index block : ℕ) → ¬ (block ≡ index) → IsBlockOf words block (slice_index_or blocks block [])
+    → IsBlockOf words block (slice_index_or (slice_set blocks index part) block [])
+other_block blocks words part index block other is = subst (IsBlockOf words block) (sym (get_or-set_other blocks index block part [] other)) is

@@ -8,7 +8,7 @@ use std::marker::Model;
 use std::rc::Rc;
 
 /// How many words a block has.
-pub(crate) const BLOCK_WORDS: usize = 64;
+pub const BLOCK_WORDS: usize = 64;
 
 /// The words of a block.
 #[derive(Drop)]

@@ -4,9 +4,9 @@ ghost use Rattle.std.specs.Prelude.{◌≡◌, ◌+◌, ◌/◌, ◌^◌, ◌<�
 ghost use Rattle.r3k_word.specs.Layout.{word_count_of};
 ghost use Rattle.r3k_word.specs.declared.layout.TheConstants.{MAX_RAM_PAGES, PAGE_WORDS};
 ghost use Rattle.r3k_pages.specs.Groups.{IsGroupOf, IsPageOf, group_count_of};
-ghost use Rattle.r3k_pages.specs.Pages.{SameOutside, holds, page_count_of};
+ghost use Rattle.r3k_pages.specs.Pages.{SameOutside, SameOutsideBlocks, holds, page_count_of};
 
-use crate::page::{Page, shared};
+use crate::page::{PAGE_BLOCKS, Page, shared};
 use crate::page_marks::{PageMarks, touches};
 use crate::snapshot::{Snapshot, page_count};
 use r3k_word::layout::PAGE_WORDS;
@@ -104,6 +104,7 @@ fn page_of<const PAGES: u32>(
     words: &[u32],
     previous: Option<&Snapshot<PAGES>>,
     dirty: &PageMarks<PAGES>,
+    marks: Option<&[bool]>,
     page: usize,
     before: Option<&Rc<Page>>,
 ) -> Result<Rc<Page>, AllocError>
@@ -111,6 +112,7 @@ fn page_of<const PAGES: u32>(
     requires whole { length words.now ≡ word_count_of PAGES }
     requires page { page < page_count_of PAGES }
     requires same { IfSome previous (λ previous. SameOutside dirty.now previous.now words.now) }
+    requires blocks { IfSome previous (λ previous. IfSome marks (λ marks. SameOutsideBlocks marks.now previous.now words.now)) }
     ensures { IfOk result (λ result. IsPageOf words.now page result.value) }
 {
     let start = page * PAGE_WORDS as usize;
@@ -118,7 +120,11 @@ fn page_of<const PAGES: u32>(
     match previous {
         None => Page::new(alloc, words, before),
         Some(previous) if dirty.holds(page as u32) => {
-            Page::new(alloc, words, Some(previous.page(page)))
+            let earlier = previous.page(page);
+            match marks {
+                None => Page::new(alloc, words, Some(earlier)),
+                Some(marks) => earlier.after(alloc, words, marks, page * PAGE_BLOCKS),
+            }
         }
         Some(previous) => previous.page(page).clone(),
     }
@@ -131,17 +137,19 @@ pub(crate) fn group_of<const PAGES: u32>(
     words: &[u32],
     previous: Option<&Snapshot<PAGES>>,
     dirty: &PageMarks<PAGES>,
+    marks: Option<&[bool]>,
     group: usize,
 ) -> Result<Rc<Group>, AllocError>
     requires pages { PAGES ≤ MAX_RAM_PAGES }
     requires whole { length words.now ≡ word_count_of PAGES }
     requires group { group < group_count_of PAGES }
     requires same { IfSome previous (λ previous. SameOutside dirty.now previous.now words.now) }
+    requires blocks { IfSome previous (λ previous. IfSome marks (λ marks. SameOutsideBlocks marks.now previous.now words.now)) }
     ensures { IfOk result (λ result. IsGroupOf PAGES words.now group result.value) }
 {
     match previous {
         Some(previous) if !touches(dirty, group) => previous.group(group).clone(),
-        _ => copied_group(alloc, words, previous, dirty, group),
+        _ => copied_group(alloc, words, previous, dirty, marks, group),
     }
 }
 
@@ -151,19 +159,21 @@ fn copied_group<const PAGES: u32>(
     words: &[u32],
     previous: Option<&Snapshot<PAGES>>,
     dirty: &PageMarks<PAGES>,
+    marks: Option<&[bool]>,
     group: usize,
 ) -> Result<Rc<Group>, AllocError>
     requires pages { PAGES ≤ MAX_RAM_PAGES }
     requires whole { length words.now ≡ word_count_of PAGES }
     requires group { group < group_count_of PAGES }
     requires same { IfSome previous (λ previous. SameOutside dirty.now previous.now words.now) }
+    requires blocks { IfSome previous (λ previous. IfSome marks (λ marks. SameOutsideBlocks marks.now previous.now words.now)) }
     ensures { IfOk result (λ result. IsGroupOf PAGES words.now group result.value) }
 {
     let last = page_count(PAGES) - 1;
     let mut pages = Vec::with_capacity(alloc, GROUP_PAGES)?;
     for index in 0..GROUP_PAGES {
         let page = (group * GROUP_PAGES + index).min(last);
-        let made = page_of(alloc, words, previous, dirty, page, pages.last())?;
+        let made = page_of(alloc, words, previous, dirty, marks, page, pages.last())?;
         pages.push(made)?;
     }
     Group::new(alloc, pages)

@@ -8,6 +8,8 @@ mod page;
 mod page_marks;
 mod snapshot;
 
+pub use block::BLOCK_WORDS;
 pub use laws::page_laws;
+pub use page::PAGE_BLOCKS;
 pub use page_marks::PageMarks;
 pub use snapshot::Snapshot;

@@ -1,6 +1,6 @@
 //! A page of a snapshot: 1,024 words that stay as they are. It is kept in blocks, and pages share blocks that have the same words.
 
-ghost use Rattle.std.specs.Prelude.{◌≡◌, ◌/◌, ◌%◌, ◌<◌, ◌↔◌, ℕ, IfOk, IfSome, IsTrue, length, map, slice_index, slice_set};
+ghost use Rattle.std.specs.Prelude.{◌≡◌, ◌+◌, ◌/◌, ◌%◌, ◌^◌, ◌<◌, ◌↔◌, ℕ, IfOk, IfSome, IsFalse, IsTrue, false, length, map, slice_index, slice_index_or, slice_set};
 ghost use Rattle.r3k_word.specs.declared.layout.TheConstants.{PAGE_WORDS};
 ghost use Rattle.r3k_pages.specs.Blocks.{IsBlockOf, words_of};
 ghost use Rattle.r3k_pages.specs.declared.block.TheConstants.{BLOCK_WORDS};
@@ -8,13 +8,14 @@ ghost use Rattle.r3k_pages.specs.declared.page.TheConstants.{PAGE_BLOCKS};
 ghost use Rattle.r3k_pages.specs.Groups.{is_blank};
 
 use crate::block::{BLOCK_WORDS, Block};
+use crate::page_marks::is_marked;
 use std::alloc::{AllocError, Global};
 use std::array;
 use std::marker::Model;
 use std::rc::Rc;
 
 /// How many blocks a page has.
-pub(crate) const PAGE_BLOCKS: usize = 16;
+pub const PAGE_BLOCKS: usize = 16;
 
 /// The words of a page.
 #[derive(Drop)]
@@ -52,6 +53,31 @@ impl Page {
         let (parts, _) = words.as_chunks::<BLOCK_WORDS>();
         for index in 0..PAGE_BLOCKS {
             if !blocks[index].has(&parts[index]) {
+                blocks[index] = Block::new(alloc, parts[index])?;
+            }
+        }
+        Page::of(alloc, blocks, is_blank(words))
+    }
+
+    /// A page with these words, which are those of this one but in marked blocks, of which its own are those from `first` on. It shares
+    /// the blocks that have the same words.
+    pub(crate) fn after(
+        &self,
+        alloc: Global,
+        words: &[u32],
+        marks: &[bool],
+        first: usize,
+    ) -> Result<Rc<Page>, AllocError>
+        requires words { length words.now ≡ PAGE_WORDS }
+        requires first { first < 2 ^ 32 }
+        requires same { (place : ℕ) → place < PAGE_WORDS → IsFalse (slice_index_or marks.now (first + place / BLOCK_WORDS) false) →
+            slice_index self.now place ≡ slice_index words.now place }
+        ensures { IfOk result (λ page. page.value ≡ words.now) }
+    {
+        let mut blocks = self.blocks.clone()?;
+        let (parts, _) = words.as_chunks::<BLOCK_WORDS>();
+        for index in 0..PAGE_BLOCKS {
+            if is_marked(marks, first + index) && !blocks[index].has(&parts[index]) {
                 blocks[index] = Block::new(alloc, parts[index])?;
             }
         }

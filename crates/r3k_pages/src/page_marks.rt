@@ -91,7 +91,7 @@ impl<const PAGES: u32> PageMarks<PAGES> {
     pub fn holds(&self, page: u32) -> bool
         ensures { result ≡ holds self.now page }
     {
-        is_marked(&self.marks, page)
+        is_marked(&self.marks, page as usize)
     }
 
     /// The pages in ascending order.
@@ -213,7 +213,7 @@ fn keep_marked(marks: &[bool], pages: &mut Vec<u32>)
     ensures kept { pages.new.items ≡ filter (λ page. slice_index_or marks.now page false) pages.old.items }
     ensures room { vec_capacity pages.new ≡ vec_capacity pages.old }
 {
-    pages.retain(|page| is_marked(marks, *page));
+    pages.retain(|page| is_marked(marks, *page as usize));
 }
 
 /// Whether a page of a group is in a set of pages.
@@ -228,9 +228,9 @@ pub(crate) fn touches<const PAGES: u32>(set: &PageMarks<PAGES>, group: usize) ->
     }
 }
 
-// Whether a page has a mark.
-fn is_marked(marks: &[bool], page: u32) -> bool
-    ensures { result ≡ slice_index_or marks.now page false }
+/// Whether a page or a block has a mark.
+pub(crate) fn is_marked(marks: &[bool], index: usize) -> bool
+    ensures { result ≡ slice_index_or marks.now index false }
 {
-    marks.get(page as usize).is_some_and(|it| *it)
+    marks.get(index).is_some_and(|it| *it)
 }

@@ -4,7 +4,7 @@ ghost use Rattle.std.specs.Prelude.{◌≡◌, ◌+◌, ◌*◌, ◌<◌, ◌≤
 ghost use Rattle.r3k_word.specs.Layout.{page_of_place, word_count_of};
 ghost use Rattle.r3k_word.specs.declared.layout.TheConstants.{MAX_RAM_PAGES, PAGE_WORDS};
 ghost use Rattle.r3k_pages.specs.Groups.{IsGroupOf, IsPageOf, group_count_of};
-ghost use Rattle.r3k_pages.specs.Pages.{SameOutside, SamePage, holds, overlaid, page_count_of};
+ghost use Rattle.r3k_pages.specs.Pages.{SameOutside, SameOutsideBlocks, SamePage, holds, overlaid, page_count_of};
 
 use crate::group::{GROUP_PAGES, Group, group_of};
 use crate::page::{Page, shared};
@@ -61,10 +61,45 @@ impl<const PAGES: u32> Snapshot<PAGES> {
         requires same { IfSome previous (λ previous. SameOutside dirty.now previous.now words.now) }
         ensures { IfOk result (λ s. s ≡ words.now) }
     {
+        Snapshot::made(alloc, words, previous, dirty, None)
+    }
+
+    /// The snapshot of all words of a memory, which are those of this one but in a set of pages, `dirty`, and there in marked blocks. It
+    /// shares the other pages, and of these looks at marked blocks alone.
+    pub fn after(
+        &self,
+        alloc: Global,
+        words: &[u32],
+        dirty: &PageMarks<PAGES>,
+        marks: &[bool],
+    ) -> Result<Snapshot<PAGES>, AllocError>
+        requires pages { PAGES ≤ MAX_RAM_PAGES }
+        requires whole { length words.now ≡ word_count_of PAGES }
+        requires same { SameOutside dirty.now self.now words.now }
+        requires blocks { SameOutsideBlocks marks.now self.now words.now }
+        ensures { IfOk result (λ s. s ≡ words.now) }
+    {
+        Snapshot::made(alloc, words, Some(self), dirty, Some(marks))
+    }
+
+    // The same, with marks or without.
+    fn made(
+        alloc: Global,
+        words: &[u32],
+        previous: Option<&Snapshot<PAGES>>,
+        dirty: &PageMarks<PAGES>,
+        marks: Option<&[bool]>,
+    ) -> Result<Snapshot<PAGES>, AllocError>
+        requires pages { PAGES ≤ MAX_RAM_PAGES }
+        requires whole { length words.now ≡ word_count_of PAGES }
+        requires same { IfSome previous (λ previous. SameOutside dirty.now previous.now words.now) }
+        requires blocks { IfSome previous (λ previous. IfSome marks (λ marks. SameOutsideBlocks marks.now previous.now words.now)) }
+        ensures { IfOk result (λ s. s ≡ words.now) }
+    {
         let count = group_count(PAGES);
         let mut groups = Vec::with_capacity(alloc, count)?;
         for group in 0..count {
-            groups.push(group_of(alloc, words, previous, dirty, group)?)?;
+            groups.push(group_of(alloc, words, previous, dirty, marks, group)?)?;
         }
         Ok(Snapshot { groups })
     }

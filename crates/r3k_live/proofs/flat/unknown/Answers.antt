@@ -1,4 +1,4 @@
-use Rattle.std.proofs.Common.{◌≡◌, ◌<◌, ℕ, List, replicate, slice_index_or, sym, subst}
+use Rattle.std.proofs.Common.{arith, ◌≡◌, ◌<◌, ℕ, List, replicate, slice_index_or, sym, subst}
 use Rattle.std.proofs.lemmas.List.{get_or-replicate}
 use Rattle.std.proofs.lemmas.Result.{IfOk-weaker}
 use Rattle.r3k_decode.specs.Operation.{Operation}
@@ -10,4 +10,4 @@ all_same known count stop is i d within = subst (λ (list : List Operation). sli
 
 pub returns-clause-nothing : goal.returns-clause-nothing
 returns-clause-nothing c =
-    IfOk-weaker c.vec.result _ _ (λ v is. all_same v.items 589824 c.args.stop (is (λ y same. same))) c.vec.ensures.items_if_clones_equal
+    IfOk-weaker c.vec.result _ _ (λ v is i d within. all_same v.items 589825 c.args.stop (is (λ y same. same)) i d (omega (arith, within))) c.vec.ensures.items_if_clones_equal

@@ -12,13 +12,14 @@ use Rattle.r3k_word.specs.declared.layout.TheConstants.{PAGE_BYTES}
 use Rattle.r3k_live.specs.Visits.{first_visit}
 use Rattle.r3k_live.proofs.Going.{visits_here, visits_on}
 use Rattle.r3k_live.proofs.CodePages.{first_code_page}
+use Rattle.r3k_live.proofs.Recorded.{clean_word, no_last}
 use Rattle.r3k_live.proofs.live.step_until.Goals as goal
 
 pub loop-made-init : goal.loop-made-init
 unfolding run trace
 loop-made-init g c = record {
   gone = record { state = refl; recorded = c.note_code_page.ensures.records [] c.requires.empty; stayed = λ place clean. refl };
-  found = ap (first_visit g.row.PAGES c.args.events c.args.from (state_of c.args.core.now c.args.memory.now) c.args.stop 0) (omega arith);
+  found = λ small. ap (first_visit g.row.PAGES c.args.events c.args.from (state_of c.args.core.now c.args.memory.now) c.args.stop 0) (omega arith);
   left = λ time later. refl;
   code_pages =
       first_code_page g.row.PAGES c.args.events c.args.from (state_of c.args.core.now c.args.memory.now) c.args.recorder.now.code_pages c.note_code_page.new.self.code_pages
@@ -39,10 +40,10 @@ returns-then-pc-stop-clause-found g c =
     let made = c.loop-made.made in
     let more = c.advance-more.result in
     let goes = c.advance-more.ensures.goes log c.args.from start made refl c.loop-made.invariant.left c.loop-made.invariant.gone in
-    sym (c.loop-made.invariant.found
+    λ small. sym (c.loop-made.invariant.found small
     ∙ visits_here g.row.PAGES log c.args.from start c.args.stop made more c.args.steps c.advance-more.ensures.some
     (omega (arith, c.advance-more.ensures.bound, c.loop-made-test.true))
-    goes.passed
+    (goes.passed small)
     (sym (ap (λ (s : State). s.core.pc) goes.gone.state) ∙ (sym c.pc-in-loop-made.ensures ∙ c.if-pc-stop.true)))
 
 pub returns-then-pc-stop-clause-never : goal.returns-then-pc-stop-clause-never
@@ -67,7 +68,14 @@ returns-then-pc-stop-clause-dirty g c =
     let made = c.loop-made.made in
     outside_pages g.row.PAGES (is_dirty (trace g.row.PAGES c.args.events c.args.from start (made + c.advance-more.result)))
     c.args.memory.now.words.items c.advance-more.new.memory.words.items c.args.memory.now.whole c.advance-more.new.memory.whole
-    (c.advance-more.ensures.goes c.args.events c.args.from start made refl c.loop-made.invariant.left c.loop-made.invariant.gone).gone.stayed
+    (λ place clean. (c.advance-more.ensures.goes c.args.events c.args.from start made refl c.loop-made.invariant.left c.loop-made.invariant.gone).gone.stayed place
+    (clean_word (trace g.row.PAGES c.args.events c.args.from start (made + c.advance-more.result)) place clean))
+
+pub returns-then-pc-stop-clause-stayed : goal.returns-then-pc-stop-clause-stayed
+returns-then-pc-stop-clause-stayed g c = λ place none.
+    let start = state_of c.args.core.now c.args.memory.now in
+    let gone = (c.advance-more.ensures.goes c.args.events c.args.from start c.loop-made.made refl c.loop-made.invariant.left c.loop-made.invariant.gone).gone in
+    gone.stayed place (no_last g.row.PAGES (trace g.row.PAGES c.args.events c.args.from start (c.loop-made.made + c.advance-more.result)) _ place gone.recorded none)
 
 pub loop-made-preserved : goal.loop-made-preserved
 loop-made-preserved g c =
@@ -77,11 +85,11 @@ loop-made-preserved g c =
     let more = c.advance-more.result in
     let goes = c.advance-more.ensures.goes log c.args.from start made refl c.loop-made.invariant.left c.loop-made.invariant.gone in record {
       gone = goes.gone;
-      found =
-          c.loop-made.invariant.found
+      found = λ small.
+          c.loop-made.invariant.found small
           ∙ visits_on g.row.PAGES log c.args.from start c.args.stop made more c.args.steps c.advance-more.ensures.some
           (omega (arith, c.advance-more.ensures.bound, c.loop-made-test.true))
-          goes.passed (λ here. c.if-pc-stop.false (c.pc-in-loop-made.ensures ∙ (ap (λ (s : State). s.core.pc) goes.gone.state ∙ here)));
+          (goes.passed small) (λ here. c.if-pc-stop.false (c.pc-in-loop-made.ensures ∙ (ap (λ (s : State). s.core.pc) goes.gone.state ∙ here)));
       left = λ time later.
           c.advance-more.ensures.left time (omega (arith, later)) ∙ c.loop-made.invariant.left time (omega (arith, later));
       code_pages = goes.code_pages c.args.recorder.now.code_pages c.loop-made.invariant.code_pages;
@@ -93,7 +101,7 @@ unfolding first_visit
 returns-clause-found g c =
     let log = c.args.events in
     let start = state_of c.args.core.now c.args.memory.now in
-    sym (c.loop-made.invariant.found
+    λ small. sym (c.loop-made.invariant.found small
     ∙ ap (first_visit g.row.PAGES log c.args.from start c.args.stop c.loop-made.made)
     (let e : c.args.steps - c.loop-made.made ≡ 0 = omega (arith, c.loop-made-test.false) in e))
 
@@ -115,7 +123,13 @@ returns-clause-dirty g c =
     let all : c.loop-made.made ≡ c.args.steps = omega (arith, c.loop-made-test.false, c.loop-made.invariant.bound) in
     outside_pages g.row.PAGES (is_dirty (trace g.row.PAGES c.args.events c.args.from start c.args.steps))
     c.args.memory.now.words.items c.loop-made.memory.words.items c.args.memory.now.whole c.loop-made.memory.whole
-    (subst (λ (n : ℕ). HasGone g.row.PAGES c.args.events c.args.from start n (state_of c.loop-made.core c.loop-made.memory) c.loop-made.recorder) all c.loop-made.invariant.gone).stayed
+    (λ place clean. (subst (λ (n : ℕ). HasGone g.row.PAGES c.args.events c.args.from start n (state_of c.loop-made.core c.loop-made.memory) c.loop-made.recorder) all c.loop-made.invariant.gone).stayed place
+    (clean_word (trace g.row.PAGES c.args.events c.args.from start c.args.steps) place clean))
+
+pub returns-clause-stayed : goal.returns-clause-stayed
+returns-clause-stayed g c = λ place none.
+    let start = state_of c.args.core.now c.args.memory.now in
+    c.loop-made.invariant.gone.stayed place (no_last g.row.PAGES (trace g.row.PAGES c.args.events c.args.from start c.loop-made.made) _ place c.loop-made.invariant.gone.recorded none)
 
 pub returns-clause-code_pages : goal.returns-clause-code_pages
 returns-clause-code_pages g c =

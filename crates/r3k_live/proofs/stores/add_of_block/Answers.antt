@@ -1,6 +1,6 @@
 use Rattle.std.proofs.Common.{◌*◌, suc, sym, ◌∙◌, arith}
 use Rattle.std.proofs.lemmas.List.{append-nil}
-use Rattle.r3k_live.specs.declared.stores.TheConstants.{BLOCK_WORDS}
+use Rattle.r3k_pages.specs.declared.block.TheConstants.{BLOCK_WORDS}
 use Rattle.r3k_live.proofs.Writers.{none_yet, then_word}
 use Rattle.r3k_live.proofs.stores.add_of_block.Goals as goal
 use Rattle.r3k_live.proofs.stores.add_of_block.Goals.{in-Some+in_ok-push, in_default}

@@ -2,7 +2,7 @@ use Rattle.std.proofs.Common.{◌+◌, ◌-◌, ◌*◌, List, ◌++◌, sym, ap
 use Rattle.std.proofs.lemmas.List.{append-nil}
 use Rattle.r3k_word.specs.declared.layout.TheConstants.{PAGE_WORDS}
 use Rattle.r3k_live.specs.declared.recorder.Written.{Written}
-use Rattle.r3k_live.specs.declared.stores.TheConstants.{BLOCK_WORDS}
+use Rattle.r3k_pages.specs.declared.block.TheConstants.{BLOCK_WORDS}
 use Rattle.r3k_live.proofs.Writers.{in_unmarked, none_yet, then_words}
 use Rattle.r3k_live.proofs.stores.add_of_page.Goals as goal
 use Rattle.r3k_live.proofs.stores.add_of_page.Goals.{then-blocks-block+in_ok-add_of_block, else-blocks-block}
@@ -16,8 +16,8 @@ loop-block-preserved c =
     let now = c.loop-block.written.items in
     let block = c.loop-block.block in
     let least = c.loop-block.auto.block in
-    let more = then_words c.args.written.now.items now (c.args.page * PAGE_WORDS) ((block - c.args.page * 32) * BLOCK_WORDS) (block * BLOCK_WORDS) BLOCK_WORDS
-    ((block + 1 - c.args.page * 32) * BLOCK_WORDS) last (omega (arith, least)) (omega (arith, least)) c.loop-block.invariant in
+    let more = then_words c.args.written.now.items now (c.args.page * PAGE_WORDS) ((block - c.args.page * 16) * BLOCK_WORDS) (block * BLOCK_WORDS) BLOCK_WORDS
+    ((block + 1 - c.args.page * 16) * BLOCK_WORDS) last (omega (arith, least)) (omega (arith, least)) c.loop-block.invariant in
     elim c.if-blocks-block.branch [
       | then-blocks-block+in_ok-add_of_block w ↦ rw w.written-is (w.in_ok-add_of_block.ensures {u = tt} ∙ more)
       | else-blocks-block w ↦

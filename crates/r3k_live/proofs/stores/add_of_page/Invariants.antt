@@ -1,7 +1,7 @@
 use Rattle.std.proofs.Common.{◌≡◌, ◌-◌, ◌*◌, ◌++◌}
 use Rattle.r3k_word.specs.declared.layout.TheConstants.{PAGE_WORDS}
 use Rattle.r3k_live.specs.Stores.{writers_in}
-use Rattle.r3k_live.specs.declared.stores.TheConstants.{BLOCK_WORDS}
+use Rattle.r3k_pages.specs.declared.block.TheConstants.{BLOCK_WORDS}
 use Rattle.r3k_live.proofs.stores.add_of_page.Given as goal
 
 -- the words of the blocks so far

@@ -1,5 +1,5 @@
 use Rattle.std.proofs.Common.{◌≡◌, ℕ, ◌/◌, ◌<◌, ◌≤◌, length, slice_index}
-use Rattle.r3k_live.specs.declared.stores.TheConstants.{BLOCK_WORDS}
+use Rattle.r3k_pages.specs.declared.block.TheConstants.{BLOCK_WORDS}
 use Rattle.r3k_live.proofs.stores.forget_block.Given as goal
 
 -- the words so far

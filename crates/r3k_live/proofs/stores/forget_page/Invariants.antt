@@ -1,6 +1,6 @@
 use Rattle.std.proofs.Common.{◌≡◌, ℕ, ◌/◌, ◌<◌, ◌≤◌, length, slice_index}
 use Rattle.r3k_live.specs.Stores.{AreInBlocks}
-use Rattle.r3k_live.specs.declared.stores.TheConstants.{BLOCK_WORDS}
+use Rattle.r3k_pages.specs.declared.block.TheConstants.{BLOCK_WORDS}
 use Rattle.r3k_live.proofs.stores.forget_page.Given as goal
 
 -- no word of the blocks so far has a step

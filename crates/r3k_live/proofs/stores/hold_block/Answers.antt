@@ -1,5 +1,5 @@
 use Rattle.std.proofs.Common.{◌*◌, arith}
-use Rattle.r3k_live.specs.declared.stores.TheConstants.{BLOCK_WORDS}
+use Rattle.r3k_pages.specs.declared.block.TheConstants.{BLOCK_WORDS}
 use Rattle.r3k_live.proofs.Holding.{held_none, held_one}
 use Rattle.r3k_live.proofs.stores.hold_block.Goals as goal
 use Rattle.r3k_live.proofs.stores.hold_block.Goals.{then-last-place+else-is_full, else-last-place}

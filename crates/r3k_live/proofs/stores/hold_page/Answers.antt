@@ -1,12 +1,12 @@
 use Rattle.std.proofs.Common.{◌*◌}
-use Rattle.r3k_live.specs.declared.stores.TheConstants.{BLOCK_WORDS}
+use Rattle.r3k_pages.specs.declared.block.TheConstants.{BLOCK_WORDS}
 use Rattle.r3k_live.proofs.Holding.{held_block, held_unmarked}
 use Rattle.r3k_live.proofs.stores.hold_page.Goals as goal
 use Rattle.r3k_live.proofs.stores.hold_page.Goals.{else-blocks-block-via-then-blocks-block+else-not-hold_block, else-blocks-block-via-else-blocks-block}
 
 pub loop-block-preserved : goal.loop-block-preserved
 loop-block-preserved c =
-    let first = c.args.page * 32 * BLOCK_WORDS in
+    let first = c.args.page * 16 * BLOCK_WORDS in
     let block = c.loop-block.block in
     let last = c.args.last.now in
     let words = c.args.words.now in

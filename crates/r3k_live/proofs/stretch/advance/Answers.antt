@@ -37,7 +37,7 @@ returns-clause-goes g c = λ log from start made now left so_far.
     (ap (λ (e : List LogEvent). outcome_of_step g.row.PAGES e s) events ∙ outcome)
     (λ steps so_far. c.note_code_page.ensures.records (steps ++ c.step-done.result ∷ []) (c.note.ensures.records steps so_far)) c.step-done.ensures.within.words in record {
       gone = gone;
-      passed = λ k after below there. omega (arith, after, below);
+      passed = λ small k after below there. omega (arith, after, below);
       code_pages = λ before code_pages.
           more_code_pages g.row.PAGES log from start made 1 _ before c.stretch-made.new.recorder.code_pages c.note_code_page.new.self.code_pages
           (subst (λ (n : ℕ). AddsCodePages g.row.PAGES log from start n before c.stretch-made.new.recorder.code_pages) none (stretch.code_pages before code_pages))

@@ -1,4 +1,5 @@
-use Rattle.std.proofs.Common.{ℕ, ◌∙◌, ◌-◌, Option, IfSome, IsTrue, subst, sym, arith}
+use Rattle.std.proofs.Common.{ℕ, ap, ◌∙◌, ◌-◌, Option, IfSome, IsTrue, subst, sym, arith}
+use Rattle.r3k_decode.specs.Operation.{Operation}
 use Rattle.r3k_machine.specs.Flow.{with_flow}
 use Rattle.r3k_live.specs.Living.{state_of}
 use Rattle.r3k_pages.specs.Pages.{holds}
@@ -30,7 +31,7 @@ step_quickly-requires g c =
     (state_of (with_flow c.step_straight.new.core c.step_straight.new.flow) c.step_straight.new.memory)
     c.args.recorder.now c.loop-index.recorder c.step_straight.new.recorder
     c.loop-index.invariant.goes (c.step_straight.ensures.goes c.args.stop c.halt_in-halt.ensures.word) in
-    (omega arith, (so_far.may.code, (c.requires.page, (c.step_straight.ensures.opened, c.in-Some-step_straight.ensures.here))))
+    (omega arith, (so_far.may.code, (c.requires.page, (c.step_straight.ensures.opened, (c.in-Some-step_straight.ensures.here, c.mnemonic-name.ensures ∙ ap (λ (o : Operation). o.row) c.insn.ensures.known)))))
 
 pub returns-in_default-step_quickly-clause-goes : goal.returns-in_default-step_quickly-clause-goes
 returns-in_default-step_quickly-clause-goes g c =

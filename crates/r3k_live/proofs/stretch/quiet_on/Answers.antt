@@ -18,7 +18,7 @@ returns-clause-goes g c = λ log from start address made free so_far.
     (ap (λ (events : List LogEvent). outcome_of_step g.row.PAGES events s) (free c.if-not-wanted.false) ∙ c.in-Some.ensures.ran)
     (λ steps records. c.note_code_page.ensures.records (steps ++ c.in-Some.done ∷ []) (c.note.ensures.records steps records)) c.in-Some.ensures.within.words in record {
       gone = gone;
-      passed = λ k after below there. omega (arith, after, below);
+      passed = λ small k after below there. omega (arith, after, below);
       code_pages = λ before code_pages.
           more_code_pages g.row.PAGES log from start made 1 _ before c.args.recorder.now.code_pages c.note_code_page.new.self.code_pages code_pages (begins_once g.row.PAGES log from start made)
           (λ page.

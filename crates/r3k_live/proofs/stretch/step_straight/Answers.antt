@@ -1,14 +1,16 @@
-use Rattle.std.proofs.Common.{ℕ, ◌+◌, ◌-◌, ◌<◌, ◌≤◌, ap, refl, sym, subst, arith}
+use Rattle.std.proofs.Common.{◌∙◌, ℕ, ◌+◌, ◌-◌, ◌<◌, ◌≤◌, ap, refl, sym, subst, arith}
 use Rattle.r3k_machine.specs.Flow.{with_flow}
 use Rattle.r3k_machine.specs.Quiet.{IsIndexIn}
-use Rattle.r3k_live.specs.Living.{state_of}
+use Rattle.r3k_table.specs.Mnemonics.{number_of}
+use Rattle.r3k_decode.specs.Operation.{Operation}
+use Rattle.r3k_live.specs.Living.{known_in, state_of}
 use Rattle.r3k_live.specs.Recording.{Recording}
-use Rattle.r3k_live.proofs.Quick.{address_of, at_next, fewer_than, goes_nowhere, if_so, more_to, not_at, word_here}
+use Rattle.r3k_live.proofs.Quick.{address_of, at_next, fewer_than, goes_nowhere, if_so, more_to, not_at, still_named, word_here}
 use Rattle.r3k_live.proofs.stretch.step_straight.Goals.{in-Word, in-WordAfterHiLo, in-WordAfterNone}
 use Rattle.r3k_live.proofs.stretch.step_straight.Goals as goal
 
-pub loop-flow-init : goal.loop-flow-init
-loop-flow-init g c = record {
+pub loop-ahead-init : goal.loop-ahead-init
+loop-ahead-init g c = record {
   at = record {
     goes = λ address word.
         goes_nowhere g.row.PAGES c.args.most address c.args.page (c.args.recorder.now.steps - c.args.begun) (state_of (with_flow c.args.core.now c.args.flow.now) c.args.memory.now)
@@ -22,208 +24,224 @@ loop-flow-init g c = record {
   };
   free = c.requires.straight.free;
   opened = c.requires.opened;
+  named = λ within. c.mnemonic-ahead.ensures ∙ ap (λ (o : Operation). o.row) c.insn.ensures.known;
 }
 
 pub returns-in_err-quick-clause-goes : goal.returns-in_err-quick-clause-goes
-returns-in_err-quick-clause-goes g c = rw (c.in_err-quick.ensures.core refl, c.in_err-quick.ensures.flow refl, c.in_err-quick.ensures.words refl, c.pin_straight.ensures) c.loop-flow.invariant.at.goes
+returns-in_err-quick-clause-goes g c = rw (c.in_err-quick.ensures.core refl, c.in_err-quick.ensures.flow refl, c.in_err-quick.ensures.words refl, c.pin_straight.ensures) c.loop-ahead.invariant.at.goes
 
 pub returns-in-DelaySlot-clause-goes : goal.returns-in-DelaySlot-clause-goes
-returns-in-DelaySlot-clause-goes g c = (at_next c.step_quickly.new.core c.step_quickly.new.flow c.step_quickly.new.memory.words.items (rw c.steps.ensures.steps at c.last_of-last.ensures.ends) c.loop-flow.invariant.at
-    (more_to c.loop-flow.index c.args.first c.last_of-last.result c.args.recorder.now.steps c.loop-flow.recorder.steps c.steps-in-loop-flow.result c.steps-in-loop-flow.ensures.steps
-    c.loop-flow.invariant.at.count c.loop-flow.invariant.at.low c.loop-flow-test.true)
-    c.loop-flow.invariant.free (rw c.pin_straight.ensures at c.in_ok-quick.ensures.leads) (rw c.pin_straight.ensures at c.in_ok-quick.ensures.goes) c.note_again.ensures).goes
+returns-in-DelaySlot-clause-goes g c = (at_next c.step_quickly.new.core c.step_quickly.new.flow c.step_quickly.new.memory.words.items (rw c.steps.ensures.steps at c.last_of-last.ensures.ends) c.loop-ahead.invariant.at
+    (more_to c.loop-ahead.index c.args.first c.last_of-last.result c.args.recorder.now.steps c.loop-ahead.recorder.steps c.steps-in-loop-ahead.result c.steps-in-loop-ahead.ensures.steps
+    c.loop-ahead.invariant.at.count c.loop-ahead.invariant.at.low c.loop-ahead-test.true)
+    c.loop-ahead.invariant.free (rw c.pin_straight.ensures at c.in_ok-quick.ensures.leads) (rw c.pin_straight.ensures at c.in_ok-quick.ensures.goes) c.note_again.ensures).goes
 
 pub returns-in-DelaySlot-clause-here : goal.returns-in-DelaySlot-clause-here
 returns-in-DelaySlot-clause-here g c =
-    let at = at_next c.step_quickly.new.core c.step_quickly.new.flow c.step_quickly.new.memory.words.items (rw c.steps.ensures.steps at c.last_of-last.ensures.ends) c.loop-flow.invariant.at
-    (more_to c.loop-flow.index c.args.first c.last_of-last.result c.args.recorder.now.steps c.loop-flow.recorder.steps c.steps-in-loop-flow.result c.steps-in-loop-flow.ensures.steps
-    c.loop-flow.invariant.at.count c.loop-flow.invariant.at.low c.loop-flow-test.true)
-    c.loop-flow.invariant.free (rw c.pin_straight.ensures at c.in_ok-quick.ensures.leads) (rw c.pin_straight.ensures at c.in_ok-quick.ensures.goes) c.note_again.ensures in
+    let at = at_next c.step_quickly.new.core c.step_quickly.new.flow c.step_quickly.new.memory.words.items (rw c.steps.ensures.steps at c.last_of-last.ensures.ends) c.loop-ahead.invariant.at
+    (more_to c.loop-ahead.index c.args.first c.last_of-last.result c.args.recorder.now.steps c.loop-ahead.recorder.steps c.steps-in-loop-ahead.result c.steps-in-loop-ahead.ensures.steps
+    c.loop-ahead.invariant.at.count c.loop-ahead.invariant.at.low c.loop-ahead-test.true)
+    c.loop-ahead.invariant.free (rw c.pin_straight.ensures at c.in_ok-quick.ensures.leads) (rw c.pin_straight.ensures at c.in_ok-quick.ensures.goes) c.note_again.ensures in
     let ends = (rw c.steps.ensures.steps at c.last_of-last.ensures.ends) in
     if_so c.delay_slot.result c.delay_slot.ensures
     (λ slot so.
     subst (λ (slot : ℕ). IsIndexIn c.args.page c.step_quickly.new.flow.pc slot) (sym so.0)
-    (word_here _ _ _ _ _ _ _ _ _ _ _ _ _ _ ends at (more_to (c.loop-flow.index + 1) c.args.first c.last_of-last.result c.args.recorder.now.steps c.note_again.new.self.steps c.steps-in-DelaySlot.result c.steps-in-DelaySlot.ensures.steps at.count at.low so.1)))
+    (word_here _ _ _ _ _ _ _ _ _ _ _ _ _ _ ends at (more_to (c.loop-ahead.index + 1) c.args.first c.last_of-last.result c.args.recorder.now.steps c.note_again.new.self.steps c.steps-in-DelaySlot.result c.steps-in-DelaySlot.ensures.steps at.count at.low so.1)))
 
 pub returns-in-DelaySlot-clause-room : goal.returns-in-DelaySlot-clause-room
 returns-in-DelaySlot-clause-room g c =
-    let at = at_next c.step_quickly.new.core c.step_quickly.new.flow c.step_quickly.new.memory.words.items (rw c.steps.ensures.steps at c.last_of-last.ensures.ends) c.loop-flow.invariant.at
-    (more_to c.loop-flow.index c.args.first c.last_of-last.result c.args.recorder.now.steps c.loop-flow.recorder.steps c.steps-in-loop-flow.result c.steps-in-loop-flow.ensures.steps
-    c.loop-flow.invariant.at.count c.loop-flow.invariant.at.low c.loop-flow-test.true)
-    c.loop-flow.invariant.free (rw c.pin_straight.ensures at c.in_ok-quick.ensures.leads) (rw c.pin_straight.ensures at c.in_ok-quick.ensures.goes) c.note_again.ensures in
+    let at = at_next c.step_quickly.new.core c.step_quickly.new.flow c.step_quickly.new.memory.words.items (rw c.steps.ensures.steps at c.last_of-last.ensures.ends) c.loop-ahead.invariant.at
+    (more_to c.loop-ahead.index c.args.first c.last_of-last.result c.args.recorder.now.steps c.loop-ahead.recorder.steps c.steps-in-loop-ahead.result c.steps-in-loop-ahead.ensures.steps
+    c.loop-ahead.invariant.at.count c.loop-ahead.invariant.at.low c.loop-ahead-test.true)
+    c.loop-ahead.invariant.free (rw c.pin_straight.ensures at c.in_ok-quick.ensures.leads) (rw c.pin_straight.ensures at c.in_ok-quick.ensures.goes) c.note_again.ensures in
     let ends = (rw c.steps.ensures.steps at c.last_of-last.ensures.ends) in
     if_so c.delay_slot.result c.delay_slot.ensures
-    (λ slot so. fewer_than _ _ _ _ _ _ _ _ _ _ _ _ _ _ ends at (more_to (c.loop-flow.index + 1) c.args.first c.last_of-last.result c.args.recorder.now.steps c.note_again.new.self.steps c.steps-in-DelaySlot.result c.steps-in-DelaySlot.ensures.steps at.count at.low so.1))
+    (λ slot so. fewer_than _ _ _ _ _ _ _ _ _ _ _ _ _ _ ends at (more_to (c.loop-ahead.index + 1) c.args.first c.last_of-last.result c.args.recorder.now.steps c.note_again.new.self.steps c.steps-in-DelaySlot.result c.steps-in-DelaySlot.ensures.steps at.count at.low so.1))
 
 pub returns-in-DelaySlot-clause-elsewhere : goal.returns-in-DelaySlot-clause-elsewhere
 returns-in-DelaySlot-clause-elsewhere g c =
-    let at = at_next c.step_quickly.new.core c.step_quickly.new.flow c.step_quickly.new.memory.words.items (rw c.steps.ensures.steps at c.last_of-last.ensures.ends) c.loop-flow.invariant.at
-    (more_to c.loop-flow.index c.args.first c.last_of-last.result c.args.recorder.now.steps c.loop-flow.recorder.steps c.steps-in-loop-flow.result c.steps-in-loop-flow.ensures.steps
-    c.loop-flow.invariant.at.count c.loop-flow.invariant.at.low c.loop-flow-test.true)
-    c.loop-flow.invariant.free (rw c.pin_straight.ensures at c.in_ok-quick.ensures.leads) (rw c.pin_straight.ensures at c.in_ok-quick.ensures.goes) c.note_again.ensures in
+    let at = at_next c.step_quickly.new.core c.step_quickly.new.flow c.step_quickly.new.memory.words.items (rw c.steps.ensures.steps at c.last_of-last.ensures.ends) c.loop-ahead.invariant.at
+    (more_to c.loop-ahead.index c.args.first c.last_of-last.result c.args.recorder.now.steps c.loop-ahead.recorder.steps c.steps-in-loop-ahead.result c.steps-in-loop-ahead.ensures.steps
+    c.loop-ahead.invariant.at.count c.loop-ahead.invariant.at.low c.loop-ahead-test.true)
+    c.loop-ahead.invariant.free (rw c.pin_straight.ensures at c.in_ok-quick.ensures.leads) (rw c.pin_straight.ensures at c.in_ok-quick.ensures.goes) c.note_again.ensures in
     let ends = (rw c.steps.ensures.steps at c.last_of-last.ensures.ends) in
     if_so c.delay_slot.result c.delay_slot.ensures
     (λ slot so address word.
-    let more = (more_to (c.loop-flow.index + 1) c.args.first c.last_of-last.result c.args.recorder.now.steps c.note_again.new.self.steps c.steps-in-DelaySlot.result c.steps-in-DelaySlot.ensures.steps at.count at.low so.1) in
-    not_at c.args.page address c.args.first (c.loop-flow.index + 1) _ c.args.halt _ at.low more ends.stops word (word_here _ _ _ _ _ _ _ _ _ _ _ _ _ _ ends at more))
+    let more = (more_to (c.loop-ahead.index + 1) c.args.first c.last_of-last.result c.args.recorder.now.steps c.note_again.new.self.steps c.steps-in-DelaySlot.result c.steps-in-DelaySlot.ensures.steps at.count at.low so.1) in
+    not_at c.args.page address c.args.first (c.loop-ahead.index + 1) _ c.args.halt _ at.low more ends.stops word (word_here _ _ _ _ _ _ _ _ _ _ _ _ _ _ ends at more))
 
-pub loop-flow-preserved-in-WordAfterLoad : goal.loop-flow-preserved-in-WordAfterLoad
-loop-flow-preserved-in-WordAfterLoad g c = record {
-  at = at_next c.step_quickly.new.core c.step_quickly.new.flow c.step_quickly.new.memory.words.items (rw c.steps.ensures.steps at c.last_of-last.ensures.ends) c.loop-flow.invariant.at
-      (more_to c.loop-flow.index c.args.first c.last_of-last.result c.args.recorder.now.steps c.loop-flow.recorder.steps c.steps-in-loop-flow.result c.steps-in-loop-flow.ensures.steps
-      c.loop-flow.invariant.at.count c.loop-flow.invariant.at.low c.loop-flow-test.true)
-      c.loop-flow.invariant.free (rw c.pin_straight.ensures at c.in_ok-quick.ensures.leads) (rw c.pin_straight.ensures at c.in_ok-quick.ensures.goes) c.note_again-in-WordAfterLoad.ensures;
+pub loop-ahead-preserved-in-WordAfterLoad : goal.loop-ahead-preserved-in-WordAfterLoad
+loop-ahead-preserved-in-WordAfterLoad g c = record {
+  at = at_next c.step_quickly.new.core c.step_quickly.new.flow c.step_quickly.new.memory.words.items (rw c.steps.ensures.steps at c.last_of-last.ensures.ends) c.loop-ahead.invariant.at
+      (more_to c.loop-ahead.index c.args.first c.last_of-last.result c.args.recorder.now.steps c.loop-ahead.recorder.steps c.steps-in-loop-ahead.result c.steps-in-loop-ahead.ensures.steps
+      c.loop-ahead.invariant.at.count c.loop-ahead.invariant.at.low c.loop-ahead-test.true)
+      c.loop-ahead.invariant.free (rw c.pin_straight.ensures at c.in_ok-quick.ensures.leads) (rw c.pin_straight.ensures at c.in_ok-quick.ensures.goes) c.note_again-in-WordAfterLoad.ensures;
   free = rw c.in-WordAfterLoad.is at c.in_ok-quick.ensures.next;
   opened = c.step_quickly.ensures.opened;
+  named = still_named (known_in g.row.PAGES c.loop-ahead.memory) (known_in g.row.PAGES c.step_quickly.new.memory) c.args.page.page (c.loop-ahead.index + 1) (number_of c.name_after-ahead.result)
+      (rw c.in-WordAfterLoad.is at c.in_ok-quick.ensures.knows) c.name_after-ahead.ensures;
 }
 
-pub loop-flow-2-init : goal.loop-flow-2-init
-loop-flow-2-init g c =
+pub loop-flow-init : goal.loop-flow-init
+loop-flow-init g c =
     elim c.match-quick.branch [
       | in-Word w ↦
-          let next = rw w.in-Word.is at c.in_ok-quick.ensures.next in rw (w.recorder-is, w.index-is) record {
-            at = at_next c.step_quickly.new.core c.step_quickly.new.flow c.step_quickly.new.memory.words.items (rw c.steps.ensures.steps at c.last_of-last.ensures.ends) c.loop-flow.invariant.at
-                (more_to c.loop-flow.index c.args.first c.last_of-last.result c.args.recorder.now.steps c.loop-flow.recorder.steps c.steps-in-loop-flow.result c.steps-in-loop-flow.ensures.steps
-                c.loop-flow.invariant.at.count c.loop-flow.invariant.at.low c.loop-flow-test.true)
-                c.loop-flow.invariant.free (rw c.pin_straight.ensures at c.in_ok-quick.ensures.leads) (rw c.pin_straight.ensures at c.in_ok-quick.ensures.goes) w.note_again-in-Word.ensures;
+          let next = rw w.in-Word.is at c.in_ok-quick.ensures.next in rw (w.recorder-is, w.index-is, w.ahead-is) record {
+            at = at_next c.step_quickly.new.core c.step_quickly.new.flow c.step_quickly.new.memory.words.items (rw c.steps.ensures.steps at c.last_of-last.ensures.ends) c.loop-ahead.invariant.at
+                (more_to c.loop-ahead.index c.args.first c.last_of-last.result c.args.recorder.now.steps c.loop-ahead.recorder.steps c.steps-in-loop-ahead.result c.steps-in-loop-ahead.ensures.steps
+                c.loop-ahead.invariant.at.count c.loop-ahead.invariant.at.low c.loop-ahead-test.true)
+                c.loop-ahead.invariant.free (rw c.pin_straight.ensures at c.in_ok-quick.ensures.leads) (rw c.pin_straight.ensures at c.in_ok-quick.ensures.goes) w.note_again-in-Word.ensures;
             free = next.1;
             unloaded = next.0;
             opened = c.step_quickly.ensures.opened;
+            named = still_named (known_in g.row.PAGES c.loop-ahead.memory) (known_in g.row.PAGES c.step_quickly.new.memory) c.args.page.page (c.loop-ahead.index + 1) (number_of c.name_after-ahead.result)
+                (rw w.in-Word.is at c.in_ok-quick.ensures.knows) c.name_after-ahead.ensures;
             least = omega arith;
           }
       | in-WordAfterHiLo w ↦
-          let next = rw w.in-WordAfterHiLo.is at c.in_ok-quick.ensures.next in rw (w.recorder-is, w.index-is) record {
-            at = at_next c.step_quickly.new.core c.step_quickly.new.flow c.step_quickly.new.memory.words.items (rw c.steps.ensures.steps at c.last_of-last.ensures.ends) c.loop-flow.invariant.at
-                (more_to c.loop-flow.index c.args.first c.last_of-last.result c.args.recorder.now.steps c.loop-flow.recorder.steps c.steps-in-loop-flow.result c.steps-in-loop-flow.ensures.steps
-                c.loop-flow.invariant.at.count c.loop-flow.invariant.at.low c.loop-flow-test.true)
-                c.loop-flow.invariant.free (rw c.pin_straight.ensures at c.in_ok-quick.ensures.leads) (rw c.pin_straight.ensures at c.in_ok-quick.ensures.goes) w.note_again-in-WordAfterHiLo.ensures;
+          let next = rw w.in-WordAfterHiLo.is at c.in_ok-quick.ensures.next in rw (w.recorder-is, w.index-is, w.ahead-is) record {
+            at = at_next c.step_quickly.new.core c.step_quickly.new.flow c.step_quickly.new.memory.words.items (rw c.steps.ensures.steps at c.last_of-last.ensures.ends) c.loop-ahead.invariant.at
+                (more_to c.loop-ahead.index c.args.first c.last_of-last.result c.args.recorder.now.steps c.loop-ahead.recorder.steps c.steps-in-loop-ahead.result c.steps-in-loop-ahead.ensures.steps
+                c.loop-ahead.invariant.at.count c.loop-ahead.invariant.at.low c.loop-ahead-test.true)
+                c.loop-ahead.invariant.free (rw c.pin_straight.ensures at c.in_ok-quick.ensures.leads) (rw c.pin_straight.ensures at c.in_ok-quick.ensures.goes) w.note_again-in-WordAfterHiLo.ensures;
             free = next.1;
             unloaded = next.0;
             opened = c.step_quickly.ensures.opened;
+            named = still_named (known_in g.row.PAGES c.loop-ahead.memory) (known_in g.row.PAGES c.step_quickly.new.memory) c.args.page.page (c.loop-ahead.index + 1) (number_of c.name_after-ahead.result)
+                (rw w.in-WordAfterHiLo.is at c.in_ok-quick.ensures.knows) c.name_after-ahead.ensures;
             least = omega arith;
           }
       | in-WordAfterNone w ↦
-          let next = rw w.in-WordAfterNone.is at c.in_ok-quick.ensures.next in rw (w.recorder-is, w.index-is) record {
-            at = at_next c.step_quickly.new.core c.step_quickly.new.flow c.step_quickly.new.memory.words.items (rw c.steps.ensures.steps at c.last_of-last.ensures.ends) c.loop-flow.invariant.at
-                (more_to c.loop-flow.index c.args.first c.last_of-last.result c.args.recorder.now.steps c.loop-flow.recorder.steps c.steps-in-loop-flow.result c.steps-in-loop-flow.ensures.steps
-                c.loop-flow.invariant.at.count c.loop-flow.invariant.at.low c.loop-flow-test.true)
-                c.loop-flow.invariant.free (rw c.pin_straight.ensures at c.in_ok-quick.ensures.leads) (rw c.pin_straight.ensures at c.in_ok-quick.ensures.goes) w.note_again-in-WordAfterNone.ensures;
+          let next = rw w.in-WordAfterNone.is at c.in_ok-quick.ensures.next in rw (w.recorder-is, w.index-is, w.ahead-is) record {
+            at = at_next c.step_quickly.new.core c.step_quickly.new.flow c.step_quickly.new.memory.words.items (rw c.steps.ensures.steps at c.last_of-last.ensures.ends) c.loop-ahead.invariant.at
+                (more_to c.loop-ahead.index c.args.first c.last_of-last.result c.args.recorder.now.steps c.loop-ahead.recorder.steps c.steps-in-loop-ahead.result c.steps-in-loop-ahead.ensures.steps
+                c.loop-ahead.invariant.at.count c.loop-ahead.invariant.at.low c.loop-ahead-test.true)
+                c.loop-ahead.invariant.free (rw c.pin_straight.ensures at c.in_ok-quick.ensures.leads) (rw c.pin_straight.ensures at c.in_ok-quick.ensures.goes) w.note_again-in-WordAfterNone.ensures;
             free = next.1;
             unloaded = next.0;
             opened = c.step_quickly.ensures.opened;
+            named = w.name_after-ahead-in-WordAfterNone.ensures;
             least = omega arith;
           }
     ]
 
-pub loop-flow-preserved-in-loop-flow-2 : goal.loop-flow-preserved-in-loop-flow-2
-loop-flow-preserved-in-loop-flow-2 g c = record {
-  at = c.loop-flow-2.invariant.at;
-  free = c.loop-flow-2.invariant.free;
-  opened = c.loop-flow-2.invariant.opened;
+pub loop-ahead-preserved-in-loop-flow : goal.loop-ahead-preserved-in-loop-flow
+loop-ahead-preserved-in-loop-flow g c = record {
+  at = c.loop-flow.invariant.at;
+  free = c.loop-flow.invariant.free;
+  opened = c.loop-flow.invariant.opened;
+  named = c.loop-flow.invariant.named;
 }
 
 pub returns-in_err-quick-2-clause-goes : goal.returns-in_err-quick-2-clause-goes
-returns-in_err-quick-2-clause-goes g c = rw (c.in_err-quick-2.ensures.core refl, c.in_err-quick-2.ensures.flow refl, c.in_err-quick-2.ensures.words refl, c.pin_unloaded.ensures, c.pin_straight-in-loop-flow-2.ensures) c.loop-flow-2.invariant.at.goes
+returns-in_err-quick-2-clause-goes g c = rw (c.in_err-quick-2.ensures.core refl, c.in_err-quick-2.ensures.flow refl, c.in_err-quick-2.ensures.words refl, c.pin_unloaded.ensures, c.pin_straight-in-loop-flow.ensures) c.loop-flow.invariant.at.goes
 
 pub returns-in-DelaySlot-next-clause-goes : goal.returns-in-DelaySlot-next-clause-goes
-returns-in-DelaySlot-next-clause-goes g c = (at_next c.step_quickly-in-loop-flow-2.new.core c.step_quickly-in-loop-flow-2.new.flow c.step_quickly-in-loop-flow-2.new.memory.words.items (rw c.steps.ensures.steps at c.last_of-last.ensures.ends) c.loop-flow-2.invariant.at
-    (more_to c.loop-flow-2.index c.args.first c.last_of-last.result c.args.recorder.now.steps c.loop-flow-2.recorder.steps c.steps-in-loop-flow-2.result c.steps-in-loop-flow-2.ensures.steps
-    c.loop-flow-2.invariant.at.count c.loop-flow-2.invariant.at.low c.loop-flow-2-test.true)
-    c.loop-flow-2.invariant.free (rw (c.pin_unloaded.ensures, c.pin_straight-in-loop-flow-2.ensures) at c.in_ok-quick-2.ensures.leads) (rw (c.pin_unloaded.ensures, c.pin_straight-in-loop-flow-2.ensures) at c.in_ok-quick-2.ensures.goes) c.note_again-in-DelaySlot-next.ensures).goes
+returns-in-DelaySlot-next-clause-goes g c = (at_next c.step_quickly-in-loop-flow.new.core c.step_quickly-in-loop-flow.new.flow c.step_quickly-in-loop-flow.new.memory.words.items (rw c.steps.ensures.steps at c.last_of-last.ensures.ends) c.loop-flow.invariant.at
+    (more_to c.loop-flow.index c.args.first c.last_of-last.result c.args.recorder.now.steps c.loop-flow.recorder.steps c.steps-in-loop-flow.result c.steps-in-loop-flow.ensures.steps
+    c.loop-flow.invariant.at.count c.loop-flow.invariant.at.low c.loop-flow-test.true)
+    c.loop-flow.invariant.free (rw (c.pin_unloaded.ensures, c.pin_straight-in-loop-flow.ensures) at c.in_ok-quick-2.ensures.leads) (rw (c.pin_unloaded.ensures, c.pin_straight-in-loop-flow.ensures) at c.in_ok-quick-2.ensures.goes) c.note_again-in-DelaySlot-next.ensures).goes
 
 pub returns-in-DelaySlot-next-clause-here : goal.returns-in-DelaySlot-next-clause-here
 returns-in-DelaySlot-next-clause-here g c =
-    let at = at_next c.step_quickly-in-loop-flow-2.new.core c.step_quickly-in-loop-flow-2.new.flow c.step_quickly-in-loop-flow-2.new.memory.words.items (rw c.steps.ensures.steps at c.last_of-last.ensures.ends) c.loop-flow-2.invariant.at
-    (more_to c.loop-flow-2.index c.args.first c.last_of-last.result c.args.recorder.now.steps c.loop-flow-2.recorder.steps c.steps-in-loop-flow-2.result c.steps-in-loop-flow-2.ensures.steps
-    c.loop-flow-2.invariant.at.count c.loop-flow-2.invariant.at.low c.loop-flow-2-test.true)
-    c.loop-flow-2.invariant.free (rw (c.pin_unloaded.ensures, c.pin_straight-in-loop-flow-2.ensures) at c.in_ok-quick-2.ensures.leads) (rw (c.pin_unloaded.ensures, c.pin_straight-in-loop-flow-2.ensures) at c.in_ok-quick-2.ensures.goes) c.note_again-in-DelaySlot-next.ensures in
+    let at = at_next c.step_quickly-in-loop-flow.new.core c.step_quickly-in-loop-flow.new.flow c.step_quickly-in-loop-flow.new.memory.words.items (rw c.steps.ensures.steps at c.last_of-last.ensures.ends) c.loop-flow.invariant.at
+    (more_to c.loop-flow.index c.args.first c.last_of-last.result c.args.recorder.now.steps c.loop-flow.recorder.steps c.steps-in-loop-flow.result c.steps-in-loop-flow.ensures.steps
+    c.loop-flow.invariant.at.count c.loop-flow.invariant.at.low c.loop-flow-test.true)
+    c.loop-flow.invariant.free (rw (c.pin_unloaded.ensures, c.pin_straight-in-loop-flow.ensures) at c.in_ok-quick-2.ensures.leads) (rw (c.pin_unloaded.ensures, c.pin_straight-in-loop-flow.ensures) at c.in_ok-quick-2.ensures.goes) c.note_again-in-DelaySlot-next.ensures in
     let ends = (rw c.steps.ensures.steps at c.last_of-last.ensures.ends) in
     if_so c.delay_slot-in-DelaySlot-next.result c.delay_slot-in-DelaySlot-next.ensures
     (λ slot so.
-    subst (λ (slot : ℕ). IsIndexIn c.args.page c.step_quickly-in-loop-flow-2.new.flow.pc slot) (sym so.0)
-    (word_here _ _ _ _ _ _ _ _ _ _ _ _ _ _ ends at (more_to (c.loop-flow-2.index + 1) c.args.first c.last_of-last.result c.args.recorder.now.steps c.note_again-in-DelaySlot-next.new.self.steps c.steps-in-DelaySlot-next.result c.steps-in-DelaySlot-next.ensures.steps at.count at.low so.1)))
+    subst (λ (slot : ℕ). IsIndexIn c.args.page c.step_quickly-in-loop-flow.new.flow.pc slot) (sym so.0)
+    (word_here _ _ _ _ _ _ _ _ _ _ _ _ _ _ ends at (more_to (c.loop-flow.index + 1) c.args.first c.last_of-last.result c.args.recorder.now.steps c.note_again-in-DelaySlot-next.new.self.steps c.steps-in-DelaySlot-next.result c.steps-in-DelaySlot-next.ensures.steps at.count at.low so.1)))
 
 pub returns-in-DelaySlot-next-clause-room : goal.returns-in-DelaySlot-next-clause-room
 returns-in-DelaySlot-next-clause-room g c =
-    let at = at_next c.step_quickly-in-loop-flow-2.new.core c.step_quickly-in-loop-flow-2.new.flow c.step_quickly-in-loop-flow-2.new.memory.words.items (rw c.steps.ensures.steps at c.last_of-last.ensures.ends) c.loop-flow-2.invariant.at
-    (more_to c.loop-flow-2.index c.args.first c.last_of-last.result c.args.recorder.now.steps c.loop-flow-2.recorder.steps c.steps-in-loop-flow-2.result c.steps-in-loop-flow-2.ensures.steps
-    c.loop-flow-2.invariant.at.count c.loop-flow-2.invariant.at.low c.loop-flow-2-test.true)
-    c.loop-flow-2.invariant.free (rw (c.pin_unloaded.ensures, c.pin_straight-in-loop-flow-2.ensures) at c.in_ok-quick-2.ensures.leads) (rw (c.pin_unloaded.ensures, c.pin_straight-in-loop-flow-2.ensures) at c.in_ok-quick-2.ensures.goes) c.note_again-in-DelaySlot-next.ensures in
+    let at = at_next c.step_quickly-in-loop-flow.new.core c.step_quickly-in-loop-flow.new.flow c.step_quickly-in-loop-flow.new.memory.words.items (rw c.steps.ensures.steps at c.last_of-last.ensures.ends) c.loop-flow.invariant.at
+    (more_to c.loop-flow.index c.args.first c.last_of-last.result c.args.recorder.now.steps c.loop-flow.recorder.steps c.steps-in-loop-flow.result c.steps-in-loop-flow.ensures.steps
+    c.loop-flow.invariant.at.count c.loop-flow.invariant.at.low c.loop-flow-test.true)
+    c.loop-flow.invariant.free (rw (c.pin_unloaded.ensures, c.pin_straight-in-loop-flow.ensures) at c.in_ok-quick-2.ensures.leads) (rw (c.pin_unloaded.ensures, c.pin_straight-in-loop-flow.ensures) at c.in_ok-quick-2.ensures.goes) c.note_again-in-DelaySlot-next.ensures in
     let ends = (rw c.steps.ensures.steps at c.last_of-last.ensures.ends) in
     if_so c.delay_slot-in-DelaySlot-next.result c.delay_slot-in-DelaySlot-next.ensures
-    (λ slot so. fewer_than _ _ _ _ _ _ _ _ _ _ _ _ _ _ ends at (more_to (c.loop-flow-2.index + 1) c.args.first c.last_of-last.result c.args.recorder.now.steps c.note_again-in-DelaySlot-next.new.self.steps c.steps-in-DelaySlot-next.result c.steps-in-DelaySlot-next.ensures.steps at.count at.low so.1))
+    (λ slot so. fewer_than _ _ _ _ _ _ _ _ _ _ _ _ _ _ ends at (more_to (c.loop-flow.index + 1) c.args.first c.last_of-last.result c.args.recorder.now.steps c.note_again-in-DelaySlot-next.new.self.steps c.steps-in-DelaySlot-next.result c.steps-in-DelaySlot-next.ensures.steps at.count at.low so.1))
 
 pub returns-in-DelaySlot-next-clause-elsewhere : goal.returns-in-DelaySlot-next-clause-elsewhere
 returns-in-DelaySlot-next-clause-elsewhere g c =
-    let at = at_next c.step_quickly-in-loop-flow-2.new.core c.step_quickly-in-loop-flow-2.new.flow c.step_quickly-in-loop-flow-2.new.memory.words.items (rw c.steps.ensures.steps at c.last_of-last.ensures.ends) c.loop-flow-2.invariant.at
-    (more_to c.loop-flow-2.index c.args.first c.last_of-last.result c.args.recorder.now.steps c.loop-flow-2.recorder.steps c.steps-in-loop-flow-2.result c.steps-in-loop-flow-2.ensures.steps
-    c.loop-flow-2.invariant.at.count c.loop-flow-2.invariant.at.low c.loop-flow-2-test.true)
-    c.loop-flow-2.invariant.free (rw (c.pin_unloaded.ensures, c.pin_straight-in-loop-flow-2.ensures) at c.in_ok-quick-2.ensures.leads) (rw (c.pin_unloaded.ensures, c.pin_straight-in-loop-flow-2.ensures) at c.in_ok-quick-2.ensures.goes) c.note_again-in-DelaySlot-next.ensures in
+    let at = at_next c.step_quickly-in-loop-flow.new.core c.step_quickly-in-loop-flow.new.flow c.step_quickly-in-loop-flow.new.memory.words.items (rw c.steps.ensures.steps at c.last_of-last.ensures.ends) c.loop-flow.invariant.at
+    (more_to c.loop-flow.index c.args.first c.last_of-last.result c.args.recorder.now.steps c.loop-flow.recorder.steps c.steps-in-loop-flow.result c.steps-in-loop-flow.ensures.steps
+    c.loop-flow.invariant.at.count c.loop-flow.invariant.at.low c.loop-flow-test.true)
+    c.loop-flow.invariant.free (rw (c.pin_unloaded.ensures, c.pin_straight-in-loop-flow.ensures) at c.in_ok-quick-2.ensures.leads) (rw (c.pin_unloaded.ensures, c.pin_straight-in-loop-flow.ensures) at c.in_ok-quick-2.ensures.goes) c.note_again-in-DelaySlot-next.ensures in
     let ends = (rw c.steps.ensures.steps at c.last_of-last.ensures.ends) in
     if_so c.delay_slot-in-DelaySlot-next.result c.delay_slot-in-DelaySlot-next.ensures
     (λ slot so address word.
-    let more = (more_to (c.loop-flow-2.index + 1) c.args.first c.last_of-last.result c.args.recorder.now.steps c.note_again-in-DelaySlot-next.new.self.steps c.steps-in-DelaySlot-next.result c.steps-in-DelaySlot-next.ensures.steps at.count at.low so.1) in
-    not_at c.args.page address c.args.first (c.loop-flow-2.index + 1) _ c.args.halt _ at.low more ends.stops word (word_here _ _ _ _ _ _ _ _ _ _ _ _ _ _ ends at more))
+    let more = (more_to (c.loop-flow.index + 1) c.args.first c.last_of-last.result c.args.recorder.now.steps c.note_again-in-DelaySlot-next.new.self.steps c.steps-in-DelaySlot-next.result c.steps-in-DelaySlot-next.ensures.steps at.count at.low so.1) in
+    not_at c.args.page address c.args.first (c.loop-flow.index + 1) _ c.args.halt _ at.low more ends.stops word (word_here _ _ _ _ _ _ _ _ _ _ _ _ _ _ ends at more))
 
-pub loop-flow-preserved : goal.loop-flow-preserved
-loop-flow-preserved g c = record {
-  at = at_next c.step_quickly-in-loop-flow-2.new.core c.step_quickly-in-loop-flow-2.new.flow c.step_quickly-in-loop-flow-2.new.memory.words.items (rw c.steps.ensures.steps at c.last_of-last.ensures.ends) c.loop-flow-2.invariant.at
-      (more_to c.loop-flow-2.index c.args.first c.last_of-last.result c.args.recorder.now.steps c.loop-flow-2.recorder.steps c.steps-in-loop-flow-2.result c.steps-in-loop-flow-2.ensures.steps
-      c.loop-flow-2.invariant.at.count c.loop-flow-2.invariant.at.low c.loop-flow-2-test.true)
-      c.loop-flow-2.invariant.free (rw (c.pin_unloaded.ensures, c.pin_straight-in-loop-flow-2.ensures) at c.in_ok-quick-2.ensures.leads) (rw (c.pin_unloaded.ensures, c.pin_straight-in-loop-flow-2.ensures) at c.in_ok-quick-2.ensures.goes) c.note_again-in-WordAfterLoad-next.ensures;
+pub loop-ahead-preserved : goal.loop-ahead-preserved
+loop-ahead-preserved g c = record {
+  at = at_next c.step_quickly-in-loop-flow.new.core c.step_quickly-in-loop-flow.new.flow c.step_quickly-in-loop-flow.new.memory.words.items (rw c.steps.ensures.steps at c.last_of-last.ensures.ends) c.loop-flow.invariant.at
+      (more_to c.loop-flow.index c.args.first c.last_of-last.result c.args.recorder.now.steps c.loop-flow.recorder.steps c.steps-in-loop-flow.result c.steps-in-loop-flow.ensures.steps
+      c.loop-flow.invariant.at.count c.loop-flow.invariant.at.low c.loop-flow-test.true)
+      c.loop-flow.invariant.free (rw (c.pin_unloaded.ensures, c.pin_straight-in-loop-flow.ensures) at c.in_ok-quick-2.ensures.leads) (rw (c.pin_unloaded.ensures, c.pin_straight-in-loop-flow.ensures) at c.in_ok-quick-2.ensures.goes) c.note_again-in-WordAfterLoad-next.ensures;
   free = rw c.in-WordAfterLoad-next.is at c.in_ok-quick-2.ensures.next;
-  opened = c.step_quickly-in-loop-flow-2.ensures.opened;
+  opened = c.step_quickly-in-loop-flow.ensures.opened;
+  named = still_named (known_in g.row.PAGES c.loop-flow.memory) (known_in g.row.PAGES c.step_quickly-in-loop-flow.new.memory) c.args.page.page (c.loop-flow.index + 1) (number_of c.name_after-ahead-in-loop-flow.result)
+      (rw c.in-WordAfterLoad-next.is at c.in_ok-quick-2.ensures.knows) c.name_after-ahead-in-loop-flow.ensures;
 }
 
-pub loop-flow-2-preserved-in-Word-next : goal.loop-flow-2-preserved-in-Word-next
-loop-flow-2-preserved-in-Word-next g c =
+pub loop-flow-preserved-in-Word-next : goal.loop-flow-preserved-in-Word-next
+loop-flow-preserved-in-Word-next g c =
     let next = rw c.in-Word-next.is at c.in_ok-quick-2.ensures.next in record {
-      at = at_next c.step_quickly-in-loop-flow-2.new.core c.step_quickly-in-loop-flow-2.new.flow c.step_quickly-in-loop-flow-2.new.memory.words.items (rw c.steps.ensures.steps at c.last_of-last.ensures.ends) c.loop-flow-2.invariant.at
-          (more_to c.loop-flow-2.index c.args.first c.last_of-last.result c.args.recorder.now.steps c.loop-flow-2.recorder.steps c.steps-in-loop-flow-2.result c.steps-in-loop-flow-2.ensures.steps
-          c.loop-flow-2.invariant.at.count c.loop-flow-2.invariant.at.low c.loop-flow-2-test.true)
-          c.loop-flow-2.invariant.free (rw (c.pin_unloaded.ensures, c.pin_straight-in-loop-flow-2.ensures) at c.in_ok-quick-2.ensures.leads) (rw (c.pin_unloaded.ensures, c.pin_straight-in-loop-flow-2.ensures) at c.in_ok-quick-2.ensures.goes) c.note_again-in-Word-next.ensures;
+      at = at_next c.step_quickly-in-loop-flow.new.core c.step_quickly-in-loop-flow.new.flow c.step_quickly-in-loop-flow.new.memory.words.items (rw c.steps.ensures.steps at c.last_of-last.ensures.ends) c.loop-flow.invariant.at
+          (more_to c.loop-flow.index c.args.first c.last_of-last.result c.args.recorder.now.steps c.loop-flow.recorder.steps c.steps-in-loop-flow.result c.steps-in-loop-flow.ensures.steps
+          c.loop-flow.invariant.at.count c.loop-flow.invariant.at.low c.loop-flow-test.true)
+          c.loop-flow.invariant.free (rw (c.pin_unloaded.ensures, c.pin_straight-in-loop-flow.ensures) at c.in_ok-quick-2.ensures.leads) (rw (c.pin_unloaded.ensures, c.pin_straight-in-loop-flow.ensures) at c.in_ok-quick-2.ensures.goes) c.note_again-in-Word-next.ensures;
       free = next.1;
       unloaded = next.0;
-      opened = c.step_quickly-in-loop-flow-2.ensures.opened;
-      least = omega (arith, c.loop-flow-2.invariant.least, c.note_again-in-Word-next.ensures.steps);
+      opened = c.step_quickly-in-loop-flow.ensures.opened;
+      named = still_named (known_in g.row.PAGES c.loop-flow.memory) (known_in g.row.PAGES c.step_quickly-in-loop-flow.new.memory) c.args.page.page (c.loop-flow.index + 1) (number_of c.name_after-ahead-in-loop-flow.result)
+          (rw c.in-Word-next.is at c.in_ok-quick-2.ensures.knows) c.name_after-ahead-in-loop-flow.ensures;
+      least = omega (arith, c.loop-flow.invariant.least, c.note_again-in-Word-next.ensures.steps);
     }
 
-pub loop-flow-2-preserved-in-WordAfterHiLo-next : goal.loop-flow-2-preserved-in-WordAfterHiLo-next
-loop-flow-2-preserved-in-WordAfterHiLo-next g c =
+pub loop-flow-preserved-in-WordAfterHiLo-next : goal.loop-flow-preserved-in-WordAfterHiLo-next
+loop-flow-preserved-in-WordAfterHiLo-next g c =
     let next = rw c.in-WordAfterHiLo-next.is at c.in_ok-quick-2.ensures.next in record {
-      at = at_next c.step_quickly-in-loop-flow-2.new.core c.step_quickly-in-loop-flow-2.new.flow c.step_quickly-in-loop-flow-2.new.memory.words.items (rw c.steps.ensures.steps at c.last_of-last.ensures.ends) c.loop-flow-2.invariant.at
-          (more_to c.loop-flow-2.index c.args.first c.last_of-last.result c.args.recorder.now.steps c.loop-flow-2.recorder.steps c.steps-in-loop-flow-2.result c.steps-in-loop-flow-2.ensures.steps
-          c.loop-flow-2.invariant.at.count c.loop-flow-2.invariant.at.low c.loop-flow-2-test.true)
-          c.loop-flow-2.invariant.free (rw (c.pin_unloaded.ensures, c.pin_straight-in-loop-flow-2.ensures) at c.in_ok-quick-2.ensures.leads) (rw (c.pin_unloaded.ensures, c.pin_straight-in-loop-flow-2.ensures) at c.in_ok-quick-2.ensures.goes) c.note_again-in-WordAfterHiLo-next.ensures;
+      at = at_next c.step_quickly-in-loop-flow.new.core c.step_quickly-in-loop-flow.new.flow c.step_quickly-in-loop-flow.new.memory.words.items (rw c.steps.ensures.steps at c.last_of-last.ensures.ends) c.loop-flow.invariant.at
+          (more_to c.loop-flow.index c.args.first c.last_of-last.result c.args.recorder.now.steps c.loop-flow.recorder.steps c.steps-in-loop-flow.result c.steps-in-loop-flow.ensures.steps
+          c.loop-flow.invariant.at.count c.loop-flow.invariant.at.low c.loop-flow-test.true)
+          c.loop-flow.invariant.free (rw (c.pin_unloaded.ensures, c.pin_straight-in-loop-flow.ensures) at c.in_ok-quick-2.ensures.leads) (rw (c.pin_unloaded.ensures, c.pin_straight-in-loop-flow.ensures) at c.in_ok-quick-2.ensures.goes) c.note_again-in-WordAfterHiLo-next.ensures;
       free = next.1;
       unloaded = next.0;
-      opened = c.step_quickly-in-loop-flow-2.ensures.opened;
-      least = omega (arith, c.loop-flow-2.invariant.least, c.note_again-in-WordAfterHiLo-next.ensures.steps);
+      opened = c.step_quickly-in-loop-flow.ensures.opened;
+      named = still_named (known_in g.row.PAGES c.loop-flow.memory) (known_in g.row.PAGES c.step_quickly-in-loop-flow.new.memory) c.args.page.page (c.loop-flow.index + 1) (number_of c.name_after-ahead-in-loop-flow.result)
+          (rw c.in-WordAfterHiLo-next.is at c.in_ok-quick-2.ensures.knows) c.name_after-ahead-in-loop-flow.ensures;
+      least = omega (arith, c.loop-flow.invariant.least, c.note_again-in-WordAfterHiLo-next.ensures.steps);
     }
 
-pub loop-flow-2-preserved : goal.loop-flow-2-preserved
-loop-flow-2-preserved g c =
+pub loop-flow-preserved : goal.loop-flow-preserved
+loop-flow-preserved g c =
     let next = rw c.in-WordAfterNone-next.is at c.in_ok-quick-2.ensures.next in record {
-      at = at_next c.step_quickly-in-loop-flow-2.new.core c.step_quickly-in-loop-flow-2.new.flow c.step_quickly-in-loop-flow-2.new.memory.words.items (rw c.steps.ensures.steps at c.last_of-last.ensures.ends) c.loop-flow-2.invariant.at
-          (more_to c.loop-flow-2.index c.args.first c.last_of-last.result c.args.recorder.now.steps c.loop-flow-2.recorder.steps c.steps-in-loop-flow-2.result c.steps-in-loop-flow-2.ensures.steps
-          c.loop-flow-2.invariant.at.count c.loop-flow-2.invariant.at.low c.loop-flow-2-test.true)
-          c.loop-flow-2.invariant.free (rw (c.pin_unloaded.ensures, c.pin_straight-in-loop-flow-2.ensures) at c.in_ok-quick-2.ensures.leads) (rw (c.pin_unloaded.ensures, c.pin_straight-in-loop-flow-2.ensures) at c.in_ok-quick-2.ensures.goes) c.note_again-in-WordAfterNone-next.ensures;
+      at = at_next c.step_quickly-in-loop-flow.new.core c.step_quickly-in-loop-flow.new.flow c.step_quickly-in-loop-flow.new.memory.words.items (rw c.steps.ensures.steps at c.last_of-last.ensures.ends) c.loop-flow.invariant.at
+          (more_to c.loop-flow.index c.args.first c.last_of-last.result c.args.recorder.now.steps c.loop-flow.recorder.steps c.steps-in-loop-flow.result c.steps-in-loop-flow.ensures.steps
+          c.loop-flow.invariant.at.count c.loop-flow.invariant.at.low c.loop-flow-test.true)
+          c.loop-flow.invariant.free (rw (c.pin_unloaded.ensures, c.pin_straight-in-loop-flow.ensures) at c.in_ok-quick-2.ensures.leads) (rw (c.pin_unloaded.ensures, c.pin_straight-in-loop-flow.ensures) at c.in_ok-quick-2.ensures.goes) c.note_again-in-WordAfterNone-next.ensures;
       free = next.1;
       unloaded = next.0;
-      opened = c.step_quickly-in-loop-flow-2.ensures.opened;
-      least = omega (arith, c.loop-flow-2.invariant.least, c.note_again-in-WordAfterNone-next.ensures.steps);
+      opened = c.step_quickly-in-loop-flow.ensures.opened;
+      named = c.name_after-ahead-in-WordAfterNone-next.ensures;
+      least = omega (arith, c.loop-flow.invariant.least, c.note_again-in-WordAfterNone-next.ensures.steps);
     }
 
 pub returns-clause-goes : goal.returns-clause-goes
-returns-clause-goes g c = rw c.pin_straight-2.ensures c.loop-flow.invariant.at.goes
+returns-clause-goes g c = rw c.pin_straight-2.ensures c.loop-ahead.invariant.at.goes
 
-pub loop-flow-smaller : goal.loop-flow-smaller
-loop-flow-smaller g c =
-    let first : c.loop-flow.recorder.steps ≤ c.match-quick.recorder.steps =
+pub loop-ahead-smaller : goal.loop-ahead-smaller
+loop-ahead-smaller g c =
+    let first : c.loop-ahead.recorder.steps ≤ c.match-quick.recorder.steps =
     elim c.match-quick.branch [
       | in-Word w ↦ omega (arith, ap (λ (r : Recording). r.steps) w.recorder-is, w.note_again-in-Word.ensures.steps)
       | in-WordAfterHiLo w ↦ omega (arith, ap (λ (r : Recording). r.steps) w.recorder-is, w.note_again-in-WordAfterHiLo.ensures.steps)
       | in-WordAfterNone w ↦ omega (arith, ap (λ (r : Recording). r.steps) w.recorder-is, w.note_again-in-WordAfterNone.ensures.steps)
     ] in
-    let some : c.loop-flow-2.recorder.steps < c.last_of-last.result = omega (arith, c.steps-in-loop-flow-2.ensures.steps) in
-    omega (arith, first, some, c.loop-flow-2.invariant.least, c.note_again-in-WordAfterLoad-next.ensures.steps)
+    let some : c.loop-flow.recorder.steps < c.last_of-last.result = omega (arith, c.steps-in-loop-flow.ensures.steps) in
+    omega (arith, first, some, c.loop-flow.invariant.least, c.note_again-in-WordAfterLoad-next.ensures.steps)

@@ -1,6 +1,5 @@
-use Rattle.std.proofs.Common.{◌≡◌, ◌∙◌, ap, sym, subst, arith}
+use Rattle.std.proofs.Common.{◌∙◌, ap, sym, arith}
 use Rattle.r3k_table.specs.Mnemonics.{number_of}
-use Rattle.r3k_machine.specs.Known.{HasEffectOf}
 use Rattle.r3k_machine.proofs.Plain.{itself, of_shift, of_sum, of_union}
 use Rattle.r3k_machine.proofs.known.plain.Goals as goal
 

@@ -1,22 +1,13 @@
-use Rattle.std.proofs.Common.{◌≡◌, ◌∙◌, ◌+◌, ◌*◌, ◌/◌, ◌%◌, ◌<◌, List, [], ◌∷◌, ℕ, refl, sym, ap, map, length, slice_index, slice_set, arith}
-use Rattle.std.proofs.Math.Path.{ap₂}
-use Rattle.std.specs.List.{AllZip}
+use Rattle.std.proofs.Common.{◌≡◌, ◌∙◌, ◌+◌, ◌*◌, ◌/◌, ◌%◌, ◌<◌, List, ℕ, sym, ap, map, length, slice_index, slice_set, arith}
 use Rattle.std.proofs.lemmas.List.{length-map}
 use Rattle.r3k_word.specs.declared.layout.TheConstants.{PAGE_WORDS}
 use Rattle.r3k_pages.specs.declared.block.TheConstants.{BLOCK_WORDS}
 use Rattle.r3k_pages.specs.declared.page.TheConstants.{PAGE_BLOCKS}
 use Rattle.r3k_pages.specs.Blocks.{IsBlockOf, words_of}
-use Rattle.r3k_pages.proofs.Blocks.{word_set}
+use Rattle.r3k_pages.proofs.Blocks.{same_behind, word_set}
 use Rattle.r3k_pages.proofs.Kept.{if_ok}
 use Rattle.r3k_pages.proofs.Set.{pointer_set}
 use Rattle.r3k_pages.proofs.page.Page.with_word.Goals as goal
-
--- pointers and their clones
-same_behind : {A : Type 0} (f : A → List ℕ) (items copies : List A) → AllZip (λ item copy. f copy ≡ f item) items copies → map f copies ≡ map f items
-same_behind f [] [] each = refl
-same_behind f [] (copy ∷ copies) each = absurd each
-same_behind f (item ∷ items) [] each = absurd each
-same_behind f (item ∷ items) (copy ∷ copies) each = ap₂ (λ (x : List ℕ) (xs : List (List ℕ)). x ∷ xs) each.0 (same_behind f items copies each.1)
 
 -- a page with one of its pointers set
 set_behind : {A : Type 0} (f : A → List ℕ) (blocks old : List A) (after : A) (block words : List ℕ) (place word : ℕ)

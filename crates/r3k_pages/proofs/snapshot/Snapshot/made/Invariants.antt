@@ -2,7 +2,7 @@ use Rattle.std.proofs.Common.{◌≡◌, ◌<◌, ℕ, ◌/◌, map, length, sli
 use Rattle.r3k_word.specs.Layout.{page_of_place, word_count_of}
 use Rattle.r3k_pages.specs.declared.group.TheConstants.{GROUP_PAGES}
 use Rattle.r3k_pages.specs.Groups.{word_in}
-use Rattle.r3k_pages.proofs.snapshot.Snapshot.capture.Given as goal
+use Rattle.r3k_pages.proofs.snapshot.Snapshot.made.Given as goal
 
 -- the groups so far
 abbrev pub invariant-loop-group : goal.invariant-loop-group

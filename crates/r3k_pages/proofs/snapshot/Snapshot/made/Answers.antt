@@ -1,6 +1,6 @@
 use Rattle.std.proofs.Common.{arith, map}
 use Rattle.r3k_pages.proofs.Kept.{words_are}
-use Rattle.r3k_pages.proofs.snapshot.Snapshot.capture.Goals as goal
+use Rattle.r3k_pages.proofs.snapshot.Snapshot.made.Goals as goal
 
 pub returns : goal.returns
 returns g c =
