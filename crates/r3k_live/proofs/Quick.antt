@@ -8,19 +8,19 @@ use Rattle.r3k_machine.specs.declared.quick.CodePage.{CodePage}
 use Rattle.r3k_machine.specs.declared.step.Done.{Done}
 use Rattle.r3k_machine.specs.Run.{run}
 use Rattle.r3k_machine.specs.State.{State}
-use Rattle.r3k_machine.specs.Step.{outcome_of_instruction, outcome_of_step}
+use Rattle.r3k_machine.specs.Step.{Outcome, outcome_of_instruction, outcome_of_step}
 use Rattle.r3k_machine.specs.Reports.{DifferAt, IsRamWord}
 use Rattle.r3k_machine.specs.Core.{Core}
 use Rattle.r3k_machine.specs.Flow.{with_flow}
-use Rattle.r3k_machine.specs.Quiet.{IsIndexIn, IsQuick, LeadsOn, outcome_elapsed, state_elapsed}
+use Rattle.r3k_machine.specs.Quiet.{IsIndexIn, IsQuick, IsQuietFor, LeadsOn, outcome_elapsed, state_elapsed}
 use Rattle.r3k_machine.specs.declared.flow.Flow.{Flow}
-use Rattle.r3k_live.specs.Going.{Ends, GoesOn, GoesOnBy, GoesOver, HasGone, HasGoneFor, IsWordAt, LeadsTo, MayGoOn}
+use Rattle.r3k_live.specs.Going.{Ends, GoesOn, GoesOnBy, GoesOnce, GoesOver, HasGone, HasGoneFor, IsWordAt, LeadsTo, MayGoOn}
 use Rattle.r3k_live.specs.Recording.{IsNoted, Recording, Records}
 use Rattle.std.proofs.Math.Path.{ap₂}
 use Rattle.r3k_pages.specs.Pages.{holds}
 use Rattle.r3k_live.proofs.Gone.{gone_on, no_more, quick_more, recorded_too}
 use Rattle.r3k_live.proofs.Leads.{leads_more, leads_none, leads_one, leads_too}
-use Rattle.r3k_live.proofs.CodePages.{more_code_pages}
+use Rattle.r3k_live.proofs.CodePages.{begins_once, more_code_pages}
 
 -- by none
 pub goes_nowhere : (pages most address : ℕ) (page : CodePage) (made : ℕ) (s : State) (r : Recording) → made ≤ most → MayGoOn pages most page s.core r
@@ -109,12 +109,11 @@ address_of page address index low at = omega (arith, low, at.here, at.aligned, a
 pub next_address : (start index : ℕ) → sum_of (sum_of start (4 * index)) 4 ≡ sum_of start (4 * (index + 1))
 next_address start index = omega arith
 
--- a word from the first one on and before the end is not the one at the address
-pub not_at : (page : CodePage) (address first index end halt pc : ℕ) → first ≤ index → index < end → (first ≤ halt → end ≤ halt) → IsWordAt page address halt
-    → IsIndexIn page pc index → ¬ (pc ≡ address)
-not_at page address first index end halt pc low high not_past word here at =
-    let same : index ≡ halt = word index (subst (λ (a : ℕ). IsIndexIn page a index) at here) in
-    omega (arith, high, same, not_past (omega (arith, low, same)))
+-- a word of the page from the first one on and before the end is not the one at the address
+pub not_at : (page : CodePage) (address first index end halt pc : ℕ) → first ≤ index → index < end → index < PAGE_WORDS
+    → ((index : ℕ) → first ≤ index → index < end → index < PAGE_WORDS → ¬ (index ≡ halt)) → IsWordAt page address halt → IsIndexIn page pc index → ¬ (pc ≡ address)
+not_at page address first index end halt pc low high inside stops word here at =
+    stops index low high inside (word index (subst (λ (a : ℕ). IsIndexIn page a index) at here))
 
 -- one more of the steps from word to word
 pub goes_straight : (pages most address : ℕ) (page : CodePage) (begun : ℕ) (s t u : State) (r mid later : Recording)
@@ -138,6 +137,7 @@ pub record AreAt (pages most begun first halt end index : ℕ) (page : CodePage)
   pub count : later.steps ≡ r.steps + (index - first)
   pub low : first ≤ index
   pub high : index ≤ end
+  pub within : index ≤ PAGE_WORDS
 
 -- so one more may be made
 pub fewer_than : (pages most begun first halt end index : ℕ) (page : CodePage) (s : State) (r : Recording) (core : Core) (flow : Flow) (words : List ℕ) (later : Recording)
@@ -146,46 +146,46 @@ fewer_than pages most begun first halt end index page s r core flow words later 
     omega (arith, ends.bound, ends.since, ends.made, at.count, at.low, more)
 
 pub word_here : (pages most begun first halt end index : ℕ) (page : CodePage) (s : State) (r : Recording) (core : Core) (flow : Flow) (words : List ℕ) (later : Recording)
-    → Ends most begun first halt end r.steps → AreAt pages most begun first halt end index page s r core flow words later → index < end → IsIndexIn page flow.pc index
-word_here pages most begun first halt end index page s r core flow words later ends at more =
-    word_of page flow.pc index at.may.code.within (omega (arith, more, ends.within)) at.here
+    → AreAt pages most begun first halt end index page s r core flow words later → index < PAGE_WORDS → IsIndexIn page flow.pc index
+word_here pages most begun first halt end index page s r core flow words later at inside = word_of page flow.pc index at.may.code.within inside at.here
 
 pub goes_one : {pages most begun first halt end index : ℕ} {page : CodePage} {s : State} {r : Recording} {core : Core} {flow : Flow} {words : List ℕ} {later last : Recording} {done : Done}
     → (t : State) → Ends most begun first halt end r.steps → AreAt pages most begun first halt end index page s r core flow words later → index < end
-    → GoesOnBy pages page done (record { core = with_flow core flow; words = words }) t → IsNoted pages done later last
+    → index < PAGE_WORDS → GoesOnBy pages page done (record { core = with_flow core flow; words = words }) t → IsNoted pages done later last
     → (address : ℕ) → IsWordAt page address halt → GoesOn pages most address page (r.steps - begun) (last.steps - begun) s t r last
-goes_one {pages} {most} {begun} {first} {halt} {end} {index} {page} {s} {r} {core} {flow} {words} {later} {last} t ends at more goes noted address word =
+goes_one {pages} {most} {begun} {first} {halt} {end} {index} {page} {s} {r} {core} {flow} {words} {later} {last} t ends at more inside goes noted address word =
     goes_straight pages most address page begun s (record { core = with_flow core flow; words = words }) t r later last
     (omega (arith, at.count, ends.since))
     (fewer_than pages most begun first halt end index page s r core flow words later ends at more)
     noted.steps
-    (not_at page address first index end halt flow.pc at.low more ends.stops word (word_here pages most begun first halt end index page s r core flow words later ends at more))
+    (not_at page address first index end halt flow.pc at.low more inside ends.stops word (word_here pages most begun first halt end index page s r core flow words later at inside))
     (at.goes address word) (λ n less elsewhere may. goes most address n later last less elsewhere may noted)
 
 -- after it they are at the next word, unless it stood in a delay slot
 pub at_next : {pages most begun first halt end index : ℕ} {page : CodePage} {s : State} {r : Recording} {core : Core} {flow : Flow} {words : List ℕ} {later last : Recording} {done : Done}
     → (new : Core) (after : Flow) (left : List ℕ)
-    → Ends most begun first halt end r.steps → AreAt pages most begun first halt end index page s r core flow words later → index < end → IsFalse flow.delay
+    → Ends most begun first halt end r.steps → AreAt pages most begun first halt end index page s r core flow words later → index < end → index < PAGE_WORDS → IsFalse flow.delay
     → LeadsOn (with_flow core flow) (with_flow new after)
     → GoesOnBy pages page done (record { core = with_flow core flow; words = words }) (record { core = with_flow new after; words = left }) → IsNoted pages done later last
     → AreAt pages most begun first halt end (index + 1) page s r new after left last
-at_next {pages} {most} {begun} {first} {halt} {end} {index} {page} {s} {r} {core} {flow} {words} {later} {last} new after left ends at more free leads goes noted = record {
-  goes = goes_one (record { core = with_flow new after; words = left }) ends at more goes noted;
+at_next {pages} {most} {begun} {first} {halt} {end} {index} {page} {s} {r} {core} {flow} {words} {later} {last} new after left ends at more inside free leads goes noted = record {
+  goes = goes_one (record { core = with_flow new after; words = left }) ends at more inside goes noted;
   may = (goes most (flow.pc + 1) 0 later last (omega (arith, ends.since, ends.made)) (λ same. omega (arith, same)) at.may noted).may;
   here = leads.here ∙ (at.next free ∙ (ap (λ (a : ℕ). sum_of a 4) at.here ∙ next_address (page.number * PAGE_BYTES) index));
   next = leads.next;
   count = omega (arith, noted.steps, at.count, at.low);
   low = omega (arith, at.low);
   high = omega (arith, more);
+  within = omega (arith, inside);
 }
 
 -- a word comes before the end, as long as fewer steps are recorded than at the end
 pub more_to : (index first last steps now result : ℕ) → result ≡ now → now ≡ steps + (index - first) → first ≤ index → result < last → index < first + (last - steps)
 more_to index first last steps now result is count low fewer = omega (arith, is, count, low, fewer)
 
--- a name is that of what is known of a word, if the page has this word
+-- a name is that of what is known of a word
 abbrev pub IsNamed : (ℕ → ℕ → Operation) → (page index name : ℕ) → Type 0
-IsNamed known page index name = index < PAGE_WORDS → name ≡ (known page index).row
+IsNamed known page index name = name ≡ (known page index).row
 
 -- and stays that where what is known stays
 pub still_named : (known after : ℕ → ℕ → Operation) (page index name : ℕ) → after ≡ known → IsNamed known page index name → IsNamed after page index name
@@ -241,7 +241,45 @@ over_more pages most address page made n s t u r mid quick later more over on re
       (λ some others. second.passed (before + made) (omega arith) (omega (arith, others, sum))));
 }
 
--- what three facts of an answer say together
-pub if_three : {A : Type 0} {P Q R S : A → Type 0} (o : Option A) → IfSome o P → IfSome o Q → IfSome o R → ((a : A) → P a → Q a → R a → S a) → IfSome o S
-if_three None p q r f = tt
-if_three (Some a) p q r f = f a p q r
+-- One step more, before which the PC is not at the address, unless it is the first. The laws say that a quick step keeps times quiet, and
+-- that its tick may come after it.
+pub over_step : (pages most address n : ℕ) (s t u : State) (r mid later : Recording) → n < most → (0 < n → ¬ (t.core.pc ≡ address))
+    → GoesOver pages most address n s t r mid → GoesOnce pages t u mid later
+    → ((k : ℕ) (s : State) → IsQuick pages s → IsQuietFor k s.core → IsQuietFor k (outcome_of_instruction pages s).state.core)
+    → ((k : ℕ) (s : State) → IsQuietFor (k + 1) s.core → IsQuick pages s → outcome_of_step pages [] (state_elapsed k s) ≡ outcome_elapsed (k + 1) (outcome_of_instruction pages s))
+    → GoesOver pages most address (n + 1) s u r later
+over_step pages most address n s t u r mid later less elsewhere over once stays_quiet at_once =
+    let quiet : IsQuietFor (n + 1) t.core = record {
+      counts = omega (arith, over.quiet.counts, less);
+      sampled = over.quiet.sampled;
+      unwanted = over.quiet.unwanted;
+    } in record {
+      bound = omega (arith, less);
+      count = omega (arith, over.count, once.steps);
+      quiet = subst (λ (v : State). IsQuietFor most v.core) (ap (λ (o : Outcome). o.state) once.ran) (stays_quiet most t once.quick over.quiet);
+      leads =
+          leads_more pages n 1 s t u r mid later over.leads
+          (leads_one pages t u once.done mid later once.quick once.ran once.records once.reports.words once.reports.stored);
+      runs = λ log from start before free gone.
+          let so_far = over.runs log from start before free gone in
+          let on =
+          quick_more pages log from start before n t u once.done mid later (free n less) so_far.gone (at_once n t quiet once.quick) once.ran once.records
+          once.reports.words in
+          let there = subst (λ (k : ℕ). HasGone pages log from start k (state_elapsed (n + 1) u) later) (let e : before + (n + 1) ≡ before + n + 1 = omega arith in e) on in
+          gone_on pages log from start address before n 1 (state_elapsed n t) (state_elapsed (n + 1) u) r mid later so_far
+          (record {
+            gone = there;
+            passed = λ small k after below at. omega (arith, after, below);
+            code_pages = λ set code_pages.
+                more_code_pages pages log from start (before + n) 1 _ set mid.code_pages later.code_pages code_pages (begins_once pages log from start (before + n))
+                (λ other.
+                once.code_pages other
+                ∙ ap (λ (pc : ℕ). holds mid.code_pages other || nat_eq (pc / PAGE_BYTES) other) (ap (λ (v : State). v.core.pc) there.state));
+          })
+          (λ some more at. elsewhere some (ap (λ (v : State). v.core.pc) so_far.gone.state ∙ at));
+    }
+
+-- what four facts of an answer say together
+pub if_four : {A : Type 0} {P Q R S T : A → Type 0} (o : Option A) → IfSome o P → IfSome o Q → IfSome o R → IfSome o S → ((a : A) → P a → Q a → R a → S a → T a) → IfSome o T
+if_four None p q r s f = tt
+if_four (Some a) p q r s f = f a p q r s

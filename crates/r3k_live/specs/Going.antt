@@ -1,11 +1,12 @@
 -- How far a run has gone (own).
-use Rattle.std.specs.Prelude.{◌≡◌, ℕ, zero, suc, ◌+◌, ◌-◌, ◌*◌, ◌^◌, ◌<◌, ◌≤◌, List, [], ◌∷◌, ◌++◌, IsFalse, IsTrue, None, slice_index}
+use Rattle.std.specs.Prelude.{◌≡◌, ℕ, zero, suc, ◌+◌, ◌-◌, ◌*◌, ◌/◌, ◌^◌, ◌<◌, ◌≤◌, ◌||◌, nat_eq, List, [], ◌∷◌, ◌++◌, IsFalse, IsTrue, None, slice_index}
 use Rattle.input_log.specs.Event.{LogEvent}
-use Rattle.r3k_word.specs.declared.layout.TheConstants.{PAGE_WORDS}
+use Rattle.r3k_word.specs.declared.layout.TheConstants.{PAGE_BYTES, PAGE_WORDS}
 use Rattle.r3k_machine.specs.declared.quick.CodePage.{CodePage}
 use Rattle.r3k_machine.specs.declared.step.Done.{Done}
 use Rattle.r3k_machine.specs.declared.target.Target.TheVariants.{Memory}
 use Rattle.r3k_machine.specs.Core.{Core}
+use Rattle.r3k_machine.specs.Reports.{IsReport}
 use Rattle.r3k_machine.specs.Quiet.{IsCodePage, IsIndexIn, IsQuick, IsQuietFor, state_elapsed}
 use Rattle.r3k_machine.specs.Run.{arriving, last_writer, run, trace}
 use Rattle.r3k_machine.specs.State.{State}
@@ -87,6 +88,16 @@ abbrev pub GoesOnBy : (pages : ℕ) (page : CodePage) (done : Done) (s t : State
 GoesOnBy pages page done s t = (most address made : ℕ) (r later : Recording) → made < most → ¬ (s.core.pc ≡ address) → MayGoOn pages most page s.core r
     → IsNoted pages done r later → GoesOn pages most address page made (made + 1) s t r later
 
+-- One quick step leads from a state to another one, and is recorded with the page in which the PC then stands.
+pub record GoesOnce (pages : ℕ) (s t : State) (r later : Recording) : Type 0 where
+  pub done : Done
+  pub quick : IsQuick pages s
+  pub ran : outcome_of_instruction pages s ≡ record { state = t; done = done }
+  pub reports : IsReport pages s.words t.words done
+  pub steps : later.steps ≡ r.steps + 1
+  pub records : (steps : List Done) → Records pages steps r → Records pages (steps ++ done ∷ []) later
+  pub code_pages : (other : ℕ) → holds later.code_pages other ≡ (holds r.code_pages other || nat_eq (t.core.pc / PAGE_BYTES) other)
+
 -- Quick steps go on from page to page, n of them. Their ticks and falls of Random are still to come. So goes any run that no event reaches
 -- in these times.
 pub record GoesOver (pages most address n : ℕ) (s t : State) (r later : Recording) : Type 0 where
@@ -102,10 +113,9 @@ pub record GoesOver (pages most address n : ℕ) (s t : State) (r later : Record
 abbrev pub IsWordAt : (page : CodePage) → (address index : ℕ) → Type 0
 IsWordAt page address index = (other : ℕ) → IsIndexIn page address other → other ≡ index
 
--- steps from word to word may be made before this one: within the page, not past the address at which all end, and fewer than `most` after `begun`
+-- steps from word to word may be made before this one: not past the address at which all end, and fewer than `most` after `begun`
 pub record Ends (most begun first halt end steps : ℕ) : Type 0 where
   pub since : begun ≤ steps
   pub made : steps ≤ begun + most
   pub bound : end ≤ first + (begun + most - steps)
-  pub within : end ≤ PAGE_WORDS
-  pub stops : first ≤ halt → end ≤ halt
+  pub stops : (index : ℕ) → first ≤ index → index < end → index < PAGE_WORDS → ¬ (index ≡ halt)

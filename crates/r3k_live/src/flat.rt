@@ -10,7 +10,7 @@ ghost use Rattle.r3k_machine.specs.Known.{IsStop};
 ghost use Rattle.r3k_machine.specs.Reset.{reset_word, reset_words};
 ghost use Rattle.r3k_machine.specs.Reports.{IsPage};
 ghost use Rattle.r3k_live.specs.Slots.{AreKnown, is_open, known_at, slot_of};
-ghost use Rattle.r3k_live.specs.declared.flat.TheConstants.{SLOTS, UNUSED};
+ghost use Rattle.r3k_live.specs.declared.flat.TheConstants.{SLOTS, SLOT_WORDS, UNUSED};
 
 use r3k_decode::Insn;
 use r3k_image::Image;
@@ -28,6 +28,9 @@ const SLOTS: usize = 576;
 
 // Words in a page.
 const WORDS: usize = PAGE_WORDS as usize;
+
+// What is kept of a slot: something for each word of its page, and after them one that traps, so that steps end there by themselves.
+const SLOT_WORDS: usize = WORDS + 1;
 
 // It stands for a page where none was open in a slot yet, so that nothing is known there.
 const UNUSED: u32 = u32::MAX;
@@ -64,10 +67,10 @@ fn slot_of(ram_pages: u32, page: u32) -> usize
 
 // Slots of whose words nothing is known.
 fn unknown(alloc: Global, stop: Insn) -> Result<Vec<Insn>, AllocError>
-    ensures room { IfOk result (λ known. length known.items ≡ SLOTS * PAGE_WORDS + 1) }
-    ensures nothing { IfOk result (λ known. (i : ℕ) (d : Operation) → i < SLOTS * PAGE_WORDS → slice_index_or known.items i d ≡ stop) }
+    ensures room { IfOk result (λ known. length known.items ≡ SLOTS * SLOT_WORDS + 1) }
+    ensures nothing { IfOk result (λ known. (i : ℕ) (d : Operation) → i < SLOTS * SLOT_WORDS → slice_index_or known.items i d ≡ stop) }
 {
-    vec![in alloc; stop; SLOTS * WORDS + 1]
+    vec![in alloc; stop; SLOTS * SLOT_WORDS + 1]
 }
 
 // Slots in which no page was open yet.
@@ -80,19 +83,19 @@ fn unused(alloc: Global) -> Result<Vec<u32>, AllocError>
 
 // Nothing is known of the words of a slot any more. Where it was not used yet, nothing was.
 fn forget(known: &mut Vec<Insn>, slot: usize, used: bool, stop: Insn)
-    requires room { length known.old.items ≡ SLOTS * PAGE_WORDS + 1 }
+    requires room { length known.old.items ≡ SLOTS * SLOT_WORDS + 1 }
     requires slot { slot < SLOTS }
     requires stop { IsStop stop }
-    requires unused { IsFalse used → (index : ℕ) (d : Operation) → index < PAGE_WORDS → IsStop (slice_index_or known.old.items (slot * PAGE_WORDS + index) d) }
-    ensures room { length known.new.items ≡ SLOTS * PAGE_WORDS + 1 }
-    ensures there { (index : ℕ) (d : Operation) → index < PAGE_WORDS → IsStop (slice_index_or known.new.items (slot * PAGE_WORDS + index) d) }
-    ensures others { (i : ℕ) (d : Operation) → ¬ (i / PAGE_WORDS ≡ slot) → slice_index_or known.new.items i d ≡ slice_index_or known.old.items i d }
+    requires unused { IsFalse used → (index : ℕ) (d : Operation) → index < SLOT_WORDS → IsStop (slice_index_or known.old.items (slot * SLOT_WORDS + index) d) }
+    ensures room { length known.new.items ≡ SLOTS * SLOT_WORDS + 1 }
+    ensures there { (index : ℕ) (d : Operation) → index < SLOT_WORDS → IsStop (slice_index_or known.new.items (slot * SLOT_WORDS + index) d) }
+    ensures others { (i : ℕ) (d : Operation) → ¬ (i / SLOT_WORDS ≡ slot) → slice_index_or known.new.items i d ≡ slice_index_or known.old.items i d }
 {
     if !used {
         return;
     }
-    for index in 0..WORDS {
-        known[slot * WORDS + index] = stop;
+    for index in 0..SLOT_WORDS {
+        known[slot * SLOT_WORDS + index] = stop;
     }
 }
 
@@ -101,16 +104,16 @@ fn forget(known: &mut Vec<Insn>, slot: usize, used: bool, stop: Insn)
 fn forget_word<const PAGES: u32>(known: &mut Vec<Insn>, opened: &Vec<u32>, place: usize, stop: Insn)
     requires range { PAGES ≤ MAX_RAM_PAGES }
     requires place { place < word_count_of PAGES }
-    requires room { length known.old.items ≡ SLOTS * PAGE_WORDS + 1 }
+    requires room { length known.old.items ≡ SLOTS * SLOT_WORDS + 1 }
     requires slots { length opened.now.items ≡ SLOTS }
     ensures opened { IsTrue (is_open PAGES opened.now.items (place / PAGE_WORDS)) →
-        known.new.items ≡ slice_set known.old.items (slot_of PAGES (place / PAGE_WORDS) * PAGE_WORDS + place % PAGE_WORDS) stop }
+        known.new.items ≡ slice_set known.old.items (slot_of PAGES (place / PAGE_WORDS) * SLOT_WORDS + place % PAGE_WORDS) stop }
     ensures closed { IsFalse (is_open PAGES opened.now.items (place / PAGE_WORDS)) → known.new.items ≡ known.old.items }
 {
     let page = (place / WORDS) as u32;
     let slot = slot_of(PAGES, page);
     if opened[slot] == page + 1 {
-        known[slot * WORDS + place % WORDS] = stop;
+        known[slot * SLOT_WORDS + place % WORDS] = stop;
     }
 }
 
@@ -242,18 +245,18 @@ impl<const PAGES: u32> Mem for FlatMemory<PAGES> {
 
     #[inline(always)]
     fn insn(&self, page: u32, index: usize) -> &Insn {
-        &self.known[slot_of(PAGES, page) * WORDS + index]
+        &self.known[slot_of(PAGES, page) * SLOT_WORDS + index]
     }
 
     #[inline(always)]
     fn name_after(&self, page: u32, index: usize) -> Mnemonic {
-        let place = slot_of(PAGES, page) * WORDS + index;
+        let place = slot_of(PAGES, page) * SLOT_WORDS + index;
         self.known[place + 1].mnemonic()
     }
 
     #[inline(always)]
     fn learn(&mut self, page: u32, index: usize) -> bool {
-        let place = slot_of(PAGES, page) * WORDS + index;
+        let place = slot_of(PAGES, page) * SLOT_WORDS + index;
         if self.known[place].mnemonic() != Mnemonic::Break {
             return false;
         }

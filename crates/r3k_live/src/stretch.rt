@@ -12,7 +12,7 @@ ghost use Rattle.r3k_machine.specs.Run.{arriving};
 ghost use Rattle.r3k_machine.specs.State.{State};
 ghost use Rattle.r3k_machine.specs.Reports.{IsPage, IsRamWord, IsReport};
 ghost use Rattle.r3k_pages.specs.Pages.{holds};
-ghost use Rattle.r3k_live.specs.Going.{AreLeft, Ends, GoesOn, GoesOnBy, GoesOver, HasGone, HasGoneFor, IsFreeFor, IsWordAt, MayGoOn};
+ghost use Rattle.r3k_live.specs.Going.{AreLeft, Ends, GoesOn, GoesOnBy, GoesOnce, GoesOver, HasGone, HasGoneFor, IsFreeFor, IsWordAt, MayGoOn};
 ghost use Rattle.r3k_live.specs.Living.{known_in, state_of};
 ghost use Rattle.r3k_live.specs.Recording.{IsNoted};
 ghost use Rattle.r3k_live.specs.Slots.{is_open};
@@ -41,8 +41,8 @@ fn halt_in(page: CodePage, address: u64) -> usize
     ((address - start) / 4).min(u64::from(PAGE_WORDS)) as usize
 }
 
-// Makes the quick step of a word of the page, at which the PC stands. Else it changes nothing. It is still to be recorded: on each way
-// apart that may come next, so that the compiler keeps no more there than what comes next wants.
+// Makes the quick step of a word of the page, at which the PC stands. Else it changes nothing, as after the last word. It is still to be
+// recorded: on each way apart that may come next, so that the compiler keeps no more there than what comes next wants.
 #[inline(always)]
 fn step_quickly<const PAGES: u32>(
     core: &mut Core,
@@ -55,8 +55,10 @@ fn step_quickly<const PAGES: u32>(
     requires code { IsCodePage PAGES (with_flow core.old flow.old) page }
     requires page { IsPage PAGES page.page }
     requires opened { IsTrue (is_open PAGES memory.old.opened.items page.page) }
-    requires here { IsIndexIn page flow.old.pc index }
+    requires within { index ≤ PAGE_WORDS }
+    requires here { index < PAGE_WORDS → IsIndexIn page flow.old.pc index }
     requires named { number_of name ≡ (known_in PAGES memory.old page.page index).row }
+    ensures inside { IfSome result (λ _. index < PAGE_WORDS) }
     ensures goes { IfSome result (λ quick. GoesOnBy PAGES page quick.done (state_of (with_flow core.old flow.old) memory.old)
         (state_of (with_flow core.new flow.new) memory.new)) }
     ensures leads { IfSome result (λ _. LeadsOn (with_flow core.old flow.old) (with_flow core.new flow.new)) }
@@ -73,8 +75,8 @@ fn step_quickly<const PAGES: u32>(
     quick_step(core, flow, memory, page, index, name)
 }
 
-// How many steps are recorded when straight steps from a word end at the latest: within the page, not past where all steps end, and before
-// there are `most` steps after `begun`.
+// How many steps are recorded when straight steps from a word end at the latest: not past where all steps end, and before there are `most`
+// steps after `begun`. At the end of the page they end by themselves, which needs no count.
 #[inline(always)]
 fn last_of(first: usize, begun: u32, most: u32, steps: u32, halt: usize) -> u32
     requires first { first < PAGE_WORDS }
@@ -85,6 +87,9 @@ fn last_of(first: usize, begun: u32, most: u32, steps: u32, halt: usize) -> u32
     ensures ends { Ends most begun first halt (first + (result - steps)) steps }
     ensures least { steps ≤ result }
 {
+    if halt == PAGE_WORDS as usize {
+        return begun + most;
+    }
     let end = if first <= halt {
         halt
     } else {
@@ -130,9 +135,10 @@ fn step_straight<const PAGES: u32, const SPAN: u32>(
     ensures goes { (address : ℕ) → IsWordAt page address halt → GoesOn PAGES most address page (recorder.old.steps - begun) (recorder.new.steps - begun)
         (state_of (with_flow core.old flow.old) memory.old) (state_of (with_flow core.new flow.new) memory.new) recorder.old recorder.new }
     ensures least { recorder.old.steps ≤ recorder.new.steps }
-    ensures here { IfSome result (IsIndexIn page flow.new.pc) }
+    ensures within { IfSome result (λ slot. slot ≤ PAGE_WORDS) }
+    ensures here { IfSome result (λ slot. slot < PAGE_WORDS → IsIndexIn page flow.new.pc slot) }
     ensures room { IfSome result (λ _. recorder.new.steps < begun + most) }
-    ensures elsewhere { IfSome result (λ _. (address : ℕ) → IsWordAt page address halt → ¬ (flow.new.pc ≡ address)) }
+    ensures elsewhere { IfSome result (λ slot. slot < PAGE_WORDS → (address : ℕ) → IsWordAt page address halt → ¬ (flow.new.pc ≡ address)) }
     ensures opened { IsTrue (is_open PAGES memory.new.opened.items page.page) }
 {
     let last = last_of(first, begun, most, recorder.steps(), halt);
@@ -286,6 +292,72 @@ fn quick_steps<const PAGES: u32, const SPAN: u32>(
     }
 }
 
+// Where quick steps may go on that ended in a page: there, once the word at the PC is decoded that they did not know, or in the page of the
+// PC, if they left theirs. It opens the page.
+#[inline(always)]
+fn page_to_go_on<const PAGES: u32>(
+    core: &mut Core,
+    flow: &Flow,
+    memory: &mut FlatMemory<PAGES>,
+    page: CodePage,
+) -> Option<CodePage>
+    requires code { IsCodePage PAGES (with_flow core.old flow.now) page }
+    requires page { IsPage PAGES page.page }
+    requires opened { IsTrue (is_open PAGES memory.old.opened.items page.page) }
+    ensures code { IfSome result (IsCodePage PAGES (with_flow core.new flow.now)) }
+    ensures page { IfSome result (λ next. IsPage PAGES next.page) }
+    ensures opened { IfSome result (λ next. IsTrue (is_open PAGES memory.new.opened.items next.page)) }
+    ensures stays { result ≡ None → IsTrue (is_open PAGES memory.new.opened.items page.page) }
+    ensures core { core.new ≡ core.old }
+    ensures words { memory.new.words.items ≡ memory.old.words.items }
+{
+    if flow.pc() / PAGE_BYTES == page.number {
+        if !learn(memory, page, flow.pc()) {
+            return None;
+        }
+        return Some(page);
+    }
+    let next = code_page(core, *flow, memory, page.over_bus)?;
+    memory.open_page(next.page);
+    Some(next)
+}
+
+// Makes the quick step of the word at the PC, which is in this page, where the page was not touched before, or the word was not known. It
+// says whether quick steps may go on in the page, or gives nothing where it made no step. It stands outside the line of the others.
+#[cold]
+#[inline(never)]
+fn first_step<const PAGES: u32, const SPAN: u32>(
+    core: &mut Core,
+    flow: &mut Flow,
+    memory: &mut FlatMemory<PAGES>,
+    page: CodePage,
+    recorder: &mut Recorder<PAGES, SPAN>,
+) -> Option<bool>
+    requires code { IsCodePage PAGES (with_flow core.old flow.old) page }
+    requires page { IsPage PAGES page.page }
+    requires opened { IsTrue (is_open PAGES memory.old.opened.items page.page) }
+    requires room { recorder.old.steps < SPAN }
+    ensures goes { IfSome result (λ _. GoesOnce PAGES (state_of (with_flow core.old flow.old) memory.old) (state_of (with_flow core.new flow.new) memory.new)
+        recorder.old recorder.new) }
+    ensures straight { IfSome result (λ goes. IsTrue goes → IsStraight flow.new) }
+    ensures touched { IfSome result (λ goes. IsTrue goes → IsTrue (holds recorder.new.touched page.page)) }
+    ensures code { IsCodePage PAGES (with_flow core.new flow.new) page }
+    ensures opened { IsTrue (is_open PAGES memory.new.opened.items page.page) }
+    ensures core { result ≡ None → core.new ≡ core.old }
+    ensures flow { result ≡ None → flow.new ≡ flow.old }
+    ensures words { result ≡ None → memory.new.words.items ≡ memory.old.words.items }
+    ensures recorder { result ≡ None → recorder.new ≡ recorder.old }
+{
+    quiet_laws();
+    let _learned = learn(memory, page, flow.pc());
+    let index = page.index(flow.pc())?;
+    let name = memory.insn(page.page, index).mnemonic();
+    let quick = quick_step(core, flow, memory, page, index, name)?;
+    recorder.note(quick.done);
+    recorder.note_code_page(flow.pc() / PAGE_BYTES);
+    Some(flow.is_straight() && recorder.has_touched(page.page))
+}
+
 // Makes quick steps from page to page, as `quick_pages` does, where the flow stands apart from the core.
 #[inline(always)]
 fn steps_over_pages<const PAGES: u32, const SPAN: u32>(
@@ -318,22 +390,34 @@ fn steps_over_pages<const PAGES: u32, const SPAN: u32>(
         let here = flow.pc() / PAGE_BYTES;
         recorder.note_code_page(here);
         let steps = recorder.steps();
-        if !straight || steps == before || steps - begun == most || here == page.number {
+        if !straight || steps - begun == most {
             return steps - begun;
         }
-        let Some(next) = code_page(core, *flow, memory, page.over_bus) else {
+        let Some(next) = page_to_go_on(core, flow, memory, *page) else {
             return steps - begun;
         };
-        if !recorder.has_touched(next.page) {
+        *page = next;
+        if steps != before && recorder.has_touched(next.page) {
+            continue;
+        }
+        if !goes_on(steps - begun, most, flow.pc(), stop) {
             return steps - begun;
         }
-        memory.open_page(next.page);
-        *page = next;
+        // A copy, so that nothing refers to where the other steps stand.
+        let mut first = *flow;
+        let made = first_step(core, &mut first, memory, next, recorder);
+        *flow = first;
+        let Some(goes) = made else {
+            return steps - begun;
+        };
+        if !goes {
+            return recorder.steps() - begun;
+        }
     }
 }
 
-/// Makes quick steps in an open page that was touched before, and goes on with them from page to page, as long as these were touched
-/// before. They are at most `most`, and it ends after one that comes to an address. Their ticks and falls of Random are still to come.
+/// Makes quick steps in an open page that was touched before, and goes on with them from page to page, and over words that were not known.
+/// They are at most `most`, and it ends after one that comes to an address. Their ticks and falls of Random are still to come.
 /// The page of the last of them is open. It is never in line, so that the compiler can keep all that a step needs in registers.
 #[inline(never)]
 pub(crate) fn quick_pages<const PAGES: u32, const SPAN: u32>(
@@ -403,8 +487,21 @@ fn quiet_on<const PAGES: u32, const SPAN: u32>(
     1
 }
 
-// Makes quick steps as long as they stay in open pages that were touched before, and then one more of the last page, at most `most` in
-// all. It ends after one that comes to an address.
+// Decodes the word at the PC, if that is in a delay slot of this page, where quick steps do not learn it.
+#[inline(always)]
+fn learn_in_slot<const PAGES: u32>(core: &Core, memory: &mut FlatMemory<PAGES>, page: CodePage)
+    requires number { page.number < 2 ^ 20 }
+    requires page { IsPage PAGES page.page }
+    requires opened { IsTrue (is_open PAGES memory.old.opened.items page.page) }
+    ensures words { memory.new.words.items ≡ memory.old.words.items }
+{
+    if core.delay() {
+        let _learned = learn(memory, page, core.pc());
+    }
+}
+
+// Makes quick steps as long as they stay in open pages, and then one more of the last page, at most `most` in all. It ends after one that
+// comes to an address.
 #[inline(always)]
 fn run_in<const PAGES: u32, const SPAN: u32>(
     core: &mut Core,
@@ -427,7 +524,7 @@ fn run_in<const PAGES: u32, const SPAN: u32>(
     quiet_laws();
     let made = quick_pages(core, memory, &mut page, most, stop, recorder);
     core.elapse(made);
-    learn(memory, page, core.pc());
+    learn_in_slot(core, memory, page);
     let wanted = goes_on(made, most, core.pc(), stop);
     made + quiet_on(core, memory, page, wanted, recorder)
 }

@@ -27,7 +27,7 @@ const RETURNS: u32 = 2;
 pub(crate) const PATIENCE: u32 = 512;
 
 // Where it does not wait, it is looked the next time after a stretch that is longer by this factor.
-const MORE_PATIENCE: u32 = 8;
+const MORE_PATIENCE: u32 = 2;
 
 // What was found of a turn.
 #[derive(Clone, Copy)]

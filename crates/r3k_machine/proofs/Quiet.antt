@@ -6,7 +6,7 @@ use Rattle.std.specs.Prelude.{is_some, nat_eq, slice_index_or, position, count_b
 use Rattle.std.specs.Option.{option_map}
 use Rattle.std.proofs.lemmas.Nat.{and_block, and_le_l, and_le_r, and_mask, or_disjoint}
 use Rattle.std.proofs.lemmas.Nat.Bits.{and_high}
-use Rattle.std.proofs.lemmas.Bool.{cases_Bool, eq-eqb, ne_eqb, true≢false}
+use Rattle.std.proofs.lemmas.Bool.{cases_Bool, cases_lt, eq-eqb, ne_eqb, true≢false}
 use Rattle.std.proofs.lemmas.Bool.Decides.{nat_tests}
 use Rattle.r3k_word.specs.Word.{field_of, has, merged}
 use Rattle.r3k_word.specs.Layout.{page_of_place, place_of_word}
@@ -498,6 +498,15 @@ aligned_fetch core aligned = ap (λ (b : Bool). meaning core Fetch b core.pc) (e
 -- what stands for a word that is not known
 pub stop_traps : (operation : Operation) (operands : Operands) → IsStop operation → effect_of operation operands ≡ Trap Breakpoint
 stop_traps operation operands is = subst (λ (o : Option Operation). IfSome o (λ operation. effect_of operation operands ≡ Trap Breakpoint)) is refl
+
+-- what stands after the last word of a page is not quick, so what is quick is a word of the page
+pub in_page : (pages : ℕ) (s : State) (index : ℕ) (operation : Operation) → index ≤ 1024 → (index ≡ 1024 → IsStop operation)
+    → IsQuickEffect pages s (effect_of operation (operands_of s.core operation)) → index < 1024
+in_page pages s index operation within past effect =
+    elim (cases_lt index 1024) [
+      | inl less ↦ less
+      | inr more ↦ absurd (rw (stop_traps operation (operands_of s.core operation) (past (omega (arith, within, more)))) at effect)
+    ]
 
 -- a known word with a quick effect is usable
 usable_then : (core : Core) (word : ℕ) → IsTrue (is_usable core.cop0) → IsFalse (is_unusable core word)

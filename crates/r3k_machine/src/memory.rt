@@ -5,7 +5,7 @@ ghost use Rattle.r3k_word.specs.Layout.{word_count_of};
 ghost use Rattle.r3k_word.specs.declared.layout.TheConstants.{MAX_RAM_PAGES, PAGE_WORDS};
 ghost use Rattle.r3k_table.specs.Mnemonics.{number_of};
 ghost use Rattle.r3k_decode.specs.Operation.{Operation};
-ghost use Rattle.r3k_machine.specs.Known.{IsKnown};
+ghost use Rattle.r3k_machine.specs.Known.{IsKnown, IsStop};
 ghost use Rattle.r3k_machine.specs.Reports.{IsPage};
 
 use r3k_decode::Insn;
@@ -47,20 +47,21 @@ pub trait Mem {
     /// What is known of a word of an open page, by the numbers of page and word: its instruction, or one that traps.
     ghost known: { Self → ℕ → ℕ → Operation };
 
-    /// What is known of a word of an open page, by its number in the page.
+    /// What is known of a word of an open page, by its number in the page. After the last word stands one that traps.
     fn insn(&self, page: u32, index: usize) -> &Insn
         requires page { IsPage ram page }
         requires opened { IsTrue (is_open self.now page) }
-        requires index { index < PAGE_WORDS }
+        requires index { index ≤ PAGE_WORDS }
         ensures known { result.now ≡ known self.now page index }
-        ensures right { IsKnown (slice_index (words self.now) (page * PAGE_WORDS + index)) result.now };
+        ensures right { index < PAGE_WORDS → IsKnown (slice_index (words self.now) (page * PAGE_WORDS + index)) result.now }
+        ensures past { index ≡ PAGE_WORDS → IsStop result.now };
 
-    /// The name of what is known of the next word, if the page has one.
+    /// The name of what is known of the next word, or of what stands after the last one, unless this is that.
     fn name_after(&self, page: u32, index: usize) -> Mnemonic
         requires page { IsPage ram page }
         requires opened { IsTrue (is_open self.now page) }
-        requires index { index < PAGE_WORDS }
-        ensures { index + 1 < PAGE_WORDS → number_of result ≡ (known self.now page (index + 1)).row };
+        requires index { index ≤ PAGE_WORDS }
+        ensures { index < PAGE_WORDS → number_of result ≡ (known self.now page (index + 1)).row };
 
     /// Decodes a word of an open page, so that its instruction is known until the word is stored into. Says whether it was not
     /// known, and can be.

@@ -561,8 +561,8 @@ fn perform_quick<M: Mem>(
     Some(Quick { done, next })
 }
 
-/// Runs the instruction at the PC, which is a word of this open page, if it is known and quick. Else it changes nothing. Its name was
-/// looked up before. The core stands where the flow does, which is kept apart from it.
+/// Runs the instruction at the PC, which is the word of this number in this open page, if the page has such a word, and it is known and
+/// quick. Else it changes nothing. Its name was looked up before. The core stands where the flow does, which is kept apart from it.
 #[inline(always)]
 pub fn quick_step<M: Mem>(
     core: &mut Core,
@@ -575,8 +575,10 @@ pub fn quick_step<M: Mem>(
     requires code { IsCodePage M.ram (with_flow core.old flow.old) page }
     requires page { IsPage M.ram page.page }
     requires opened { IsTrue (M.is_open memory.old page.page) }
-    requires here { IsIndexIn page flow.old.pc index }
+    requires within { index ≤ PAGE_WORDS }
+    requires here { index < PAGE_WORDS → IsIndexIn page flow.old.pc index }
     requires named { number_of name ≡ (M.known memory.old page.page index).row }
+    ensures inside { IfSome result (λ _. index < PAGE_WORDS) }
     ensures quick { IfSome result (λ quick. IsQuick M.ram (record { core = with_flow core.old flow.old; words = M.words memory.old })) }
     ensures ran { IfSome result (λ quick. outcome_of_instruction M.ram (record { core = with_flow core.old flow.old; words = M.words memory.old })
         ≡ record { state = record { core = with_flow core.new flow.new; words = M.words memory.new }; done = quick.done }) }
@@ -620,9 +622,10 @@ pub fn quiet_step<M: Mem>(core: &mut Core, memory: &mut M, page: CodePage) -> Op
     Some(done)
 }
 
-/// Decodes the word at an address, if that lies in this page, which is open, and some words after it, up to one that is known.
+/// Decodes the word at an address, if that lies in this page, which is open, and some words after it, up to one that is known. Says
+/// whether it was not known, and can be.
 #[inline(always)]
-pub fn learn<M: Mem>(memory: &mut M, page: CodePage, address: u32)
+pub fn learn<M: Mem>(memory: &mut M, page: CodePage, address: u32) -> bool
     requires number { page.number < 2 ^ 20 }
     requires page { IsPage M.ram page.page }
     requires opened { IsTrue (M.is_open memory.old page.page) }
@@ -630,11 +633,13 @@ pub fn learn<M: Mem>(memory: &mut M, page: CodePage, address: u32)
     ensures opened { (other : ℕ) → M.is_open memory.new other ≡ M.is_open memory.old other }
 {
     let Some(index) = page.index(address) else {
-        return;
+        return false;
     };
-    if memory.learn(page.page, index) {
-        learn_ahead(memory, page.page, index);
+    if !memory.learn(page.page, index) {
+        return false;
     }
+    learn_ahead(memory, page.page, index);
+    true
 }
 
 // How many words are decoded after one.

@@ -10,4 +10,4 @@ all_same known count stop is i d within = subst (λ (list : List Operation). sli
 
 pub returns-clause-nothing : goal.returns-clause-nothing
 returns-clause-nothing c =
-    IfOk-weaker c.vec.result _ _ (λ v is i d within. all_same v.items 589825 c.args.stop (is (λ y same. same)) i d (omega (arith, within))) c.vec.ensures.items_if_clones_equal
+    IfOk-weaker c.vec.result _ _ (λ v is i d within. all_same v.items 590401 c.args.stop (is (λ y same. same)) i d (omega (arith, within))) c.vec.ensures.items_if_clones_equal

@@ -31,7 +31,7 @@ step_quickly-requires g c =
     (state_of (with_flow c.step_straight.new.core c.step_straight.new.flow) c.step_straight.new.memory)
     c.args.recorder.now c.loop-index.recorder c.step_straight.new.recorder
     c.loop-index.invariant.goes (c.step_straight.ensures.goes c.args.stop c.halt_in-halt.ensures.word) in
-    (omega arith, (so_far.may.code, (c.requires.page, (c.step_straight.ensures.opened, (c.in-Some-step_straight.ensures.here, c.mnemonic-name.ensures ∙ ap (λ (o : Operation). o.row) c.insn.ensures.known)))))
+    (omega arith, (so_far.may.code, (c.requires.page, (c.step_straight.ensures.opened, (c.in-Some-step_straight.ensures.within, (c.in-Some-step_straight.ensures.here, c.mnemonic-name.ensures ∙ ap (λ (o : Operation). o.row) c.insn.ensures.known))))))
 
 pub returns-in_default-step_quickly-clause-goes : goal.returns-in_default-step_quickly-clause-goes
 returns-in_default-step_quickly-clause-goes g c =
@@ -75,7 +75,7 @@ returns-then-note_apart-clause-goes g c =
     (state_of (with_flow c.step_straight.new.core c.step_straight.new.flow) c.step_straight.new.memory) (state_of (with_flow c.step_quickly.new.core c.step_quickly.new.flow) c.step_quickly.new.memory)
     c.args.recorder.now c.step_straight.new.recorder c.note_apart.new.recorder
     (omega (arith, c.requires.begun, c.loop-index.invariant.least, c.step_straight.ensures.least)) c.in-Some-step_straight.ensures.room c.note_apart.ensures.noted.steps
-    (c.in-Some-step_straight.ensures.elsewhere c.args.stop c.halt_in-halt.ensures.word) so_far
+    (c.in-Some-step_straight.ensures.elsewhere c.in-Some-step_quickly.ensures.inside c.args.stop c.halt_in-halt.ensures.word) so_far
     (λ n less elsewhere may. c.in-Some-step_quickly.ensures.goes c.args.most c.args.stop n c.step_straight.new.recorder c.note_apart.new.recorder less elsewhere may c.note_apart.ensures.noted)
 
 pub loop-index-preserved : goal.loop-index-preserved
@@ -91,7 +91,7 @@ loop-index-preserved g c =
           (state_of (with_flow c.step_straight.new.core c.step_straight.new.flow) c.step_straight.new.memory) (state_of (with_flow c.step_quickly.new.core c.step_quickly.new.flow) c.step_quickly.new.memory)
           c.args.recorder.now c.step_straight.new.recorder c.note_apart.new.recorder
           (omega (arith, c.requires.begun, c.loop-index.invariant.least, c.step_straight.ensures.least)) c.in-Some-step_straight.ensures.room c.note_apart.ensures.noted.steps
-          (c.in-Some-step_straight.ensures.elsewhere c.args.stop c.halt_in-halt.ensures.word) so_far
+          (c.in-Some-step_straight.ensures.elsewhere c.in-Some-step_quickly.ensures.inside c.args.stop c.halt_in-halt.ensures.word) so_far
           (λ n less elsewhere may. c.in-Some-step_quickly.ensures.goes c.args.most c.args.stop n c.step_straight.new.recorder c.note_apart.new.recorder less elsewhere may c.note_apart.ensures.noted);
       straight = record { free = free; next = c.in-Some-step_quickly.ensures.leads.next free };
       least = omega (arith, c.loop-index.invariant.least, c.step_straight.ensures.least, c.note_apart.ensures.noted.steps);

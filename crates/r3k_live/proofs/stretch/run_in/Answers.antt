@@ -39,11 +39,11 @@ returns-clause-goes g c = λ log from start made free so_far.
     let there = c.quick_pages-made.ensures.goes.runs log from start made free so_far in
     let ticked : HasGoneFor g.row.PAGES log from start c.args.stop made quick c.args.recorder.now (state_of c.elapse.new.self c.quick_pages-made.new.memory) c.quick_pages-made.new.recorder =
     rw c.elapse.ensures there in
-    let learnt : HasGoneFor g.row.PAGES log from start c.args.stop made quick c.args.recorder.now (state_of c.elapse.new.self c.learn.new.memory) c.quick_pages-made.new.recorder =
-    subst (λ (words : List ℕ). HasGoneFor g.row.PAGES log from start c.args.stop made quick c.args.recorder.now (record { core = c.elapse.new.self; words = words }) c.quick_pages-made.new.recorder) (sym c.learn.ensures.words) ticked in
-    gone_on g.row.PAGES log from start c.args.stop made quick c.quiet_on.result (state_of c.elapse.new.self c.learn.new.memory) (state_of c.quiet_on.new.core c.quiet_on.new.memory)
+    let learnt : HasGoneFor g.row.PAGES log from start c.args.stop made quick c.args.recorder.now (state_of c.elapse.new.self c.learn_in_slot.new.memory) c.quick_pages-made.new.recorder =
+    subst (λ (words : List ℕ). HasGoneFor g.row.PAGES log from start c.args.stop made quick c.args.recorder.now (record { core = c.elapse.new.self; words = words }) c.quick_pages-made.new.recorder) (sym c.learn_in_slot.ensures.words) ticked in
+    gone_on g.row.PAGES log from start c.args.stop made quick c.quiet_on.result (state_of c.elapse.new.self c.learn_in_slot.new.memory) (state_of c.quiet_on.new.core c.quiet_on.new.memory)
     c.args.recorder.now c.quick_pages-made.new.recorder c.quiet_on.new.recorder learnt
     (c.quiet_on.ensures.goes log from start c.args.stop (made + quick)
     (λ wanted. ap (arriving log) (let e : from + (made + quick) ≡ from + made + quick = omega arith in e) ∙ free quick (c.goes_on-wanted.ensures.room wanted)) learnt.gone)
     (λ some more here.
-    c.goes_on-wanted.ensures.past (c.quiet_on.ensures.wanted more) some (c.pc-2.ensures ∙ (ap (λ (s : State). s.core.pc) learnt.gone.state ∙ here)))
+    c.goes_on-wanted.ensures.past (c.quiet_on.ensures.wanted more) some (c.pc.ensures ∙ (ap (λ (s : State). s.core.pc) learnt.gone.state ∙ here)))

@@ -5,7 +5,7 @@ use Rattle.r3k_machine.specs.Quiet.{IsCodePage, IsQuietFor}
 use Rattle.r3k_machine.specs.Step.{Outcome}
 use Rattle.r3k_live.specs.Going.{MayGoOn}
 use Rattle.r3k_live.specs.Living.{state_of}
-use Rattle.r3k_live.proofs.Quick.{goes_once, if_three}
+use Rattle.r3k_live.proofs.Quick.{goes_once, if_four}
 use Rattle.r3k_live.proofs.stretch.step_quickly.Goals as goal
 
 pub returns-clause-goes : goal.returns-clause-goes
@@ -13,8 +13,8 @@ returns-clause-goes g c =
     let pages = g.row.PAGES in
     let s = state_of (with_flow c.args.core.now c.args.flow.now) c.args.memory.now in
     let t = state_of (with_flow c.quick_step.new.core c.quick_step.new.flow) c.quick_step.new.memory in
-    if_three c.quick_step.result c.quick_step.ensures.quick c.quick_step.ensures.ran c.quick_step.ensures.within
-    (λ quick is ran reports most address made r later within elsewhere may noted.
+    if_four c.quick_step.result c.quick_step.ensures.inside c.quick_step.ensures.quick c.quick_step.ensures.ran c.quick_step.ensures.within
+    (λ quick inside is ran reports most address made r later within elsewhere may noted.
     let new = ap (λ (o : Outcome). o.state.core) ran in
     let quiet : IsQuietFor (made + 1) s.core = record {
       counts = omega (arith, may.quiet.counts, within);
@@ -26,5 +26,5 @@ returns-clause-goes g c =
       code = subst (λ (core : Core). IsCodePage pages core c.args.page) new (c.quiet_laws.ensures.stays_code pages s c.args.page is may.code);
       again = noted.touched c.args.page.page may.again;
     } in
-    goes_once pages most address c.args.page made s t quick.done r later within c.requires.here.here elsewhere after
+    goes_once pages most address c.args.page made s t quick.done r later within (c.requires.here inside).here elsewhere after
     noted.steps noted.code_pages (c.quiet_laws.ensures.at_once pages made s quiet is) ran noted.records reports.words is reports.stored)

@@ -1,4 +1,5 @@
 use Rattle.std.proofs.Common.{◌∙◌, ℕ, ◌+◌, ◌-◌, ◌<◌, ◌≤◌, ap, refl, sym, subst, arith}
+use Rattle.r3k_word.specs.declared.layout.TheConstants.{PAGE_WORDS}
 use Rattle.r3k_machine.specs.Flow.{with_flow}
 use Rattle.r3k_machine.specs.Quiet.{IsIndexIn}
 use Rattle.r3k_table.specs.Mnemonics.{number_of}
@@ -21,10 +22,11 @@ loop-ahead-init g c = record {
     count = omega arith;
     low = omega arith;
     high = omega arith;
+    within = omega arith;
   };
   free = c.requires.straight.free;
   opened = c.requires.opened;
-  named = λ within. c.mnemonic-ahead.ensures ∙ ap (λ (o : Operation). o.row) c.insn.ensures.known;
+  named = c.mnemonic-ahead.ensures ∙ ap (λ (o : Operation). o.row) c.insn.ensures.known;
 }
 
 pub returns-in_err-quick-clause-goes : goal.returns-in_err-quick-clause-goes
@@ -34,26 +36,28 @@ pub returns-in-DelaySlot-clause-goes : goal.returns-in-DelaySlot-clause-goes
 returns-in-DelaySlot-clause-goes g c = (at_next c.step_quickly.new.core c.step_quickly.new.flow c.step_quickly.new.memory.words.items (rw c.steps.ensures.steps at c.last_of-last.ensures.ends) c.loop-ahead.invariant.at
     (more_to c.loop-ahead.index c.args.first c.last_of-last.result c.args.recorder.now.steps c.loop-ahead.recorder.steps c.steps-in-loop-ahead.result c.steps-in-loop-ahead.ensures.steps
     c.loop-ahead.invariant.at.count c.loop-ahead.invariant.at.low c.loop-ahead-test.true)
-    c.loop-ahead.invariant.free (rw c.pin_straight.ensures at c.in_ok-quick.ensures.leads) (rw c.pin_straight.ensures at c.in_ok-quick.ensures.goes) c.note_again.ensures).goes
+    c.in_ok-quick.ensures.inside c.loop-ahead.invariant.free (rw c.pin_straight.ensures at c.in_ok-quick.ensures.leads) (rw c.pin_straight.ensures at c.in_ok-quick.ensures.goes) c.note_again.ensures).goes
+
+pub returns-in-DelaySlot-clause-within : goal.returns-in-DelaySlot-clause-within
+returns-in-DelaySlot-clause-within g c = if_so c.delay_slot.result c.delay_slot.ensures (λ slot so. omega (arith, so.0, c.in_ok-quick.ensures.inside))
 
 pub returns-in-DelaySlot-clause-here : goal.returns-in-DelaySlot-clause-here
 returns-in-DelaySlot-clause-here g c =
     let at = at_next c.step_quickly.new.core c.step_quickly.new.flow c.step_quickly.new.memory.words.items (rw c.steps.ensures.steps at c.last_of-last.ensures.ends) c.loop-ahead.invariant.at
     (more_to c.loop-ahead.index c.args.first c.last_of-last.result c.args.recorder.now.steps c.loop-ahead.recorder.steps c.steps-in-loop-ahead.result c.steps-in-loop-ahead.ensures.steps
     c.loop-ahead.invariant.at.count c.loop-ahead.invariant.at.low c.loop-ahead-test.true)
-    c.loop-ahead.invariant.free (rw c.pin_straight.ensures at c.in_ok-quick.ensures.leads) (rw c.pin_straight.ensures at c.in_ok-quick.ensures.goes) c.note_again.ensures in
+    c.in_ok-quick.ensures.inside c.loop-ahead.invariant.free (rw c.pin_straight.ensures at c.in_ok-quick.ensures.leads) (rw c.pin_straight.ensures at c.in_ok-quick.ensures.goes) c.note_again.ensures in
     let ends = (rw c.steps.ensures.steps at c.last_of-last.ensures.ends) in
     if_so c.delay_slot.result c.delay_slot.ensures
-    (λ slot so.
-    subst (λ (slot : ℕ). IsIndexIn c.args.page c.step_quickly.new.flow.pc slot) (sym so.0)
-    (word_here _ _ _ _ _ _ _ _ _ _ _ _ _ _ ends at (more_to (c.loop-ahead.index + 1) c.args.first c.last_of-last.result c.args.recorder.now.steps c.note_again.new.self.steps c.steps-in-DelaySlot.result c.steps-in-DelaySlot.ensures.steps at.count at.low so.1)))
+    (λ slot so inside.
+    subst (λ (slot : ℕ). IsIndexIn c.args.page c.step_quickly.new.flow.pc slot) (sym so.0) (word_here _ _ _ _ _ _ _ _ _ _ _ _ _ _ at (omega (arith, so.0, inside))))
 
 pub returns-in-DelaySlot-clause-room : goal.returns-in-DelaySlot-clause-room
 returns-in-DelaySlot-clause-room g c =
     let at = at_next c.step_quickly.new.core c.step_quickly.new.flow c.step_quickly.new.memory.words.items (rw c.steps.ensures.steps at c.last_of-last.ensures.ends) c.loop-ahead.invariant.at
     (more_to c.loop-ahead.index c.args.first c.last_of-last.result c.args.recorder.now.steps c.loop-ahead.recorder.steps c.steps-in-loop-ahead.result c.steps-in-loop-ahead.ensures.steps
     c.loop-ahead.invariant.at.count c.loop-ahead.invariant.at.low c.loop-ahead-test.true)
-    c.loop-ahead.invariant.free (rw c.pin_straight.ensures at c.in_ok-quick.ensures.leads) (rw c.pin_straight.ensures at c.in_ok-quick.ensures.goes) c.note_again.ensures in
+    c.in_ok-quick.ensures.inside c.loop-ahead.invariant.free (rw c.pin_straight.ensures at c.in_ok-quick.ensures.leads) (rw c.pin_straight.ensures at c.in_ok-quick.ensures.goes) c.note_again.ensures in
     let ends = (rw c.steps.ensures.steps at c.last_of-last.ensures.ends) in
     if_so c.delay_slot.result c.delay_slot.ensures
     (λ slot so. fewer_than _ _ _ _ _ _ _ _ _ _ _ _ _ _ ends at (more_to (c.loop-ahead.index + 1) c.args.first c.last_of-last.result c.args.recorder.now.steps c.note_again.new.self.steps c.steps-in-DelaySlot.result c.steps-in-DelaySlot.ensures.steps at.count at.low so.1))
@@ -63,23 +67,24 @@ returns-in-DelaySlot-clause-elsewhere g c =
     let at = at_next c.step_quickly.new.core c.step_quickly.new.flow c.step_quickly.new.memory.words.items (rw c.steps.ensures.steps at c.last_of-last.ensures.ends) c.loop-ahead.invariant.at
     (more_to c.loop-ahead.index c.args.first c.last_of-last.result c.args.recorder.now.steps c.loop-ahead.recorder.steps c.steps-in-loop-ahead.result c.steps-in-loop-ahead.ensures.steps
     c.loop-ahead.invariant.at.count c.loop-ahead.invariant.at.low c.loop-ahead-test.true)
-    c.loop-ahead.invariant.free (rw c.pin_straight.ensures at c.in_ok-quick.ensures.leads) (rw c.pin_straight.ensures at c.in_ok-quick.ensures.goes) c.note_again.ensures in
+    c.in_ok-quick.ensures.inside c.loop-ahead.invariant.free (rw c.pin_straight.ensures at c.in_ok-quick.ensures.leads) (rw c.pin_straight.ensures at c.in_ok-quick.ensures.goes) c.note_again.ensures in
     let ends = (rw c.steps.ensures.steps at c.last_of-last.ensures.ends) in
     if_so c.delay_slot.result c.delay_slot.ensures
-    (λ slot so address word.
+    (λ slot so inside address word.
+    let in_page : c.loop-ahead.index + 1 < PAGE_WORDS = omega (arith, so.0, inside) in
     let more = (more_to (c.loop-ahead.index + 1) c.args.first c.last_of-last.result c.args.recorder.now.steps c.note_again.new.self.steps c.steps-in-DelaySlot.result c.steps-in-DelaySlot.ensures.steps at.count at.low so.1) in
-    not_at c.args.page address c.args.first (c.loop-ahead.index + 1) _ c.args.halt _ at.low more ends.stops word (word_here _ _ _ _ _ _ _ _ _ _ _ _ _ _ ends at more))
+    not_at c.args.page address c.args.first (c.loop-ahead.index + 1) _ c.args.halt _ at.low more in_page ends.stops word (word_here _ _ _ _ _ _ _ _ _ _ _ _ _ _ at in_page))
 
 pub loop-ahead-preserved-in-WordAfterLoad : goal.loop-ahead-preserved-in-WordAfterLoad
 loop-ahead-preserved-in-WordAfterLoad g c = record {
   at = at_next c.step_quickly.new.core c.step_quickly.new.flow c.step_quickly.new.memory.words.items (rw c.steps.ensures.steps at c.last_of-last.ensures.ends) c.loop-ahead.invariant.at
       (more_to c.loop-ahead.index c.args.first c.last_of-last.result c.args.recorder.now.steps c.loop-ahead.recorder.steps c.steps-in-loop-ahead.result c.steps-in-loop-ahead.ensures.steps
       c.loop-ahead.invariant.at.count c.loop-ahead.invariant.at.low c.loop-ahead-test.true)
-      c.loop-ahead.invariant.free (rw c.pin_straight.ensures at c.in_ok-quick.ensures.leads) (rw c.pin_straight.ensures at c.in_ok-quick.ensures.goes) c.note_again-in-WordAfterLoad.ensures;
+      c.in_ok-quick.ensures.inside c.loop-ahead.invariant.free (rw c.pin_straight.ensures at c.in_ok-quick.ensures.leads) (rw c.pin_straight.ensures at c.in_ok-quick.ensures.goes) c.note_again-in-WordAfterLoad.ensures;
   free = rw c.in-WordAfterLoad.is at c.in_ok-quick.ensures.next;
   opened = c.step_quickly.ensures.opened;
   named = still_named (known_in g.row.PAGES c.loop-ahead.memory) (known_in g.row.PAGES c.step_quickly.new.memory) c.args.page.page (c.loop-ahead.index + 1) (number_of c.name_after-ahead.result)
-      (rw c.in-WordAfterLoad.is at c.in_ok-quick.ensures.knows) c.name_after-ahead.ensures;
+      (rw c.in-WordAfterLoad.is at c.in_ok-quick.ensures.knows) (c.name_after-ahead.ensures c.in_ok-quick.ensures.inside);
 }
 
 pub loop-flow-init : goal.loop-flow-init
@@ -90,12 +95,12 @@ loop-flow-init g c =
             at = at_next c.step_quickly.new.core c.step_quickly.new.flow c.step_quickly.new.memory.words.items (rw c.steps.ensures.steps at c.last_of-last.ensures.ends) c.loop-ahead.invariant.at
                 (more_to c.loop-ahead.index c.args.first c.last_of-last.result c.args.recorder.now.steps c.loop-ahead.recorder.steps c.steps-in-loop-ahead.result c.steps-in-loop-ahead.ensures.steps
                 c.loop-ahead.invariant.at.count c.loop-ahead.invariant.at.low c.loop-ahead-test.true)
-                c.loop-ahead.invariant.free (rw c.pin_straight.ensures at c.in_ok-quick.ensures.leads) (rw c.pin_straight.ensures at c.in_ok-quick.ensures.goes) w.note_again-in-Word.ensures;
+                c.in_ok-quick.ensures.inside c.loop-ahead.invariant.free (rw c.pin_straight.ensures at c.in_ok-quick.ensures.leads) (rw c.pin_straight.ensures at c.in_ok-quick.ensures.goes) w.note_again-in-Word.ensures;
             free = next.1;
             unloaded = next.0;
             opened = c.step_quickly.ensures.opened;
             named = still_named (known_in g.row.PAGES c.loop-ahead.memory) (known_in g.row.PAGES c.step_quickly.new.memory) c.args.page.page (c.loop-ahead.index + 1) (number_of c.name_after-ahead.result)
-                (rw w.in-Word.is at c.in_ok-quick.ensures.knows) c.name_after-ahead.ensures;
+                (rw w.in-Word.is at c.in_ok-quick.ensures.knows) (c.name_after-ahead.ensures c.in_ok-quick.ensures.inside);
             least = omega arith;
           }
       | in-WordAfterHiLo w ↦
@@ -103,12 +108,12 @@ loop-flow-init g c =
             at = at_next c.step_quickly.new.core c.step_quickly.new.flow c.step_quickly.new.memory.words.items (rw c.steps.ensures.steps at c.last_of-last.ensures.ends) c.loop-ahead.invariant.at
                 (more_to c.loop-ahead.index c.args.first c.last_of-last.result c.args.recorder.now.steps c.loop-ahead.recorder.steps c.steps-in-loop-ahead.result c.steps-in-loop-ahead.ensures.steps
                 c.loop-ahead.invariant.at.count c.loop-ahead.invariant.at.low c.loop-ahead-test.true)
-                c.loop-ahead.invariant.free (rw c.pin_straight.ensures at c.in_ok-quick.ensures.leads) (rw c.pin_straight.ensures at c.in_ok-quick.ensures.goes) w.note_again-in-WordAfterHiLo.ensures;
+                c.in_ok-quick.ensures.inside c.loop-ahead.invariant.free (rw c.pin_straight.ensures at c.in_ok-quick.ensures.leads) (rw c.pin_straight.ensures at c.in_ok-quick.ensures.goes) w.note_again-in-WordAfterHiLo.ensures;
             free = next.1;
             unloaded = next.0;
             opened = c.step_quickly.ensures.opened;
             named = still_named (known_in g.row.PAGES c.loop-ahead.memory) (known_in g.row.PAGES c.step_quickly.new.memory) c.args.page.page (c.loop-ahead.index + 1) (number_of c.name_after-ahead.result)
-                (rw w.in-WordAfterHiLo.is at c.in_ok-quick.ensures.knows) c.name_after-ahead.ensures;
+                (rw w.in-WordAfterHiLo.is at c.in_ok-quick.ensures.knows) (c.name_after-ahead.ensures c.in_ok-quick.ensures.inside);
             least = omega arith;
           }
       | in-WordAfterNone w ↦
@@ -116,11 +121,11 @@ loop-flow-init g c =
             at = at_next c.step_quickly.new.core c.step_quickly.new.flow c.step_quickly.new.memory.words.items (rw c.steps.ensures.steps at c.last_of-last.ensures.ends) c.loop-ahead.invariant.at
                 (more_to c.loop-ahead.index c.args.first c.last_of-last.result c.args.recorder.now.steps c.loop-ahead.recorder.steps c.steps-in-loop-ahead.result c.steps-in-loop-ahead.ensures.steps
                 c.loop-ahead.invariant.at.count c.loop-ahead.invariant.at.low c.loop-ahead-test.true)
-                c.loop-ahead.invariant.free (rw c.pin_straight.ensures at c.in_ok-quick.ensures.leads) (rw c.pin_straight.ensures at c.in_ok-quick.ensures.goes) w.note_again-in-WordAfterNone.ensures;
+                c.in_ok-quick.ensures.inside c.loop-ahead.invariant.free (rw c.pin_straight.ensures at c.in_ok-quick.ensures.leads) (rw c.pin_straight.ensures at c.in_ok-quick.ensures.goes) w.note_again-in-WordAfterNone.ensures;
             free = next.1;
             unloaded = next.0;
             opened = c.step_quickly.ensures.opened;
-            named = w.name_after-ahead-in-WordAfterNone.ensures;
+            named = w.name_after-ahead-in-WordAfterNone.ensures c.in_ok-quick.ensures.inside;
             least = omega arith;
           }
     ]
@@ -140,26 +145,25 @@ pub returns-in-DelaySlot-next-clause-goes : goal.returns-in-DelaySlot-next-claus
 returns-in-DelaySlot-next-clause-goes g c = (at_next c.step_quickly-in-loop-flow.new.core c.step_quickly-in-loop-flow.new.flow c.step_quickly-in-loop-flow.new.memory.words.items (rw c.steps.ensures.steps at c.last_of-last.ensures.ends) c.loop-flow.invariant.at
     (more_to c.loop-flow.index c.args.first c.last_of-last.result c.args.recorder.now.steps c.loop-flow.recorder.steps c.steps-in-loop-flow.result c.steps-in-loop-flow.ensures.steps
     c.loop-flow.invariant.at.count c.loop-flow.invariant.at.low c.loop-flow-test.true)
-    c.loop-flow.invariant.free (rw (c.pin_unloaded.ensures, c.pin_straight-in-loop-flow.ensures) at c.in_ok-quick-2.ensures.leads) (rw (c.pin_unloaded.ensures, c.pin_straight-in-loop-flow.ensures) at c.in_ok-quick-2.ensures.goes) c.note_again-in-DelaySlot-next.ensures).goes
+    c.in_ok-quick-2.ensures.inside c.loop-flow.invariant.free (rw (c.pin_unloaded.ensures, c.pin_straight-in-loop-flow.ensures) at c.in_ok-quick-2.ensures.leads) (rw (c.pin_unloaded.ensures, c.pin_straight-in-loop-flow.ensures) at c.in_ok-quick-2.ensures.goes) c.note_again-in-DelaySlot-next.ensures).goes
 
 pub returns-in-DelaySlot-next-clause-here : goal.returns-in-DelaySlot-next-clause-here
 returns-in-DelaySlot-next-clause-here g c =
     let at = at_next c.step_quickly-in-loop-flow.new.core c.step_quickly-in-loop-flow.new.flow c.step_quickly-in-loop-flow.new.memory.words.items (rw c.steps.ensures.steps at c.last_of-last.ensures.ends) c.loop-flow.invariant.at
     (more_to c.loop-flow.index c.args.first c.last_of-last.result c.args.recorder.now.steps c.loop-flow.recorder.steps c.steps-in-loop-flow.result c.steps-in-loop-flow.ensures.steps
     c.loop-flow.invariant.at.count c.loop-flow.invariant.at.low c.loop-flow-test.true)
-    c.loop-flow.invariant.free (rw (c.pin_unloaded.ensures, c.pin_straight-in-loop-flow.ensures) at c.in_ok-quick-2.ensures.leads) (rw (c.pin_unloaded.ensures, c.pin_straight-in-loop-flow.ensures) at c.in_ok-quick-2.ensures.goes) c.note_again-in-DelaySlot-next.ensures in
+    c.in_ok-quick-2.ensures.inside c.loop-flow.invariant.free (rw (c.pin_unloaded.ensures, c.pin_straight-in-loop-flow.ensures) at c.in_ok-quick-2.ensures.leads) (rw (c.pin_unloaded.ensures, c.pin_straight-in-loop-flow.ensures) at c.in_ok-quick-2.ensures.goes) c.note_again-in-DelaySlot-next.ensures in
     let ends = (rw c.steps.ensures.steps at c.last_of-last.ensures.ends) in
     if_so c.delay_slot-in-DelaySlot-next.result c.delay_slot-in-DelaySlot-next.ensures
-    (λ slot so.
-    subst (λ (slot : ℕ). IsIndexIn c.args.page c.step_quickly-in-loop-flow.new.flow.pc slot) (sym so.0)
-    (word_here _ _ _ _ _ _ _ _ _ _ _ _ _ _ ends at (more_to (c.loop-flow.index + 1) c.args.first c.last_of-last.result c.args.recorder.now.steps c.note_again-in-DelaySlot-next.new.self.steps c.steps-in-DelaySlot-next.result c.steps-in-DelaySlot-next.ensures.steps at.count at.low so.1)))
+    (λ slot so inside.
+    subst (λ (slot : ℕ). IsIndexIn c.args.page c.step_quickly-in-loop-flow.new.flow.pc slot) (sym so.0) (word_here _ _ _ _ _ _ _ _ _ _ _ _ _ _ at (omega (arith, so.0, inside))))
 
 pub returns-in-DelaySlot-next-clause-room : goal.returns-in-DelaySlot-next-clause-room
 returns-in-DelaySlot-next-clause-room g c =
     let at = at_next c.step_quickly-in-loop-flow.new.core c.step_quickly-in-loop-flow.new.flow c.step_quickly-in-loop-flow.new.memory.words.items (rw c.steps.ensures.steps at c.last_of-last.ensures.ends) c.loop-flow.invariant.at
     (more_to c.loop-flow.index c.args.first c.last_of-last.result c.args.recorder.now.steps c.loop-flow.recorder.steps c.steps-in-loop-flow.result c.steps-in-loop-flow.ensures.steps
     c.loop-flow.invariant.at.count c.loop-flow.invariant.at.low c.loop-flow-test.true)
-    c.loop-flow.invariant.free (rw (c.pin_unloaded.ensures, c.pin_straight-in-loop-flow.ensures) at c.in_ok-quick-2.ensures.leads) (rw (c.pin_unloaded.ensures, c.pin_straight-in-loop-flow.ensures) at c.in_ok-quick-2.ensures.goes) c.note_again-in-DelaySlot-next.ensures in
+    c.in_ok-quick-2.ensures.inside c.loop-flow.invariant.free (rw (c.pin_unloaded.ensures, c.pin_straight-in-loop-flow.ensures) at c.in_ok-quick-2.ensures.leads) (rw (c.pin_unloaded.ensures, c.pin_straight-in-loop-flow.ensures) at c.in_ok-quick-2.ensures.goes) c.note_again-in-DelaySlot-next.ensures in
     let ends = (rw c.steps.ensures.steps at c.last_of-last.ensures.ends) in
     if_so c.delay_slot-in-DelaySlot-next.result c.delay_slot-in-DelaySlot-next.ensures
     (λ slot so. fewer_than _ _ _ _ _ _ _ _ _ _ _ _ _ _ ends at (more_to (c.loop-flow.index + 1) c.args.first c.last_of-last.result c.args.recorder.now.steps c.note_again-in-DelaySlot-next.new.self.steps c.steps-in-DelaySlot-next.result c.steps-in-DelaySlot-next.ensures.steps at.count at.low so.1))
@@ -169,23 +173,24 @@ returns-in-DelaySlot-next-clause-elsewhere g c =
     let at = at_next c.step_quickly-in-loop-flow.new.core c.step_quickly-in-loop-flow.new.flow c.step_quickly-in-loop-flow.new.memory.words.items (rw c.steps.ensures.steps at c.last_of-last.ensures.ends) c.loop-flow.invariant.at
     (more_to c.loop-flow.index c.args.first c.last_of-last.result c.args.recorder.now.steps c.loop-flow.recorder.steps c.steps-in-loop-flow.result c.steps-in-loop-flow.ensures.steps
     c.loop-flow.invariant.at.count c.loop-flow.invariant.at.low c.loop-flow-test.true)
-    c.loop-flow.invariant.free (rw (c.pin_unloaded.ensures, c.pin_straight-in-loop-flow.ensures) at c.in_ok-quick-2.ensures.leads) (rw (c.pin_unloaded.ensures, c.pin_straight-in-loop-flow.ensures) at c.in_ok-quick-2.ensures.goes) c.note_again-in-DelaySlot-next.ensures in
+    c.in_ok-quick-2.ensures.inside c.loop-flow.invariant.free (rw (c.pin_unloaded.ensures, c.pin_straight-in-loop-flow.ensures) at c.in_ok-quick-2.ensures.leads) (rw (c.pin_unloaded.ensures, c.pin_straight-in-loop-flow.ensures) at c.in_ok-quick-2.ensures.goes) c.note_again-in-DelaySlot-next.ensures in
     let ends = (rw c.steps.ensures.steps at c.last_of-last.ensures.ends) in
     if_so c.delay_slot-in-DelaySlot-next.result c.delay_slot-in-DelaySlot-next.ensures
-    (λ slot so address word.
+    (λ slot so inside address word.
+    let in_page : c.loop-flow.index + 1 < PAGE_WORDS = omega (arith, so.0, inside) in
     let more = (more_to (c.loop-flow.index + 1) c.args.first c.last_of-last.result c.args.recorder.now.steps c.note_again-in-DelaySlot-next.new.self.steps c.steps-in-DelaySlot-next.result c.steps-in-DelaySlot-next.ensures.steps at.count at.low so.1) in
-    not_at c.args.page address c.args.first (c.loop-flow.index + 1) _ c.args.halt _ at.low more ends.stops word (word_here _ _ _ _ _ _ _ _ _ _ _ _ _ _ ends at more))
+    not_at c.args.page address c.args.first (c.loop-flow.index + 1) _ c.args.halt _ at.low more in_page ends.stops word (word_here _ _ _ _ _ _ _ _ _ _ _ _ _ _ at in_page))
 
 pub loop-ahead-preserved : goal.loop-ahead-preserved
 loop-ahead-preserved g c = record {
   at = at_next c.step_quickly-in-loop-flow.new.core c.step_quickly-in-loop-flow.new.flow c.step_quickly-in-loop-flow.new.memory.words.items (rw c.steps.ensures.steps at c.last_of-last.ensures.ends) c.loop-flow.invariant.at
       (more_to c.loop-flow.index c.args.first c.last_of-last.result c.args.recorder.now.steps c.loop-flow.recorder.steps c.steps-in-loop-flow.result c.steps-in-loop-flow.ensures.steps
       c.loop-flow.invariant.at.count c.loop-flow.invariant.at.low c.loop-flow-test.true)
-      c.loop-flow.invariant.free (rw (c.pin_unloaded.ensures, c.pin_straight-in-loop-flow.ensures) at c.in_ok-quick-2.ensures.leads) (rw (c.pin_unloaded.ensures, c.pin_straight-in-loop-flow.ensures) at c.in_ok-quick-2.ensures.goes) c.note_again-in-WordAfterLoad-next.ensures;
+      c.in_ok-quick-2.ensures.inside c.loop-flow.invariant.free (rw (c.pin_unloaded.ensures, c.pin_straight-in-loop-flow.ensures) at c.in_ok-quick-2.ensures.leads) (rw (c.pin_unloaded.ensures, c.pin_straight-in-loop-flow.ensures) at c.in_ok-quick-2.ensures.goes) c.note_again-in-WordAfterLoad-next.ensures;
   free = rw c.in-WordAfterLoad-next.is at c.in_ok-quick-2.ensures.next;
   opened = c.step_quickly-in-loop-flow.ensures.opened;
   named = still_named (known_in g.row.PAGES c.loop-flow.memory) (known_in g.row.PAGES c.step_quickly-in-loop-flow.new.memory) c.args.page.page (c.loop-flow.index + 1) (number_of c.name_after-ahead-in-loop-flow.result)
-      (rw c.in-WordAfterLoad-next.is at c.in_ok-quick-2.ensures.knows) c.name_after-ahead-in-loop-flow.ensures;
+      (rw c.in-WordAfterLoad-next.is at c.in_ok-quick-2.ensures.knows) (c.name_after-ahead-in-loop-flow.ensures c.in_ok-quick-2.ensures.inside);
 }
 
 pub loop-flow-preserved-in-Word-next : goal.loop-flow-preserved-in-Word-next
@@ -194,12 +199,12 @@ loop-flow-preserved-in-Word-next g c =
       at = at_next c.step_quickly-in-loop-flow.new.core c.step_quickly-in-loop-flow.new.flow c.step_quickly-in-loop-flow.new.memory.words.items (rw c.steps.ensures.steps at c.last_of-last.ensures.ends) c.loop-flow.invariant.at
           (more_to c.loop-flow.index c.args.first c.last_of-last.result c.args.recorder.now.steps c.loop-flow.recorder.steps c.steps-in-loop-flow.result c.steps-in-loop-flow.ensures.steps
           c.loop-flow.invariant.at.count c.loop-flow.invariant.at.low c.loop-flow-test.true)
-          c.loop-flow.invariant.free (rw (c.pin_unloaded.ensures, c.pin_straight-in-loop-flow.ensures) at c.in_ok-quick-2.ensures.leads) (rw (c.pin_unloaded.ensures, c.pin_straight-in-loop-flow.ensures) at c.in_ok-quick-2.ensures.goes) c.note_again-in-Word-next.ensures;
+          c.in_ok-quick-2.ensures.inside c.loop-flow.invariant.free (rw (c.pin_unloaded.ensures, c.pin_straight-in-loop-flow.ensures) at c.in_ok-quick-2.ensures.leads) (rw (c.pin_unloaded.ensures, c.pin_straight-in-loop-flow.ensures) at c.in_ok-quick-2.ensures.goes) c.note_again-in-Word-next.ensures;
       free = next.1;
       unloaded = next.0;
       opened = c.step_quickly-in-loop-flow.ensures.opened;
       named = still_named (known_in g.row.PAGES c.loop-flow.memory) (known_in g.row.PAGES c.step_quickly-in-loop-flow.new.memory) c.args.page.page (c.loop-flow.index + 1) (number_of c.name_after-ahead-in-loop-flow.result)
-          (rw c.in-Word-next.is at c.in_ok-quick-2.ensures.knows) c.name_after-ahead-in-loop-flow.ensures;
+          (rw c.in-Word-next.is at c.in_ok-quick-2.ensures.knows) (c.name_after-ahead-in-loop-flow.ensures c.in_ok-quick-2.ensures.inside);
       least = omega (arith, c.loop-flow.invariant.least, c.note_again-in-Word-next.ensures.steps);
     }
 
@@ -209,12 +214,12 @@ loop-flow-preserved-in-WordAfterHiLo-next g c =
       at = at_next c.step_quickly-in-loop-flow.new.core c.step_quickly-in-loop-flow.new.flow c.step_quickly-in-loop-flow.new.memory.words.items (rw c.steps.ensures.steps at c.last_of-last.ensures.ends) c.loop-flow.invariant.at
           (more_to c.loop-flow.index c.args.first c.last_of-last.result c.args.recorder.now.steps c.loop-flow.recorder.steps c.steps-in-loop-flow.result c.steps-in-loop-flow.ensures.steps
           c.loop-flow.invariant.at.count c.loop-flow.invariant.at.low c.loop-flow-test.true)
-          c.loop-flow.invariant.free (rw (c.pin_unloaded.ensures, c.pin_straight-in-loop-flow.ensures) at c.in_ok-quick-2.ensures.leads) (rw (c.pin_unloaded.ensures, c.pin_straight-in-loop-flow.ensures) at c.in_ok-quick-2.ensures.goes) c.note_again-in-WordAfterHiLo-next.ensures;
+          c.in_ok-quick-2.ensures.inside c.loop-flow.invariant.free (rw (c.pin_unloaded.ensures, c.pin_straight-in-loop-flow.ensures) at c.in_ok-quick-2.ensures.leads) (rw (c.pin_unloaded.ensures, c.pin_straight-in-loop-flow.ensures) at c.in_ok-quick-2.ensures.goes) c.note_again-in-WordAfterHiLo-next.ensures;
       free = next.1;
       unloaded = next.0;
       opened = c.step_quickly-in-loop-flow.ensures.opened;
       named = still_named (known_in g.row.PAGES c.loop-flow.memory) (known_in g.row.PAGES c.step_quickly-in-loop-flow.new.memory) c.args.page.page (c.loop-flow.index + 1) (number_of c.name_after-ahead-in-loop-flow.result)
-          (rw c.in-WordAfterHiLo-next.is at c.in_ok-quick-2.ensures.knows) c.name_after-ahead-in-loop-flow.ensures;
+          (rw c.in-WordAfterHiLo-next.is at c.in_ok-quick-2.ensures.knows) (c.name_after-ahead-in-loop-flow.ensures c.in_ok-quick-2.ensures.inside);
       least = omega (arith, c.loop-flow.invariant.least, c.note_again-in-WordAfterHiLo-next.ensures.steps);
     }
 
@@ -224,11 +229,11 @@ loop-flow-preserved g c =
       at = at_next c.step_quickly-in-loop-flow.new.core c.step_quickly-in-loop-flow.new.flow c.step_quickly-in-loop-flow.new.memory.words.items (rw c.steps.ensures.steps at c.last_of-last.ensures.ends) c.loop-flow.invariant.at
           (more_to c.loop-flow.index c.args.first c.last_of-last.result c.args.recorder.now.steps c.loop-flow.recorder.steps c.steps-in-loop-flow.result c.steps-in-loop-flow.ensures.steps
           c.loop-flow.invariant.at.count c.loop-flow.invariant.at.low c.loop-flow-test.true)
-          c.loop-flow.invariant.free (rw (c.pin_unloaded.ensures, c.pin_straight-in-loop-flow.ensures) at c.in_ok-quick-2.ensures.leads) (rw (c.pin_unloaded.ensures, c.pin_straight-in-loop-flow.ensures) at c.in_ok-quick-2.ensures.goes) c.note_again-in-WordAfterNone-next.ensures;
+          c.in_ok-quick-2.ensures.inside c.loop-flow.invariant.free (rw (c.pin_unloaded.ensures, c.pin_straight-in-loop-flow.ensures) at c.in_ok-quick-2.ensures.leads) (rw (c.pin_unloaded.ensures, c.pin_straight-in-loop-flow.ensures) at c.in_ok-quick-2.ensures.goes) c.note_again-in-WordAfterNone-next.ensures;
       free = next.1;
       unloaded = next.0;
       opened = c.step_quickly-in-loop-flow.ensures.opened;
-      named = c.name_after-ahead-in-WordAfterNone-next.ensures;
+      named = c.name_after-ahead-in-WordAfterNone-next.ensures c.in_ok-quick-2.ensures.inside;
       least = omega (arith, c.loop-flow.invariant.least, c.note_again-in-WordAfterNone-next.ensures.steps);
     }
 
