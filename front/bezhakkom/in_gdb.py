@@ -142,7 +142,7 @@ def as_place(word: str, of_code: bool) -> str:
     if where is None:
         return word
     try:
-        places = gdb.decode_line(where)[1] or ()
+        places = list(gdb.decode_line(where)[1] or ())
     except gdb.error as error:
         raise gdb.GdbError(str(error)) from None
     if len(places) != 1:

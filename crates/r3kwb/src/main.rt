@@ -26,7 +26,9 @@ fn main(rt: HostRuntime) -> ExitCode {
     ExitCode::from(status)
 }
 
-// The program's words.
+// The program's words. This function and the next stand outside `main`, as their size moves the code of quick steps (docs/DECISIONS.md).
+#[cold]
+#[inline(never)]
 fn arguments(rt: &HostRuntime) -> Result<Vec<String>, NoWords> {
     match env::args(rt) {
         Err(error) if error.kind() == ErrorKind::OutOfMemory => Err(NoWords::NoMemory),
@@ -36,6 +38,8 @@ fn arguments(rt: &HostRuntime) -> Result<Vec<String>, NoWords> {
 }
 
 // The same as the program takes them.
+#[cold]
+#[inline(never)]
 fn words<'a>(rt: &HostRuntime, arguments: &'a [String]) -> Result<Vec<&'a str>, NoWords> {
     let mut words = Vec::new(rt.alloc());
     for word in arguments {
