@@ -1,9 +1,9 @@
 -- What interrupts, translation and the isolated cache do to the registers (Kane and Heinrich, chapters 4 to 6).
 use Rattle.std.specs.Prelude.{◌≡◌, IsFalse, ℕ, zero, suc, ◌+◌, ◌-◌, ◌*◌, ◌^◌, Bool, Option, Some, None, ◌==◌, ◌&&◌, if◌then◌else◌, bit_and, bit_or}
 use Rattle.r3k_word.specs.Word.{with_field_of, has, flag, merged}
-use Rattle.cop0.specs.declared.number.TheConstants.{ENTRY_HI_MASK, ENTRY_LO_MASK, STATUS}
+use Rattle.cop0.specs.declared.number.TheConstants.{ENTRY_HI_MASK, ENTRY_LO_MASK}
 use Rattle.cop0.specs.declared.status.TheConstants.{TS, CM, IEC, INTERRUPTS}
-use Rattle.cop0.specs.Registers.{Registers, written}
+use Rattle.cop0.specs.Registers.{Registers}
 use Rattle.cop0.specs.Status.{in_user_mode, is_isolated, popped}
 
 -- Cause bit 10 is the board's line, and bit 11 the clock's (own)
@@ -14,11 +14,11 @@ sampled c board clock = record c { cause = with_field_of 11 10 c.cause (2 * flag
 abbrev pub is_wanted : Registers → Bool
 is_wanted c = has c.status IEC && has (bit_and c.cause c.status) INTERRUPTS
 
--- A write of Status leaves the mode and the isolation of the cache as they are, and no interrupt is wanted after it (own).
-pub record StaysQuiet (c : Registers) (word : ℕ) : Type 0 where
-  pub user : in_user_mode (written c STATUS word) ≡ in_user_mode c
-  pub isolated : is_isolated (written c STATUS word) ≡ is_isolated c
-  pub unwanted : IsFalse (is_wanted (written c STATUS word))
+-- A change leaves the mode and the isolation of the cache as they are, and no interrupt is wanted after it (own).
+pub record StaysQuiet (before after : Registers) : Type 0 where
+  pub user : in_user_mode after ≡ in_user_mode before
+  pub isolated : is_isolated after ≡ is_isolated before
+  pub unwanted : IsFalse (is_wanted after)
 
 -- Random after it falls by one, from 8 to 63
 abbrev pub random_below : ℕ → ℕ

@@ -213,9 +213,24 @@ impl Cop0 {
     /// Whether a write of Status leaves the mode and the isolation of the cache as they are, and no interrupt is wanted after it.
     #[inline]
     pub fn stays_quiet(&self, word: u32) -> bool
-        ensures { IsTrue result ↔ StaysQuiet self.now word }
+        ensures { IsTrue result ↔ StaysQuiet self.now (written self.now STATUS word) }
     {
-        let status = merge(STATUS_MASK, self.status, word);
+        self.is_quiet_with(merge(STATUS_MASK, self.status, word))
+    }
+
+    /// The same of the return from an exception.
+    #[inline]
+    pub fn returns_quietly(&self) -> bool
+        ensures { IsTrue result ↔ StaysQuiet self.now (returned self.now) }
+    {
+        self.is_quiet_with(popped(self.status))
+    }
+
+    // The same of a change to this Status.
+    #[inline]
+    fn is_quiet_with(&self, status: u32) -> bool
+        ensures { IsTrue result ↔ StaysQuiet self.now (record self.now { status = status }) }
+    {
         let same_mode = (status & KUC != 0) == (self.status & KUC != 0);
         let same_cache = (status & ISC != 0) == (self.status & ISC != 0);
         let wanted = status & IEC != 0 && self.cause & status & INTERRUPTS != 0;

@@ -12,4 +12,5 @@ mod Noted
 mod CodePages
 mod Leads
 mod Quick
+mod Touched
 mod Turns

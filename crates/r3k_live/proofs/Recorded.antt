@@ -1,5 +1,5 @@
 -- What is recorded of a run, after one more step.
-use Rattle.std.proofs.Common.{◌≡◌, ℕ, zero, suc, ◌+◌, ◌*◌, ◌/◌, ◌%◌, ◌<◌, Bool, true, false, ◌||◌, ◌==◌, if◌then◌else◌, List, [], ◌∷◌, ◌++◌, length, Option, Some, None, IfSome, IsFalse, IsTrue, nat_eq, slice_index, slice_index_or, slice_set, refl, sym, ap, subst, ◌∙◌, arith, inl, inr, get_or}
+use Rattle.std.proofs.Common.{◌≡◌, ℕ, zero, suc, ◌+◌, ◌*◌, ◌/◌, ◌%◌, ◌<◌, Bool, true, false, ◌||◌, ◌==◌, if◌then◌else◌, List, [], ◌∷◌, ◌++◌, length, Option, Some, None, IfSome, IsFalse, IsSome, IsTrue, nat_eq, slice_index, slice_index_or, slice_set, refl, sym, ap, subst, ◌∙◌, arith, inl, inr, get_or}
 use Rattle.std.specs.List.{list_any}
 use Rattle.std.proofs.Math.Path.{ap₂}
 use Rattle.std.proofs.lemmas.Bool.{cases_Bool, cases_lt, eq-eqb, eqb-true, true≢false}
@@ -7,7 +7,7 @@ use Rattle.std.proofs.lemmas.Option.{none-some}
 use Rattle.std.proofs.lemmas.List.{get_or-set_same, get_or-set_other}
 use Rattle.dz_serial.specs.declared.write.Sent.{Sent}
 use Rattle.r3k_word.specs.Layout.{page_of_place}
-use Rattle.r3k_word.specs.declared.layout.TheConstants.{PAGE_WORDS}
+use Rattle.r3k_word.specs.declared.layout.TheConstants.{PAGE_BYTES, PAGE_WORDS}
 use Rattle.r3k_machine.specs.declared.step.Done.{Done}
 use Rattle.r3k_machine.specs.declared.target.Target.TheVariants.{Memory}
 use Rattle.r3k_machine.specs.Run.{is_stored, last_where, last_writer, later}
@@ -46,6 +46,14 @@ marked_again page set (Some other) marked =
       | inl here ↦ rw (subst (λ (n : ℕ). IsTrue (holds set n)) (eqb-true other page here) marked) refl
       | inr apart ↦ rw apart (sym (or-false (holds set page)))
     ]
+
+-- the page of a word that a step stored into is marked again, where each page that was stored into is marked
+pub stored_again : (page : ℕ) (set dirty : List ℕ) (stored second : Option ℕ) → IsSome stored
+    → IfSome stored (λ address. IsTrue (holds dirty (address / PAGE_BYTES))) → ((other : ℕ) → IsTrue (holds dirty other) → IsTrue (holds set other))
+    → IfSome stored (λ address. second ≡ Some (address / PAGE_BYTES)) → holds set page ≡ (holds set page || is_page page second)
+stored_again page set dirty None second some again wider is = absurd (true≢false (sym some))
+stored_again page set dirty (Some address) second some again wider is =
+    rw is (marked_again page set (Some (address / PAGE_BYTES)) (wider (address / PAGE_BYTES) again))
 
 -- the bytes that were sent
 in_front : (first : ℕ) (sent : Option Sent) (xs ys : List SentAt) → with_sent first sent (xs ++ ys) ≡ with_sent first sent xs ++ ys

@@ -1,5 +1,5 @@
 -- How a recorder keeps what steps reported (own).
-use Rattle.std.specs.Prelude.{◌≡◌, ℕ, ◌+◌, ◌*◌, ◌/◌, ◌<◌, ◌≤◌, List, [], ◌∷◌, ◌++◌, IsTrue, length, Option, Some, None, slice_index, slice_set}
+use Rattle.std.specs.Prelude.{◌≡◌, ℕ, ◌+◌, ◌*◌, ◌/◌, ◌<◌, ◌≤◌, List, [], ◌∷◌, ◌++◌, IfSome, IsTrue, length, Option, Some, None, slice_index, slice_index_or, slice_set}
 use Rattle.r3k_word.specs.declared.layout.TheConstants.{MAX_RAM_PAGES, PAGE_BYTES, PAGE_WORDS}
 use Rattle.r3k_machine.specs.declared.step.Done.{Done}
 use Rattle.r3k_machine.specs.declared.target.Target.TheVariants.{Memory}
@@ -30,13 +30,18 @@ abbrev pub page_of_store : Option ℕ → Option ℕ
 page_of_store None = None
 page_of_store (Some address) = Some (address / PAGE_BYTES)
 
--- a recorder has room for all that `span` steps can report
+-- the page of the word that a step stored into, if it did, is the second one that it touched
+abbrev pub TouchesStored : Done → Type 0
+TouchesStored done = IfSome done.stored (λ address. slice_index_or done.touched 1 None ≡ Some (address / PAGE_BYTES))
+
+-- a recorder has room for all that `span` steps can report, and each page that was stored into was touched
 pub record IsRecording (pages span sent_room : ℕ) (r : Recording) : Type 0 where
   pub few : pages ≤ MAX_RAM_PAGES
   pub steps : r.steps ≤ span
   pub last : length r.last ≡ pages * PAGE_WORDS
   pub sent : length r.sent ≤ r.steps
   pub sent_fits : span ≤ sent_room
+  pub stored_touched : (page : ℕ) → IsTrue (holds r.dirty page) → IsTrue (holds r.touched page)
 
 -- a recorder holds what these steps reported
 pub record Records (pages : ℕ) (steps : List Done) (r : Recording) : Type 0 where

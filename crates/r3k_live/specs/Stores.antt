@@ -30,9 +30,14 @@ AreInBlocks last blocks = (place : ℕ) → 0 < slice_index last place → IsTru
 abbrev pub AreInPages : (last pages : List ℕ) → Type 0
 AreInPages last pages = (place : ℕ) → 0 < slice_index last place → IsTrue (holds pages (page_of_place place))
 
+-- the page of each marked block is there
+abbrev pub HaveTheirPages : (blocks : List Bool) → (pages : List ℕ) → Type 0
+HaveTheirPages blocks pages = (block : ℕ) → IsTrue (slice_index_or blocks block false) → IsTrue (holds pages (block / PAGE_BLOCKS))
+
 pub record AreKept (pages : ℕ) (last : List ℕ) (blocks : List Bool) (dirty : List ℕ) : Type 0 where
   pub few : pages ≤ MAX_RAM_PAGES
   pub long : length last ≡ pages * PAGE_WORDS
   pub whole : length blocks ≡ pages * PAGE_BLOCKS
   pub blocks_marked : AreInBlocks last blocks
   pub pages_marked : AreInPages last dirty
+  pub dirty_marked : HaveTheirPages blocks dirty

@@ -1,6 +1,6 @@
 //! A plain memory: all words in one vector, and those of some pages decoded.
 
-ghost use Rattle.std.specs.Prelude.{◌≡◌, ◌+◌, ◌*◌, ◌/◌, ◌%◌, ◌≤◌, ◌<◌, ℕ, IfOk, IsFalse, IsTrue, length, map, slice_index, slice_index_or, slice_set};
+ghost use Rattle.std.specs.Prelude.{◌≡◌, ◌+◌, ◌*◌, ◌/◌, ◌%◌, ◌^◌, ◌≤◌, ◌<◌, ℕ, IfOk, IsFalse, IsTrue, length, map, slice_index, slice_index_or, slice_set};
 ghost use Rattle.std.specs.List.{range_with_len};
 ghost use Rattle.r3k_decode.specs.Operation.{Operation};
 ghost use Rattle.r3k_word.specs.Layout.{word_count_of};
@@ -63,6 +63,15 @@ fn slot_of(ram_pages: u32, page: u32) -> usize
     } else {
         (RAM_SLOTS + (page - ram_pages)) as usize
     }
+}
+
+/// The place of what is known of the first word of a page. That of the others comes after it.
+#[inline(always)]
+pub(crate) fn first_known(ram_pages: u32, page: u32) -> usize
+    requires { IsPage ram_pages page }
+    ensures { result < 2 ^ 29 }
+{
+    slot_of(ram_pages, page) * SLOT_WORDS
 }
 
 // Slots of whose words nothing is known.

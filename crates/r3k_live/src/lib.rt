@@ -5,6 +5,7 @@ mod boundary;
 mod changes;
 mod destinations;
 mod flat;
+mod index;
 mod laws;
 mod live;
 mod recorder;

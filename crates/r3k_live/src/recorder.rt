@@ -13,7 +13,7 @@ ghost use Rattle.r3k_pages.specs.declared.page.TheConstants.{PAGE_BLOCKS};
 ghost use Rattle.r3k_live.specs.Marks.{marks_of};
 ghost use Rattle.r3k_live.specs.Stores.{AreInBlocks};
 ghost use Rattle.r3k_live.specs.Record.{AreDestinations, AreWriters, dirty_pages, sent_from, touched_pages, with_sent};
-ghost use Rattle.r3k_live.specs.Recording.{IsNoted, Records};
+ghost use Rattle.r3k_live.specs.Recording.{IsNoted, Records, TouchesStored};
 ghost use Rattle.r3k_live.specs.Waiting.{HasPassed, IsHeld, held_at, is_among};
 
 use crate::destinations::Destinations;
@@ -257,12 +257,16 @@ impl<const PAGES: u32, const SPAN: u32> Recorder<PAGES, SPAN> {
         requires room { self.old.steps < SPAN }
         requires stored { IfSome done.stored (IsRamWord PAGES) }
         requires touched { All (λ page. IfSome page (IsPage PAGES)) done.touched }
+        requires pages { TouchesStored done }
         requires again { IfSome (fetched_page done) (λ page. IsTrue (holds self.old.touched page)) }
         ensures { IsNoted PAGES done self.old self.new }
     {
         note_sent(&mut self.sent, done.sent, self.steps);
-        self.stores.note(done.stored, self.steps);
-        mark(&mut self.touched, done.touched[1]);
+        let is_new = self.stores.note(done.stored, self.steps);
+        // A page that was stored into before was touched then.
+        if is_new || done.stored.is_none() {
+            mark(&mut self.touched, done.touched[1]);
+        }
         self.destinations.note(done.wrote, self.steps);
         self.steps += 1;
     }
@@ -273,6 +277,7 @@ impl<const PAGES: u32, const SPAN: u32> Recorder<PAGES, SPAN> {
         requires room { self.old.steps < SPAN }
         requires stored { IfSome done.stored (IsRamWord PAGES) }
         requires touched { All (λ page. IfSome page (IsPage PAGES)) done.touched }
+        requires pages { TouchesStored done }
         ensures steps { self.new.steps ≡ self.old.steps + 1 }
         ensures records { (steps : List Done) → Records PAGES steps self.old → Records PAGES (steps ++ done ∷ []) self.new }
         ensures code_pages { self.new.code_pages ≡ self.old.code_pages }

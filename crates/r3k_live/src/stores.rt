@@ -1,14 +1,14 @@
 //! The words that steps stored into, each with its last step, and their pages.
 
-ghost use Rattle.std.specs.Prelude.{◌≡◌, ◌+◌, ◌-◌, ◌*◌, ◌/◌, ◌^◌, ◌<◌, ◌≤◌, ◌||◌, ◌++◌, ℕ, [], All, Contains, IfOk, IfSome, IsTrue, false, length, slice_index, slice_index_or};
+ghost use Rattle.std.specs.Prelude.{◌≡◌, ◌+◌, ◌-◌, ◌*◌, ◌/◌, ◌^◌, ◌<◌, ◌≤◌, ◌||◌, ◌++◌, ℕ, [], All, Contains, IfOk, IfSome, IsFalse, IsTrue, false, length, nat_eq, slice_index, slice_index_or, slice_set, true};
 ghost use Rattle.r3k_word.specs.Layout.{page_of_place};
-ghost use Rattle.r3k_word.specs.declared.layout.TheConstants.{MAX_RAM_PAGES, PAGE_WORDS};
+ghost use Rattle.r3k_word.specs.declared.layout.TheConstants.{MAX_RAM_PAGES, PAGE_BYTES, PAGE_WORDS};
 ghost use Rattle.r3k_pages.specs.Pages.{holds};
 ghost use Rattle.r3k_machine.specs.Locality.{is_page};
 ghost use Rattle.r3k_machine.specs.Reports.{IsRamWord};
 ghost use Rattle.r3k_live.specs.Kept.{kept_step};
 ghost use Rattle.r3k_live.specs.Recording.{page_of_store, with_writer};
-ghost use Rattle.r3k_live.specs.Stores.{AreInBlocks, AreInPages, writers_in};
+ghost use Rattle.r3k_live.specs.Stores.{AreInBlocks, AreInPages, HaveTheirPages, writers_in};
 ghost use Rattle.r3k_live.specs.Waiting.{IsHeld, IsPassedBy, come_later, held_at, is_among};
 ghost use Rattle.r3k_live.specs.declared.stores.Held.{Held};
 ghost use Rattle.r3k_pages.specs.declared.block.TheConstants.{BLOCK_WORDS};
@@ -18,7 +18,7 @@ use crate::destinations::step_of;
 use crate::recorder::Written;
 use arrayvec::ArrayVec;
 use r3k_pages::{BLOCK_WORDS, PAGE_BLOCKS, PageMarks};
-use r3k_word::layout::{PAGE_BYTES, PAGE_WORDS};
+use r3k_word::layout::PAGE_WORDS;
 use std::alloc::{AllocError, Global};
 use std::marker::Model;
 
@@ -78,21 +78,28 @@ impl<const PAGES: u32> Stores<PAGES> {
         self.dirty.clear();
     }
 
-    /// Notes with the word that a step stored into, if it did, that it was the last one.
-    #[inline]
-    pub fn note(&mut self, address: Option<u32>, step: u32)
+    /// Notes with the word that a step stored into, if it did, that it was the last one. Says whether the page of that word may be
+    /// new.
+    #[inline(always)]
+    pub fn note(&mut self, address: Option<u32>, step: u32) -> bool
         requires within { IfSome address (IsRamWord PAGES) }
         requires step { step < 2 ^ 32 - 1 }
         ensures last { self.new.last ≡ with_writer self.old.last step address }
         ensures dirty { (page : ℕ) → holds self.new.dirty page ≡ (holds self.old.dirty page || is_page page (page_of_store address)) }
+        ensures again { IsFalse result → IfSome address (λ address. IsTrue (holds self.old.dirty (address / PAGE_BYTES))) }
     {
         let Some(address) = address else {
-            return;
+            return false;
         };
         let place = address as usize / 4;
         self.last[place] = step + 1;
-        self.blocks[place / BLOCK_WORDS] = true;
-        self.dirty.mark(address / PAGE_BYTES);
+        let block = place / BLOCK_WORDS;
+        // The page of a marked block is marked, too.
+        if self.blocks[block] {
+            return false;
+        }
+        mark_block(&mut self.blocks, &mut self.dirty, block);
+        true
     }
 
     /// The last step that stored into a word, given by its place, if one did.
@@ -202,15 +209,30 @@ fn add_of_block(written: &mut Vec<Written>, last: &[u32], block: usize) -> Resul
     Ok(())
 }
 
-// Forgets the steps of all words, which lie in these pages.
+// Marks a block and its page. Most stores go to a block that is marked.
+#[cold]
+#[inline(never)]
+fn mark_block<const PAGES: u32>(blocks: &mut Vec<bool>, dirty: &mut PageMarks<PAGES>, block: usize)
+    requires whole { length blocks.old.items ≡ PAGES * PAGE_BLOCKS }
+    requires within { block < PAGES * PAGE_BLOCKS }
+    ensures blocks { blocks.new.items ≡ slice_set blocks.old.items block true }
+    ensures dirty { (page : ℕ) → holds dirty.new page ≡ (holds dirty.old page || nat_eq (block / PAGE_BLOCKS) page) }
+{
+    blocks[block] = true;
+    dirty.mark((block / PAGE_BLOCKS) as u32);
+}
+
+// Forgets the steps of all words and the marks of all blocks, which lie in these pages.
 fn forget<const PAGES: u32>(last: &mut Vec<u32>, blocks: &mut Vec<bool>, pages: &[u32])
     requires long { length last.old.items ≡ PAGES * PAGE_WORDS }
     requires whole { length blocks.old.items ≡ PAGES * PAGE_BLOCKS }
     requires blocks { AreInBlocks last.old.items blocks.old.items }
     requires pages { AreInPages last.old.items pages.now }
+    requires dirty { HaveTheirPages blocks.old.items pages.now }
     ensures long { length last.new.items ≡ length last.old.items }
     ensures whole { length blocks.new.items ≡ length blocks.old.items }
     ensures none { (place : ℕ) → slice_index last.new.items place ≡ 0 }
+    ensures unmarked { (block : ℕ) → IsFalse (slice_index_or blocks.new.items block false) }
 {
     for page in pages {
         // No word of ROM is stored into.
@@ -220,7 +242,7 @@ fn forget<const PAGES: u32>(last: &mut Vec<u32>, blocks: &mut Vec<bool>, pages: 
     }
 }
 
-// Forgets the steps of the words of a page.
+// Forgets the steps of the words of a page and the marks of its blocks.
 fn forget_page(last: &mut Vec<u32>, blocks: &mut Vec<bool>, page: u32)
     requires within { (page + 1) * PAGE_BLOCKS ≤ length blocks.old.items }
     requires whole { length last.old.items ≡ length blocks.old.items * BLOCK_WORDS }
@@ -230,6 +252,8 @@ fn forget_page(last: &mut Vec<u32>, blocks: &mut Vec<bool>, page: u32)
     ensures blocks { AreInBlocks last.new.items blocks.new.items }
     ensures none { (place : ℕ) → page_of_place place ≡ page → slice_index last.new.items place ≡ 0 }
     ensures fewer { (place : ℕ) → 0 < slice_index last.new.items place → 0 < slice_index last.old.items place }
+    ensures unmarked { (block : ℕ) → block / PAGE_BLOCKS ≡ page → IsFalse (slice_index_or blocks.new.items block false) }
+    ensures fewer_marked { (block : ℕ) → IsTrue (slice_index_or blocks.new.items block false) → IsTrue (slice_index_or blocks.old.items block false) }
 {
     let first = page as usize * PAGE_BLOCKS;
     for block in first..first + PAGE_BLOCKS {

@@ -14,10 +14,11 @@ ghost use Rattle.r3k_machine.specs.Reports.{IsPage, IsRamWord, IsReport};
 ghost use Rattle.r3k_pages.specs.Pages.{holds};
 ghost use Rattle.r3k_live.specs.Going.{AreLeft, Ends, GoesOn, GoesOnBy, GoesOnce, GoesOver, HasGone, HasGoneFor, IsFreeFor, IsWordAt, MayGoOn};
 ghost use Rattle.r3k_live.specs.Living.{known_in, state_of};
-ghost use Rattle.r3k_live.specs.Recording.{IsNoted};
+ghost use Rattle.r3k_live.specs.Recording.{IsNoted, TouchesStored};
 ghost use Rattle.r3k_live.specs.Slots.{is_open};
 
-use crate::flat::FlatMemory;
+use crate::flat::{FlatMemory, first_known};
+use crate::index::WordIndex;
 use crate::recorder::Recorder;
 use crate::waiting::wait;
 use input_log::Cursor;
@@ -64,6 +65,7 @@ fn step_quickly<const PAGES: u32>(
     ensures leads { IfSome result (λ _. LeadsOn (with_flow core.old flow.old) (with_flow core.new flow.new)) }
     ensures next { IfSome result (λ quick. Leaves quick.next flow.new) }
     ensures reports { IfSome result (λ quick. IsReport PAGES memory.old.words.items memory.new.words.items quick.done) }
+    ensures pages { IfSome result (λ quick. TouchesStored quick.done) }
     ensures fetched { IfSome result (λ quick. fetched_page quick.done ≡ Some page.page) }
     ensures knows { IfSome result (λ quick. Knows quick.next (known_in PAGES memory.old) (known_in PAGES memory.new)) }
     ensures core { result ≡ None → core.new ≡ core.old }
@@ -98,19 +100,25 @@ fn last_of(first: usize, begun: u32, most: u32, steps: u32, halt: usize) -> u32
     (u64::from(steps) + (end - first) as u64).min(u64::from(begun + most)) as u32
 }
 
-// The number of the word in a delay slot, if there is a step for it.
+// The number of the word in a delay slot, if there is a step for it. It is narrower than a place, so that the compiler takes no place over
+// from the loop, which it would then count there.
 #[inline(always)]
-fn delay_slot(index: usize, steps: u32, last: u32) -> Option<usize>
+fn delay_slot(index: usize, steps: u32, last: u32) -> Option<u32>
+    requires { index ≤ PAGE_WORDS }
     ensures { IfSome result (λ slot. (slot ≡ index) × (steps < last)) }
 {
-    if steps < last { Some(index) } else { None }
+    if steps < last {
+        Some(index as u32)
+    } else {
+        None
+    }
 }
 
 // Makes quick steps from word to word, up to a jump, and gives the number of the word in the jump's delay slot, if its step may follow.
 // `begun` steps were recorded before the first one of the page, and `most` may be made in all. The count of recorded steps is at hand
 // after each, so it also ends the loops. Most steps find no load pending: they have a loop of their own, which keeps no load slot. The name
 // of the next word is looked up before each step, so that a processor that guessed wrong what comes next finds that out sooner.
-#[inline(always)]
+#[inline]
 fn step_straight<const PAGES: u32, const SPAN: u32>(
     core: &mut Core,
     flow: &mut Flow,
@@ -121,7 +129,7 @@ fn step_straight<const PAGES: u32, const SPAN: u32>(
     begun: u32,
     most: u32,
     recorder: &mut Recorder<PAGES, SPAN>,
-) -> Option<usize>
+) -> Option<u32>
     requires may { MayGoOn PAGES most page (with_flow core.old flow.old) recorder.old }
     requires page { IsPage PAGES page.page }
     requires opened { IsTrue (is_open PAGES memory.old.opened.items page.page) }
@@ -142,70 +150,72 @@ fn step_straight<const PAGES: u32, const SPAN: u32>(
     ensures opened { IsTrue (is_open PAGES memory.new.opened.items page.page) }
 {
     let last = last_of(first, begun, most, recorder.steps(), halt);
-    let mut index = first;
+    let mut index = WordIndex::new(first_known(PAGES, page.page), first);
     let mut ahead = memory.insn(page.page, first).mnemonic();
     while recorder.steps() < last {
-        flow.pin_straight(page.address(index));
+        let at = index.number();
+        flow.pin_straight(index.address(page));
         let name = ahead;
-        ahead = memory.name_after(page.page, index);
-        let quick = step_quickly(core, flow, memory, page, index, name)?;
+        ahead = memory.name_after(page.page, at);
+        let quick = step_quickly(core, flow, memory, page, at, name)?;
         match quick.next {
             Next::DelaySlot => {
                 recorder.note_again(quick.done);
-                return delay_slot(index + 1, recorder.steps(), last);
+                return delay_slot(at + 1, recorder.steps(), last);
             }
             Next::WordAfterLoad => {
                 recorder.note_again(quick.done);
-                index += 1;
+                index.advance();
                 continue;
             }
             Next::Word => {
                 recorder.note_again(quick.done);
-                index += 1;
+                index.advance();
             }
             Next::WordAfterHiLo => {
                 recorder.note_again(quick.done);
-                index += 1;
+                index.advance();
             }
             Next::WordAfterNone => {
                 recorder.note_again(quick.done);
-                ahead = memory.name_after(page.page, index);
-                index += 1;
+                ahead = memory.name_after(page.page, at);
+                index.advance();
             }
         }
         while recorder.steps() < last {
-            flow.pin_straight(page.address(index));
+            let at = index.number();
+            flow.pin_straight(index.address(page));
             flow.pin_unloaded();
             let name = ahead;
-            ahead = memory.name_after(page.page, index);
-            let quick = step_quickly(core, flow, memory, page, index, name)?;
+            ahead = memory.name_after(page.page, at);
+            let quick = step_quickly(core, flow, memory, page, at, name)?;
             match quick.next {
                 Next::DelaySlot => {
                     recorder.note_again(quick.done);
-                    return delay_slot(index + 1, recorder.steps(), last);
+                    return delay_slot(at + 1, recorder.steps(), last);
                 }
                 Next::WordAfterLoad => {
                     recorder.note_again(quick.done);
-                    index += 1;
+                    index.advance();
                     break;
                 }
                 Next::Word => {
                     recorder.note_again(quick.done);
-                    index += 1;
+                    index.advance();
                 }
                 Next::WordAfterHiLo => {
                     recorder.note_again(quick.done);
-                    index += 1;
+                    index.advance();
                 }
                 Next::WordAfterNone => {
                     recorder.note_again(quick.done);
-                    ahead = memory.name_after(page.page, index);
-                    index += 1;
+                    ahead = memory.name_after(page.page, at);
+                    index.advance();
                 }
             }
         }
     }
-    flow.pin_straight(page.address(index));
+    flow.pin_straight(index.address(page));
     None
 }
 
@@ -219,6 +229,7 @@ fn note_apart<const PAGES: u32, const SPAN: u32>(
     requires room { recorder.old.steps < SPAN }
     requires stored { IfSome quick.done.stored (IsRamWord PAGES) }
     requires touched { All (λ page. IfSome page (IsPage PAGES)) quick.done.touched }
+    requires pages { TouchesStored quick.done }
     requires again { IfSome (fetched_page quick.done) (λ page. IsTrue (holds recorder.old.touched page)) }
     ensures noted { IsNoted PAGES quick.done recorder.old recorder.new }
     ensures delay { (flow : Flow) → Leaves quick.next flow → result ≡ flow.delay }
@@ -249,7 +260,7 @@ fn note_apart<const PAGES: u32, const SPAN: u32>(
 
 // Makes quick steps in an open page that was touched before, up to `most` in all after `begun`, and ends after one that comes to an
 // address. Their ticks and falls of Random are still to come. It gives whether the core stands straight.
-#[inline(always)]
+#[inline]
 fn quick_steps<const PAGES: u32, const SPAN: u32>(
     core: &mut Core,
     flow: &mut Flow,
@@ -282,6 +293,7 @@ fn quick_steps<const PAGES: u32, const SPAN: u32>(
         else {
             return flow.is_straight();
         };
+        let slot = slot as usize;
         let name = memory.insn(page.page, slot).mnemonic();
         let Some(quick) = step_quickly(core, flow, memory, page, slot, name) else {
             return false;

@@ -57,7 +57,7 @@ use Rattle.r3k_machine.specs.Exceptions.{is_unusable}
 use Rattle.r3k_machine.specs.LoadStore.{after_load, after_load_over_bus, after_store, loaded_at, loaded_elsewhere, loaded_over_bus, meaning_of_fetch, meaning_of_load, meaning_of_store, ram_word, stored_at, word_at, word_of_place, word_read, words_after, words_with}
 use Rattle.r3k_machine.specs.Step.{Completion, Outcome, arrived, completion_of_effect, completion_of_load, completion_of_store, completion_of_word, operands_of, outcome_of_completion, outcome_of_fetch, outcome_of_instruction, outcome_of_interrupt_or_instruction, outcome_of_step, outcome_of_word, sampled, ticked, with_fall}
 use Rattle.r3k_machine.specs.declared.quick.CodePage.{CodePage}
-use Rattle.r3k_machine.specs.Known.{IsDecoded, IsKnown, IsMove, IsStop}
+use Rattle.r3k_machine.specs.Known.{IsDecoded, IsKnown, IsControl, IsStop}
 use Rattle.r3k_machine.specs.Quiet.{GoesOverBus, IsCodePage, IsFetchedFrom, IsIndexIn, IsPlain, IsQuick, IsQuickEffect, IsQuietFor, IsReached, LeadsOn, elapsed, outcome_elapsed, state_elapsed, steady_elsewhere, steady_over_bus}
 
 -- after ticks and falls of Random
@@ -244,7 +244,8 @@ effect_ages pages ticks falls s page (MoveToControl control value) now later (in
     subst (λ (n : ℕ). Ages ticks falls s (completion_of_effect pages s page (MoveToControl n value)) (completion_of_effect pages (state_aged ticks falls s) page (MoveToControl n value)))
     (sym is)
     (record { outcome = _; is = refl; later_is = refl; keeps = record { bus = refl; user = refl; isolated = refl; unwanted = λ still. still; cause = refl; entry_hi = refl; entries = refl; caches = refl; leads = record { here = refl; next = λ free. refl } }; unsent = refl })
-effect_ages pages ticks falls s page ReturnFromException now later quick = absurd quick
+effect_ages pages ticks falls s page ReturnFromException now later (stays, usable) =
+    record { outcome = _; is = refl; later_is = refl; keeps = record { bus = refl; user = stays.user; isolated = stays.isolated; unwanted = λ _. stays.unwanted; cause = refl; entry_hi = refl; entries = refl; caches = refl; leads = record { here = refl; next = λ free. refl } }; unsent = refl }
 effect_ages pages ticks falls s page ReadEntry now later quick = absurd quick
 effect_ages pages ticks falls s page WriteIndexedEntry now later quick = absurd quick
 effect_ages pages ticks falls s page WriteRandomEntry now later quick = absurd quick
@@ -512,16 +513,17 @@ in_page pages s index operation within past effect =
 usable_then : (core : Core) (word : ℕ) → IsTrue (is_usable core.cop0) → IsFalse (is_unusable core word)
 usable_then core word usable = rw usable (and_false (field_of 31 26 word == 16))
 
-pub usable_by : (pages : ℕ) (s : State) (own : Operation) (word : ℕ) → (¬ IsMove own → (core : Core) → IsFalse (is_unusable core word))
+pub usable_by : (pages : ℕ) (s : State) (own : Operation) (word : ℕ) → (¬ IsControl own → (core : Core) → IsFalse (is_unusable core word))
     → IsQuickEffect pages s (effect_of own (operands_of s.core own)) → IsFalse (is_unusable s.core word)
-unfolding IsMove
+unfolding IsControl
 usable_by pages s own word or_move effect =
     elim (cases_Bool (is_usable s.core.cop0)) [
       | inl usable ↦ usable_then s.core word usable
       | inr unusable ↦ or_move
-          (λ move. elim (move (operands_of s.core own)) [
+          (λ control. elim (control (operands_of s.core own)) [
             | inl from ↦ true≢false (sym (subst (IsQuickEffect pages s) from effect).1 ∙ unusable)
-            | inr to ↦ true≢false (sym (subst (IsQuickEffect pages s) to effect).1 ∙ unusable)
+            | inr (inl to) ↦ true≢false (sym (subst (IsQuickEffect pages s) to effect).1 ∙ unusable)
+            | inr (inr back) ↦ true≢false (sym (subst (IsQuickEffect pages s) back effect).1 ∙ unusable)
           ])
           s.core
     ]
@@ -531,7 +533,7 @@ pub record Own (word : ℕ) (operation : Operation) (core : Core) : Type 0 where
   pub own : Operation
   pub decoded : operation_of word ≡ Some own
   pub same : effect_of operation (operands_of core operation) ≡ effect_of own (operands_of core own)
-  pub usable : ¬ IsMove own → (core : Core) → IsFalse (is_unusable core word)
+  pub usable : ¬ IsControl own → (core : Core) → IsFalse (is_unusable core word)
 
 pub some_own : (o : Option Operation) → IsTrue (is_some o) → (own : Operation) × (o ≡ Some own)
 some_own None some = absurd cc

@@ -5,7 +5,8 @@ use Rattle.r3k_word.specs.Layout.{page_of_place, place_of_word}
 use Rattle.r3k_word.specs.Word.{sum_of}
 use Rattle.r3k_word.specs.declared.layout.TheConstants.{PAGE_BYTES, PAGE_WORDS}
 use Rattle.cop0.specs.Changes as control
-use Rattle.cop0.specs.Changes.{StaysQuiet}
+use Rattle.cop0.specs.Changes.{StaysQuiet, returned}
+use Rattle.cop0.specs.Registers.{written}
 use Rattle.cop0.specs.Status as status
 use Rattle.cop0.specs.Status.{in_user_mode, is_usable}
 use Rattle.cop0.specs.declared.number.TheConstants.{ENTRY_LO, RANDOM, STATUS}
@@ -19,7 +20,7 @@ use Rattle.r3k_decode.specs.Operation.{Operation}
 use Rattle.r3k_decode.specs.Decoding.{operation_of}
 use Rattle.r3k_exec.specs.Effects.{effect_of}
 use Rattle.r3k_exec.specs.declared.operands.Effect.{Effect}
-use Rattle.r3k_exec.specs.declared.operands.Effect.TheVariants.{Write, WriteHi, WriteLo, WriteHiLo, Jump, JumpAndLink, Load, Store, MoveFromControl, MoveToControl}
+use Rattle.r3k_exec.specs.declared.operands.Effect.TheVariants.{Write, WriteHi, WriteLo, WriteHiLo, Jump, JumpAndLink, Load, Store, MoveFromControl, MoveToControl, ReturnFromException}
 use Rattle.r3k_machine.specs.declared.address.Physical.{Physical}
 use Rattle.r3k_machine.specs.declared.address.TheConstants.{KSEG0, KSEG2}
 use Rattle.r3k_machine.specs.declared.address.Use.TheVariants.{Fetch}
@@ -79,7 +80,7 @@ steady_over_bus words bus region (Some place) = Some (record { word = slice_inde
 steady_over_bus words bus region None = steady_elsewhere (steady_of bus region)
 
 -- An effect on registers, EntryLo, Status, PC and memory alone: loads are of such a word, and stores of one of RAM. Of coprocessor 0,
--- Random is not read, and Status is written only where mode and cache stay as they are and no interrupt comes to be wanted.
+-- Random is not read, and Status is changed only where mode and cache stay as they are and no interrupt comes to be wanted.
 abbrev pub IsQuickEffect : ℕ → State → Effect → Type 0
 IsQuickEffect pages s (Write number value) = Unit {0}
 IsQuickEffect pages s (WriteHi value) = Unit {0}
@@ -95,7 +96,8 @@ IsQuickEffect pages s (Store kind address value) =
     × (ram_word pages physical.address ≡ Some word)
 IsQuickEffect pages s (MoveFromControl number control) = (¬ (control ≡ RANDOM)) × IsTrue (is_usable s.core.cop0)
 IsQuickEffect pages s (MoveToControl control value) =
-    ((control ≡ ENTRY_LO) ⊎ ((control ≡ STATUS) × StaysQuiet s.core.cop0 value)) × IsTrue (is_usable s.core.cop0)
+    ((control ≡ ENTRY_LO) ⊎ ((control ≡ STATUS) × StaysQuiet s.core.cop0 (written s.core.cop0 STATUS value))) × IsTrue (is_usable s.core.cop0)
+IsQuickEffect pages s ReturnFromException = StaysQuiet s.core.cop0 (returned s.core.cop0) × IsTrue (is_usable s.core.cop0)
 IsQuickEffect pages s effect = ⊥
 
 -- the instruction at PC has such an effect

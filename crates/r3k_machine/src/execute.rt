@@ -58,7 +58,7 @@ impl Core {
     }
 
     // The same, where it stands in a flow that is kept apart from it.
-    #[inline(always)]
+    #[inline]
     pub(crate) fn complete_in(&mut self, flow: &mut Flow)
         ensures flow { flow.new ≡ moved flow.old }
         ensures core { self.new ≡ record self.old { registers = landed self.old.registers (slot_after_load flow.old.slot flow.old.value) } }
@@ -98,7 +98,7 @@ impl Core {
 
     // Returns from an exception.
     #[inline]
-    fn return_from_exception(&mut self)
+    pub(crate) fn return_from_exception(&mut self)
         ensures { self.new ≡ record self.old { cop0 = control.returned self.old.cop0 } }
     {
         self.processor.cop0.rfe();

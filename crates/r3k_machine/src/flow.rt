@@ -166,7 +166,7 @@ impl Flow {
     }
 
     /// An instruction completes, but for what it writes: the pending load lands, and the next instruction follows.
-    #[inline(always)]
+    #[inline]
     pub(crate) fn complete(&mut self, registers: &mut [u32; 32])
         requires zero { HoldsZero registers.old }
         ensures flow { self.new ≡ moved self.old }

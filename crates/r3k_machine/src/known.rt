@@ -38,14 +38,19 @@ fn plain(insn: Insn) -> Insn
     }
 }
 
-/// An instruction that does what a word says, unless that is none, or one of coprocessor 0 that is no move.
+/// An instruction that does what a word says, unless that is none, or one of coprocessor 0 that is for translation entries.
 #[cold]
 #[inline(never)]
 pub fn decoded(word: u32) -> Option<Insn>
     ensures { IfSome result (λ insn. IsDecoded word insn) }
 {
     let insn = decode(word)?;
-    if field::<31, 26>(word) == 16 && !matches!(insn.mnemonic(), Mnemonic::Mfc0 | Mnemonic::Mtc0) {
+    if field::<31, 26>(word) == 16
+        && !matches!(
+            insn.mnemonic(),
+            Mnemonic::Mfc0 | Mnemonic::Mtc0 | Mnemonic::Rfe
+        )
+    {
         return None;
     }
     Some(plain(insn))

@@ -56,15 +56,15 @@ pub trait Mem {
         ensures right { index < PAGE_WORDS → IsKnown (slice_index (words self.now) (page * PAGE_WORDS + index)) result.now }
         ensures past { index ≡ PAGE_WORDS → IsStop result.now };
 
-    /// The name of what is known of the next word, or of what stands after the last one, unless this is that.
+    /// The name of what is known of the next word, or of the stop after the last word. Where this is that stop, it is any name.
     fn name_after(&self, page: u32, index: usize) -> Mnemonic
         requires page { IsPage ram page }
         requires opened { IsTrue (is_open self.now page) }
         requires index { index ≤ PAGE_WORDS }
         ensures { index < PAGE_WORDS → number_of result ≡ (known self.now page (index + 1)).row };
 
-    /// Decodes a word of an open page, so that its instruction is known until the word is stored into. Says whether it was not
-    /// known, and can be.
+    /// Decodes a word of an open page, so that its instruction is known until the word is stored into. The answer is whether it was
+    /// not known, and can be. Only time depends on it.
     fn learn(&mut self, page: u32, index: usize) -> bool
         requires page { IsPage ram page }
         requires opened { IsTrue (is_open self.old page) }

@@ -5,10 +5,11 @@ ghost use Rattle.r3k_exec.specs.declared.operands.Effect.TheVariants.{Load, Stor
 ghost use Rattle.r3k_table.specs.Mnemonics.{number_of};
 ghost use Rattle.r3k_word.specs.Layout.{place_of_word};
 ghost use Rattle.r3k_machine.specs.declared.address.TheConstants.{KSEG0, KSEG2};
-ghost use Rattle.r3k_word.specs.Word.{difference_of, sum_of};
+ghost use Rattle.r3k_word.specs.Word.{difference_of};
 ghost use Rattle.r3k_word.specs.declared.layout.TheConstants.{PAGE_BYTES, PAGE_WORDS};
 ghost use Rattle.kn02_bus.specs.Region.{region_of};
 ghost use Rattle.cop0.specs.Changes.{StaysQuiet};
+ghost use Rattle.cop0.specs.Registers.{written};
 ghost use Rattle.cop0.specs.declared.number.TheConstants.{ENTRY_LO, STATUS};
 ghost use Rattle.r3k_machine.specs.Quiet.{IsCodePage, IsIndexIn, IsOverBusFor, IsQuick, IsQuickEffect, IsQuietFor, IsReached, Knows, Leaves, elapsed, steady_over_bus};
 ghost use Rattle.r3k_machine.specs.Address.{meaning};
@@ -29,7 +30,7 @@ use cop0::number::{ENTRY_LO, RANDOM, STATUS};
 use r3k_decode::Register;
 use r3k_exec::{Effect, LoadKind, StoreKind, effect_by_name};
 use r3k_table::mnemonic::Mnemonic;
-use r3k_word::arithmetic::{add, subtract};
+use r3k_word::arithmetic::subtract;
 use r3k_word::layout::{PAGE_BYTES, PAGE_WORDS, page_of, place_of};
 
 /// A page that is run in: the number of the virtual page, the page of RAM or ROM that its words are fetched from, and how many bytes
@@ -67,7 +68,7 @@ impl Core {
     // Whether a write of a control register is quick.
     #[inline(always)]
     fn is_quick_control(&self, control: Register, value: u32) -> bool
-        ensures { IsTrue result → (control ≡ ENTRY_LO) ⊎ ((control ≡ STATUS) × StaysQuiet self.now.cop0 value) }
+        ensures { IsTrue result → (control ≡ ENTRY_LO) ⊎ ((control ≡ STATUS) × StaysQuiet self.now.cop0 (written self.now.cop0 STATUS value)) }
     {
         match control.number() {
             ENTRY_LO => true,
@@ -162,16 +163,6 @@ impl CodePage {
             return None;
         }
         Some(index as usize)
-    }
-
-    /// The address of a word of the page, or of the one after the last.
-    #[inline(always)]
-    pub fn address(self, index: usize) -> u32
-        requires number { self.number < 2 ^ 20 }
-        requires index { index ≤ PAGE_WORDS }
-        ensures { result ≡ sum_of (self.number * PAGE_BYTES) (4 * index) }
-    {
-        add(self.number * PAGE_BYTES, index as u32 * 4)
     }
 }
 
@@ -555,6 +546,14 @@ fn perform_quick<M: Mem>(
             core.write_control(control, value);
             next = Next::WordAfterNone;
         }
+        Effect::ReturnFromException => {
+            if over_bus == 0 || !core.cop0().returns_quietly() {
+                return None;
+            }
+            core.complete_in(flow);
+            core.return_from_exception();
+            next = Next::WordAfterNone;
+        }
         _ => return None,
     }
     let done = Done::completing(page, Destination::of_effect(effect));
@@ -622,8 +621,8 @@ pub fn quiet_step<M: Mem>(core: &mut Core, memory: &mut M, page: CodePage) -> Op
     Some(done)
 }
 
-/// Decodes the word at an address, if that lies in this page, which is open, and some words after it, up to one that is known. Says
-/// whether it was not known, and can be.
+/// Decodes the word at an address, if that lies in this page, which is open, and some words after it, up to one that is known. The
+/// answer is whether it was not known, and can be. Only time depends on it.
 #[inline(always)]
 pub fn learn<M: Mem>(memory: &mut M, page: CodePage, address: u32) -> bool
     requires number { page.number < 2 ^ 20 }

@@ -13,7 +13,15 @@ use Rattle.r3k_live.specs.CodePages.{AddsCodePages}
 use Rattle.r3k_live.proofs.Going.{left_later}
 use Rattle.r3k_live.proofs.Gone.{goes_for_more, one_more}
 use Rattle.r3k_live.proofs.CodePages.{begins_once, more_code_pages}
+use Rattle.r3k_live.specs.Recording.{TouchesStored}
+use Rattle.r3k_live.proofs.Touched.{step_touches}
 use Rattle.r3k_live.proofs.stretch.advance.Goals as goal
+
+pub note-requires : goal.note-requires
+note-requires g c =
+    let step = c.step-done.ensures in
+    let pages = subst TouchesStored (sym step.report) (step_touches g.row.PAGES c.next.result.now (state_of c.stretch-made.new.core c.stretch-made.new.memory)) in
+    (omega arith, (omega (arith, c.requires.room, c.requires.some, c.stretch-made.ensures.steps, c.if-made-gt0-2.false), (step.within.stored, (step.within.touched, pages))))
 
 pub returns-then-pc-stop-clause-goes : goal.returns-then-pc-stop-clause-goes
 returns-then-pc-stop-clause-goes g c =

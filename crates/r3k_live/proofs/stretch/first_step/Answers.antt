@@ -1,4 +1,4 @@
-use Rattle.std.proofs.Common.{ℕ, ◌/◌, ◌||◌, ◌++◌, ◌∷◌, [], List, nat_eq, ap, subst, ◌∙◌}
+use Rattle.std.proofs.Common.{ℕ, ◌/◌, ◌||◌, ◌++◌, ◌∷◌, [], List, nat_eq, ap, subst, ◌∙◌, arith}
 use Rattle.std.proofs.Math.Path.{ap₂}
 use Rattle.r3k_word.specs.declared.layout.TheConstants.{PAGE_BYTES}
 use Rattle.r3k_machine.specs.Core.{Core}
@@ -7,7 +7,16 @@ use Rattle.r3k_machine.specs.Quiet.{IsCodePage}
 use Rattle.r3k_machine.specs.Step.{Outcome}
 use Rattle.r3k_pages.specs.Pages.{holds}
 use Rattle.r3k_live.specs.Living.{state_of}
+use Rattle.r3k_live.specs.Recording.{TouchesStored}
+use Rattle.r3k_live.proofs.Touched.{instruction_touches}
 use Rattle.r3k_live.proofs.stretch.first_step.Goals as goal
+
+pub note-requires : goal.note-requires
+note-requires g c =
+    let step = c.in_ok-quick.ensures in
+    let pages = subst TouchesStored (ap (λ (o : Outcome). o.done) step.ran)
+    (instruction_touches g.row.PAGES (state_of (with_flow c.args.core.now c.args.flow.now) c.learn-learned.new.memory)) in
+    (omega arith, (c.requires.room, (step.within.stored, (step.within.touched, pages))))
 
 pub returns-then-is_straight-clause-goes : goal.returns-then-is_straight-clause-goes
 returns-then-is_straight-clause-goes g c = record {

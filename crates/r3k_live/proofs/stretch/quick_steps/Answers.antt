@@ -58,7 +58,10 @@ note_apart-requires g c =
           step.reports.stored,
           (
             step.reports.touched,
-            subst (λ (page : Option ℕ). IfSome page (λ page. IsTrue (holds c.step_straight.new.recorder.touched page))) (sym step.fetched) so_far.may.again,
+            (
+              step.pages,
+              subst (λ (page : Option ℕ). IfSome page (λ page. IsTrue (holds c.step_straight.new.recorder.touched page))) (sym step.fetched) so_far.may.again,
+            ),
           ),
         ),
       ),

@@ -1,14 +1,22 @@
-use Rattle.std.proofs.Common.{ℕ, ◌/◌, ◌||◌, ◌++◌, ◌∷◌, [], List, nat_eq, ap, ◌∙◌, arith}
+use Rattle.std.proofs.Common.{ℕ, ◌/◌, ◌||◌, ◌++◌, ◌∷◌, [], List, nat_eq, ap, subst, ◌∙◌, arith}
 use Rattle.std.proofs.Math.Path.{ap₂}
 use Rattle.input_log.specs.Event.{LogEvent}
 use Rattle.r3k_word.specs.declared.layout.TheConstants.{PAGE_BYTES}
 use Rattle.r3k_machine.specs.State.{State}
-use Rattle.r3k_machine.specs.Step.{outcome_of_step}
+use Rattle.r3k_machine.specs.Step.{Outcome, outcome_of_step}
 use Rattle.r3k_pages.specs.Pages.{holds}
 use Rattle.r3k_live.specs.Living.{state_of}
 use Rattle.r3k_live.proofs.Gone.{no_more, one_more}
 use Rattle.r3k_live.proofs.CodePages.{begins_once, more_code_pages}
+use Rattle.r3k_live.specs.Recording.{TouchesStored}
+use Rattle.r3k_live.proofs.Touched.{step_touches}
 use Rattle.r3k_live.proofs.stretch.quiet_on.Goals as goal
+
+pub note-requires : goal.note-requires
+note-requires g c =
+    let step = c.in-Some.ensures in
+    let pages = subst TouchesStored (ap (λ (o : Outcome). o.done) step.ran) (step_touches g.row.PAGES [] (state_of c.args.core.now c.args.memory.now)) in
+    (omega arith, (c.requires.room c.if-not-wanted.false, (step.within.stored, (step.within.touched, pages))))
 
 pub returns-clause-goes : goal.returns-clause-goes
 returns-clause-goes g c = λ log from start address made free so_far.

@@ -5,7 +5,9 @@ use Rattle.r3k_machine.specs.Quiet.{IsCodePage, IsQuietFor}
 use Rattle.r3k_machine.specs.Step.{Outcome}
 use Rattle.r3k_live.specs.Going.{MayGoOn}
 use Rattle.r3k_live.specs.Living.{state_of}
+use Rattle.r3k_live.specs.Recording.{TouchesStored}
 use Rattle.r3k_live.proofs.Quick.{goes_once, if_four}
+use Rattle.r3k_live.proofs.Touched.{instruction_touches}
 use Rattle.r3k_live.proofs.stretch.step_quickly.Goals as goal
 
 pub returns-clause-goes : goal.returns-clause-goes
@@ -28,3 +30,8 @@ returns-clause-goes g c =
     } in
     goes_once pages most address c.args.page made s t quick.done r later within (c.requires.here inside).here elsewhere after
     noted.steps noted.code_pages (c.quiet_laws.ensures.at_once pages made s quiet is) ran noted.records reports.words is reports.stored)
+
+pub returns-clause-pages : goal.returns-clause-pages
+returns-clause-pages g c =
+    if_four c.quick_step.result c.quick_step.ensures.inside c.quick_step.ensures.quick c.quick_step.ensures.ran c.quick_step.ensures.within
+    (λ quick inside is ran reports. subst TouchesStored (ap (λ (o : Outcome). o.done) ran) (instruction_touches g.row.PAGES (state_of (with_flow c.args.core.now c.args.flow.now) c.args.memory.now)))

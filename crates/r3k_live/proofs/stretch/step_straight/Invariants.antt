@@ -20,8 +20,8 @@ abbrev pub decreases-loop-ahead : goal.decreases-loop-ahead
 decreases-loop-ahead g l = l.last - l.recorder.steps
 
 -- the same, and no load is pending
-abbrev pub invariant-loop-flow : goal.invariant-loop-flow
-invariant-loop-flow g l = record {
+abbrev pub invariant-loop-at : goal.invariant-loop-at
+invariant-loop-at g l = record {
   at : AreAt g.row.PAGES l.most l.begun l.first l.halt (l.first + (l.last - l.fn.recorder.steps)) l.index l.page (state_of (with_flow l.fn.core l.fn.flow) l.fn.memory) l.fn.recorder
       l.core l.flow l.memory.words.items l.recorder;
   free : IsFalse l.flow.delay;
@@ -31,5 +31,5 @@ invariant-loop-flow g l = record {
   least : l.initial.recorder.steps ≤ l.recorder.steps;
 }
 
-abbrev pub decreases-loop-flow : goal.decreases-loop-flow
-decreases-loop-flow g l = l.last - l.recorder.steps
+abbrev pub decreases-loop-at : goal.decreases-loop-at
+decreases-loop-at g l = l.last - l.recorder.steps

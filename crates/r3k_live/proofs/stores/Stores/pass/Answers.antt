@@ -15,4 +15,5 @@ invariant_of-self g c =
       whole = c.self.invariant.whole;
       blocks_marked = λ place some. c.self.invariant.blocks_marked place (had place some);
       pages_marked = λ place some. c.self.invariant.pages_marked place (had place some);
+      dirty_marked = c.self.invariant.dirty_marked;
     }
