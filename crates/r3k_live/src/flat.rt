@@ -38,11 +38,13 @@ const UNUSED: u32 = u32::MAX;
 /// All words of RAM and ROM, in one vector. The words of some pages are kept decoded.
 #[derive(Debug, Drop)]
 pub struct FlatMemory<const PAGES: u32> {
+    // The order of the fields decides how long instructions of quick steps are, and so where their branches stand (docs/DECISIONS.md).
+
+    // For each slot one more than the page that is open in it, or 0, or `UNUSED`.
+    opened: Vec<u32>,
     words: Vec<u32>,
     // What is known of the words of open pages, by slots. There is one more, so that one comes after each.
     known: Vec<Insn>,
-    // For each slot one more than the page that is open in it, or 0, or `UNUSED`.
-    opened: Vec<u32>,
     // It stands for a word of which nothing is known.
     stop: Insn,
     ghost whole: { length words.items ≡ word_count_of PAGES },
@@ -174,9 +176,9 @@ impl<const PAGES: u32> FlatMemory<PAGES> {
             add_page(&mut words, image, PAGES, page)?;
         }
         Ok(FlatMemory {
+            opened,
             words,
             known,
-            opened,
             stop,
         })
     }

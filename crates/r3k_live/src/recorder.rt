@@ -46,13 +46,15 @@ pub struct Written {
 /// taken when it is made.
 #[derive(Drop)]
 pub struct Recorder<const PAGES: u32, const SPAN: u32> {
-    steps: u32,
+    // The order of the fields decides how long instructions of quick steps are, and so where their branches stand (docs/DECISIONS.md).
+
     stores: Stores<PAGES>,
-    destinations: Destinations,
-    touched: PageMarks<PAGES>,
     sent: Vec<SentAt>,
     // The virtual pages in which the PC was.
     code_pages: VirtualPages,
+    steps: u32,
+    destinations: Destinations,
+    touched: PageMarks<PAGES>,
 }
 
 impl<const PAGES: u32, const SPAN: u32> Model for Recorder<PAGES, SPAN> {
@@ -89,12 +91,12 @@ impl<const PAGES: u32, const SPAN: u32> Recorder<PAGES, SPAN> {
         ensures { IfOk result (Records PAGES []) }
     {
         Ok(Recorder {
-            steps: 0,
             stores: Stores::new(alloc)?,
-            destinations: Destinations::none(),
-            touched: PageMarks::new(alloc)?,
             sent: Vec::with_capacity(alloc, SPAN as usize)?,
             code_pages: VirtualPages::new(alloc)?,
+            steps: 0,
+            destinations: Destinations::none(),
+            touched: PageMarks::new(alloc)?,
         })
     }
 
