@@ -60,6 +60,10 @@ pub record IsPlain (core : Core) (m : Meaning) (physical : Physical) : Type 0 wh
   pub means : m ≡ record { several = false; answer = Ok physical }
   pub shared : IsFalse (is_isolated core physical)
 
+-- the physical address that an address means, where it has one meaning
+abbrev pub IsMeant : Meaning → (address : ℕ) → Type 0
+IsMeant m address = (cacheable : Bool) × (m ≡ record { several = false; answer = Ok (record { address = address; cacheable = cacheable }) })
+
 -- the physical address that an address reaches over the bus
 pub record IsReached (core : Core) (m : Meaning) (address : ℕ) : Type 0 where
   pub cacheable : Bool

@@ -11,7 +11,7 @@ ghost use Rattle.kn02_bus.specs.Region.{region_of};
 ghost use Rattle.cop0.specs.Changes.{StaysQuiet};
 ghost use Rattle.cop0.specs.Registers.{written};
 ghost use Rattle.cop0.specs.declared.number.TheConstants.{ENTRY_LO, STATUS};
-ghost use Rattle.r3k_machine.specs.Quiet.{IsCodePage, IsIndexIn, IsOverBusFor, IsQuick, IsQuickEffect, IsQuietFor, IsReached, Knows, Leaves, elapsed, steady_over_bus};
+ghost use Rattle.r3k_machine.specs.Quiet.{IsCodePage, IsIndexIn, IsMeant, IsOverBusFor, IsQuick, IsQuickEffect, IsQuietFor, IsReached, Knows, Leaves, elapsed, steady_over_bus};
 ghost use Rattle.r3k_machine.specs.Address.{meaning};
 ghost use Rattle.r3k_machine.specs.Flow.{with_flow};
 ghost use Rattle.r3k_machine.specs.Locality.{fetched_page};
@@ -166,6 +166,22 @@ impl CodePage {
     }
 }
 
+// The physical address that the instruction at an address is fetched from, where that is no exception and sets no TS. It changes nothing.
+// Where loads go over the bus, so do fetches, which is seen at once.
+#[inline(always)]
+fn fetched_at(core: &mut Core, address: u32, over_bus: u32) -> Option<u32>
+    requires over_bus { IsOverBusFor over_bus core.old }
+    ensures means { IfSome result (IsMeant (meaning core.old Use.Fetch (nat_eq (address % 4) 0) address)) }
+    ensures core { core.new ≡ core.old }
+{
+    let aligned = address % 4 == 0;
+    if let Some(physical) = core.reached(Use::Fetch, aligned, true, address, over_bus) {
+        return Some(physical);
+    }
+    let physical = core.found(Use::Fetch, aligned, address)?;
+    Some(physical.address)
+}
+
 /// The page of the PC, where its words are fetched without an exception. It changes nothing. The core stands where the flow does.
 #[inline(always)]
 pub fn code_page<M: Mem>(core: &mut Core, flow: Flow, memory: &M, over_bus: u32) -> Option<CodePage>
@@ -176,8 +192,8 @@ pub fn code_page<M: Mem>(core: &mut Core, flow: Flow, memory: &M, over_bus: u32)
     ensures core { core.new ≡ core.old }
 {
     let address = flow.pc();
-    let physical = core.found(Use::Fetch, address % 4 == 0, address)?;
-    let place = place_of(memory.ram_pages(), physical.address / 4 * 4)?;
+    let physical = fetched_at(core, address, over_bus)?;
+    let place = place_of(memory.ram_pages(), physical / 4 * 4)?;
     Some(CodePage {
         number: address / PAGE_BYTES,
         page: page_of(place) as u32,

@@ -1,4 +1,4 @@
--- How a page keeps its words (own): in blocks, so that a page with another word shares all but that word's block.
+-- How a whole page keeps its words (own): in blocks, so that one with other words shares all blocks but theirs.
 use Rattle.std.specs.Prelude.{◌≡◌, ℕ, ◌+◌, ◌*◌, ◌/◌, ◌%◌, ◌<◌, List, [], length, map, slice_index, slice_index_or}
 use Rattle.std.specs.List.{range_with_len}
 use Rattle.r3k_pages.specs.declared.block.TheConstants.{BLOCK_WORDS}
@@ -14,3 +14,7 @@ words_of blocks = map (word_of blocks) (range_with_len 0 (length blocks * BLOCK_
 -- the words of a block of a page
 abbrev pub IsBlockOf : List ℕ → ℕ → List ℕ → Type 0
 IsBlockOf words block kept = (place : ℕ) → place < BLOCK_WORDS → slice_index kept place ≡ slice_index words (block * BLOCK_WORDS + place)
+
+-- a block has the same words in two pages
+abbrev pub SameBlock : ℕ → List ℕ → List ℕ → Type 0
+SameBlock block a b = (place : ℕ) → place < BLOCK_WORDS → slice_index a (block * BLOCK_WORDS + place) ≡ slice_index b (block * BLOCK_WORDS + place)

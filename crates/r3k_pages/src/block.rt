@@ -1,6 +1,6 @@
 //! A block of a page: 64 words that stay as they are.
 
-ghost use Rattle.std.specs.Prelude.{◌≡◌, ◌<◌, ◌↔◌, IfOk, IsTrue, length, slice_set};
+ghost use Rattle.std.specs.Prelude.{◌≡◌, ◌↔◌, IfOk, IsTrue, length};
 ghost use Rattle.r3k_pages.specs.declared.block.TheConstants.{BLOCK_WORDS};
 
 use std::alloc::{AllocError, Global};
@@ -42,28 +42,19 @@ impl Block {
         self.words == *words
     }
 
-    /// The block with the word at a place of it set.
-    pub(crate) fn with_word(
-        &self,
-        alloc: Global,
-        place: usize,
-        word: u32,
-    ) -> Result<Rc<Block>, AllocError>
-        requires { place < BLOCK_WORDS }
-        ensures set { IfOk result (λ block. block.value ≡ slice_set self.now place word) }
-        ensures whole { length self.now ≡ BLOCK_WORDS }
-    {
-        let mut words = self.words;
-        words[place] = word;
-        Rc::new(alloc, Block { words }).map_err(|_| AllocError)
-    }
-
     /// Whether another block has the same words.
     pub(crate) fn is_same(&self, other: &Block) -> bool
         ensures same { IsTrue result ↔ (self.now ≡ other.now) }
         ensures whole { (length self.now ≡ BLOCK_WORDS) × (length other.now ≡ BLOCK_WORDS) }
     {
         self.words == other.words
+    }
+
+    /// Its words, for a change in them.
+    pub(crate) fn copied(&self) -> [u32; BLOCK_WORDS]
+        ensures { result ≡ self.now }
+    {
+        self.words
     }
 
     /// Its words.

@@ -2,11 +2,13 @@
 #![tactic(auto)]
 
 mod block;
+mod changes;
 mod group;
 mod laws;
 mod page;
 mod page_marks;
 mod snapshot;
+mod whole;
 
 pub use block::BLOCK_WORDS;
 pub use laws::page_laws;

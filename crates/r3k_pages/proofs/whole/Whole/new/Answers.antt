@@ -12,8 +12,8 @@ use Rattle.r3k_pages.specs.Groups.{is_blank}
 use Rattle.r3k_pages.proofs.Blocks.{chunk_at, words_are}
 use Rattle.r3k_pages.proofs.Kept.{if_ok}
 use Rattle.r3k_pages.proofs.Set.{which}
-use Rattle.r3k_pages.proofs.page.Page.new.Goals as goal
-use Rattle.r3k_pages.proofs.page.Page.new.Goals.{then-not-has+in_ok-blocks-2, else-not-has}
+use Rattle.r3k_pages.proofs.whole.Whole.new.Goals as goal
+use Rattle.r3k_pages.proofs.whole.Whole.new.Goals.{then-not-has+in_ok-blocks-2, else-not-has}
 
 -- one block more is that of the page
 one_more : (before after : List (List ℕ)) (part : List ℕ) (parts : List (List ℕ)) (index : ℕ) → after ≡ slice_set before index part → index < length before

@@ -1,6 +1,6 @@
 use Rattle.std.proofs.Common.{◌≡◌, ◌<◌, ℕ, [], map, length, slice_index_or}
 use Rattle.r3k_pages.specs.declared.page.TheConstants.{PAGE_BLOCKS}
-use Rattle.r3k_pages.proofs.page.Page.new.Given as goal
+use Rattle.r3k_pages.proofs.whole.Whole.new.Given as goal
 
 -- the blocks so far
 abbrev pub invariant-loop-index : goal.invariant-loop-index
