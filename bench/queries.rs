@@ -56,7 +56,7 @@ impl Asked {
         line.split_whitespace().nth(1).and_then(|n| n.parse().ok()).expect("a number")
     }
 
-    // The last word of the page in which the PC stands there. None of the programs comes to it.
+    // The last word of the page in which the PC stands at a position. Few steps come to it.
     fn end_of_page(&mut self, position: u64) -> u32 {
         self.ask(&format!("goto {position}"));
         let (reply, _) = self.ask("regs");
@@ -68,18 +68,19 @@ impl Asked {
         pc | 0xffc
     }
 
-    // The seconds that this many steps take that keep nothing: a search for an address in a page where the PC stands in each span.
-    fn plain(&mut self, steps: u64) -> f64 {
-        let address = self.end_of_page(VISIT / 2);
-        let mut seconds = 0.0;
-        for _ in 0..steps / VISIT {
+    // The seconds that a span's steps take from a position on, when they keep nothing: those of a search for the end of a page in which the
+    // PC stands, and to which no step comes.
+    fn plain(&mut self, position: u64) -> f64 {
+        for part in 0..32 {
+            let address = self.end_of_page(position + SPAN / 32 * part);
             // The machine stands there, so that no start is laid out while it is timed.
-            self.at(0);
-            let (reply, time) = self.ask(&format!("visit {address} {VISIT}"));
-            assert_eq!(reply, "error 8 NotFound");
-            seconds += time;
+            self.at(position);
+            let (reply, time) = self.ask(&format!("visit {address} {SPAN}"));
+            if reply == "error 8 NotFound" {
+                return time;
+            }
         }
-        seconds * steps as f64 / (steps / VISIT * VISIT) as f64
+        panic!("steps come to the ends of these pages");
     }
 
     // The seconds of a search from reset, over this many steps, for an address in a page where the PC never stands.
@@ -94,15 +95,15 @@ impl Asked {
         seconds
     }
 
-    // The seconds of the first query at a position, made in pieces, and those of as many steps that keep nothing, measured between
+    // The seconds of the first query at a position, made in pieces, and those of the same steps when they keep nothing, measured between
     // them: the machine's own speed may move.
     fn first(&mut self, steps: u64) -> (f64, f64) {
-        const PIECES: u64 = 16;
         let (mut kept, mut plain) = (0.0, 0.0);
-        for piece in 1..=PIECES {
-            kept += self.at(steps / PIECES * piece);
-            plain += self.plain((steps / PIECES).clamp(VISIT, 8 * VISIT)) * (steps / PIECES) as f64
-                / (steps / PIECES).clamp(VISIT, 8 * VISIT) as f64;
+        for piece in 0..steps / VISIT {
+            kept += self.at((piece + 1) * VISIT);
+            for span in 0..VISIT / SPAN {
+                plain += self.plain(piece * VISIT + span * SPAN);
+            }
         }
         (kept, plain)
     }
@@ -131,8 +132,8 @@ fn main() {
     asked.at(0);
     let before = asked.memory();
     let (first, plain) = asked.first(steps);
-    line("first query, by the loop that keeps nothing", plain / first, "", "0.8");
-    line("first query, steps a second", steps as f64 / first / 1e6, "mio", "");
+    line("first query, by the same steps that keep nothing", plain / first, "", "0.9");
+    line("first query, steps a second", (steps / VISIT * VISIT) as f64 / first / 1e6, "mio", "");
     let spans = steps / SPAN;
     line("memory a kept span", asked.memory().saturating_sub(before) as f64 / spans as f64, "KB", "16");
     let inside = steps / SPAN * SPAN + SPAN / 2;
