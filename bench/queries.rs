@@ -68,19 +68,27 @@ impl Asked {
         pc | 0xffc
     }
 
-    // The seconds that a span's steps take from a position on, when they keep nothing: those of a search for the end of a page in which the
-    // PC stands, and to which no step comes.
+    // The seconds of a visit from a position, if no step comes to the address.
+    fn visit(&mut self, position: u64, address: u32, steps: u64) -> Option<f64> {
+        // The machine stands there, so that no start is laid out while it is timed.
+        self.at(position);
+        let (reply, time) = self.ask(&format!("visit {address} {steps}"));
+        (reply == "error 8 NotFound").then_some(time)
+    }
+
+    // The seconds that the steps of a visit take from a position on, when they keep nothing: a search for the end of a page in which the PC
+    // stands, and to which no step comes. It leaves out spans in which the PC is never in the page, so of eight pages that one is taken
+    // whose search is longest, and searched for once more.
     fn plain(&mut self, position: u64) -> f64 {
-        for part in 0..32 {
-            let address = self.end_of_page(position + SPAN / 32 * part);
-            // The machine stands there, so that no start is laid out while it is timed.
-            self.at(position);
-            let (reply, time) = self.ask(&format!("visit {address} {SPAN}"));
-            if reply == "error 8 NotFound" {
-                return time;
-            }
-        }
-        panic!("steps come to the ends of these pages");
+        let mut ends: Vec<u32> = (0..8).map(|part| self.end_of_page(position + VISIT / 8 * part)).collect();
+        ends.sort_unstable();
+        ends.dedup();
+        let (_, end) = ends
+            .into_iter()
+            .filter_map(|end| self.visit(position, end, VISIT).map(|time| (time, end)))
+            .max_by(|a, b| a.0.total_cmp(&b.0))
+            .expect("a page to whose end no step comes");
+        self.visit(position, end, VISIT).expect("the same search")
     }
 
     // The seconds of a search from reset, over this many steps, for an address in a page where the PC never stands.
@@ -101,9 +109,7 @@ impl Asked {
         let (mut kept, mut plain) = (0.0, 0.0);
         for piece in 0..steps / VISIT {
             kept += self.at((piece + 1) * VISIT);
-            for span in 0..VISIT / SPAN {
-                plain += self.plain(piece * VISIT + span * SPAN);
-            }
+            plain += self.plain(piece * VISIT);
         }
         (kept, plain)
     }
@@ -127,13 +133,15 @@ fn main() {
     };
     let image = fs::read(path).expect("the image");
     let steps: u64 = steps.parse().expect("a number of steps");
+    // Whole visits, so that each figure is of the same steps.
+    let steps = steps.div_ceil(VISIT).max(1) * VISIT;
     println!("{path}, {} million steps", steps / 1_000_000);
     let mut asked = Asked::start(program, kind, &image);
     asked.at(0);
     let before = asked.memory();
     let (first, plain) = asked.first(steps);
     line("first query, by the same steps that keep nothing", plain / first, "", "0.9");
-    line("first query, steps a second", (steps / VISIT * VISIT) as f64 / first / 1e6, "mio", "");
+    line("first query, steps a second", steps as f64 / first / 1e6, "mio", "");
     let spans = steps / SPAN;
     line("memory a kept span", asked.memory().saturating_sub(before) as f64 / spans as f64, "KB", "16");
     let inside = steps / SPAN * SPAN + SPAN / 2;
