@@ -1,6 +1,6 @@
 //! The meaning of an address.
 
-ghost use Rattle.std.specs.Prelude.{◌≡◌, false, true, IfSome, Ok};
+ghost use Rattle.std.specs.Prelude.{◌<◌, ◌≡◌, false, true, IfSome, Ok};
 ghost use Rattle.tlb64.specs.Kept.{IsSole};
 ghost use Rattle.r3k_machine.specs.Address.{address_error, answer_of_entry, answer_of_low, found_for, lets_through, low_of, meaning, met, miss, segment_of, several_of, where_at, with_several};
 
@@ -174,8 +174,7 @@ impl Core {
         ensures low { result ≡ low_of (found_for self.old address) }
         ensures core { self.new ≡ with_several self.old (several_of (found_for self.old address)) }
     {
-        let hi = self.processor.cop0.read(ENTRY_HI);
-        match self.tlb.kept(access == Use::Fetch, address, hi) {
+        match self.kept_low(access, address) {
             Some(lo) => Some(lo),
             None => self.looked_up(access, address),
         }
@@ -216,8 +215,7 @@ impl Core {
         ensures low { IfSome result (IsSole self.old.entries address self.old.cop0.entry_hi) }
         ensures core { self.new ≡ self.old }
     {
-        let hi = self.processor.cop0.read(ENTRY_HI);
-        match self.tlb.kept(access == Use::Fetch, address, hi) {
+        match self.kept_low(access, address) {
             Some(lo) => Some(lo),
             None => self.searched_low(access, address),
         }
@@ -225,7 +223,7 @@ impl Core {
 
     // The same, by a search.
     #[inline(never)]
-    fn searched_low(&mut self, access: Use, address: u32) -> Option<u32>
+    pub(crate) fn searched_low(&mut self, access: Use, address: u32) -> Option<u32>
         ensures low { IfSome result (IsSole self.old.entries address self.old.cop0.entry_hi) }
         ensures core { self.new ≡ self.old }
     {
@@ -251,6 +249,29 @@ impl Core {
                 let lo = self.sole_low(access, address)?;
                 by_entry(access, address, lo).ok()
             }
+        }
+    }
+
+    /// EntryLo of the one entry of a mapped address, if its page was looked up before. It searches nothing.
+    #[inline(always)]
+    pub(crate) fn kept_low(&self, access: Use, address: u32) -> Option<u32>
+        ensures { IfSome result (IsSole self.now.entries address self.now.cop0.entry_hi) }
+    {
+        let hi = self.cop0().read(ENTRY_HI);
+        self.tlb.kept(access == Use::Fetch, address, hi)
+    }
+
+    /// The physical address that an aligned address of kuseg means, by EntryLo of its one entry.
+    #[tactic(auto, unfolding(crate::specs::Address::meaning))]
+    #[inline(always)]
+    pub(crate) fn through(&self, access: Use, address: u32, lo: u32) -> Option<Physical>
+        requires kuseg { address < KSEG0 }
+        requires sole { IsSole self.now.entries address self.now.cop0.entry_hi lo }
+        ensures { IfSome result (λ physical. meaning self.now access true address ≡ record { several = false; answer = Ok physical }) }
+    {
+        match self.segment(true, address) {
+            Segment::Mapped => by_entry(access, address, lo).ok(),
+            Segment::Forbidden | Segment::Unmapped(_) => None,
         }
     }
 

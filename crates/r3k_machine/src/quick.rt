@@ -1,6 +1,6 @@
 //! Quick steps: those before which nothing happens but counting, and whose instruction touches registers, PC and memory alone.
 
-ghost use Rattle.std.specs.Prelude.{◌≡◌, ◌⊎◌, ◌-◌, ◌*◌, ◌/◌, ◌%◌, ◌^◌, ◌<◌, ◌≤◌, ℕ, [], IfSome, IsTrue, None, Ok, Some, nat_eq};
+ghost use Rattle.std.specs.Prelude.{◌≡◌, ◌⊎◌, ◌-◌, ◌*◌, ◌/◌, ◌%◌, ◌^◌, ◌<◌, ◌≤◌, ℕ, [], IfSome, IsTrue, None, Ok, Some, nat_eq, true};
 ghost use Rattle.r3k_exec.specs.declared.operands.Effect.TheVariants.{Load, Store};
 ghost use Rattle.r3k_table.specs.Mnemonics.{number_of};
 ghost use Rattle.r3k_word.specs.Layout.{place_of_word};
@@ -13,6 +13,7 @@ ghost use Rattle.cop0.specs.Registers.{written};
 ghost use Rattle.cop0.specs.declared.number.TheConstants.{ENTRY_LO, STATUS};
 ghost use Rattle.r3k_machine.specs.Quiet.{IsCodePage, IsIndexIn, IsMeant, IsOverBusFor, IsQuick, IsQuickEffect, IsQuietFor, IsReached, Knows, Leaves, elapsed, steady_over_bus};
 ghost use Rattle.r3k_machine.specs.Address.{meaning};
+ghost use Rattle.tlb64.specs.Kept.{IsSole};
 ghost use Rattle.r3k_machine.specs.Flow.{with_flow};
 ghost use Rattle.r3k_machine.specs.Locality.{fetched_page};
 ghost use Rattle.r3k_machine.specs.Step.{completion_of_effect, outcome_of_instruction, outcome_of_step};
@@ -134,9 +135,49 @@ impl Core {
         self.reached_by(Use::Store, aligned, address)
     }
 
-    // The same for any access.
+    // The same for any access. A page of kuseg that was looked up before takes no call.
     #[inline(always)]
     fn reached_by(&mut self, access: Use, aligned: bool, address: u32) -> Option<u32>
+        ensures reached { IfSome result (IsReached self.old (meaning self.old access aligned address)) }
+        ensures core { self.new ≡ self.old }
+    {
+        if !aligned || address >= KSEG0 {
+            return self.reached_elsewhere(access, aligned, address);
+        }
+        match self.kept_low(access, address) {
+            Some(lo) => self.reached_through(access, address, lo),
+            None => self.reached_by_search(access, address),
+        }
+    }
+
+    // The same for an aligned address of kuseg, by EntryLo of its one entry.
+    #[inline(always)]
+    fn reached_through(&self, access: Use, address: u32, lo: u32) -> Option<u32>
+        requires kuseg { address < KSEG0 }
+        requires sole { IsSole self.now.entries address self.now.cop0.entry_hi lo }
+        ensures { IfSome result (IsReached self.now (meaning self.now access true address)) }
+    {
+        let physical = self.through(access, address, lo)?;
+        if self.is_isolated(physical) {
+            return None;
+        }
+        Some(physical.address)
+    }
+
+    // The same by a search for that entry.
+    #[inline(never)]
+    fn reached_by_search(&mut self, access: Use, address: u32) -> Option<u32>
+        requires kuseg { address < KSEG0 }
+        ensures reached { IfSome result (IsReached self.old (meaning self.old access true address)) }
+        ensures core { self.new ≡ self.old }
+    {
+        let lo = self.searched_low(access, address)?;
+        self.reached_through(access, address, lo)
+    }
+
+    // The same for all other addresses.
+    #[inline(never)]
+    fn reached_elsewhere(&mut self, access: Use, aligned: bool, address: u32) -> Option<u32>
         ensures reached { IfSome result (IsReached self.old (meaning self.old access aligned address)) }
         ensures core { self.new ≡ self.old }
     {

@@ -4,6 +4,7 @@ ghost use Rattle.std.specs.Prelude.{◌≡◌, ◌+◌, ◌/◌, ◌^◌, ◌<�
 ghost use Rattle.r3k_word.specs.declared.layout.TheConstants.{PAGE_WORDS};
 ghost use Rattle.r3k_pages.specs.Blocks.{IsBlockOf, SameBlock};
 ghost use Rattle.r3k_pages.specs.Changes.{with_changes};
+ghost use Rattle.r3k_pages.specs.Groups.{is_blank};
 ghost use Rattle.r3k_pages.specs.declared.block.TheConstants.{BLOCK_WORDS};
 ghost use Rattle.r3k_pages.specs.declared.page.TheConstants.{PAGE_BLOCKS};
 
@@ -26,20 +27,15 @@ pub(crate) struct Page {
     whole: Rc<Whole>,
     // The words that are others than in the whole page. Those of most pages that a guest stores into are few.
     few: ArrayVec<Change, FEW>,
-    // Whether it is known that all words are 0.
-    blank: bool,
 }
 
 impl Model for Page {
-    ghost use Rattle.std.specs.Prelude.{IsTrue, List, ℕ};
+    ghost use Rattle.std.specs.Prelude.{List, ℕ};
     ghost use Rattle.r3k_pages.specs.Changes.{with_changes};
-    ghost use Rattle.r3k_pages.specs.Groups.{is_blank};
 
     ghost Value = { List ℕ };
 
     ghost view = { λ page. with_changes page.whole.value page.few.items };
-
-    ghost invariant = { λ page. IsTrue page.blank → IsTrue (is_blank (with_changes page.whole.value page.few.items)) };
 }
 
 impl Page {
@@ -108,8 +104,7 @@ impl Page {
     ) -> Result<Rc<Page>, AllocError>
         ensures { IfOk result (λ page. page.value ≡ with_changes whole.value few.items) }
     {
-        let blank = few.is_empty() && whole.is_blank();
-        Rc::new(alloc, Page { whole, few, blank }).map_err(|_| AllocError)
+        Rc::new(alloc, Page { whole, few }).map_err(|_| AllocError)
     }
 
     /// The page with the word at a place of it set.
@@ -199,13 +194,20 @@ impl Page {
         }
     }
 
+    // Whether it is known that all its words are 0.
+    fn is_blank(&self) -> bool
+        ensures { IsTrue result → IsTrue (is_blank self.now) }
+    {
+        self.few.is_empty() && self.whole.is_blank()
+    }
+
     /// Whether it is known without a look at the words that another page has the same ones: both are blank.
     pub(crate) fn is_known_same(&self, other: &Page) -> bool
         ensures { IsTrue result → self.now ≡ other.now }
     {
         self.has_all();
         other.has_all();
-        self.blank && other.blank
+        self.is_blank() && other.is_blank()
     }
 
     /// The word at a place of it.

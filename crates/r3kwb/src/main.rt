@@ -27,7 +27,6 @@ fn main(rt: HostRuntime) -> ExitCode {
 }
 
 // The program's words. This function and the next stand outside `main`, as their size moves the code of quick steps (docs/DECISIONS.md).
-#[cold]
 #[inline(never)]
 fn arguments(rt: &HostRuntime) -> Result<Vec<String>, NoWords> {
     match env::args(rt) {
@@ -38,7 +37,6 @@ fn arguments(rt: &HostRuntime) -> Result<Vec<String>, NoWords> {
 }
 
 // The same as the program takes them.
-#[cold]
 #[inline(never)]
 fn words<'a>(rt: &HostRuntime, arguments: &'a [String]) -> Result<Vec<&'a str>, NoWords> {
     let mut words = Vec::new(rt.alloc());
