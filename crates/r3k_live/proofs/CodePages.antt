@@ -1,5 +1,5 @@
 -- In which pages the PC is, as a run goes on.
-use Rattle.std.proofs.Common.{◌≡◌, ◌⊎◌, ◌↔◌, ℕ, ◌+◌, ◌/◌, ◌≤◌, Bool, true, false, ◌||◌, IsTrue, List, nat_eq, inl, inr, refl, sym, ap, ◌∙◌, arith}
+use Rattle.std.proofs.Common.{◌≡◌, ◌⊎◌, ◌↔◌, ℕ, ◌+◌, ◌/◌, ◌≤◌, Bool, true, false, ◌||◌, IsTrue, List, nat_eq, inl, inr, refl, sym, subst, ap, ◌∙◌, arith}
 use Rattle.std.proofs.lemmas.Bool.{cases_lt, eq-eqb, eqb-true}
 use Rattle.input_log.specs.Event.{LogEvent}
 use Rattle.r3k_word.specs.declared.layout.TheConstants.{PAGE_BYTES}
@@ -27,6 +27,20 @@ with_one before after one page is = (
     cases : (b : Bool) → (b || nat_eq one page) ≡ true → IsTrue b ⊎ (one ≡ page)
     cases true held = inl refl
     cases false held = inr (eqb-true one page held)
+
+-- a page that is in a set already
+pub with_same : (set : List ℕ) (page : ℕ) → IsTrue (holds set page) → (other : ℕ) → holds set other ≡ (holds set other || nat_eq page other)
+with_same set page there other = cases (nat_eq page other) refl
+  where
+    or_false : (b : Bool) → (b || false) ≡ b
+    or_false true = refl
+    or_false false = refl
+
+    cases : (b : Bool) → nat_eq page other ≡ b → holds set other ≡ (holds set other || b)
+    cases true same =
+        let here : holds set other ≡ true = subst (λ (n : ℕ). IsTrue (holds set n)) (eqb-true page other same) there in
+        here ∙ sym (ap (λ (b : Bool). b || true) here)
+    cases false apart = sym (or_false (holds set other))
 
 -- the page of the start
 pub first_code_page : (pages : ℕ) (log : List LogEvent) (from : ℕ) (start : State) (before after : List ℕ)

@@ -59,6 +59,11 @@ leads_none pages s r = record {
   stayed = λ place none. refl;
 }
 
+-- after none of them all is as it was
+pub leads_nowhere : (pages n : ℕ) (s t : State) (r later : Recording) → n ≡ 0 → LeadsTo pages n s t r later → t ≡ s
+unfolding quick_run
+leads_nowhere pages n s t r later none leads = leads.end ∙ ap (quick_run pages s) none
+
 -- a word that a step did not store into
 kept_word : (pages place : ℕ) (stored : Option ℕ) (old new : List ℕ) → DifferAt stored old new → IfSome stored (IsRamWord pages)
     → later 1 None (if is_stored (4 * place) stored then Some 0 else None) ≡ None → slice_index old place ≡ slice_index new place

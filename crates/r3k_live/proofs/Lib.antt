@@ -10,6 +10,7 @@ mod Slots
 mod Holding
 mod Noted
 mod CodePages
+mod Ready
 mod Leads
 mod Quick
 mod Touched

@@ -1,6 +1,6 @@
 -- Quick steps of a page, one after another.
-use Rattle.std.proofs.Common.{◌≡◌, ℕ, ◌+◌, ◌-◌, ◌*◌, ◌/◌, ◌^◌, ◌<◌, ◌≤◌, ◌||◌, nat_eq, List, [], ◌∷◌, ◌++◌, Option, None, Some, IfSome, IsFalse, refl, sym, subst, ap, ◌∙◌, arith, inl, inr}
-use Rattle.std.proofs.lemmas.Bool.{cases_lt}
+use Rattle.std.proofs.Common.{◌≡◌, ℕ, ◌+◌, ◌-◌, ◌*◌, ◌/◌, ◌^◌, ◌<◌, ◌≤◌, ◌||◌, nat_eq, Bool, true, false, if◌then◌else◌, List, [], ◌∷◌, ◌++◌, Option, None, Some, IfSome, IsFalse, refl, sym, subst, ap, ◌∙◌, arith, inl, inr}
+use Rattle.std.proofs.lemmas.Bool.{cases_lt, eq-eqb, ne_eqb}
 use Rattle.r3k_word.specs.Word.{sum_of}
 use Rattle.r3k_decode.specs.Operation.{Operation}
 use Rattle.r3k_word.specs.declared.layout.TheConstants.{PAGE_BYTES, PAGE_WORDS}
@@ -206,6 +206,34 @@ over_none pages most address page s r none may = record {
   quiet = may.quiet;
   runs = λ log from start before free gone. subst (λ (u : State). HasGoneFor pages log from start address before 0 r u r) (sym (none s)) (no_more pages log from start address before s r gone);
 }
+
+-- How much is left to do before a bound: steps come first, and then a change to the page of the PC.
+abbrev pub left : (bound steps pc number : ℕ) → ℕ
+left bound steps pc number = 2 * (bound - steps) + (if nat_eq (pc / PAGE_BYTES) number then 0 else 1)
+
+pub less_after_steps : (bound before steps pc number later_pc later_number : ℕ) → before < steps → steps ≤ bound
+    → left bound steps later_pc later_number < left bound before pc number
+less_after_steps bound before steps pc number later_pc later_number more within =
+    let a = small (nat_eq (pc / PAGE_BYTES) number) in
+    let b = small (nat_eq (later_pc / PAGE_BYTES) later_number) in
+    omega (arith, more, within, a, b)
+  where
+    small : (b : Bool) → (if b then 0 else 1) ≤ 1
+    small true = omega arith
+    small false = omega arith
+
+pub less_after_change : (bound before steps pc number later_pc later_number : ℕ) → before ≤ steps → steps ≤ bound
+    → (steps ≡ before → later_pc ≡ pc) → ¬ (later_pc / PAGE_BYTES ≡ number) → later_number ≡ later_pc / PAGE_BYTES
+    → left bound steps later_pc later_number < left bound before pc number
+less_after_change bound before steps pc number later_pc later_number least within same other here =
+    elim (cases_lt before steps) [
+      | inl more ↦ less_after_steps bound before steps pc number later_pc later_number more within
+      | inr none ↦
+          let now : steps ≡ before = omega (arith, least, none) in
+          let apart : nat_eq (pc / PAGE_BYTES) number ≡ false = ne_eqb (pc / PAGE_BYTES) number (λ there. other (ap (λ (n : ℕ). n / PAGE_BYTES) (same now) ∙ there)) in
+          let there : nat_eq (later_pc / PAGE_BYTES) later_number ≡ true = eq-eqb (later_pc / PAGE_BYTES) later_number (sym here) in
+          rw (apart, there) (omega (arith, now))
+    ]
 
 -- the steps of one page more, after which the page of the PC is noted
 pub over_more : (pages most address : ℕ) (page : CodePage) (made n : ℕ) (s t u : State) (r mid quick later : Recording) → made ≤ n

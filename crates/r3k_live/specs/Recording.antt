@@ -4,7 +4,8 @@ use Rattle.r3k_word.specs.declared.layout.TheConstants.{MAX_RAM_PAGES, PAGE_BYTE
 use Rattle.r3k_machine.specs.declared.step.Done.{Done}
 use Rattle.r3k_machine.specs.declared.target.Target.TheVariants.{Memory}
 use Rattle.r3k_machine.specs.Run.{last_writer}
-use Rattle.r3k_machine.specs.Reports.{IsRamWord}
+use Rattle.r3k_machine.specs.Quiet.{IsFetchedOverBus}
+use Rattle.r3k_machine.specs.Reports.{IsPage, IsRamWord}
 use Rattle.r3k_pages.specs.Pages.{holds}
 use Rattle.r3k_machine.specs.Locality.{is_touched}
 use Rattle.r3k_live.specs.Kept.{kept_step}
@@ -34,14 +35,24 @@ page_of_store (Some address) = Some (address / PAGE_BYTES)
 abbrev pub TouchesStored : Done → Type 0
 TouchesStored done = IfSome done.stored (λ address. slice_index_or done.touched 1 None ≡ Some (address / PAGE_BYTES))
 
--- a recorder has room for all that `span` steps can report, and each page that was stored into was touched
-pub record IsRecording (pages span sent_room : ℕ) (r : Recording) : Type 0 where
+-- Quick steps may go on at once in a page of memory when they come to a virtual page: it is touched, and the PC was there. Wherever kseg0
+-- and kseg1 go over the bus, the words of the one are fetched from the other.
+pub record IsReady (pages number page : ℕ) (r : Recording) : Type 0 where
+  pub within : IsPage pages page
+  pub fetched : IsFetchedOverBus pages number page
+  pub touched : IsTrue (holds r.touched page)
+  pub stood : IsTrue (holds r.code_pages number)
+
+-- A recorder has room for all that `span` steps can report, and each page that was stored into was touched. What it has of pages that are
+-- ready holds.
+pub record IsRecording (pages span sent_room : ℕ) (ready_pages : List ℕ) (r : Recording) : Type 0 where
   pub few : pages ≤ MAX_RAM_PAGES
   pub steps : r.steps ≤ span
   pub last : length r.last ≡ pages * PAGE_WORDS
   pub sent : length r.sent ≤ r.steps
   pub sent_fits : span ≤ sent_room
   pub stored_touched : (page : ℕ) → IsTrue (holds r.dirty page) → IsTrue (holds r.touched page)
+  pub ready : (number page : ℕ) → slice_index ready_pages number ≡ page + 1 → IsReady pages number page r
 
 -- a recorder holds what these steps reported
 pub record Records (pages : ℕ) (steps : List Done) (r : Recording) : Type 0 where

@@ -8,6 +8,7 @@ mod flat;
 mod index;
 mod laws;
 mod live;
+mod ready_pages;
 mod recorder;
 mod stores;
 mod stretch;

@@ -6,22 +6,25 @@ ghost use Rattle.r3k_word.specs.declared.layout.TheConstants.{MAX_RAM_PAGES, PAG
 ghost use Rattle.r3k_pages.specs.Pages.{IsPageSet, holds, page_count_of};
 ghost use Rattle.r3k_machine.specs.declared.step.Done.{Done};
 ghost use Rattle.r3k_machine.specs.declared.target.Target.TheVariants.{Memory};
+ghost use Rattle.r3k_machine.specs.Core.{Core};
 ghost use Rattle.r3k_machine.specs.Locality.{fetched_page, is_page};
+ghost use Rattle.r3k_machine.specs.Quiet.{IsCodePage};
 ghost use Rattle.r3k_machine.specs.Run.{last_writer};
 ghost use Rattle.r3k_machine.specs.Reports.{IsPage, IsRamWord};
 ghost use Rattle.r3k_pages.specs.declared.page.TheConstants.{PAGE_BLOCKS};
 ghost use Rattle.r3k_live.specs.Marks.{marks_of};
 ghost use Rattle.r3k_live.specs.Stores.{AreInBlocks};
 ghost use Rattle.r3k_live.specs.Record.{AreDestinations, AreWriters, dirty_pages, sent_from, touched_pages, with_sent};
-ghost use Rattle.r3k_live.specs.Recording.{IsNoted, Records, TouchesStored};
+ghost use Rattle.r3k_live.specs.Recording.{IsNoted, IsReady, Records, TouchesStored};
 ghost use Rattle.r3k_live.specs.Waiting.{HasPassed, IsHeld, held_at, is_among};
 
 use crate::destinations::Destinations;
+use crate::ready_pages::ReadyPages;
 use crate::stores::{HELD, Held, Stores};
 use crate::virtual_pages::VirtualPages;
 use arrayvec::ArrayVec;
 use dz_serial::{Sent, SerialLine};
-use r3k_machine::{Done, Target};
+use r3k_machine::{CodePage, Done, Target};
 use r3k_pages::PageMarks;
 use r3k_word::layout::PAGE_BYTES;
 use std::alloc::{AllocError, Global};
@@ -48,13 +51,14 @@ pub struct Written {
 pub struct Recorder<const PAGES: u32, const SPAN: u32> {
     // The order of the fields decides how long instructions of quick steps are, and so where their branches stand (docs/DECISIONS.md).
 
+    steps: u32,
     stores: Stores<PAGES>,
+    destinations: Destinations,
     sent: Vec<SentAt>,
     // The virtual pages in which the PC was.
     code_pages: VirtualPages,
-    steps: u32,
-    destinations: Destinations,
     touched: PageMarks<PAGES>,
+    ready: ReadyPages,
 }
 
 impl<const PAGES: u32, const SPAN: u32> Model for Recorder<PAGES, SPAN> {
@@ -73,7 +77,7 @@ impl<const PAGES: u32, const SPAN: u32> Model for Recorder<PAGES, SPAN> {
       code_pages = r.code_pages;
     } };
 
-    ghost invariant = { λ r. IsRecording PAGES SPAN (vec_capacity r.sent) (record {
+    ghost invariant = { λ r. IsRecording PAGES SPAN (vec_capacity r.sent) r.ready (record {
       steps = r.steps;
       last = r.stores.last;
       dirty = r.stores.dirty;
@@ -97,6 +101,7 @@ impl<const PAGES: u32, const SPAN: u32> Recorder<PAGES, SPAN> {
             steps: 0,
             destinations: Destinations::none(),
             touched: PageMarks::new(alloc)?,
+            ready: ReadyPages::new(alloc)?,
         })
     }
 
@@ -109,6 +114,7 @@ impl<const PAGES: u32, const SPAN: u32> Recorder<PAGES, SPAN> {
         self.destinations = Destinations::none();
         self.touched.clear();
         self.sent.clear();
+        self.ready.take_out(self.code_pages.pages());
         self.code_pages.clear();
         self.steps = 0;
     }
@@ -206,6 +212,40 @@ impl<const PAGES: u32, const SPAN: u32> Recorder<PAGES, SPAN> {
         ensures steps { self.new.steps ≡ self.old.steps }
     {
         self.code_pages.mark(page);
+    }
+
+    // Notes that quick steps may go on at once when they come to this page, if that lasts: in kseg0 and kseg1.
+    #[inline(always)]
+    pub(crate) fn note_ready(&mut self, page: CodePage)
+        requires code { (core : Core) × IsCodePage PAGES core page }
+        requires page { IsPage PAGES page.page }
+        requires touched { IsTrue (holds self.old.touched page.page) }
+        requires stood { IsTrue (holds self.old.code_pages page.number) }
+        ensures { self.new ≡ self.old }
+    {
+        if page.goes_over_bus(page.number) {
+            self.add_ready(page.number, page.page);
+        }
+    }
+
+    // Adds a page of memory in which quick steps may go on at once when they come to a virtual page.
+    #[cold]
+    #[inline(never)]
+    fn add_ready(&mut self, number: u32, page: u32)
+        requires number { number < 2 ^ 20 }
+        requires ready { IsReady PAGES number page self.old }
+        ensures { self.new ≡ self.old }
+    {
+        self.ready.add(number, page);
+    }
+
+    /// The page of memory in which quick steps may go on at once when they come to a virtual page, if that was noted.
+    #[inline(always)]
+    pub(crate) fn ready(&self, number: u32) -> Option<u32>
+        requires { number < 2 ^ 20 }
+        ensures { IfSome result (λ page. IsReady PAGES number page self.now) }
+    {
+        self.ready.page(number)
     }
 
     /// Marks for blocks of words. That of each word that was stored into has one.

@@ -5,6 +5,7 @@ ghost use Rattle.input_log.specs.Event.{LogEvent};
 ghost use Rattle.r3k_table.specs.Mnemonics.{number_of};
 ghost use Rattle.r3k_word.specs.declared.layout.TheConstants.{PAGE_BYTES, PAGE_WORDS};
 ghost use Rattle.r3k_machine.specs.declared.flow.Flow.{Flow};
+ghost use Rattle.r3k_machine.specs.Core.{Core};
 ghost use Rattle.r3k_machine.specs.Flow.{IsStraight, with_flow};
 ghost use Rattle.r3k_machine.specs.Locality.{fetched_page};
 ghost use Rattle.r3k_machine.specs.Quiet.{IsCodePage, IsIndexIn, IsQuietFor, Knows, LeadsOn, Leaves};
@@ -14,7 +15,7 @@ ghost use Rattle.r3k_machine.specs.Reports.{IsPage, IsRamWord, IsReport};
 ghost use Rattle.r3k_pages.specs.Pages.{holds};
 ghost use Rattle.r3k_live.specs.Going.{AreLeft, Ends, GoesOn, GoesOnBy, GoesOnce, GoesOver, HasGone, HasGoneFor, IsFreeFor, IsWordAt, MayGoOn};
 ghost use Rattle.r3k_live.specs.Living.{known_in, state_of};
-ghost use Rattle.r3k_live.specs.Recording.{IsNoted, TouchesStored};
+ghost use Rattle.r3k_live.specs.Recording.{IsNoted, IsReady, TouchesStored};
 ghost use Rattle.r3k_live.specs.Slots.{is_open};
 
 use crate::flat::{FlatMemory, first_known};
@@ -319,6 +320,7 @@ fn page_to_go_on<const PAGES: u32>(
     ensures code { IfSome result (IsCodePage PAGES (with_flow core.new flow.now)) }
     ensures page { IfSome result (λ next. IsPage PAGES next.page) }
     ensures opened { IfSome result (λ next. IsTrue (is_open PAGES memory.new.opened.items next.page)) }
+    ensures number { IfSome result (λ next. next.number ≡ flow.now.pc / PAGE_BYTES) }
     ensures stays { result ≡ None → IsTrue (is_open PAGES memory.new.opened.items page.page) }
     ensures core { core.new ≡ core.old }
     ensures words { memory.new.words.items ≡ memory.old.words.items }
@@ -332,6 +334,34 @@ fn page_to_go_on<const PAGES: u32>(
     let next = code_page(core, *flow, memory, page.over_bus)?;
     memory.open_page(next.page);
     Some(next)
+}
+
+// The page in which quick steps go on at once that ended in a page: they stand straight, in another virtual page. It opens the page.
+#[inline(always)]
+fn ready_page<const PAGES: u32, const SPAN: u32>(
+    memory: &mut FlatMemory<PAGES>,
+    page: CodePage,
+    straight: bool,
+    number: u32,
+    recorder: &Recorder<PAGES, SPAN>,
+) -> Option<CodePage>
+    requires number { number < 2 ^ 20 }
+    requires code { (core : Core) × IsCodePage PAGES core page }
+    ensures straight { IfSome result (λ _. IsTrue straight) }
+    ensures number { IfSome result (λ next. next.number ≡ number) }
+    ensures other { IfSome result (λ _. ¬ (number ≡ page.number)) }
+    ensures ready { IfSome result (λ next. IsReady PAGES number next.page recorder.now) }
+    ensures code { IfSome result (λ next. (core : Core) → IsCodePage PAGES core page → IsCodePage PAGES core next) }
+    ensures opened { IfSome result (λ next. IsTrue (is_open PAGES memory.new.opened.items next.page)) }
+    ensures stays { result ≡ None → memory.new ≡ memory.old }
+    ensures words { memory.new.words.items ≡ memory.old.words.items }
+{
+    if !straight || !page.goes_over_bus(number) || number == page.number {
+        return None;
+    }
+    let ready = recorder.ready(number)?;
+    memory.open_page(ready);
+    Some(CodePage::unmapped(number, ready))
 }
 
 // Makes the quick step of the word at the PC, which is in this page, where the page was not touched before, or the word was not known. It
@@ -400,6 +430,10 @@ fn steps_over_pages<const PAGES: u32, const SPAN: u32>(
         let before = recorder.steps();
         let straight = quick_steps(core, flow, memory, *page, begun, most, stop, recorder);
         let here = flow.pc() / PAGE_BYTES;
+        if let Some(next) = ready_page(memory, *page, straight, here, recorder) {
+            *page = next;
+            continue;
+        }
         recorder.note_code_page(here);
         let steps = recorder.steps();
         if !straight || steps - begun == most {
@@ -410,6 +444,7 @@ fn steps_over_pages<const PAGES: u32, const SPAN: u32>(
         };
         *page = next;
         if steps != before && recorder.has_touched(next.page) {
+            recorder.note_ready(next);
             continue;
         }
         if !goes_on(steps - begun, most, flow.pc(), stop) {

@@ -62,7 +62,8 @@ impl VirtualPages {
 
     /// The pages.
     pub fn pages(&self) -> &[u32]
-        ensures { result.now ≡ self.now }
+        ensures pages { result.now ≡ self.now }
+        ensures within { All (λ page. page < 2 ^ 20) result.now }
     {
         &self.pages
     }

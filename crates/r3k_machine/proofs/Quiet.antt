@@ -10,6 +10,7 @@ use Rattle.std.proofs.lemmas.Bool.{cases_Bool, cases_lt, eq-eqb, ne_eqb, true≢
 use Rattle.std.proofs.lemmas.Bool.Decides.{nat_tests}
 use Rattle.r3k_word.specs.Word.{field_of, has, merged}
 use Rattle.r3k_word.specs.Layout.{page_of_place, place_of_word}
+use Rattle.r3k_word.specs.declared.layout.TheConstants.{PAGE_BYTES}
 use Rattle.tlb64.specs.Entries.{empty_entry, page_of, process_of}
 use Rattle.tlb64.specs.declared.entry.Entry.{Entry}
 use Rattle.tlb64.specs.declared.entry.Found.{Found}
@@ -58,7 +59,7 @@ use Rattle.r3k_machine.specs.LoadStore.{after_load, after_load_over_bus, after_s
 use Rattle.r3k_machine.specs.Step.{Completion, Outcome, arrived, completion_of_effect, completion_of_load, completion_of_store, completion_of_word, operands_of, outcome_of_completion, outcome_of_fetch, outcome_of_instruction, outcome_of_interrupt_or_instruction, outcome_of_step, outcome_of_word, sampled, ticked, with_fall}
 use Rattle.r3k_machine.specs.declared.quick.CodePage.{CodePage}
 use Rattle.r3k_machine.specs.Known.{IsDecoded, IsKnown, IsControl, IsStop}
-use Rattle.r3k_machine.specs.Quiet.{GoesOverBus, IsCodePage, IsFetchedFrom, IsIndexIn, IsPlain, IsQuick, IsQuickEffect, IsQuietFor, IsReached, LeadsOn, elapsed, outcome_elapsed, state_elapsed, steady_elsewhere, steady_over_bus}
+use Rattle.r3k_machine.specs.Quiet.{GoesOverBus, IsCodePage, IsFetchedFrom, IsFetchedOverBus, IsIndexIn, IsPlain, IsQuick, IsQuickEffect, IsQuietFor, IsReached, LeadsOn, elapsed, outcome_elapsed, state_elapsed, steady_elsewhere, steady_over_bus}
 
 -- after ticks and falls of Random
 abbrev pub aged : (ticks falls : ℕ) → Core → Core
@@ -440,6 +441,18 @@ framed (Some found) at address physical is =
       there = refl;
       is = rw (parts.0, parts.1.0) refl;
     }
+
+-- a page of kseg0 or kseg1, from any state in which these go over the bus
+pub fetched_over_bus : (pages : ℕ) (core : Core) (page : CodePage) → IsCodePage pages core page → GoesOverBus core
+    → KSEG0 / PAGE_BYTES ≤ page.number → page.number < KSEG2 / PAGE_BYTES → IsFetchedOverBus pages page.number page.page
+fetched_over_bus pages core page code goes least most = λ other there address same aligned.
+    let from = code.fetched address same aligned in
+    let low : KSEG0 ≤ address = omega (arith, least, same) in
+    let high : address < KSEG2 = omega (arith, most, same) in (
+      from.0,
+      (over_bus other Fetch address there low high).means ∙ (sym (over_bus core Fetch address goes low high).means ∙ from.1),
+      from.2,
+    )
 
 mapped_page : (core : Core) (pages at place : ℕ) (physical : Physical) → segment_of core.cop0 (at % 4 == 0) at ≡ Mapped
     → meaning_of_found Fetch at (found_for core at) ≡ means physical → at % 4 ≡ 0

@@ -131,6 +131,10 @@ pub record IsOverBusFor (n : ℕ) (core : Core) : Type 0 where
   pub within : n ≤ KSEG2 - KSEG0
   pub over : 0 < n → GoesOverBus core
 
+-- wherever they do, all words of a virtual page are fetched from one page of memory
+abbrev pub IsFetchedOverBus : ℕ → (number page : ℕ) → Type 0
+IsFetchedOverBus pages number page = (core : Core) → GoesOverBus core → IsFetchedFrom pages core number page
+
 -- a page that is run in
 pub record IsCodePage (pages : ℕ) (core : Core) (page : CodePage) : Type 0 where
   pub within : page.number < 2 ^ 20

@@ -2,6 +2,7 @@
 
 ghost use Rattle.std.specs.Prelude.{◌<◌, ◌≡◌, false, true, IfSome, Ok};
 ghost use Rattle.tlb64.specs.Kept.{IsSole};
+ghost use Rattle.r3k_machine.specs.declared.address.Segment.TheVariants.{Mapped};
 ghost use Rattle.r3k_machine.specs.Address.{address_error, answer_of_entry, answer_of_low, found_for, lets_through, low_of, meaning, met, miss, segment_of, several_of, where_at, with_several};
 
 use crate::exception::Exception;
@@ -247,7 +248,7 @@ impl Core {
             Segment::Unmapped(physical) => Some(physical),
             Segment::Mapped => {
                 let lo = self.sole_low(access, address)?;
-                by_entry(access, address, lo).ok()
+                self.through(access, aligned, address, lo)
             }
         }
     }
@@ -261,18 +262,21 @@ impl Core {
         self.tlb.kept(access == Use::Fetch, address, hi)
     }
 
-    /// The physical address that an aligned address of kuseg means, by EntryLo of its one entry.
+    /// The physical address that a mapped address means, by EntryLo of its one entry.
     #[tactic(auto, unfolding(crate::specs::Address::meaning))]
     #[inline(always)]
-    pub(crate) fn through(&self, access: Use, address: u32, lo: u32) -> Option<Physical>
-        requires kuseg { address < KSEG0 }
+    pub(crate) fn through(
+        &self,
+        access: Use,
+        aligned: bool,
+        address: u32,
+        lo: u32,
+    ) -> Option<Physical>
+        requires mapped { segment_of self.now.cop0 aligned address ≡ Mapped }
         requires sole { IsSole self.now.entries address self.now.cop0.entry_hi lo }
-        ensures { IfSome result (λ physical. meaning self.now access true address ≡ record { several = false; answer = Ok physical }) }
+        ensures { IfSome result (λ physical. meaning self.now access aligned address ≡ record { several = false; answer = Ok physical }) }
     {
-        match self.segment(true, address) {
-            Segment::Mapped => by_entry(access, address, lo).ok(),
-            Segment::Forbidden | Segment::Unmapped(_) => None,
-        }
+        by_entry(access, address, lo).ok()
     }
 
     // What an address means for a load of one byte.

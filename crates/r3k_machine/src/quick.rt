@@ -11,7 +11,7 @@ ghost use Rattle.kn02_bus.specs.Region.{region_of};
 ghost use Rattle.cop0.specs.Changes.{StaysQuiet};
 ghost use Rattle.cop0.specs.Registers.{written};
 ghost use Rattle.cop0.specs.declared.number.TheConstants.{ENTRY_LO, STATUS};
-ghost use Rattle.r3k_machine.specs.Quiet.{IsCodePage, IsIndexIn, IsMeant, IsOverBusFor, IsQuick, IsQuickEffect, IsQuietFor, IsReached, Knows, Leaves, elapsed, steady_over_bus};
+ghost use Rattle.r3k_machine.specs.Quiet.{GoesOverBus, IsCodePage, IsFetchedFrom, IsFetchedOverBus, IsIndexIn, IsMeant, IsOverBusFor, IsQuick, IsQuickEffect, IsQuietFor, IsReached, Knows, Leaves, elapsed, steady_over_bus};
 ghost use Rattle.r3k_machine.specs.Address.{meaning};
 ghost use Rattle.tlb64.specs.Kept.{IsSole};
 ghost use Rattle.r3k_machine.specs.Flow.{with_flow};
@@ -135,7 +135,7 @@ impl Core {
         self.reached_by(Use::Store, aligned, address)
     }
 
-    // The same for any access. A page of kuseg that was looked up before takes no call.
+    // The same for any access. A page of kuseg that was looked up before takes no further call.
     #[inline(always)]
     fn reached_by(&mut self, access: Use, aligned: bool, address: u32) -> Option<u32>
         ensures reached { IfSome result (IsReached self.old (meaning self.old access aligned address)) }
@@ -157,7 +157,7 @@ impl Core {
         requires sole { IsSole self.now.entries address self.now.cop0.entry_hi lo }
         ensures { IfSome result (IsReached self.now (meaning self.now access true address)) }
     {
-        let physical = self.through(access, address, lo)?;
+        let physical = self.through(access, true, address, lo)?;
         if self.is_isolated(physical) {
             return None;
         }
@@ -204,6 +204,31 @@ impl CodePage {
             return None;
         }
         Some(index as usize)
+    }
+
+    /// A page of kseg0 or kseg1, where these go over the bus.
+    #[inline(always)]
+    pub fn unmapped(number: u32, page: u32) -> CodePage
+        ensures code { (pages : ℕ) (core : Core) → number < 2 ^ 20 → IsFetchedFrom pages core number page → GoesOverBus core → IsCodePage pages core result }
+        ensures number { result.number ≡ number }
+        ensures page { result.page ≡ page }
+    {
+        CodePage {
+            number,
+            page,
+            over_bus: KSEG2 - KSEG0,
+        }
+    }
+
+    /// Whether a virtual page is one of kseg0 or kseg1, and these go over the bus. Wherever they do, the words of such a page are fetched
+    /// from the same page of memory.
+    #[inline(always)]
+    pub fn goes_over_bus(self, number: u32) -> bool
+        requires { self.over_bus ≤ KSEG2 - KSEG0 }
+        ensures some { IsTrue result → 0 < self.over_bus }
+        ensures fetched { IsTrue result → number ≡ self.number → (pages : ℕ) (core : Core) → IsCodePage pages core self → IsFetchedOverBus pages number self.page }
+    {
+        subtract(number, KSEG0 / PAGE_BYTES) < self.over_bus / PAGE_BYTES
     }
 }
 

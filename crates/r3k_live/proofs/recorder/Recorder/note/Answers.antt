@@ -1,4 +1,4 @@
-use Rattle.std.proofs.Common.{◌≡◌, arith, ◌<◌, ℕ, ◌+◌, ◌++◌, ◌∷◌, [], Bool, None, ◌||◌, List, sym, ap, ◌∙◌, length, slice_index, slice_index_or, slice_set, length-append, zero-add}
+use Rattle.std.proofs.Common.{◌≡◌, arith, ◌<◌, ℕ, ◌+◌, ◌++◌, ◌∷◌, [], Bool, None, ◌||◌, List, sym, ap, ◌∙◌, length, slice_index, slice_index_or, slice_set, length-append, zero-add, rules}
 use Rattle.std.proofs.Math.Path.{ap₂}
 use Rattle.r3k_pages.specs.Pages.{holds}
 use Rattle.r3k_machine.specs.Locality.{is_page, is_touched, touches}
@@ -6,6 +6,7 @@ use Rattle.r3k_live.specs.Record.{stores_in, with_sent}
 use Rattle.r3k_live.specs.Recording.{Recording, with_writer}
 use Rattle.r3k_live.specs.declared.recorder.SentAt.{SentAt}
 use Rattle.r3k_live.proofs.Recorded.{any_more, destination_more, last_more, or-assoc, page_stored, ram_more, sent_more}
+use Rattle.r3k_live.proofs.Ready.{still_ready}
 use Rattle.r3k_live.proofs.recorder.Recorder.note.Goals as goal
 
 pub returns-clause-records : goal.returns-clause-records
@@ -46,3 +47,20 @@ returns-clause-records g c =
           (steps_are ∙ sym (zero-add (length steps)))
           ∙ sym (sent_more 0 steps done));
     }
+
+pub invariant_of-self : goal.invariant_of-self
+invariant_of-self g c = record {
+  few = search rules;
+  steps = search rules;
+  last = search rules;
+  sent = search rules;
+  sent_fits = search rules;
+  stored_touched = search rules;
+  ready =
+      still_ready g.row.PAGES c.self.inside.ready _ _ c.self.invariant.ready
+      (λ page held.
+      c.mark-2.ensures page
+      ∙ ap (λ (b : Bool). b || is_page page (slice_index_or c.args.done.touched 1 None))
+      (c.mark.ensures page ∙ ap (λ (b : Bool). b || is_page page (slice_index_or c.args.done.touched 0 None)) held))
+      (λ number held. held);
+}

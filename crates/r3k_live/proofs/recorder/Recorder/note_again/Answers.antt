@@ -1,4 +1,4 @@
-use Rattle.std.proofs.Common.{◌≡◌, arith, ◌<◌, ℕ, ◌+◌, ◌++◌, ◌∷◌, [], Bool, None, ◌||◌, List, sym, ap, ◌∙◌, length, slice_index, slice_index_or, slice_set, not, length-append, zero-add}
+use Rattle.std.proofs.Common.{◌≡◌, arith, ◌<◌, ℕ, ◌+◌, ◌++◌, ◌∷◌, [], Bool, None, ◌||◌, List, sym, ap, ◌∙◌, length, slice_index, slice_index_or, slice_set, not, length-append, zero-add, rules}
 use Rattle.std.proofs.Math.Path.{ap₂}
 use Rattle.r3k_pages.specs.Pages.{holds}
 use Rattle.r3k_machine.specs.Locality.{is_page, is_touched, touches}
@@ -6,6 +6,7 @@ use Rattle.r3k_live.specs.Record.{stores_in, with_sent}
 use Rattle.r3k_live.specs.Recording.{Recording, with_writer}
 use Rattle.r3k_live.specs.declared.recorder.SentAt.{SentAt}
 use Rattle.r3k_live.proofs.Recorded.{any_more, destination_more, last_more, marked_again, or-assoc, page_stored, ram_more, sent_more, stored_again}
+use Rattle.r3k_live.proofs.Ready.{still_ready}
 use Rattle.r3k_live.proofs.recorder.Recorder.note_again.Goals as goal
 use Rattle.r3k_live.proofs.recorder.Recorder.note_again.Goals.{then-is_new, else-is_new+else-is_none}
 
@@ -22,6 +23,7 @@ returns g c =
       touched = touched;
       sent = c.note_sent.new.sent;
       code_pages = inside.code_pages;
+      ready = inside.ready;
     }) × ((page : ℕ) → holds touched page ≡ (holds inside.touched page || is_page page second)) =
     elim c.if-is_new.branch [
       | then-is_new w ↦ (_, w.self-inside-is, w.mark.ensures)
@@ -73,3 +75,22 @@ returns g c =
           ◌∙◌ {A = Bool} (marked.2 page) (ap (λ (b : Bool). b || is_page page second) (ap (λ (set : List ℕ). holds set page) touched_is ∙ held));
       code_pages = ap (λ (r : Recording). r.code_pages) c.self.view_is;
     })
+
+pub invariant_of-self : goal.invariant_of-self
+invariant_of-self g c = record {
+  few = search rules;
+  steps = search rules;
+  last = search rules;
+  sent = search rules;
+  sent_fits = search rules;
+  stored_touched = search rules;
+  ready =
+      elim c.if-is_new.branch [
+        | then-is_new w ↦
+            rw w.self-inside-is
+            (still_ready g.row.PAGES c.self.inside.ready _ _ c.self.invariant.ready
+            (λ page held. w.mark.ensures page ∙ ap (λ (b : Bool). b || is_page page (slice_index_or c.args.done.touched 1 None)) held) (λ number held. held))
+        | else-is_new+else-is_none w ↦
+            rw w.self-inside-is (still_ready g.row.PAGES c.self.inside.ready _ _ c.self.invariant.ready (λ page held. held) (λ number held. held))
+      ];
+}

@@ -1,7 +1,8 @@
-use Rattle.std.proofs.Common.{ℕ, ◌<◌, All, IsTrue, length, slice_index, refl, sym, subst, ap, ◌∙◌, arith}
+use Rattle.std.proofs.Common.{ℕ, ◌<◌, All, IsTrue, length, slice_index, refl, sym, subst, ap, ◌∙◌, arith, rules}
 use Rattle.r3k_live.specs.Recording.{Recording}
 use Rattle.r3k_live.specs.Waiting.{is_among}
 use Rattle.r3k_live.proofs.Holding.{pass_all, passed_is, passed_too}
+use Rattle.r3k_live.proofs.Ready.{still_ready}
 use Rattle.r3k_live.proofs.recorder.Recorder.pass.Goals as goal
 
 pub pass-requires : goal.pass-requires
@@ -30,3 +31,14 @@ returns g c =
       sent = refl;
       code_pages = refl;
     })
+
+pub invariant_of-self : goal.invariant_of-self
+invariant_of-self g c = record {
+  few = search rules;
+  steps = search rules;
+  last = search rules;
+  sent = search rules;
+  sent_fits = search rules;
+  stored_touched = search rules;
+  ready = still_ready g.row.PAGES c.self.inside.ready _ _ c.self.invariant.ready (λ page held. held) (λ number held. held);
+}
