@@ -1,6 +1,6 @@
 #!/usr/bin/env python3
-"""The sessions that stand in the repository: those of examples/, of docs/USING.md and of bench/stored, and two of this file that are too
-long for a test of a crate: one far along a run, and one of a long log. Each has its replies.
+"""The sessions that stand in the repository: those of examples/, of docs/USING.md and of bench/stored, and three of this file that are too
+long for a test of a crate: one far along a run, one of a long log, and one of calls from page to page. Each has its replies.
 
     .ci/sessions.py
 
@@ -83,6 +83,97 @@ FAR = [
 ]
 
 
+# Calls a function of two pages a thousand times by four names: page 2, and page 514, whose decoded words take its place, through kseg0 and
+# through kseg1. So steps 9 to 22,008. Then r2 grows by 7 in page 2. User mode comes to that page, which is an address error, and kernel mode
+# with the cache isolated, which keeps what is stored from RAM.
+PAGES = b"""\
+        .org 0x00002000                 # page 2
+        addiu r2, r2, 1
+        jr r31
+        addiu r5, r5, 1
+        .org 0x00202000                 # page 514
+        addiu r2, r2, 1
+        jr r31
+        addiu r5, r5, 1
+
+        .org 0x1fc00000
+        lui r16, 0x8000
+        ori r16, r16, 0x2000            # page 2 in kseg0
+        lui r17, 0xa020
+        ori r17, r17, 0x2000            # page 514 in kseg1
+        lui r18, 0x8020
+        ori r18, r18, 0x2000            # page 514 in kseg0
+        lui r19, 0xa000
+        ori r19, r19, 0x2000            # page 2 in kseg1
+        addiu r20, r0, 999
+turn:
+        jalr r31, r16
+        sll r0, r0, 0
+        jalr r31, r17
+        sll r0, r0, 0
+        jalr r31, r18
+        sll r0, r0, 0
+        jalr r31, r19
+        sll r0, r0, 0
+        bne r20, r0, turn
+        addiu r20, r20, -1
+        lui r12, 0x2442
+        ori r12, r12, 7                 # addiu r2, r2, 7
+        sw r12, 0(r19)
+        jalr r31, r16
+        sll r0, r0, 0
+        jalr r31, r18
+        sll r0, r0, 0
+        lui r30, 0xbfc0
+        ori r30, r30, 0x0200
+        mfc0 r14, c12
+        sll r0, r0, 0
+        ori r14, r14, 8                 # the mode before is user mode
+        mtc0 r14, c12
+        jr r16
+        rfe
+        .org 0x1fc00180
+        mfc0 r26, c13                   # Cause
+        addiu r24, r24, 1
+        jr r30
+        sll r0, r0, 0
+        .org 0x1fc00200
+        lui r14, 0x0041                 # the cache is isolated
+        mtc0 r14, c12
+        sll r0, r0, 0
+        sll r0, r0, 0
+        sw r24, 64(r18)
+        jalr r31, r16
+        sll r0, r0, 0
+        lui r14, 0x0040                 # and not any more
+        mtc0 r14, c12
+        sll r0, r0, 0
+        sll r0, r0, 0
+        jalr r31, r16
+        sll r0, r0, 0
+hold:
+        j hold
+        sll r0, r0, 0
+"""
+
+CALLED = [
+    ("goto 60000", "pos 60000"),
+    ("reg 2", f"r2 0x{4000 + 7 + 1 + 7 + 7:08x}"),
+    ("reg 5", f"r5 0x{4004:08x}"),
+    ("reg 24", "r24 0x00000001"),
+    ("reg 26", "r26 0x00000010"),
+    ("mem 0x2000 1", "0x00002000 0x24420007"),
+    ("mem 0x202040 1", "0x00202040 0x00000000"),
+    ("writer 0x2000", "writer 22011"),
+    ("patch 0x2000 0x24420002", "ok"),
+    ("reg 2", f"r2 0x{2 * 2000 + 2000 + 7 + 1 + 7 + 7:08x}"),
+    ("reg 5", f"r5 0x{4004:08x}"),
+    ("goto 22011", "pos 22011"),
+    ("reg 2", f"r2 0x{2 * 2000 + 2000:08x}"),
+    ("mem 0x2000 1", "0x00002000 0x24420002"),
+]
+
+
 # To the echo program comes byte N, the low byte of N, in step 1000 + 100 N, on line 0. A turn of its loop takes 11 steps, and one begins
 # with step 9. A turn reads the byte that came up to its first step, and sends it 8 steps later.
 BYTES = 5000
@@ -135,6 +226,7 @@ def sessions():
     stored = sorted(ROOT.glob("bench/stored/*.img"))
     yield "bench/stored", [(*booted(it), *read(*map(it.with_suffix, (".log", ".script", ".expected")))) for it in stored]
     yield "far along a run", [("source", WAITS, b"", *dialogue(FAR))]
+    yield "calls from page to page", [("source", PAGES, b"", *dialogue(CALLED))]
     yield "a long log", [(*booted(ROOT / "examples/echo/boot.s"), LONG_LOG, *dialogue(LONG))]
 
 
