@@ -1,11 +1,11 @@
 #!/usr/bin/env python3
-"""The sessions that stand in the repository: those of examples/, of docs/USING.md and of bench/stored, and three of this file that are too
-long for a test of a crate: one far along a run, one of a long log, and one of calls from page to page. Each has its replies.
+"""Plays the stored sessions on the shipped program and compares the replies.
 
     .ci/sessions.py
 
-plays each of them with the program that is shipped, and starts it on lines with a fault, with words that are not text and for help. It
-is silent where replies, faults and statuses are those that stand here. The status is 1 where one is another.
+The sessions are those of examples/, docs/USING.md and bench/stored, the dialogues of .ci/dialogues, and three long ones of this file: one
+far along a run, one with a long log, and one with calls from page to page. It also starts the program with command lines and inputs that it
+refuses, and for help. Prints each reply, fault or status that differs. The status is 1 if one does.
 """
 import hashlib
 import re
@@ -13,6 +13,9 @@ import struct
 import subprocess
 import sys
 from pathlib import Path
+
+sys.dont_write_bytecode = True
+from dialogues import dialogues, first_difference
 
 ROOT = Path(__file__).resolve().parent.parent
 PROGRAM = ROOT / "crates/r3kwb/out/r3kwb"
@@ -213,7 +216,7 @@ LONG = [
 ]
 
 
-def dialogue(lines):
+def script_and_replies(lines):
     """The script and the replies of lines with theirs."""
     return tuple("".join(it + "\n" for it in those).encode() for those in zip(*lines))
 
@@ -225,9 +228,9 @@ def sessions():
     yield "docs/USING.md", typed((ROOT / "docs/USING.md").read_text())
     stored = sorted(ROOT.glob("bench/stored/*.img"))
     yield "bench/stored", [(*booted(it), *read(*map(it.with_suffix, (".log", ".script", ".expected")))) for it in stored]
-    yield "far along a run", [("source", WAITS, b"", *dialogue(FAR))]
-    yield "calls from page to page", [("source", PAGES, b"", *dialogue(CALLED))]
-    yield "a long log", [(*booted(ROOT / "examples/echo/boot.s"), LONG_LOG, *dialogue(LONG))]
+    yield "far along a run", [("source", WAITS, b"", *script_and_replies(FAR))]
+    yield "calls from page to page", [("source", PAGES, b"", *script_and_replies(CALLED))]
+    yield "a long log", [(*booted(ROOT / "examples/echo/boot.s"), LONG_LOG, *script_and_replies(LONG))]
 
 
 # An image of 32 bytes that sets no word.
@@ -240,6 +243,17 @@ LINES = [
     (["--kind", "image", "--size", "31"], EMPTY[:31], 1, b"", b"r3kwb: error 9 BadImage Short\n"),
     (["--kind", "image", "--size", "33"], EMPTY + b"\0", 1, b"", b"r3kwb: error 9 BadImage Extra\n"),
     (["--kind", "image", "--size", "40"], EMPTY, 3, b"", b"r3kwb: error 11 ReadFault\n"),
+    (["--log", "19"], b"R3KLOG1\n\x01\0\0\0\x46\0\0\0\0\x41", 3, b"", b"r3kwb: error 11 ReadFault\n"),
+    # Scripts: no line, blank lines and comments, a last line without its end, carriage returns, what follows `quit`, 256 blanks, and a
+    # line of 257 bytes.
+    ([], b"", 0, b"", b""),
+    ([], b"\n\n# a comment\n \t\n", 0, b"", b""),
+    ([], b"pos", 0, b"pos 0\n", b""),
+    ([], b"goto 0x10\r\npos\r", 0, b"pos 16\npos 16\n", b""),
+    ([], b"pos\nquit\npos\n", 0, b"pos 0\n", b""),
+    ([], b"goto 3\nquit", 0, b"pos 3\n", b""),
+    ([], b" " * 256, 0, b"", b""),
+    ([], b"x" * 257, 0, b"error 2 Syntax\n", b""),
     (["--kind", "source", "--size", "9"], b"j nowhere", 1, b"", b"r3kwb: error 13 BadSource 1 Label\n"),
     (["--log", "17"], b"R3KLOG1\n\x01\0\0\0\x46\0\0\0\0", 1, b"", b"r3kwb: error 10 BadLog Short\n"),
     (["--log", "23"], b"R3KLOG2\n\x01\0\0\0\x46\0\0\0\0\0\0\0\x03\0\x41", 1, b"", b"r3kwb: error 10 BadLog Kind\n"),
@@ -257,16 +271,34 @@ def about():
     return dict(it.partition(" ")[::2] for it in (file.read_text().splitlines() if file.exists() else []))
 
 
+def run(kind, boot, log, script):
+    """Runs the program on an image of a kind, a log and a script."""
+    words = ["--kind", kind, "--size", str(len(boot)), "--log", str(len(log))]
+    return subprocess.run([ROOT / "bin/r3kwb", *words], input=boot + log + script, capture_output=True)
+
+
 def played():
-    """What is wrong with the replies of the program."""
+    """Yields what is wrong with the replies of the program."""
     for name, those in sessions():
         for number, (kind, boot, log, script, replies) in enumerate(those, 1):
-            words = ["--kind", kind, "--size", str(len(boot)), "--log", str(len(log))]
-            ran = subprocess.run([ROOT / "bin/r3kwb", *words], input=boot + log + script, capture_output=True)
+            ran = run(kind, boot, log, script)
             if (ran.returncode, ran.stdout, ran.stderr) != (0, replies, b""):
-                lines = zip([*ran.stdout.splitlines(), b""], [*replies.splitlines(), b""])
-                first = next(((one, other) for one, other in lines if one != other), (b"", b""))
-                yield f"session {number} of {name}: status {ran.returncode}, {first[0]!r} for {first[1]!r} {ran.stderr.decode(errors='replace')}"
+                one, other = first_difference(ran.stdout, replies)
+                yield f"session {number} of {name}: status {ran.returncode}, {one!r} for {other!r} {ran.stderr.decode(errors='replace')}"
+
+
+def spoken():
+    """Yields what is wrong with the replies to the dialogues, and with the faults of those that end with one."""
+    for dialogue in dialogues():
+        if dialogue.machine == "small":
+            continue
+        status, errors = 0, ""
+        if dialogue.fault:
+            status, errors = 3 if dialogue.fault.startswith(("11", "12")) else 1, f"r3kwb: error {dialogue.fault}\n"
+        ran = run(dialogue.kind, dialogue.boot, dialogue.log, dialogue.script or b"pos\n")
+        if (ran.returncode, ran.stdout, ran.stderr) != (status, dialogue.replies, errors.encode()):
+            one, other = first_difference(ran.stdout, dialogue.replies)
+            yield f"{dialogue.name}: status {ran.returncode}, {one!r} for {other!r} {ran.stderr.decode(errors='replace')}"
 
 
 def started():
@@ -279,7 +311,7 @@ def started():
 
 
 def main():
-    wrong = [*played(), *started()]
+    wrong = [*played(), *spoken(), *started()]
     if hashlib.sha256(PROGRAM.read_bytes()).hexdigest() != about().get("program"):
         wrong.append(f"{PROGRAM.relative_to(ROOT)} is not the program that is shipped")
     for it in wrong:
