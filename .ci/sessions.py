@@ -260,8 +260,20 @@ LINES = [
     # 2,048 pages of RAM: the last word of it, and the word after it, which is neither RAM nor ROM.
     ([], b"mem 0x7ffffc 1\nmem 0x800000 1\n", 0, b"0x007ffffc 0x00000000\nerror 6 NotMemory\n", b""),
     (["--size", "67108865"], b"pos\n", 2, b"", b"--size is a number from 0 to 67108864"),
+    (["--log", "67108865"], b"pos\n", 2, b"", b"--log is a number from 0 to 67108864"),
     ([b"\xff"], b"pos\n", 2, b"", b"the words are not all UTF-8 text"),
-    (["--help"], b"pos\n", 0, b"Usage: r3kwb [OPTIONS]", b""),
+    *(
+        (["--help"], b"pos\n", 0, part, b"")
+        for part in (
+            b"Usage: r3kwb [OPTIONS]",
+            b"Standard input is the bytes of the kind, then those of the log (0 bytes are the empty log), and then a",
+            b"--log <N>",
+            b"How many bytes of it that takes, 0 to 67108864 [default: 0]",
+            b"How many bytes after them the log takes, 0 to 67108864 [default: 0]",
+            b"Statuses: 0 good, also for this help; 1 a bad image, source or log",
+            b"docs/USING.md",
+        )
+    ),
 ]
 
 

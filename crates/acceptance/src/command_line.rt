@@ -1,12 +1,10 @@
-//! The program's line: good and wrong words, the texts of usage and help, and the line of a fault.
+//! The command line: good and wrong words, and the line of a fault. `.ci/sessions.py` tests the texts of help and usage.
 use crate::same::{same, same_at};
-use crate::served::run_program;
 use asm_line::kind::AsmKind;
 use r3k_image::ImageKind;
 use std::alloc::Global;
 use std::str;
 use std::test::Fail;
-use wb_options::MAX_SIZE;
 use workbench::{Kind, NoWords, Order, Plan, RunFault, fault_line, options, r3kwb, status};
 
 // What a line asks for, or the status that it ends with.
@@ -73,37 +71,7 @@ fn wrong_lines(rt: HostRuntime) -> Result<(), Fail> {
     Ok(())
 }
 
-/// Help goes to the output and says what the input is, the statuses, and where the commands are explained. Usage goes to the
-/// errors. Neither reads or runs anything.
-#[test]
-fn help_and_usage(rt: HostRuntime) -> Result<(), Fail> {
-    let alloc = rt.alloc();
-    let run = run_program(alloc, &["r3kwb", "--help"], b"pos\n", 1)?;
-    for part in [
-        "Usage: r3kwb [OPTIONS]",
-        "Standard input is the bytes of the kind, then those of the log (0 bytes are the empty log), and then a",
-        "--log <N>",
-        "Statuses: 0 good, also for this help; 1 a bad image, source or log",
-        "docs/USING.md",
-    ] {
-        same_at(&rt, &part, &run.output.contains(part), &true);
-    }
-    for of in ["of it that", "after them the log"] {
-        let part = format!(in alloc; "How many bytes {of} takes, 0 to {MAX_SIZE} [default: 0]")?;
-        same_at(&rt, &part, &run.output.contains(part.as_str()), &true);
-    }
-    assert!(rt; !run.output.contains("pos 0"));
-    same(&rt, &(run.errors.len(), run.status), &(0, 0));
-    for option in ["--size", "--log"] {
-        let run = run_program(alloc, &["r3kwb", option, "67108865"], b"pos\n", 1)?;
-        let part = format!(in alloc; "{option} is a number from 0 to {MAX_SIZE}\n")?;
-        same_at(&rt, &part, &run.errors.contains(part.as_str()), &true);
-        same(&rt, &(run.output.len(), run.status), &(0, 2));
-    }
-    Ok(())
-}
-
-/// Where there are no words, nothing is read.
+/// Without words nothing is read.
 #[test]
 fn no_words(rt: HostRuntime) -> Result<(), Fail> {
     let alloc = rt.alloc();

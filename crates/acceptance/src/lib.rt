@@ -1,4 +1,5 @@
-//! Tests of the whole program: the worked examples, by name, and hostile input.
+//! Tests of the whole program's calls: its command line, its readers and writers, and calls that fail. What the program answers to
+//! scripts is tested by the dialogues of .ci/dialogues.
 #![tactic(auto)]
 
 #[cfg(test)]
@@ -6,26 +7,8 @@ mod calls;
 #[cfg(test)]
 mod command_line;
 #[cfg(test)]
-mod commands;
-#[cfg(test)]
-mod edits;
-#[cfg(test)]
-mod exceptions;
-#[cfg(test)]
 mod failing;
-#[cfg(test)]
-mod hostile;
-#[cfg(test)]
-mod images;
-#[cfg(test)]
-mod kinds;
-#[cfg(test)]
-mod logs;
-#[cfg(test)]
-mod programs;
 #[cfg(test)]
 mod readers;
 #[cfg(test)]
 mod same;
-#[cfg(test)]
-mod served;

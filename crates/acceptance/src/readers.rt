@@ -149,3 +149,22 @@ fn half_a_line(rt: HostRuntime) -> Result<(), Fail> {
     }
     Ok(())
 }
+
+/// A raw ROM that takes all 2^20 reads is too large. One byte more takes one read too many.
+#[test]
+fn image_of_all_reads(rt: HostRuntime) -> Result<(), Fail> {
+    let input = vec![in rt.alloc(); 0u8; 1_048_577]?;
+    for (size, ends) in [(1_048_576, 1), (1_048_577, 3)] {
+        let mut reader = Plan::new(rt.alloc(), &input, 1, 0)?;
+        let mut writer = Plan::new(rt.alloc(), &[], 4096, 100)?;
+        let options = Options {
+            kind: Kind::Rom,
+            size,
+            log_size: 0,
+        };
+        let outcome = serve::<16, 64, Plan, Plan>(rt.alloc(), options, &mut reader, &mut writer);
+        same_at(&rt, &size, &status(&outcome), &ends);
+        same_at(&rt, &size, &writer.written().len(), &0);
+    }
+    Ok(())
+}

@@ -4,6 +4,7 @@ use crate::same::same_at;
 use crate::serial_part::{RBUF, TDR, line_of, sent_on};
 use kn02_bus::{Bus, Device, Lines, Region};
 use samples::shown;
+use std::process::Abort;
 use std::test::Fail;
 
 const START: [u8; 12] = [0x59, 0, 0x59, 0, 0x23, 0, 7, 0x28, 2, 4, 0x20, 2];
@@ -81,23 +82,26 @@ fn is_so(bus: &mut Bus, name: &str, numbers: &[u32]) -> bool {
     match (name, numbers) {
         ("csr", [want]) => bus.load(Device::Csr) == *want,
         ("reads", [offset, want]) => bus.load(Device::Serial(*offset)) == *want,
-        ("rbuf", wants) => wants
-            .iter()
-            .all(|want| bus.load(Device::Serial(RBUF)) == *want),
-        ("counts", [first, last]) => {
-            (*first..=*last).all(|want| bus.load(Device::Serial(RBUF)) == want)
-        }
-        ("clock", [first, wants @ ..]) => {
-            (*first..64)
-                .zip(wants)
-                .all(|(number, want)| bus.load(register(number)) == *want)
-        }
+        ("rbuf", wants) => wants.iter().all(|want| next_byte(bus) == *want),
+        ("counts", [first, last]) => (*first..=*last).all(|want| next_byte(bus) == want),
+        ("clock", [first, wants @ ..]) => has_clock(bus, *first, wants),
         ("lines", [board, clock]) => {
             let (board, clock) = (*board != 0, *clock != 0);
             bus.lines() == Lines { board, clock }
         }
         _ => false,
     }
+}
+
+// What RBUF reads.
+fn next_byte(bus: &mut Bus) -> u32 {
+    bus.load(Device::Serial(RBUF))
+}
+
+// Whether the clock's registers from one on read these bytes.
+fn has_clock(bus: &mut Bus, first: u32, wants: &[u32]) -> bool {
+    let mut pairs = (first..64).zip(wants);
+    pairs.all(|(number, want)| bus.load(register(number)) == *want)
 }
 
 // A register of the clock, by its address.
@@ -172,10 +176,22 @@ tick 9, clock 0 0x59, tick 9, swap, tick 17, other, tick 1, same, swap, wire 1 1
 #[test]
 fn regions(rt: HostRuntime) -> Result<(), Fail> {
     for (pages, places, wanted) in &cases(rt.alloc(), REGIONS)? {
-        for place in &numbers_of(rt.alloc(), *places)? {
-            let region = Region::of(*place, u32::from_str_radix(*pages, 10)?);
-            same_at(&rt, place, &shown(rt.alloc(), &region)?, wanted);
-        }
+        regions_are(&rt, *pages, *places, wanted)?;
+    }
+    Ok(())
+}
+
+// Whether addresses have this region on a machine with so many pages of RAM.
+fn regions_are(
+    rt: &(impl Abort + AllocGlobal),
+    pages: &str,
+    places: &str,
+    wanted: &String,
+) -> Result<(), Fail> {
+    let pages = u32::from_str_radix(pages, 10)?;
+    for place in &numbers_of(rt.alloc(), places)? {
+        let region = shown(rt.alloc(), &Region::of(*place, pages))?;
+        same_at(rt, place, &region, wanted);
     }
     Ok(())
 }

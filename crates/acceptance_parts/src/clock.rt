@@ -33,28 +33,9 @@ impl Part for Clock {
 // Does what is said, and answers whether something is.
 fn does(clock: &mut Clock, name: &str, numbers: &[u32]) -> Result<bool, Fail> {
     match (name, numbers) {
-        ("start", [unit, bytes @ ..]) => {
-            let mut start = [0; 12];
-            for (byte, number) in start.iter_mut().zip(bytes) {
-                *byte = u8::try_from(*number)?;
-            }
-            if start[10] >= 128 || start[11] % 2 != 0 {
-                return Err("no start".into());
-            }
-            *clock = Clock::new(start, within(*unit, 1, 65_535)?);
-        }
-        ("at", [b, time @ ..]) => {
-            *clock = Clock::begin();
-            for (register, byte) in TIME.iter().zip(time) {
-                write(clock, *register as u32, *byte)?;
-            }
-            write(clock, REGISTER_B as u32, *b)?;
-        }
-        ("tick", [ticks]) => {
-            for _ in 0..*ticks {
-                clock.tick();
-            }
-        }
+        ("start", [unit, bytes @ ..]) => *clock = started(*unit, bytes)?,
+        ("at", [b, time @ ..]) => *clock = running(*b, time)?,
+        ("tick", [ticks]) => tick(clock, *ticks),
         ("pass", [ticks]) => clock.pass((*ticks).min(clock.quiet())),
         ("write", [register, byte]) => write(clock, *register, *byte)?,
         _ => return Ok(false),
@@ -62,22 +43,55 @@ fn does(clock: &mut Clock, name: &str, numbers: &[u32]) -> Result<bool, Fail> {
     Ok(true)
 }
 
+// A clock with a unit and the bytes of an image's start.
+fn started(unit: u32, bytes: &[u32]) -> Result<Clock, Fail> {
+    let mut start = [0; 12];
+    for (byte, number) in start.iter_mut().zip(bytes) {
+        *byte = u8::try_from(*number)?;
+    }
+    if start[10] >= 128 || start[11] % 2 != 0 {
+        return Err("no start".into());
+    }
+    Ok(Clock::new(start, within(unit, 1, 65_535)?))
+}
+
+// A clock whose divider runs, with register B and a time.
+fn running(b: u32, time: &[u32]) -> Result<Clock, Fail> {
+    let mut clock = Clock::begin();
+    for (register, byte) in TIME.iter().zip(time) {
+        write(&mut clock, *register as u32, *byte)?;
+    }
+    write(&mut clock, REGISTER_B as u32, b)?;
+    Ok(clock)
+}
+
+fn tick(clock: &mut Clock, ticks: u32) {
+    for _ in 0..ticks {
+        clock.tick();
+    }
+}
+
 // Whether the clock is as is said.
 fn is_so(clock: &mut Clock, name: &str, numbers: &[u32]) -> Result<bool, Fail> {
     Ok(match (name, numbers) {
-        ("reads", [first, wants @ ..]) => {
-            let mut pairs = (*first..64).zip(wants);
-            pairs.all(|(register, want)| read(clock, register) == *want)
-        }
-        ("time", wants) => {
-            let mut pairs = TIME.iter().zip(wants);
-            wants.len() == 7 && pairs.all(|(register, want)| read(clock, *register as u32) == *want)
-        }
+        ("reads", [first, wants @ ..]) => reads(clock, *first, wants),
+        ("time", wants) => wants.len() == 7 && has_time(clock, wants),
         ("ram", [first, last]) => is_ram(clock, *first, *last)?,
         ("quiet", [want]) => clock.quiet() == *want,
         ("interrupts", [want]) => clock.interrupts() as u32 == *want,
         _ => false,
     })
+}
+
+// Whether the registers from one on read these bytes.
+fn reads(clock: &mut Clock, first: u32, wants: &[u32]) -> bool {
+    let mut pairs = (first..64).zip(wants);
+    pairs.all(|(register, want)| read(clock, register) == *want)
+}
+
+fn has_time(clock: &mut Clock, wants: &[u32]) -> bool {
+    let mut pairs = TIME.iter().zip(wants);
+    pairs.all(|(register, want)| read(clock, *register as u32) == *want)
 }
 
 fn write(clock: &mut Clock, register: u32, byte: u32) -> Result<(), Fail> {

@@ -25,38 +25,60 @@ impl Part for Cop0 {
     }
 
     fn clause(&mut self, name: &str, numbers: &[u32]) -> Result<bool, Fail> {
-        if let [numbers @ .., vector] = numbers
-            && let Some(exception) = exception_of(name, numbers.first().copied())
-        {
-            return Ok(self.enter(exception) == *vector);
+        Ok(enters(self, name, numbers) || does(self, name, numbers)? || is_so(self, name, numbers))
+    }
+}
+
+// Enters an exception, if the clause names one. Returns whether its vector is the last number.
+fn enters(cop0: &mut Cop0, name: &str, numbers: &[u32]) -> bool {
+    let [numbers @ .., vector] = numbers else {
+        return false;
+    };
+    match exception_of(name, numbers.first().copied()) {
+        Some(exception) => cop0.enter(exception) == *vector,
+        None => false,
+    }
+}
+
+// Makes the call that a clause names. Returns whether it names one.
+fn does(cop0: &mut Cop0, name: &str, numbers: &[u32]) -> Result<bool, Fail> {
+    match (name, numbers) {
+        ("write", [number, word]) => cop0.write(u8::try_from(*number)?, *word),
+        ("all", [word]) => write_all(cop0, *word),
+        ("rfe", []) => cop0.rfe(),
+        ("fall", [falls]) => fall(cop0, *falls),
+        ("sample", [board, clock]) => cop0.sample(*board != 0, *clock != 0),
+        ("probed", []) => cop0.probed(None),
+        ("probed", [index]) => cop0.probed(Some(within(*index, 0, 63)?)),
+        ("loaded", [hi, lo]) => cop0.loaded(*hi, *lo),
+        ("ts", []) => cop0.set_ts(),
+        ("cm", [miss]) => cop0.set_cm(*miss != 0),
+        _ => return Ok(false),
+    }
+    Ok(true)
+}
+
+// Returns whether what a clause states holds.
+fn is_so(cop0: &Cop0, name: &str, numbers: &[u32]) -> bool {
+    match (name, numbers) {
+        ("reads", [first, wants @ ..]) => {
+            let mut pairs = (*first..32).zip(wants);
+            pairs.all(|(number, want)| cop0.read(number.min(31) as u8) == *want)
         }
-        match (name, numbers) {
-            ("reads", [first, wants @ ..]) => {
-                let mut pairs = (*first..32).zip(wants);
-                return Ok(pairs.all(|(number, want)| self.read(number.min(31) as u8) == *want));
-            }
-            ("wanted", [want]) => return Ok(self.wanted() as u32 == *want),
-            ("write", [number, word]) => self.write(u8::try_from(*number)?, *word),
-            ("all", [word]) => {
-                for number in 0..16 {
-                    self.write(number, *word);
-                }
-            }
-            ("rfe", []) => self.rfe(),
-            ("fall", [falls]) => {
-                for _ in 0..*falls {
-                    self.fall();
-                }
-            }
-            ("sample", [board, clock]) => self.sample(*board != 0, *clock != 0),
-            ("probed", []) => self.probed(None),
-            ("probed", [index]) => self.probed(Some(within(*index, 0, 63)?)),
-            ("loaded", [hi, lo]) => self.loaded(*hi, *lo),
-            ("ts", []) => self.set_ts(),
-            ("cm", [miss]) => self.set_cm(*miss != 0),
-            _ => return Ok(false),
-        }
-        Ok(true)
+        ("wanted", [want]) => cop0.wanted() as u32 == *want,
+        _ => false,
+    }
+}
+
+fn write_all(cop0: &mut Cop0, word: u32) {
+    for number in 0..16 {
+        cop0.write(number, word);
+    }
+}
+
+fn fall(cop0: &mut Cop0, falls: u32) {
+    for _ in 0..falls {
+        cop0.fall();
     }
 }
 

@@ -57,11 +57,12 @@ fn turn<const PAGES: u32>(
     ensures same { SameOutside set.now earlier.now words.new.items }
     ensures whole { length words.new.items ≡ length words.old.items }
 {
-    let page = page_of(place);
-    assert!(rt; place < words.len());
-    assert!(rt; set.pages().iter().any(|other| *other as usize == page));
-    page_laws();
-    words[place] = !words[place];
+    let is_marked = place < words.len() && set.holds(page_of(place) as u32);
+    same_at(rt, &place, &is_marked, &true);
+    if is_marked {
+        page_laws();
+        words[place] = !words[place];
+    }
 }
 
 // Turns the first and the last word of each page of a set, and takes a snapshot.
@@ -236,13 +237,25 @@ fn one_word_is_set(rt: HostRuntime) -> Result<(), Fail> {
     let words = filled::<16>(rt.alloc())?;
     let snapshot = Snapshot::<16>::capture(rt.alloc(), &words, None, &none)?;
     for place in [0, 1023, 1024, 33 * 1024 + 5, 80 * 1024 - 1] {
-        let set = snapshot.with_word(rt.alloc(), place, 7)?;
-        differ_in(&rt, &snapshot, &set, &[page_of(place) as u32]);
-        same(&rt, &set.word(place), &7);
-        let back = set.with_word(rt.alloc(), place, first_word(place))?;
-        holds(&rt, &back, &[]);
+        word_is_set(&rt, rt.alloc(), &snapshot, place)?;
     }
     holds(&rt, &snapshot, &[]);
+    Ok(())
+}
+
+// Sets a word and sets it back: only its page differs between.
+fn word_is_set(
+    rt: &impl Abort,
+    alloc: Global,
+    snapshot: &Snapshot<16>,
+    place: usize,
+) -> Result<(), Fail>
+    requires { place < word_count_of 16 }
+{
+    let set = snapshot.with_word(alloc, place, 7)?;
+    differ_in(rt, snapshot, &set, &[page_of(place) as u32]);
+    same(rt, &set.word(place), &7);
+    holds(rt, &set.with_word(alloc, place, first_word(place))?, &[]);
     Ok(())
 }
 
@@ -254,15 +267,25 @@ fn pages_of_another(rt: HostRuntime) -> Result<(), Fail> {
     let none = PageMarks::new(alloc)?;
     let mut words = filled::<16>(alloc)?;
     let own = Snapshot::<16>::capture(alloc, &words, None, &none)?;
-    let set = set_of(alloc, &all)?;
-    let other = after(&rt, alloc, &mut words, &own, &set)?;
-    is_overlaid(&rt, alloc, &own, &other, &[])?;
+    let other = after(&rt, alloc, &mut words, &own, &set_of(alloc, &all)?)?;
+    are_overlaid(&rt, alloc, &own, &other, &all)
+}
+
+// Takes none of the differing pages from the other snapshot, each alone, and four at once.
+fn are_overlaid(
+    rt: &impl Abort,
+    alloc: Global,
+    own: &Snapshot<16>,
+    other: &Snapshot<16>,
+    all: &[u32],
+) -> Result<(), Fail> {
+    is_overlaid(rt, alloc, own, other, &[])?;
     for page in all {
-        is_overlaid(&rt, alloc, &own, &other, &[page])?;
+        is_overlaid(rt, alloc, own, other, &[*page])?;
     }
-    is_overlaid(&rt, alloc, &own, &other, &[1, 16, 31, 79])?;
-    holds(&rt, &own, &[]);
-    holds(&rt, &other, &all);
+    is_overlaid(rt, alloc, own, other, &[1, 16, 31, 79])?;
+    holds(rt, own, &[]);
+    holds(rt, other, all);
     Ok(())
 }
 
