@@ -121,7 +121,11 @@ def plan():
 
 
 def test_of(name):
-    """The file of a test, and whether it has the test."""
+    """Returns the file of a test or a dialogue, and whether it has it."""
+    if name.startswith("dialogues/"):
+        _, stem, title = name.split("/")
+        file = ROOT / f".ci/dialogues/{stem}.txt"
+        return file, file.is_file() and f"\n[{title}]\n" in file.read_text()
     crate, *modules, function = name.split("::")
     file = ROOT / "crates" / crate / "src" / ("/".join(modules) + ".rt")
     return file, file.is_file() and re.search(rf"#\[test\](?:\n *(?:#\[|//).*)*\n *fn {function}\(", file.read_text())

@@ -6,7 +6,7 @@ from pathlib import Path
 PACKAGE = Path(__file__).resolve().parent
 REPOSITORY = PACKAGE.parents[1]  # where the package is not installed
 
-# Where it was installed the program is beside its modules. In the repository bin/r3kwb unpacks it, or proves and builds it.
+# Where it was installed the program is beside its modules. In the repository bin/r3kwb unpacks it.
 IS_INSTALLED = (PACKAGE / "r3kwb").exists()
 
 NAME = "bezhakkom" if IS_INSTALLED else "bin/wb"

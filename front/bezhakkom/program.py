@@ -47,7 +47,7 @@ def itself() -> Path:
 
 
 def build() -> None:
-    """Proves and builds the program where it isn't; what that takes is shown on standard error."""
+    """Has the program unpacked. Standard error has a line if the sources here are not those that it was built from."""
     if IS_INSTALLED or "WB_PROGRAM" in os.environ:
         return
     status = subprocess.run([path()], stdin=subprocess.DEVNULL, stdout=subprocess.DEVNULL).returncode

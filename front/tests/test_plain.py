@@ -255,18 +255,36 @@ class Typed(unittest.TestCase):
 
 
 class Sources(unittest.TestCase):
-    def test_other_sources(self) -> None:
-        """Where the sources are not those of the shipped program, that it is made anew is said first, and how to do without."""
+    def started(self, *words: str) -> subprocess.CompletedProcess[str]:
+        """Starts a shipped program, a script, in a folder whose sources are not those that it was built from, without `rt`."""
+        script = b"#!/bin/sh\necho started\n"
         with tempfile.TemporaryDirectory() as folder:
             root = Path(folder)
-            for name, content in (("bin/r3kwb.xz", ""), ("bin/r3kwb.txt", "sources 0\n"), ("crates.txt", "r3kwb:\n"), ("crates/r3kwb/src/main.rt", "")):
+            about = f"sources 0\nprogram {hashlib.sha256(script).hexdigest()}\n"
+            for name, content in (("bin/r3kwb.xz", lzma.compress(script)), ("bin/r3kwb.txt", about.encode()), ("crates.txt", b"r3kwb:\n"),
+                                  ("crates/r3kwb/src/main.rt", b"")):
                 (root / name).parent.mkdir(parents=True, exist_ok=True)
-                (root / name).write_text(content)
+                (root / name).write_bytes(content)
             shutil.copy(ROOT / "bin/r3kwb", root / "bin")
-            # As if `rt` were not installed.
-            done = subprocess.run(["bin/r3kwb"], cwd=root, env={"PATH": "/usr/bin:/bin"}, stdin=subprocess.DEVNULL, capture_output=True, text=True)
-        self.assertEqual(done.returncode, 70)
-        self.assertRegex(done.stderr, "proved and built here, which takes up to an hour. .* WB_PROGRAM=FILE bin/wb")
+            done = [subprocess.run(["bin/r3kwb", *words], cwd=root, env={"PATH": "/usr/bin:/bin"}, stdin=subprocess.DEVNULL, capture_output=True,
+                                   text=True) for _ in range(2)]
+        self.assertEqual(*((it.returncode, it.stdout, it.stderr) for it in done))
+        return done[0]
+
+    def test_changed_sources_start_the_shipped_program_and_say_so(self) -> None:
+        done = self.started()
+        self.assertEqual((done.returncode, done.stdout), (0, "started\n"))
+        self.assertRegex(done.stderr, "^bin/r3kwb: the sources differ from those of the shipped program, .*bin/r3kwb --prove\n$")
+
+    def test_changed_sources_fail_where_the_program_must_be_theirs(self) -> None:
+        done = self.started("--exact")
+        self.assertEqual((done.returncode, done.stdout), (70, ""))
+        self.assertRegex(done.stderr, "^bin/r3kwb: the sources differ from those of the shipped program; .*bin/r3kwb --prove\n$")
+
+    def test_changed_sources_are_proved_only_when_asked(self) -> None:
+        done = self.started("--prove")
+        self.assertEqual((done.returncode, done.stdout), (70, ""))
+        self.assertIn("'rt' is not on the PATH", done.stderr)
 
 
 if __name__ == "__main__":

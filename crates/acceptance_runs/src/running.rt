@@ -1,5 +1,5 @@
 //! A machine that runs a program in spans of 64 steps, its record, kept places of its run, and kept records of spans. Beside it a timeline.
-ghost use Rattle.std.specs.Prelude.{◌≡◌, ◌≤◌, IfOk};
+ghost use Rattle.std.specs.Prelude.{◌≡◌, ◌^◌, ◌<◌, ◌≤◌, IfOk};
 ghost use Rattle.r3k_word.specs.declared.layout.TheConstants.{MAX_RAM_PAGES};
 ghost use Rattle.timeline.specs.Sizes.{AreSizes};
 
@@ -68,7 +68,7 @@ impl<const PAGES: u32, const SPAN: u32> Running<PAGES, SPAN> {
         self.does(alloc, name, numbers.as_slice())
     }
 
-    // Does what is said, or asks it.
+    // Changes the log or runs the machine, or does what the functions below it do.
     fn does(&mut self, alloc: Global, name: &str, numbers: &[u64]) -> Result<String, Fail>
         requires { AreSizes PAGES SPAN }
     {
@@ -78,42 +78,48 @@ impl<const PAGES: u32, const SPAN: u32> Running<PAGES, SPAN> {
             ("byte" | "framing" | "level", [time, line, byte]) => {
                 self.receive(name, *time, *line, *byte)?;
             }
-            ("bytes", [count, time, line, byte]) => {
-                for _ in 0..*count {
-                    self.receive("byte", *time, *line, *byte)?;
-                }
-            }
-            ("run", [from, steps]) => {
-                self.run(*from, *steps, None)?;
-            }
+            ("bytes", [count, time, line, byte]) => self.receive_many(*count, *time, *line, *byte)?,
+            ("run", [from, steps]) => self.run(*from, *steps)?,
             ("visit", [from, steps, address]) => {
-                let address = u32::try_from(*address)?;
-                return Ok(shown(alloc, &self.run(*from, *steps, Some(address))?)?);
+                return self.visit(alloc, *from, *steps, u32::try_from(*address)?);
             }
+            _ => return self.does_with_places(alloc, name, numbers),
+        }
+        Ok(String::new(alloc))
+    }
+
+    // Keeps a place, or goes to one.
+    fn does_with_places(
+        &mut self,
+        alloc: Global,
+        name: &str,
+        numbers: &[u64],
+    ) -> Result<String, Fail>
+        requires { AreSizes PAGES SPAN }
+    {
+        match (name, numbers) {
             ("keep", []) => self.places.push(self.live.keep(alloc)?)?,
-            ("reset", []) => {
-                let reset = Live::<PAGES>::new(alloc, &self.image)?.keep(alloc)?;
-                self.places.push(reset)?;
-            }
+            ("reset", []) => self.keep_reset(alloc)?,
             ("poke", [place, word, value]) => {
-                let (place, word) = (self.place(*place)?, *word as usize);
-                if word >= word_count(PAGES) {
-                    return Err("no word".into());
-                }
-                let poked = place.with_word(alloc, word, u32::try_from(*value)?)?;
-                let poked = Rc::new(alloc, poked).map_err(|_| AllocError)?;
-                self.places.push(poked)?;
+                self.keep_poked(alloc, *place, *word as usize, u32::try_from(*value)?)?;
             }
-            ("load", [place]) => {
-                let place = self.place(*place)?;
-                self.live.load(place);
-            }
-            ("record", [place, index]) => {
-                let start = self.place(*place)?;
-                let fact = self.record(alloc, start, *index)?;
-                self.places.push(fact.end().clone()?)?;
-                self.fact = Some(fact);
-            }
+            ("load", [place]) => self.load(*place)?,
+            _ => return self.does_with_records(alloc, name, numbers),
+        }
+        Ok(String::new(alloc))
+    }
+
+    // Makes a record, or changes which are kept.
+    fn does_with_records(
+        &mut self,
+        alloc: Global,
+        name: &str,
+        numbers: &[u64],
+    ) -> Result<String, Fail>
+        requires { AreSizes PAGES SPAN }
+    {
+        match (name, numbers) {
+            ("record", [place, index]) => self.record_from(alloc, *place, *index)?,
             ("put", []) => self.put(alloc)?,
             ("link", []) => self.link(alloc)?,
             ("join", []) => self.join()?,
@@ -133,22 +139,36 @@ impl<const PAGES: u32, const SPAN: u32> Running<PAGES, SPAN> {
             ("then", []) => shown(alloc, &(core.next_pc(), core.delay()))?,
             ("random", []) => shown(alloc, &core.cop0().read(RANDOM))?,
             ("status", []) => shown(alloc, &core.cop0().read(STATUS))?,
+            ("holds", []) => shown(alloc, &self.holds(alloc)?)?,
+            _ => return self.reports_of_run(alloc, name, numbers),
+        })
+    }
+
+    // A word of memory, what the last run reported, and the sum of two counts of steps.
+    fn reports_of_run(&mut self, alloc: Global, name: &str, numbers: &[u64]) -> Result<String, Fail>
+        requires { AreSizes PAGES SPAN }
+    {
+        match (name, numbers) {
             ("memory", [place]) => {
                 let word = self.live.words().get(*place as usize).ok_or("no word")?;
-                shown(alloc, word)?
+                Ok(shown(alloc, word)?)
             }
-            ("holds", []) => shown(alloc, &self.holds(alloc)?)?,
-            (("reports", [])) => {
-                let (dirty, touched) = (self.recorder.dirty(alloc)?, self.recorder.touched(alloc)?);
-                let written = shown(alloc, &self.written(alloc)?)?;
-                let rest = reported(alloc, self.recorder.sent(), &dirty, &touched)?;
-                [written.as_str(), rest.as_str()].concat(alloc)?
-            }
+            ("reports", []) => self.last_report(alloc),
             ("counted", [before, steps]) => {
-                shown(alloc, &counted(*before, u32::try_from(*steps)?))?
+                Ok(shown(alloc, &counted(*before, u32::try_from(*steps)?))?)
             }
-            _ => return self.keeps(alloc, name, numbers),
-        })
+            _ => self.keeps(alloc, name, numbers),
+        }
+    }
+
+    // What the last run reported.
+    fn last_report(&self, alloc: Global) -> Result<String, Fail>
+        requires { AreSizes PAGES SPAN }
+    {
+        let written = shown(alloc, &self.written(alloc)?)?;
+        let (dirty, touched) = (self.recorder.dirty(alloc)?, self.recorder.touched(alloc)?);
+        let rest = reported(alloc, self.recorder.sent(), &dirty, &touched)?;
+        Ok([written.as_str(), rest.as_str()].concat(alloc)?)
     }
 
     // What is kept.
@@ -156,31 +176,20 @@ impl<const PAGES: u32, const SPAN: u32> Running<PAGES, SPAN> {
         requires { AreSizes PAGES SPAN }
     {
         Ok(match (name, numbers) {
-            ("kept", [place, word]) => {
-                let (place, word) = (self.place(*place)?, *word as usize);
-                if word >= word_count(PAGES) {
-                    return Err("no word".into());
-                }
-                shown(alloc, &place.memory().word(word))?
-            }
-            ("differ", [one, other]) => {
-                let (one, other) = (self.place(*one)?, self.place(*other)?);
-                differences(alloc, &one, &other)?
-            }
+            ("kept", [place, word]) => self.kept_word(alloc, *place, *word as usize)?,
+            ("differ", [one, other]) => self.differ(alloc, *one, *other)?,
             ("fact", []) => self.fact_reports(alloc)?,
-            ("starts", [place]) => {
-                let (fact, place) = (self.fact()?, self.place(*place)?);
-                differences(alloc, fact.start(), &place)?
-            }
-            ("writers", addresses) => {
-                let fact = self.fact()?;
-                let mut steps = Vec::new(alloc);
-                for address in addresses {
-                    let step = fact.writer(Target::Memory(u32::try_from(*address)?));
-                    steps.push(step.map_or(NONE, |step| step as u64))?;
-                }
-                shown(alloc, &steps)?
-            }
+            ("starts", [place]) => self.starts(alloc, *place)?,
+            ("writers", addresses) => self.writers(alloc, addresses)?,
+            _ => return self.keeps_records(alloc, name, numbers),
+        })
+    }
+
+    // Which records are kept, and which of them serve.
+    fn keeps_records(&mut self, alloc: Global, name: &str, numbers: &[u64]) -> Result<String, Fail>
+        requires { AreSizes PAGES SPAN }
+    {
+        Ok(match (name, numbers) {
             ("records" | "links", []) => shown(alloc, &self.spans(alloc, name, 0)?)?,
             ("taken", [place]) => shown(alloc, &self.spans(alloc, name, *place)?)?,
             ("valid", []) => shown(alloc, &self.kept.valid())?,
@@ -190,6 +199,83 @@ impl<const PAGES: u32, const SPAN: u32> Running<PAGES, SPAN> {
             }
             _ => return self.timeline.answer(alloc, name, numbers),
         })
+    }
+
+    // The word at a place of memory, in a place that is kept.
+    fn kept_word(&self, alloc: Global, place: u64, word: usize) -> Result<String, Fail>
+        requires { AreSizes PAGES SPAN }
+    {
+        let place = self.place(place)?;
+        if word >= word_count(PAGES) {
+            return Err("no word".into());
+        }
+        Ok(shown(alloc, &place.memory().word(word))?)
+    }
+
+    // What differs at two places.
+    fn differ(&self, alloc: Global, one: u64, other: u64) -> Result<String, Fail>
+        requires { AreSizes PAGES SPAN }
+    {
+        let (one, other) = (self.place(one)?, self.place(other)?);
+        differences(alloc, &one, &other)
+    }
+
+    // What differs between the start of the record that was made last and a place.
+    fn starts(&self, alloc: Global, place: u64) -> Result<String, Fail>
+        requires { AreSizes PAGES SPAN }
+    {
+        let place = self.place(place)?;
+        differences(alloc, self.fact()?.start(), &place)
+    }
+
+    // The last steps of the record that stored into the words at addresses.
+    fn writers(&self, alloc: Global, addresses: &[u64]) -> Result<String, Fail> {
+        let fact = self.fact()?;
+        let mut steps = Vec::new(alloc);
+        for address in addresses {
+            let step = fact.writer(Target::Memory(u32::try_from(*address)?));
+            steps.push(step.map_or(NONE, |step| step as u64))?;
+        }
+        Ok(shown(alloc, &steps)?)
+    }
+
+    // Keeps the state at reset of another machine of the image.
+    fn keep_reset(&mut self, alloc: Global) -> Result<(), Fail>
+        requires { AreSizes PAGES SPAN }
+    {
+        let reset = Live::<PAGES>::new(alloc, &self.image)?.keep(alloc)?;
+        self.places.push(reset)?;
+        Ok(())
+    }
+
+    // Keeps a place with another word.
+    fn keep_poked(&mut self, alloc: Global, place: u64, word: usize, value: u32) -> Result<(), Fail>
+        requires { AreSizes PAGES SPAN }
+    {
+        let place = self.place(place)?;
+        if word >= word_count(PAGES) {
+            return Err("no word".into());
+        }
+        let poked = place.with_word(alloc, word, value)?;
+        let poked = Rc::new(alloc, poked).map_err(|_| AllocError)?;
+        self.places.push(poked)?;
+        Ok(())
+    }
+
+    // Goes back to a place.
+    fn load(&mut self, place: u64) -> Result<(), Fail> {
+        let place = self.place(place)?;
+        self.live.load(place);
+        Ok(())
+    }
+
+    // Makes the record of a span from a place on, and keeps where it ends.
+    fn record_from(&mut self, alloc: Global, place: u64, index: u64) -> Result<(), Fail> {
+        let start = self.place(place)?;
+        let fact = self.record(alloc, start, index)?;
+        self.places.push(fact.end().clone()?)?;
+        self.fact = Some(fact);
+        Ok(())
     }
 
     // One more event comes.
@@ -203,21 +289,38 @@ impl<const PAGES: u32, const SPAN: u32> Running<PAGES, SPAN> {
         Ok(())
     }
 
-    // Runs `steps` steps from a time on, or less if it comes to an address. Then it gives how many it made.
-    fn run(&mut self, from: u64, steps: u64, stop: Option<u32>) -> Result<Option<u32>, Fail> {
-        let steps = u32::try_from(steps)?;
-        if steps > SPAN || from >= MOST {
-            return Err("too far".into());
+    // So many bytes come.
+    fn receive_many(&mut self, count: u64, time: u64, line: u64, byte: u64) -> Result<(), Fail> {
+        for _ in 0..count {
+            self.receive("byte", time, line, byte)?;
         }
+        Ok(())
+    }
+
+    // Runs steps from a time on.
+    fn run(&mut self, from: u64, steps: u64) -> Result<(), Fail> {
+        let steps = within_span::<SPAN>(from, steps)?;
         self.recorder.clear();
-        let (events, recorder) = (self.log.window(0, MOST), &mut self.recorder);
-        match stop {
-            Some(address) => Ok(self.live.visit(from, events, steps, address, recorder)),
-            None => {
-                self.live.run(from, events, steps, recorder);
-                Ok(None)
-            }
-        }
+        let events = self.log.window(0, MOST);
+        self.live.run(from, events, steps, &mut self.recorder);
+        Ok(())
+    }
+
+    // Runs steps from a time on until it comes to an address, and gives how many it made.
+    fn visit(
+        &mut self,
+        alloc: Global,
+        from: u64,
+        steps: u64,
+        address: u32,
+    ) -> Result<String, Fail> {
+        let steps = within_span::<SPAN>(from, steps)?;
+        self.recorder.clear();
+        let events = self.log.window(0, MOST);
+        let found = self
+            .live
+            .visit(from, events, steps, address, &mut self.recorder);
+        Ok(shown(alloc, &found)?)
     }
 
     // The places of words that are not those of the image, and what stands there.
@@ -424,6 +527,18 @@ impl<const PAGES: u32, const SPAN: u32> Running<PAGES, SPAN> {
 
 // Above all times of these tests.
 const MOST: u64 = 1 << 32;
+
+// A number of steps from a time on, if it is at most a span's.
+fn within_span<const SPAN: u32>(from: u64, steps: u64) -> Result<u32, Fail>
+    ensures steps { IfOk result (λ steps. steps ≤ SPAN) }
+    ensures from { IfOk result (λ _. from < 2 ^ 32) }
+{
+    let steps = u32::try_from(steps)?;
+    if steps > SPAN || from >= MOST {
+        return Err("too far".into());
+    }
+    Ok(steps)
+}
 
 // What differs in two states: the core, and pages.
 fn differences<const PAGES: u32>(

@@ -111,6 +111,24 @@ fn made<const PAGES: u32, const SPAN: u32, W: Sink>(
     requires sizes { AreSizes PAGES SPAN }
 {
     match call {
+        Call::Timeline => show_timeline::<PAGES, SPAN, W>(alloc, name, show),
+        Call::Follow => show_followed::<PAGES, SPAN, W>(alloc, name, show),
+        Call::RegisterWriter => show_register_writer::<PAGES, SPAN, W>(alloc, name, show),
+        Call::Session => show_session::<PAGES, SPAN, W>(alloc, name, show),
+        Call::Serve => show_served::<PAGES, SPAN, W>(alloc, name, show),
+        Call::Record => show_first_record::<PAGES, SPAN, W>(alloc, name, show),
+        _ => made_of_bytes(alloc, call, name, show),
+    }
+}
+
+// Makes a call on an image, a log, a source or a command line.
+fn made_of_bytes<W: Sink>(
+    alloc: Global,
+    call: Call,
+    name: &[u8],
+    show: &mut Show<W>,
+) -> Result<(), RunFault> {
+    match call {
         Call::ReadImage => show_words(name, read_image(alloc, &LOAD_SLOT), show),
         Call::RawRom => show_words(name, raw_rom(alloc, &LOAD_SLOT), show),
         Call::WriteImage => show_written_image(alloc, name, show),
@@ -119,15 +137,21 @@ fn made<const PAGES: u32, const SPAN: u32, W: Sink>(
         Call::ReadKinds => show_log(name, read_log(alloc, KINDS), show),
         Call::WriteKinds => show_written_log(alloc, name, KINDS, show),
         Call::Assemble => show_assembled(alloc, name, show),
-        Call::Timeline => show_timeline::<PAGES, SPAN, W>(alloc, name, show),
-        Call::Follow => show_followed::<PAGES, SPAN, W>(alloc, name, show),
-        Call::RegisterWriter => show_register_writer::<PAGES, SPAN, W>(alloc, name, show),
-        Call::Session => show_session::<PAGES, SPAN, W>(alloc, name, show),
-        Call::Serve => show_served::<PAGES, SPAN, W>(alloc, name, show),
+        _ => made_of_words(alloc, call, name, show),
+    }
+}
+
+// Reads a command line.
+fn made_of_words<W: Sink>(
+    alloc: Global,
+    call: Call,
+    name: &[u8],
+    show: &mut Show<W>,
+) -> Result<(), RunFault> {
+    match call {
         Call::Options => show_options(alloc, name, &["r3kwb", "--log", "18"], show),
         Call::Usage => show_options(alloc, name, &["r3kwb", "--log", "x"], show),
-        Call::Help => show_options(alloc, name, &["r3kwb", "--help"], show),
-        Call::Record => show_first_record::<PAGES, SPAN, W>(alloc, name, show),
+        _ => show_options(alloc, name, &["r3kwb", "--help"], show),
     }
 }
 

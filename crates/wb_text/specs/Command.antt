@@ -126,32 +126,45 @@ three name range next last make = record {
   make = λ numbers. make (slice_index numbers 0) (slice_index numbers 1) (slice_index numbers 2);
 }
 
--- the table of commands
-abbrev pub commands : List Form
-commands =
+-- the table of commands, in four parts: moves and the end; questions about the state at the position; questions about the run; the
+-- log, its edits and patches
+abbrev pub moves : List Form
+moves =
     none (codes "pos") Pos
     ∷ one (codes "goto") any_number Goto
     ∷ one (codes "step") any_number Step
     ∷ one (codes "back") any_number Back
     ∷ two (codes "visit") address step_count Visit
     ∷ none (codes "quit") Quit
-    ∷ none (codes "regs") Regs
+    ∷ []
+
+abbrev pub state_queries : List Form
+state_queries =
+    none (codes "regs") Regs
     ∷ one (codes "reg") register_number Reg
     ∷ none (codes "cp0") Cp0
     ∷ one (codes "tlb") entry_number Tlb
     ∷ one (codes "where") address Where
     ∷ two (codes "mem") address word_count Mem
     ∷ two (codes "dis") address word_count Dis
-    ∷ three (codes "console") line_number any_number byte_count Console
+    ∷ none (codes "devices") Devices
+    ∷ []
+
+abbrev pub run_queries : List Form
+run_queries =
+    three (codes "console") line_number any_number byte_count Console
     ∷ two (codes "find") line_number any_number Find
     ∷ one (codes "writer") address Writer
     ∷ two (codes "stores") address store_count Stores
     ∷ three (codes "finds") line_number any_number find_count Finds
     ∷ one (codes "regwriter") written_number RegisterWriter
     ∷ two (codes "pcs") distance position_count Pcs
-    ∷ none (codes "devices") Devices
     ∷ one (codes "trace") trace_count Trace
-    ∷ two (codes "log") any_number event_count Log
+    ∷ []
+
+abbrev pub edits : List Form
+edits =
+    two (codes "log") any_number event_count Log
     ∷ three (codes "add") event_time line_number byte_value Add
     ∷ three (codes "ferr") event_time line_number byte_value Ferr
     ∷ three (codes "wire") event_time wire_number level Wire
@@ -167,15 +180,28 @@ abbrev pub made_by : (List ℕ → Command) → Result (List ℕ) Fault → Resu
 made_by make (Ok numbers) = Ok (make numbers)
 made_by make (Err fault) = Err fault
 
--- the command of a name and the words after it, by the rows of a table
-abbrev pub command_among : List Form → List ℕ → List (List ℕ) → Result Command Fault
-command_among [] name words = Err Syntax
-command_among (form ∷ forms) name words =
-    if bytes_eq name form.name then made_by form.make (numbers_of form.ranges words) else command_among forms name words
+-- the command of a name and the words after it, by the rows of a table, or by others if no row has the name
+abbrev pub command_among : List Form → (List ℕ → List (List ℕ) → Result Command Fault) → List ℕ → List (List ℕ) → Result Command Fault
+command_among [] others name words = others name words
+command_among (form ∷ forms) others name words =
+    if bytes_eq name form.name then made_by form.make (numbers_of form.ranges words) else command_among forms others name words
 
--- the same by the table of commands: another name is Syntax
+-- a name of no table is Syntax
+abbrev pub unknown : List ℕ → List (List ℕ) → Result Command Fault
+unknown name words = Err Syntax
+
+-- the command of a name, by each part of the table and those after it, and by the whole table
+abbrev pub edit_named : List ℕ → List (List ℕ) → Result Command Fault
+edit_named = command_among edits unknown
+
+abbrev pub run_query_named : List ℕ → List (List ℕ) → Result Command Fault
+run_query_named = command_among run_queries edit_named
+
+abbrev pub state_query_named : List ℕ → List (List ℕ) → Result Command Fault
+state_query_named = command_among state_queries run_query_named
+
 abbrev pub command_named : List ℕ → List (List ℕ) → Result Command Fault
-command_named = command_among commands
+command_named = command_among moves state_query_named
 
 -- what a line with a command says
 abbrev pub some_command : Result Command Fault → Result (Option Command) Fault

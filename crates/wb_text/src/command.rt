@@ -3,7 +3,7 @@
 ghost use Rattle.std.specs.Prelude.{◌≡◌, ◌<◌, MatchResult, Ok, Err, ℕ, List, [], ◌∷◌, length};
 ghost use Rattle.wb_text.specs.Words.{words_of};
 ghost use Rattle.wb_text.specs.Number.{number_of, number_within};
-ghost use Rattle.wb_text.specs.Command.{command_of, command_of_words, command_named, first_of, both_of, numbers_of};
+ghost use Rattle.wb_text.specs.Command.{command_of, command_of_words, command_named, state_query_named, run_query_named, edit_named, first_of, both_of, numbers_of};
 
 use crate::bounded::{
     Address, AnyNumber, Bounded, ByteCount, ByteValue, Distance, EntryNumber, EventCount,
@@ -15,7 +15,7 @@ use crate::words::first_word;
 use refusal::Fault;
 
 /// A command of a script.
-#[derive(Clone, Copy, Debug, PartialEq, Eq)]
+#[derive(Clone, Copy, Debug)]
 pub enum Command {
     /// Shows the position.
     Pos,
@@ -185,18 +185,20 @@ macro_rules! command {
     }};
 }
 
-// The command of a name and the text after it, by the rows of a table. Another name is Syntax.
+// The command of a name and the text after it, by the rows of a table. Any other name is left to `$others`.
 macro_rules! command_among {
-    (($name:ident, $rest:ident) $($row_name:literal $numbers:tt => $command:expr,)*) => {
+    (($name:ident, $rest:ident) $($row_name:literal $numbers:tt => $command:expr,)* else $others:expr) => {
         $(if $name == $row_name.as_slice() {
             command!($rest $numbers $command)
         } else)* {
-            Err(Fault::Syntax)
+            $others
         }
     };
 }
 
-// The same by the table of commands.
+// Performance: the tables are four functions, since the check of one takes more than in proportion to its rows.
+
+// The command of a name and the text after it: a move or the end, or what the other tables have.
 fn command_by_name(name: &[u8], rest: &[u8]) -> Result<Command, Fault>
     ensures { result ≡ command_named name.now (words_of rest.now) }
 {
@@ -208,6 +210,16 @@ fn command_by_name(name: &[u8], rest: &[u8]) -> Result<Command, Fault>
         b"back" (steps: AnyNumber) => Command::Back(steps.get()),
         b"visit" (address: Address, limit: StepCount) => Command::Visit { address, limit },
         b"quit" () => Command::Quit,
+        else state_query_by_name(name, rest)
+    }
+}
+
+// A question about the state at the position, or what the tables after it have.
+fn state_query_by_name(name: &[u8], rest: &[u8]) -> Result<Command, Fault>
+    ensures { result ≡ state_query_named name.now (words_of rest.now) }
+{
+    command_among! {
+        (name, rest)
         b"regs" () => Command::Regs,
         b"reg" (number: RegisterNumber) => Command::Reg(number),
         b"cp0" () => Command::Cp0,
@@ -215,6 +227,17 @@ fn command_by_name(name: &[u8], rest: &[u8]) -> Result<Command, Fault>
         b"where" (address: Address) => Command::Where(address),
         b"mem" (address: Address, count: WordCount) => Command::Mem { address, count },
         b"dis" (address: Address, count: WordCount) => Command::Dis { address, count },
+        b"devices" () => Command::Devices,
+        else run_query_by_name(name, rest)
+    }
+}
+
+// A question about the run, or an edit.
+fn run_query_by_name(name: &[u8], rest: &[u8]) -> Result<Command, Fault>
+    ensures { result ≡ run_query_named name.now (words_of rest.now) }
+{
+    command_among! {
+        (name, rest)
         b"console" (line: LineNumber, from: AnyNumber, count: ByteCount) => Command::Console { line, from: from.get(), count },
         b"find" (line: LineNumber, place: AnyNumber) => Command::Find { line, place: place.get() },
         b"writer" (address: Address) => Command::Writer(address),
@@ -222,8 +245,17 @@ fn command_by_name(name: &[u8], rest: &[u8]) -> Result<Command, Fault>
         b"finds" (line: LineNumber, place: AnyNumber, count: FindCount) => Command::Finds { line, place: place.get(), count },
         b"regwriter" (number: WrittenNumber) => Command::RegisterWriter(number),
         b"pcs" (distance: Distance, count: PositionCount) => Command::Pcs { distance, count },
-        b"devices" () => Command::Devices,
         b"trace" (count: TraceCount) => Command::Trace(count),
+        else edit_by_name(name, rest)
+    }
+}
+
+// A command that shows or edits the log, or patches the image.
+fn edit_by_name(name: &[u8], rest: &[u8]) -> Result<Command, Fault>
+    ensures { result ≡ edit_named name.now (words_of rest.now) }
+{
+    command_among! {
+        (name, rest)
         b"log" (from: AnyNumber, count: EventCount) => Command::Log { from: from.get(), count },
         b"add" (time: EventTime, line: LineNumber, byte: ByteValue) => Command::Add { time, line, byte },
         b"ferr" (time: EventTime, line: LineNumber, byte: ByteValue) => Command::Ferr { time, line, byte },
@@ -233,6 +265,7 @@ fn command_by_name(name: &[u8], rest: &[u8]) -> Result<Command, Fault>
         b"move" (event: AnyNumber, time: EventTime) => Command::Move { event: event.get(), time },
         b"erase" (from: AnyNumber, to: AnyNumber) => Command::Erase { from: from.get(), to: to.get() },
         b"patch" (address: Address, word: WordValue) => Command::Patch { address, word },
+        else Err(Fault::Syntax)
     }
 }
 

@@ -84,7 +84,7 @@ pub enum Writer {
 }
 
 /// The reply to a command.
-#[derive(Debug, Drop, PartialEq, Eq)]
+#[derive(Debug, Drop)]
 pub enum Reply {
     /// The position, of `pos`, `goto`, `step`, `back` and `visit`.
     Position(u64),
