@@ -17,7 +17,7 @@ WANTED = "chromium and chromedriver are not on the PATH; on Debian: apt-get inst
 PATIENCE = 240  # seconds
 ELEMENT = "element-6066-11e4-a52e-4f735466cecf"
 KEYS = {"Tab": "\ue004", "Enter": "\ue007", "Shift": "\ue008", "Control": "\ue009", "Escape": "\ue00c", "Delete": "\ue017", "Left": "\ue012",
-        "Up": "\ue013", "Right": "\ue014", "Down": "\ue015", "Home": "\ue011"}
+        "Up": "\ue013", "Right": "\ue014", "Down": "\ue015", "Home": "\ue011", "End": "\ue010"}
 
 
 def is_here() -> bool:
@@ -133,6 +133,15 @@ class Browser:
             *({"type": "keyDown", "value": it} for it in down),
             *(it for code in codes for it in ({"type": "keyDown", "value": code}, {"type": "keyUp", "value": code})),
             *({"type": "keyUp", "value": it} for it in reversed(down))]})
+
+    def command(self, name: str, **parameters: Any) -> Any:
+        """A command of the DevTools protocol: input that WebDriver has no word for, such as a mouse outside of the window."""
+        return self._send("POST", f"{self._session}/goog/cdp/execute", {"cmd": name, "params": parameters})
+
+    def mouse(self, kind: str, x: float, y: float, buttons: int = 0, modifiers: int = 0) -> None:
+        """An event of the mouse (`mousePressed`, `mouseMoved`, `mouseReleased`) anywhere, with the buttons that are down after it."""
+        self.command("Input.dispatchMouseEvent", type=kind, x=x, y=y, buttons=buttons, modifiers=modifiers, clickCount=1,
+                     button="none" if kind == "mouseMoved" and not buttons else "left")
 
     def picture(self) -> bytes:
         """The window as PNG."""

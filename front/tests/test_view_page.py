@@ -2,93 +2,25 @@
 from __future__ import annotations
 
 import random
-import re
+import tempfile
+import threading
 import unittest
-from contextlib import contextmanager
 from pathlib import Path
-from typing import Any, Iterator, Sequence
 from unittest import mock
 from xml.etree import ElementTree
 
 from bezhakkom import log as logs
 from bezhakkom.log import Event
-from bezhakkom.view.desk import Desk
 from front.tests import browser as browsers
 from front.tests import brute, viewed
-from front.tests.browser import Browser, to
+from front.tests.browser import to
 from front.tests.support import needs_kinds
-from front.tests.viewed import BUTTON, DRIVER, LOGIN, READY, Hand, laid_out, served
+from front.tests.viewed import BUTTON, DRIVER, LENGTH, LOGIN, READY, Hand, PageTest
 
 SEED = 78
-LENGTH = 0x1020
 
 
-class Page(unittest.TestCase):
-    browser: Browser
-    desk: Desk
-
-    @classmethod
-    def setUpClass(cls) -> None:
-        if not browsers.is_here():
-            raise unittest.SkipTest(browsers.WANTED)
-        cls.browser = Browser()
-        cls.addClassCleanup(cls.browser.close)
-
-    @contextmanager
-    def page(self, *words: str) -> Iterator[None]:
-        """The page on what a line opens, at rest."""
-        with laid_out(*words) as self.desk, served(self.desk) as server:
-            self.browser.go(server.address)
-            self.rest()
-            yield
-            self.rest()
-            self.assertEqual(self.browser.errors(), [])
-            self.browser.go("about:blank")
-
-    def rest(self) -> None:
-        self.browser.waits(READY)
-
-    def place(self, event: int) -> tuple[float, float]:
-        """Where the handle of an event is."""
-        x, y = self.browser.run("const it = window.bezhakkom.handle(arguments[0]).getBoundingClientRect(); return [it.x + 2, it.y + 9]", event)
-        return x, y
-
-    def at(self, step: int, kind: str) -> tuple[float, float]:
-        """Where a step is on the first row of a kind."""
-        x, y = self.browser.run("""const b = window.bezhakkom, box = document.getElementById('canvas').getBoundingClientRect();
-            return [box.x + b.X(arguments[0]), box.y + b.rows().find(it => it.kind === arguments[1]).y + 10]""", step, kind)
-        return x, y
-
-    def shown(self) -> dict[str, Any]:
-        self.rest()
-        found: dict[str, Any] = self.browser.run("""const s = window.bezhakkom.s; return {now: s.now, at: s.at, ghost: s.ghost, state: s.state,
-            columns: document.getElementById('canvas').clientWidth - 270}""")
-        return found
-
-    def log(self) -> list[Event]:
-        return viewed.events_of(self.shown()["now"]["events"])
-
-    def check(self, name: str, log: Sequence[Event], words: Sequence[int] = (), exact: bool = True) -> None:
-        """The page shows a log, and what a fresh program does with it: its rows, its handles, its console and the machine."""
-        shown = self.shown()
-        image = brute.image(name)
-        sent = viewed.check(self, image, log, shown["now"], words, exact, shown["columns"], shown["at"])
-        handles = self.browser.run("return [...document.querySelectorAll('.event')].map(it => [+it.dataset.id, +it.getAttribute('aria-valuenow')])")
-        self.assertEqual(sorted(handles), sorted([it[0], it[1]] for it in shown["now"]["events"]))
-        self.assertEqual([it[1] for it in handles], sorted(it[1] for it in handles))  # Tab goes along time
-        shown_there = self.browser.run("return Object.fromEntries([...document.querySelectorAll('#consoles section')].map(it => [it.dataset.line, it.children[1].textContent]))")
-        for line, content in enumerate(sent):
-            if content and len(content) < 16_000:
-                plain = re.sub(r"[^\n\t\x20-\x7e]", lambda it: {8: "\\b", 27: "\\e"}.get(ord(it[0]), f"\\x{ord(it[0]):02x}"), content.replace("\r", ""))
-                self.assertEqual(shown_there[str(line)], plain)
-
-    def click(self, selector: str) -> None:
-        self.browser.run("document.querySelector(arguments[0]).click()", selector)
-
-    def key_on(self, event: int, *keys: str, held: Sequence[str] = ()) -> None:
-        self.browser.run("window.bezhakkom.handle(arguments[0]).focus()", event)
-        self.browser.keys(*keys, held=held)
-
+class Page(PageTest):
     # The hand
 
     def test_drags(self) -> None:

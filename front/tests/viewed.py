@@ -3,6 +3,7 @@ from __future__ import annotations
 
 import http.client
 import json
+import re
 import threading
 import unittest
 from contextlib import contextmanager
@@ -19,7 +20,7 @@ from bezhakkom.view import command
 from bezhakkom.view.desk import Desk
 from bezhakkom.view.fields import Fields
 from bezhakkom.view.server import Server
-from front.tests import brute
+from front.tests import brute, browser
 from front.tests.browser import Browser
 from front.tests.support import ROOT
 
@@ -27,6 +28,7 @@ LOGIN = ("--log", str(ROOT / "examples/login/log"), "--words", "session+32", str
 DRIVER = ("--log", str(ROOT / "examples/driver/log"), "--words", "0x80000100", str(ROOT / "examples/driver/boot.s"))
 BUTTON = ("--log", str(ROOT / "examples/button/log"), str(ROOT / "examples/button/boot.s"))
 COLUMNS = 900
+LENGTH = 0x1020  # the word session+32 of the login program, by its physical address
 
 
 @contextmanager
@@ -181,9 +183,84 @@ def _check_cursor(test: unittest.TestCase, driver: Driver, shown: dict[str, Any]
     test.assertEqual(shown["sent"], [driver.sent(line) for line in range(LINES)])
 
 
-# Pictures
+# The page in a browser
 
 READY = "window.bezhakkom && window.bezhakkom.s.now && !window.bezhakkom.isBusy()"
+
+
+class PageTest(unittest.TestCase):
+    """Tests of the page in a real browser. All tests of a class share one."""
+
+    browser: Browser
+    desk: Desk
+
+    @classmethod
+    def setUpClass(cls) -> None:
+        if not browser.is_here():
+            raise unittest.SkipTest(browser.WANTED)
+        cls.browser = Browser()
+        cls.addClassCleanup(cls.browser.close)
+
+    @contextmanager
+    def page(self, *words: str) -> Iterator[None]:
+        """The page on what a line opens, at rest."""
+        with laid_out(*words) as self.desk, served(self.desk) as server:
+            self.browser.go(server.address)
+            self.rest()
+            yield
+            self.rest()
+            self.assertEqual(self.browser.errors(), [])
+            self.browser.go("about:blank")
+
+    def rest(self) -> None:
+        self.browser.waits(READY)
+
+    def place(self, event: int) -> tuple[float, float]:
+        """Where the handle of an event is."""
+        x, y = self.browser.run("const it = window.bezhakkom.handle(arguments[0]).getBoundingClientRect(); return [it.x + 2, it.y + 9]", event)
+        return x, y
+
+    def at(self, step: int, kind: str) -> tuple[float, float]:
+        """Where a step is on the first row of a kind."""
+        x, y = self.browser.run("""const b = window.bezhakkom, box = document.getElementById('canvas').getBoundingClientRect();
+            return [box.x + b.X(arguments[0]), box.y + b.rows().find(it => it.kind === arguments[1]).y + 10]""", step, kind)
+        return x, y
+
+    def shown(self) -> dict[str, Any]:
+        self.rest()
+        found: dict[str, Any] = self.browser.run("""const s = window.bezhakkom.s; return {now: s.now, at: s.at, ghost: s.ghost, state: s.state,
+            columns: document.getElementById('canvas').clientWidth - 270}""")
+        return found
+
+    def log(self) -> list[Event]:
+        return events_of(self.shown()["now"]["events"])
+
+    def check(self, name: str, log: Sequence[Event], words: Sequence[int] = (), exact: bool = True) -> None:
+        """The page shows a log, and what a fresh program does with it: its rows, its handles, its console and the machine."""
+        shown = self.shown()
+        image = brute.image(name)
+        sent = check(self, image, log, shown["now"], words, exact, shown["columns"], shown["at"])
+        handles = self.browser.run("return [...document.querySelectorAll('.event')].map(it => [+it.dataset.id, +it.getAttribute('aria-valuenow')])")
+        self.assertEqual(sorted(handles), sorted([it[0], it[1]] for it in shown["now"]["events"]))
+        self.assertEqual([it[1] for it in handles], sorted(it[1] for it in handles))  # Tab goes along time
+        shown_there = self.browser.run("return Object.fromEntries([...document.querySelectorAll('#consoles section')].map(it => [it.dataset.line, it.children[1].textContent]))")
+        for line, content in enumerate(sent):
+            if content and len(content) < 16_000:
+                plain = re.sub(r"[^\n\t\x20-\x7e]", lambda it: {8: "\\b", 27: "\\e"}.get(ord(it[0]), f"\\x{ord(it[0]):02x}"), content.replace("\r", ""))
+                self.assertEqual(shown_there[str(line)], plain)
+
+    def click(self, selector: str) -> None:
+        self.browser.run("document.querySelector(arguments[0]).click()", selector)
+
+    def key_on(self, event: int, *keys: str, held: Sequence[str] = ()) -> None:
+        """Presses keys on an event that gets the focus after a key, as Tab gives it."""
+        self.browser.keys("Shift")
+        self.browser.run("window.bezhakkom.handle(arguments[0]).focus()", event)
+        self.browser.keys(*keys, held=held)
+
+
+# Pictures
+
 PICTURE = "window.bezhakkom.picture().then(arguments[arguments.length - 1])"
 
 
