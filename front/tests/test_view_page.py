@@ -232,7 +232,7 @@ class Page(PageTest):
             # What is asked for and is none is said, and nothing is shown.
             self.browser.run("document.getElementById('whence').click()")
             self.browser.keys(*"nothing", "Enter")
-            self.browser.waits("/nothing/.test(document.getElementById('said').textContent)")
+            self.browser.waits("/nothing/.test(document.getElementById('problem').textContent)")
             self.assertTrue(self.browser.run("return document.getElementById('why').hidden"))
 
     def test_a_sweep(self) -> None:

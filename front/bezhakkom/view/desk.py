@@ -281,18 +281,21 @@ class Desk:
             _give(self._driver, self._now)
 
     def _edits(self, ask: Fields, reply: Dict[str, Any]) -> None:
-        """Makes edits. One that was made already, as the reply to it was lost, is not made again. Those of one gesture are one step of
-        undo."""
+        """Makes edits. An edit that was made already, because the reply to it was lost, is not made again. The edits of a gesture are one step
+        of undo. The reply lists the gestures of refused edits."""
         page = ask.text("page", "")
         for edit in ask.parts("edits", MOST_EDITS):
             number = edit.number("number", 1, GREATEST_ID)
             if number <= self._edit.get(page, 0):
                 continue
             self._edit[page] = number
+            gesture = 0
             try:
+                gesture = edit.number("gesture", 0, GREATEST_ID, 0)
                 self._make(edit)
             except (Problem, Interrupted) as problem:
                 reply["problem"] = str(problem) or INTERRUPTED
+                reply.setdefault("refused", []).append(gesture)
 
     def _make(self, edit: Fields) -> None:
         name = edit.text("do")
@@ -305,8 +308,10 @@ class Desk:
             self._on_kept(name, edit)
         elif name in ("add", "change", "delete"):
             identity = edit.identity()
+            # What may be refused comes before the gesture becomes a step of undo.
             if name == "add":
                 event = edit.event()
+                self._now.check_new(identity)
             else:
                 event = self._now.event(identity)
                 if name == "change":

@@ -125,16 +125,20 @@ class Past:
         try:
             return self.ids.index(identity)
         except ValueError:
-            raise Problem("that event is not there any more") from None
+            raise Problem("the event was deleted meanwhile, so it was not edited: `Undo` brings it back") from None
 
     def event(self, identity: int) -> Event:
         return self.log[self.index(identity)]
 
-    def add(self, identity: int, event: Event) -> None:
+    def check_new(self, identity: int) -> None:
+        """Refuses an event that `add` would refuse."""
         if identity in self.ids:
-            raise Problem("there is an event of that name")
+            raise Problem("there is an event of that name already: load the page anew")
         if len(self.log) >= MOST_EVENTS:
-            raise Problem(f"a log has at most {MOST_EVENTS:,} events")
+            raise Problem(f"a log has at most {MOST_EVENTS:,} events: delete some first")
+
+    def add(self, identity: int, event: Event) -> None:
+        self.check_new(identity)
         self._put(identity, event)
         self._forget(event.time)
 

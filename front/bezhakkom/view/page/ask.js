@@ -1,18 +1,23 @@
 // Requests: one is under way at most. What is wanted meanwhile is put together, and of a drag only the latest place is kept.
-import {$, s, measure, say} from "./state.js";
+import {$, s, measure, warn} from "./state.js";
 
 const SLOW = 10, QUICK = 5;                 // milliseconds of an answer after which the next one looks at fewer places, or at more
 const SAMPLES = 96, LEAST = 12;             // places that are looked at, at rest and at least while the hand moves
 const MOST_EDITS = 2000;                    // of one request
 const MOST_NAME = 200;                      // characters of the name of an edit
+const MOST_HELD = 4000;                     // selected events that the page knows wherever they are
+const NOTE = 500;                           // milliseconds without an answer after which the page shows that it waits
+const FIRST_RETRY = 1000, LAST_RETRY = 15000;  // milliseconds before the link is tried again: they double with each refusal
 let want = null, busy = false, resting = 0, failures = 0;
 let numbers = 0, edits = 0, pasts = 0;
 const page = `${Math.random()}`;            // tells this page from others of the same desk: each numbers its own edits
 let unsent = [], sent = [];                 // edits that no reply has confirmed
-let draw = () => {}, settled = () => {};
+let draw = () => {}, settled = () => {}, refused = () => {};
 export const timings = [];                  // of each answered hand movement, for the measures
 
 export function onReply(drawn, rested) { draw = drawn; settled = rested; }
+// `handler` receives the number of each gesture of which an edit was refused.
+export const onRefused = handler => { refused = handler; };
 export const isBusy = () => busy || want !== null || unsent.length > 0 || sent.length > 0 || resting !== 0;
 export const lastEdit = () => edits;
 export const lastPast = () => pasts;        // of those that edits made
@@ -61,17 +66,19 @@ async function post(name, content) {
   return name === "ask" ? reply.json() : null;
 }
 
-// Over a link an answer takes some milliseconds less. As long as there is none it is asked by requests.
-let link = null, underWay = null;
+// Over a link an answer takes some milliseconds less. While there is no link, requests are posted, and the link is tried again.
+let link = null, underWay = null, retry = FIRST_RETRY;
 function connect() {
   const made = new WebSocket(new URL("link", location.href).href.replace("http", "ws"));
   made.onopen = () => { link = made; };
-  made.onmessage = event => underWay.resolve(JSON.parse(event.data));
+  made.onmessage = event => { retry = FIRST_RETRY; underWay.resolve(JSON.parse(event.data)); };
   made.onclose = () => {
-    if (link !== made) return;
-    link = null;
-    if (underWay) underWay.reject(new Error("the link is broken"));
-    setTimeout(connect, 1000);
+    if (link === made) {
+      link = null;
+      if (underWay) underWay.reject(new Error("the link is broken"));
+    }
+    setTimeout(connect, retry);
+    retry = Math.min(LAST_RETRY, 2 * retry);
   };
 }
 connect();
@@ -79,24 +86,35 @@ const asked = content => link ? new Promise((resolve, reject) => { underWay = {r
 export const stop = () => post("stop", {}).catch(() => {});
 export const leave = () => post("left", {page}).catch(() => {});
 
+// While a request is under way, the page shows how long it waits already.
+let watch = 0;
+const note = text => { $("busy").textContent = text; };
+function waits(begun) {
+  watch = setInterval(() => {
+    const seconds = Math.floor((performance.now() - begun) / 1000);
+    note(seconds ? `No answer from the server for ${seconds} s.` : "Waiting for the server…");
+  }, NOTE);
+}
+
 async function pump() {
   busy = true;
   const wanted = want, begun = performance.now();
   want = null;
   const made = body(wanted);
   let reply;
+  waits(begun);
   try {
     reply = await asked(made);
-    failures = 0;
+    failures = 0; note("");
   } catch (error) {
     busy = false;
-    say(`The server does not answer. ${sent.length ? "Edits are kept and sent again. " : ""}(${error.message})`);
+    note(`The server does not answer (${error.message}). ${sent.length ? "Edits are kept and sent again." : "The page asks again."}`);
     // What was wanted is wanted again, after what came meanwhile.
     const newer = want;
     want = {...wanted, ...(newer || {}), waiting: [...wanted.waiting, ...(newer ? newer.waiting : [])]};
     resting = setTimeout(() => { resting = 0; if (!busy && want) pump(); }, Math.min(5000, 200 << Math.min(failures++, 5)));
     return;
-  }
+  } finally { clearInterval(watch); }
   const got = performance.now();
   if (reply.edit !== undefined) {
     sent = sent.filter(it => it.number > reply.edit);
@@ -134,5 +152,6 @@ function take(reply, made) {
   // A guest that is slow is looked at in fewer places, as the hand comes first.
   if (made.live && made.edits.length && reply.cost)
     s.samples = reply.cost.milliseconds > SLOW ? Math.max(LEAST, s.samples >> 1) : reply.cost.milliseconds < QUICK ? Math.min(SAMPLES, s.samples * 2) : s.samples;
-  if (reply.problem) say(reply.problem);
+  for (const id of reply.refused || []) refused(id);
+  if (reply.problem) warn(reply.problem);
 }

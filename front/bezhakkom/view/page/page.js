@@ -35,7 +35,7 @@ async function causes(what) {
   $("stop").hidden = false;
   const reply = await ask({causes: {what}});
   $("stop").hidden = true;
-  if (!reply.causes) return;
+  if (!reply.causes) return say("");
   const found = reply.causes, named = ids => ids.length ? ids.map(id => { const it = find(id); return it ? `step ${number(it[1])}` : "one out of view"; }).slice(0, 12).join(", ") + (ids.length > 12 ? ", …" : "") : "none";
   s.causes = new Set([...found.by_value, ...found.by_being_there]);
   say(`${found.what} at step ${number(s.cursor)}: decided by the value of ${found.by_value.length} of ${found.events} events (${named(found.by_value)}), and by being there of ${found.by_being_there.length} (${named(found.by_being_there)}).`);
@@ -49,7 +49,7 @@ async function shrink() {
   $("stop").hidden = false;
   const before = s.state.events, reply = await edit({do: "shrink", until}, performance.now());
   $("stop").hidden = true;
-  if (!reply.problem) say(`${s.state.events} of ${before} events are left.`);
+  say(reply.problem ? "" : `${s.state.events} of ${before} events are left.`);
 }
 
 function against(name) { edit({do: "against", ...(name ? {name} : {})}).then(() => ask({draw: true, ghost: true})); }

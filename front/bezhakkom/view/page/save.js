@@ -47,7 +47,7 @@ export async function save(kind) {
   else if (kind === "page") content = await page();
   else {
     const reply = await ask({save: {kind}});
-    if (!reply.save) return say(reply.problem || "It was not saved.");
+    if (!reply.save) return;
     content = bytes(reply.save.content);
   }
   const [ending, type] = KINDS[kind], link = document.createElement("a");

@@ -19,6 +19,7 @@ const FORMAT = new Intl.NumberFormat("en");
 export const number = value => FORMAT.format(value);
 export const hex = (word, digits = 8) => "0x" + (word >>> 0).toString(16).padStart(digits, "0");
 export const WIRE = 2, FRAMING = 1;
+export const MODIFIERS = new Set(["Shift", "Control", "Alt", "AltGraph", "Meta", "CapsLock"]);  // keys that alone are no input
 
 export function bytesOf(text) {
   const bytes = [], single = {b: 8, t: 9, n: 10, r: 13, e: 27, 0: 0};
@@ -42,3 +43,9 @@ export const measure = () => room = Math.max(16, (s.width || $("canvas").clientW
 export const columns = () => room;
 export const perPixel = () => (s.view.end - s.view.begin) / columns();
 export const say = text => { if ($("said").textContent !== text) $("said").textContent = text; };
+// Shows why something was refused, until the next input. It has a place of its own, as what comes of an edit is said right after it.
+const refusals = new Set();
+export function warn(text) { refusals.add(text); $("problem").textContent = [...refusals].join(" "); }
+const dismiss = () => { refusals.clear(); $("problem").textContent = ""; };
+addEventListener("pointerdown", event => { if (event.target !== $("problem")) dismiss(); }, true);
+addEventListener("keydown", event => { if (!MODIFIERS.has(event.key)) dismiss(); }, true);

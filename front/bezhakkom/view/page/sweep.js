@@ -33,7 +33,7 @@ export async function start(kind) {
     const part = sweep.rest.splice(0, TOGETHER);
     const reply = await ask({sweep: {id: sweep.id, begin: sweep.begin, at: sweep.at, wanted: sweep.wanted, [kind === "step" ? "steps" : "values"]: part}});
     if (s.sweep !== sweep) return;
-    if (reply.problem) return end(reply.problem);
+    if (reply.problem) return end();
     if (!reply.sweep) { sweep.rest.unshift(...part); continue; }  // it made way for the hand
     const found = reply.sweep;
     sweep.texts = found.outcomes; sweep.present = found.present;

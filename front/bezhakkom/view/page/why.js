@@ -12,7 +12,7 @@ export async function why(what) {
   $("stop").hidden = false;
   const reply = await ask({why: {what}});
   $("stop").hidden = true;
-  if (!reply.why) return;
+  if (!reply.why) return say("");
   if (lastPast() !== past) return say("An edit came in between.");
   asked = past;
   show(reply.why);
