@@ -2,18 +2,19 @@
 from __future__ import annotations
 
 import os
+import re
 import threading
 import time
 from collections import Counter
 from dataclasses import dataclass, replace
-from typing import Any, Dict, List, Optional, Sequence, Tuple
+from typing import Any, Dict, List, Optional, Sequence, Set, Tuple
 
 from .. import expressions, loading, places, saved
 from .. import log as logs
 from ..driver import Driver
 from ..errors import Ended, Interrupted, Problem
 from ..image import Image
-from ..limits import GREATEST_POSITION, GREATEST_TIME, SPAN
+from ..limits import GREATEST_POSITION, GREATEST_TIME, LINES, SPAN
 from ..lines import Lines
 from ..log import Event, Kind, changes
 from ..replies import words_of
@@ -39,7 +40,7 @@ PIECE = 0.03  # seconds of what is asked while the hand rests
 GLANCE = 0.3  # seconds between two answers with rows in that time
 REACH = 8 * SPAN  # steps that are run between two looks at the clock
 MOST_SHOWN = 1_500  # events in view that are shown one by one
-MOST_EDITS, MOST_TRIED, MOST_WORDS, MOST_KEPT = 4_096, 512, 16, 64
+MOST_EDITS, MOST_TRIED, MOST_WORDS, MOST_KEPT, MOST_HELD = 4_096, 512, 16, 64, 4_096
 INTERRUPTED = "That was stopped."
 AS_NOW = "as now"  # what a sweep may want in place of a condition
 WHY = "WHAT [control] [address] [to input]; WHAT is a register, an address of a word, or `sent L K`"
@@ -167,7 +168,7 @@ class Desk:
             self.name_words([it.text("name") for it in ask.parts("words", MOST_WORDS)])
         position = min(ask.number("cursor", otherwise=0), self.end)
         if ask.has("jump"):
-            found = self._jump(ask.part("jump"), position)
+            found = self._jump(ask.part("jump"), position, reply)
             reply["jump"] = found
             position = position if found is None else min(found, self.end)
         reply["cursor_at"] = position
@@ -192,13 +193,14 @@ class Desk:
         *first, marks, text, functions, words = self._asker.run([*asked, *self._rows(self._now, view, position, self._asker)])
         if near:
             reply["cursor"] = self._with_source(first[0])
-        reply["now"] = self._drawn(self._now, view, marks, text, functions, words)
+        held = {*ask.numbers("held", 0, GREATEST_ID, MOST_HELD), reply.get("event")}
+        reply["now"] = self._drawn(self._now, view, held, marks, text, functions, words)
         ghost = self._ghost
         reply["has_ghost"] = ghost is not None
         if ask.flag("ghost") and ghost is not None:
             asker = self._for(ghost)
             view = self._view(ask.part("view"), live, asker.driver)
-            reply["ghost"] = self._drawn(ghost, view, *asker.run(self._rows(ghost, view, position, asker)))
+            reply["ghost"] = self._drawn(ghost, view, set(), *asker.run(self._rows(ghost, view, position, asker)))
 
     def _view(self, fields: Fields, live: bool, driver: Driver) -> View:
         begin = fields.number("begin", 0, self.end - 1)
@@ -213,12 +215,14 @@ class Desk:
         return [rows.sent(past, view, asker.hints), rows.text(past, view, position),
                 self._functions(past, view), rows.together([rows.word(past, it.place, view) for it in self.words])]
 
-    def _drawn(self, past: Past, view: View, marks: Any, text: Any, functions: Any, words: Any) -> Dict[str, Any]:
-        events, whole = _in_view(past, view)
+    def _drawn(self, past: Past, view: View, held: Set[Any], marks: Any, text: Any, functions: Any, words: Any) -> Dict[str, Any]:
+        events, whole = _in_view(past, view, held)
+        hidden = held.difference(it[0] for it in events)
         used = {(it.kind == Kind.WIRE, it.line) for it in past.log}
         return {"begin": view.begin, "end": view.end, "until": view.until, "sent": marks, "text": text, "functions": functions,
                 "visits": {name: rows.visits(past, it, view) for name, it in self._entries(functions).items()},
-                "words": words, "events": events, "thinned": len(events) < whole, "levels": _levels(past, view.begin),
+                "words": words, "events": events, "thinned": len(events) < whole,
+                "held": [_shown(*it) for it in zip(past.ids, past.log) if it[0] in hidden] if hidden else [], "levels": _levels(past, view.begin),
                 "lines": sorted(line for is_wire, line in used if not is_wire), "wires": sorted(line for is_wire, line in used if is_wire)}
 
     def _with_source(self, cursor: Dict[str, Any]) -> Dict[str, Any]:
@@ -330,7 +334,7 @@ class Desk:
             raise Problem(f"there is no edit `{name}`")
 
     def _begin(self, edit: Fields, name: str) -> None:
-        """Keeps what stood before a gesture."""
+        """Keeps the state before a gesture."""
         gesture = edit.number("gesture", 1, GREATEST_ID)
         if gesture != self._gesture:
             self._gesture = gesture
@@ -385,8 +389,8 @@ class Desk:
 
     # Jumps, sweeps, and what is asked of many pasts
 
-    def _jump(self, jump: Fields, position: int) -> Optional[int]:
-        """A position, or None where there is none."""
+    def _jump(self, jump: Fields, position: int, reply: Dict[str, Any]) -> Optional[int]:
+        """Returns a position, or None if there is none. An event that is found is named in the reply."""
         driver, forward, to = self._driver, jump.flag("forward"), jump.text("to")
         driver.goto(position)
         if to == "store":
@@ -394,9 +398,13 @@ class Desk:
         if to == "send":
             return jumps.send(driver, jump.number("line", 0, 3), forward, self.end)
         if to == "visit":
-            name = jump.text("function")
-            address = self._symbols.address(name)
-            return jumps.visit(driver, int(name, 16) if address is None else address, forward, self.end)
+            return jumps.visit(driver, self._address(jump.text("function")), forward, self.end)
+        if to == "event":
+            index = jumps.event(self._now.log, jump.number("line", 0, LINES - 1), jump.flag("wire"), position, forward, self.end)
+            if index is None:
+                return None
+            reply["event"] = self._now.ids[index]
+            return self._now.log[index].time
         if to == "line":
             return jumps.line(driver, self._lines, forward, self.end)
         if to == "byte":
@@ -407,6 +415,15 @@ class Desk:
             raise Problem("there is nothing of that kind to go to" if to != "difference" else "there is no other past to compare with")
         other = self._for(ghost).driver
         return jumps.difference(driver, other, self._now, ghost, [it.place for it in self.words], position, self.end)
+
+    def _address(self, name: str) -> int:
+        """Returns the address of a function of the page: `name` is its symbol, or the digits of an address."""
+        address = self._symbols.address(name)
+        if address is not None:
+            return address
+        if not re.fullmatch("(0x)?[0-9a-f]{1,8}", name):
+            raise Problem(f"there is no function {name}: choose a row of the page, or an address of up to 8 hexadecimal digits")
+        return int(name, 16)
 
     def _place(self, jump: Fields, position: int) -> int:
         """The physical address of a word: one that has a row, or one that an address of the page leads to."""
@@ -534,15 +551,22 @@ def _give(driver: Driver, past: Past) -> None:
     del driver.journal[:]
 
 
-def _in_view(past: Past, view: View) -> Tuple[List[List[int]], int]:
-    """The events in view: number, step, line, value and kind. Of very many, the last of each column and line; and how many there are."""
+def _in_view(past: Past, view: View, held: Set[Any]) -> Tuple[List[List[int]], int]:
+    """Returns the events in view (number, step, line, value and kind), and how many there are. If there are very many, those are returned
+    that are held, and the last one of each row in each of some stretches of steps."""
     first, end = past.upto(view.begin - 1), past.upto(view.end)
     found = list(zip(past.ids[first:end], past.log[first:end]))
     if len(found) > MOST_SHOWN:
-        apart = max(1, (view.end - view.begin) // MOST_SHOWN)
-        thinned = {(it.time // apart, it.line, it.kind == Kind.WIRE): (identity, it) for identity, it in found}
-        found = sorted(thinned.values(), key=lambda it: it[1].time)[:2 * MOST_SHOWN]
-    return [[identity, it.time, it.line, it.byte, int(it.kind)] for identity, it in found], end - first
+        rows_used = len({(it.line, it.kind == Kind.WIRE) for _, it in found})
+        apart = -(-(view.end - view.begin) * rows_used // MOST_SHOWN)
+        last = {(it.time // apart, it.line, it.kind == Kind.WIRE): identity for identity, it in found}
+        chosen = held.union(last.values())
+        found = [it for it in found if it[0] in chosen]
+    return [_shown(*it) for it in found], end - first
+
+
+def _shown(identity: int, event: Event) -> List[int]:
+    return [identity, event.time, event.line, event.byte, int(event.kind)]
 
 
 def _levels(past: Past, begin: int) -> Dict[int, int]:

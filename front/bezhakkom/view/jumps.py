@@ -1,13 +1,14 @@
-"""The next or the former place of something: a store, a byte that was sent, a visit of a function, a line of source, or a difference from
-another past. Each gives a position up to the run's end, or None."""
+"""The next or the previous place of something: a store, a byte that was sent, an event, a visit of a function, a line of source, or a
+difference from another past. Each function returns a position up to the run's end (`event` an index of the log), or None."""
 from __future__ import annotations
 
-from typing import Iterator, List, Optional, Tuple
+from typing import Iterator, List, Optional, Sequence, Tuple
 
 from .. import replies, search
 from ..driver import Driver
 from ..limits import LINES
 from ..lines import Line, Lines
+from ..log import Event, Kind
 from ..states import counters_at, of_steps
 from .past import Past, first_difference
 
@@ -41,6 +42,19 @@ def send(driver: Driver, line: int, forward: bool, end: int) -> Optional[int]:
     found = driver.find(line, count) if driver.sent(line) > count else None
     driver.goto(here)
     return found
+
+
+def event(log: Sequence[Event], line: int, is_wire: bool, position: int, forward: bool, end: int) -> Optional[int]:
+    """The index of the first event of a row after the position and up to the end, or of the last one before the position."""
+    if forward:
+        found = (at for at, it in enumerate(log) if position < it.time <= end and _is_of(it, line, is_wire))
+    else:
+        found = (at for at in reversed(range(len(log))) if log[at].time < position and _is_of(log[at], line, is_wire))
+    return next(found, None)
+
+
+def _is_of(event: Event, line: int, is_wire: bool) -> bool:
+    return event.line == line and (event.kind == Kind.WIRE) == is_wire
 
 
 def visit(driver: Driver, address: int, forward: bool, end: int) -> Optional[int]:

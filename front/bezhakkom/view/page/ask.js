@@ -55,6 +55,7 @@ function body(wanted) {
   made.cursor = s.cursor;
   if (draw) {
     made.view = {begin: Math.round(s.view.begin), end: Math.round(s.view.end), columns: measure(), samples: made.live ? s.samples : SAMPLES};
+    made.held = [...s.selected].slice(0, MOST_HELD);
     made.ghost = s.showGhost && (!!ghost || !made.live);
   }
   return made;

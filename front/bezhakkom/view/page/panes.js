@@ -87,8 +87,9 @@ function pane(line, box) {
   pre.setAttribute("aria-label", `What line ${line} sent`);
   old.hidden = !differs;
   if (differs) { fill(old, line, from, differs.two, [differs.first, differs.theirs], "del", null); old.setAttribute("aria-label", `What line ${line} sent in the other past`); }
-  const mark = differs ? pre.querySelector("ins") : pre.querySelector(".after") || pre.lastElementChild;
+  const mark = pre.querySelector(differs ? "ins" : ".after");
   if (mark) pre.scrollTop = mark.offsetTop - pre.offsetTop - 60;
+  else if (cursor !== null) pre.scrollTop = pre.scrollHeight;  // the cursor is after all of the text
   const gone = differs && old.querySelector("del");
   if (gone) old.scrollTop = gone.offsetTop - old.offsetTop - 60;
 }
