@@ -86,6 +86,7 @@ class Desk:
         self._edit: Dict[str, int] = {}  # the number of the last edit of each page
         self._saved: Tuple[Event, ...] = tuple(driver.log)
         self._sweep: Optional[Tuple[Any, Sweep]] = None
+        self._sweeps = 0  # that were begun
         self._drawn_at = 0.0  # when rows were given last
         driver.wants_stop = lambda: self._stop
 
@@ -303,7 +304,8 @@ class Desk:
 
     def _make(self, edit: Fields) -> None:
         name = edit.text("do")
-        self._sweep = None
+        if name not in ("keep", "against"):
+            self._sweep = None
         if name == "undo":
             self._go(self._done, self._undone)
         elif name == "redo":
@@ -440,18 +442,22 @@ class Desk:
         index = self._now.index(identity)
         begin = min(self._now.log[index].time, ask.number("begin", 0, GREATEST_TIME, 0))
         at = ask.number("at", begin + 1, self.end, self.end)
-        key = (identity, wanted, begin, at)
+        key = (identity, wanted, begin, at, *(ask.has(it) for it in ("steps", "values", "without")))
         if self._sweep is None or self._sweep[0] != key:
             as_now = wanted == AS_NOW
+            self._sweeps += 1
             self._sweep = key, Sweep(self._driver, begin, at, self._condition(wanted) if wanted and not as_now else None, as_now)
         sweep = self._sweep[1]
         most = 1 if self._now.log[index].kind == Kind.WIRE else 255
         those = changes_of(self._now.log, index, ask.numbers("steps", 0, GREATEST_TIME, MOST_TRIED),
                            ask.numbers("values", 0, most, 256), ask.flag("without"))
-        return {"tried": sweep.tried(self._driver, those) if those else [], "outcomes": sweep.outcomes(), "present": sweep.present}
+        return {"tried": sweep.tried(self._driver, those) if those else [], "outcomes": sweep.outcomes(), "present": sweep.present,
+                "serial": self._sweeps}
 
     def _condition(self, text: str) -> Any:
         """A condition of the shell's, or a text in quotes that a line is to send."""
+        if not text.strip():
+            raise Problem("name a condition: a text in quotes that line 0 is to send, or one such as `word session+32 == 3`")
         if text[:1] in ("'", '"'):
             text = f"console {text}"
         return Words(self._session, (), "a text in quotes, or a condition as the shell's `shrink` takes it").condition(list(words_of(text)))[1]

@@ -1,9 +1,16 @@
 // Two pens with the same strokes: one draws on the canvas, the other writes SVG.
 const FONT = {plain: "12px system-ui, sans-serif", small: "11px system-ui, sans-serif", fixed: "11px ui-monospace, monospace", bold: "bold 12px system-ui, sans-serif"};
 
+// The look of an outcome of a sweep: a color and a hatching (1 for `/`, 2 for `\`, 3 for both). As 7 and 4 have no common divisor, the
+// first 28 outcomes look different, and neighbors differ in both.
+export const SHADES = 7;
+export const shade = outcome => `outcome-${outcome % SHADES}`;
+export const hatching = outcome => outcome % 4;
+const OUTCOMES = [...Array(SHADES).keys()].map(shade);
+
 export const colors = () => {
   const style = getComputedStyle(document.documentElement), made = {};
-  for (const name of ["paper", "ink", "faint", "rule", "in", "out", "store", "code", "edit", "ghost"]) made[name] = style.getPropertyValue("--" + name).trim();
+  for (const name of ["paper", "ink", "faint", "rule", "in", "out", "store", "code", "edit", "ghost", ...OUTCOMES]) made[name] = style.getPropertyValue("--" + name).trim();
   return made;
 };
 

@@ -1,6 +1,6 @@
 // The rows of the run: where they stand, how they are drawn, and the handles of events on them.
 import {$, s, WIRE, FRAMING, columns, hex, measure, number, shown, shownText, what} from "./state.js";
-import {CanvasPen, colors} from "./pen.js";
+import {CanvasPen, colors, hatching, shade} from "./pen.js";
 import {difference} from "./panes.js";
 
 export const LEFT = 160, RIGHT = 110, HEAD = 30;
@@ -8,7 +8,6 @@ const ROW = 36, FUNCTION = 20, STRIP = 16;
 const MOST_FUNCTIONS = 10;                  // that have rows of their own
 const LETTERS = "ABCDEFGHIJKLMNOPQRSTUVWXYZ";
 export const letter = at => at < 26 ? LETTERS[at] : LETTERS[at / 26 - 1 | 0] + LETTERS[at % 26];
-export const SHADES = ["faint", "edit", "out", "store", "code", "in"];
 
 export let rows = [];
 let unfolded = false, order = [], palette = colors();
@@ -26,7 +25,6 @@ export function near(x, row) {
 }
 export const rowAt = y => rows.find(it => y >= it.y && y < it.y + it.h);
 const beside = () => s.showGhost ? s.ghost : null;
-const colorOf = outcome => SHADES[outcome % SHADES.length];
 
 export function layout() {
   measure();
@@ -257,8 +255,8 @@ function strip(pen, row) {
   for (let at = 1; at <= sweep.done.length; at++) {
     if (at < sweep.done.length && sweep.done[at][1] === sweep.done[first][1]) continue;
     const [step, outcome] = sweep.done[first], x = X(step), end = at < sweep.done.length ? X(sweep.done[at][0]) : X(sweep.done[at - 1][0]) + sweep.width;
-    pen.rect(x, top, Math.max(1, end - x), STRIP - 2, colorOf(outcome));
-    if (outcome >= SHADES.length || outcome % 2) pen.hatch(x, top, Math.max(1, end - x), STRIP - 2, "paper", outcome % 4 > 1);
+    pen.rect(x, top, Math.max(1, end - x), STRIP - 2, shade(outcome));
+    for (const turned of [false, true]) if (hatching(outcome) & 1 + turned) pen.hatch(x, top, Math.max(1, end - x), STRIP - 2, "paper", turned);
     if (end - x > 9) { pen.rect(x + 1, top + 1, 9, STRIP - 4, "paper"); pen.text(x + 2, top + 7, letter(outcome), "ink", "small"); }
     first = at;
   }

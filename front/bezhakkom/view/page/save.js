@@ -6,8 +6,10 @@ import {layout, paint} from "./rows.js";
 import {outcome, table} from "./panes.js";
 import {legend} from "./sweep.js";
 
-const LIGHT = {paper: "#ffffff", ink: "#1b1f24", faint: "#59636e", rule: "#d8dee4", in: "#0969da", out: "#1a7f37", store: "#8250df", code: "#9a6700", edit: "#cf222e", ghost: "#8c959f"};
-const DARK = {paper: "#0d1117", ink: "#e6edf3", faint: "#9198a1", rule: "#30363d", in: "#58a6ff", out: "#3fb950", store: "#bc8cff", code: "#d29922", edit: "#ff7b72", ghost: "#6e7681"};
+const LIGHT = {paper: "#ffffff", ink: "#1b1f24", faint: "#59636e", rule: "#d8dee4", in: "#0969da", out: "#1a7f37", store: "#8250df", code: "#9a6700", edit: "#cf222e", ghost: "#8c959f",
+  "outcome-0": "#9198a1", "outcome-1": "#e69f00", "outcome-2": "#332288", "outcome-3": "#228833", "outcome-4": "#000000", "outcome-5": "#56b4e9", "outcome-6": "#882255"};
+const DARK = {paper: "#0d1117", ink: "#e6edf3", faint: "#9198a1", rule: "#30363d", in: "#58a6ff", out: "#3fb950", store: "#bc8cff", code: "#d29922", edit: "#ff7b72", ghost: "#6e7681",
+  "outcome-0": "#6e7781", "outcome-1": "#f0e442", "outcome-2": "#56b4e9", "outcome-3": "#117733", "outcome-4": "#e6edf3", "outcome-5": "#0969da", "outcome-6": "#7ee787"};
 const KINDS = {log: [".log", "application/octet-stream"], image: [".img", "application/octet-stream"], session: [".session", "text/plain"], text: [".txt", "text/plain"],
   svg: [".svg", "image/svg+xml"], page: [".html", "text/html"]};
 const WIDTH = 1100;

@@ -1,7 +1,8 @@
 // A sweep: what comes of one event in many steps, or with all its values. Borders between outcomes are halved until they are exact.
 import {$, s, WIRE, columns, find, number, say, shown, shownText, what} from "./state.js";
 import {ask, edit} from "./ask.js";
-import {SHADES, draw, letter} from "./rows.js";
+import {draw, letter} from "./rows.js";
+import {hatching, shade} from "./pen.js";
 
 const SPAN = 65536;                         // at its multiples nothing is run for a question
 const FAR = 1 << 24;                        // steps of a run of which a sweep looks only up to the end of the view
@@ -36,6 +37,11 @@ export async function start(kind) {
     if (reply.problem) return end();
     if (!reply.sweep) { sweep.rest.unshift(...part); continue; }  // it made way for the hand
     const found = reply.sweep;
+    // After an edit the desk counts outcomes from the first again.
+    if (found.serial !== (sweep.serial ??= found.serial)) {
+      if (sweep.isChosen) break;
+      return end("The sweep has ended: another page has edited the log, or sweeps too.");
+    }
     sweep.texts = found.outcomes; sweep.present = found.present;
     found.tried.forEach((outcome, at) => sweep.done.push([part[at], outcome]));
     sweep.rest.unshift(...part.slice(found.tried.length));
@@ -47,7 +53,8 @@ export async function start(kind) {
   sweep.took = performance.now() - sweep.begun;
   $("stop").hidden = true;
   show(sweep);
-  say(`${sweep.done.length} pasts up to step ${number(sweep.at)}, ${sweep.texts.length} ${sweep.texts.length === 1 ? "outcome" : "outcomes"}. ` + sweep.texts.map((text, at) => `${letter(at)}: ${ranges(sweep, at)}`).slice(0, 6).join("; "));
+  const found = reached(sweep);
+  say(`${sweep.done.length} pasts up to step ${number(sweep.at)}, ${found.length} ${found.length === 1 ? "outcome" : "outcomes"}. ` + found.map(([, outcome]) => `${letter(outcome)}: ${ranges(sweep, outcome)}`).slice(0, 6).join("; "));
 }
 
 function borders(sweep) {
@@ -79,9 +86,12 @@ function ranges(sweep, outcome) {
   return (sweep.kind === "step" ? "steps " : "") + found.slice(0, 8).map(([low, high]) => low === high ? named(sweep, low) : `${named(sweep, low)} to ${named(sweep, high)}`).join(", ") + (found.length > 8 ? ", …" : "");
 }
 
+// The outcomes of what was tried, with their numbers: the present one may be none of them.
+const reached = sweep => sweep.texts.map((text, outcome) => [text, outcome]).filter(([, outcome]) => sweep.done.some(it => it[1] === outcome));
+
 // The outcomes in a line each, for a picture.
 export function legend() {
-  return s.sweep.texts.map((text, outcome) => `${letter(outcome)}  ${ranges(s.sweep, outcome)}: ${text.length > 70 ? "…" : ""}${shownText(text.slice(-70))}`).slice(0, 12);
+  return reached(s.sweep).map(([text, outcome]) => `${letter(outcome)}  ${ranges(s.sweep, outcome)}: ${text.length > 70 ? "…" : ""}${shownText(text.slice(-70))}`).slice(0, 12);
 }
 
 // A click makes it so: the event comes in the step, or has the value.
@@ -90,7 +100,16 @@ export function choose(at) {
   const time = sweep.kind === "step" ? at : sweep.event[1], byte = sweep.kind === "step" ? sweep.event[3] : at;
   edit({do: "change", id: sweep.id, time, byte, gesture: gesture(), name: event ? `${what(event)}: ${sweep.kind} ${named(sweep, at)}` : "sweep"}, performance.now());
   sweep.event = [sweep.event[0], time, sweep.event[2], byte, sweep.event[4]];
+  sweep.isChosen = true;
   show(sweep);
+}
+
+// An outcome as the strip shows it.
+function swatch(outcome) {
+  const made = document.createElement("i");
+  made.className = "swatch"; made.dataset.hatching = hatching(outcome);
+  made.style.backgroundColor = `var(--${shade(outcome)})`;
+  return made;
 }
 
 function show(sweep) {
@@ -102,8 +121,7 @@ function show(sweep) {
     for (const [value, outcome] of sweep.done) {
       const button = document.createElement("button");
       button.textContent = `${sweep.isWire ? value : value > 32 && value < 127 ? shown(value) : value.toString(16).padStart(2, "0")}`;
-      button.style.borderColor = `var(--${SHADES[outcome % SHADES.length]})`;
-      button.style.borderStyle = ["solid", "dashed", "dotted", "double"][(outcome / SHADES.length | 0) % 4];
+      button.append(swatch(outcome));
       button.title = `${letter(outcome)}: ${sweep.texts[outcome]}`;
       button.setAttribute("aria-label", `value ${named(sweep, value)}, outcome ${letter(outcome)}`);
       button.setAttribute("aria-pressed", String(sweep.event[3] === value));
@@ -115,13 +133,13 @@ function show(sweep) {
   }
   const counts = sweep.texts.map(() => 0);
   for (const [, outcome] of sweep.done) counts[outcome]++;
-  sweep.texts.map((text, outcome) => [text, outcome]).filter(([, outcome]) => counts[outcome]).sort((a, b) => counts[b[1]] - counts[a[1]]).slice(0, 24).forEach(([text, outcome]) => {
+  reached(sweep).sort((a, b) => counts[b[1]] - counts[a[1]]).slice(0, 24).forEach(([text, outcome]) => {
     const button = document.createElement("button"), found = stretches(sweep, outcome);
     const longest = found.reduce((best, it) => it[1] - it[0] > best[1] - best[0] ? it : best, found[0]);
     button.className = "outcome";
-    button.style.borderLeftColor = `var(--${SHADES[outcome % SHADES.length]})`;
     const clean = text.replace(/\r/g, "").replace(/[^\n\x20-\x7e]/g, it => shown(it.charCodeAt(0)));
     button.textContent = `${letter(outcome)} ${outcome === sweep.present ? "(as now) " : ""}${ranges(sweep, outcome)}\n${clean.slice(-200)}`;
+    button.prepend(swatch(outcome));
     button.title = "make it so";
     button.dataset.at = `o${outcome}`;
     button.onclick = () => choose(sweep.kind === "step" ? Math.floor((longest[0] + longest[1]) / 2) : longest[0]);
