@@ -83,6 +83,7 @@ class Desk:
         self._done: List[State] = []
         self._undone: List[State] = []
         self._gesture: Optional[int] = None  # that is under way
+        self._before: Tuple[Optional[Past], List[State]] = (None, [])  # the ghost and the steps of redo before that gesture
         self._edit: Dict[str, int] = {}  # the number of the last edit of each page
         self._saved: Tuple[Event, ...] = tuple(driver.log)
         self._sweep: Optional[Tuple[Any, Sweep]] = None
@@ -330,6 +331,8 @@ class Desk:
                 self._now.change(identity, event.time, event.byte)
             else:
                 self._now.delete(identity)
+        elif name == "cancel":
+            self._cancel(edit)
         elif name == "shrink":
             self._shrink(edit)
         else:
@@ -340,14 +343,24 @@ class Desk:
         gesture = edit.number("gesture", 1, GREATEST_ID)
         if gesture != self._gesture:
             self._gesture = gesture
+            self._before = self._ghost, list(self._undone)
             self._note(name)
+
+    def _cancel(self, edit: Fields) -> None:
+        """Makes the log, undo and redo as they were before a gesture."""
+        if edit.number("gesture", 1, GREATEST_ID) != self._gesture:
+            raise Problem("the gesture was not cancelled, as another page has edited the log meanwhile: `Undo` takes back one edit after another")
+        ghost, self._undone = self._before
+        self._gesture = None
+        self._now = self._now.at(self._done.pop())
+        self._stand_beside(ghost)
 
     def _note(self, name: str) -> None:
         self._done.append(self._now.state(name))
         self._undone.clear()
         self._stand_beside(self._now.copy())
 
-    def _stand_beside(self, past: Past) -> None:
+    def _stand_beside(self, past: Optional[Past]) -> None:
         """Lets the former past be the ghost, where no kept one is."""
         if self._shown is None:
             self._ghost = past

@@ -1,15 +1,20 @@
-// The hand: events are dragged, turned, typed, taken out and put in; the cursor and the view are moved.
-import {$, s, FRAMING, WIRE, bytesOf, columns, find, number, perPixel, say, shown, what} from "./state.js";
-import {ask, edit} from "./ask.js";
+// Mouse and keys: events are dragged, changed, typed, deleted and inserted; the cursor and the view move. The states of a gesture of the
+// pointer are in gestures.js; this module has the gestures themselves.
+import {$, s, FRAMING, WIRE, bytesOf, find, number, perPixel, say, shown, what} from "./state.js";
+import {ask, edit, onRefused} from "./ask.js";
 import {HEAD, S, draw, handle, handlesSoon, near, rowAt, rows} from "./rows.js";
 import {panes} from "./panes.js";
+import {BURST, isHeld, lastInput, onIdle, press, refuse, turn as turnWheel} from "./gestures.js";
 import * as sweeps from "./sweep.js";
 
-const BURST = 800;                          // milliseconds in which turns of the wheel, or of arrows, are one gesture
 const FAR = 100000;                         // steps of a pixel from which on a drag would be blind
 const GAP = 1000;                           // steps between bytes that are typed
 const TURN = 0.01;                          // of a drag with Shift
-let gestures = Date.now(), burst = {key: "", time: 0}, lastByte = 0x41, wanted = null;
+const NOTCH = 40;                           // pixels of the value wheel that change a value by 1: a notch is 100 or more, a trackpad sends fewer at a time
+const LINE = 40, SHEET = 800;               // pixels of a wheel that counts in lines or pages
+let gestures = Date.now(), burst = {key: "", time: 0}, lastByte = 0x41;
+let wanted = null;                          // the event that takes the focus as soon as it is there, and whether a key asked for it
+let isTyped = false;                        // whether the focused event takes characters: a key gave it the focus
 
 export const gesture = () => ++gestures;
 sweeps.withGestures(gesture);
@@ -33,12 +38,21 @@ function change(id, time, byte, of, name, began) {
   edit({do: "change", id, time, byte, gesture: of, name}, began);
 }
 
+// Takes back what the gesture with number `of` did to events. The desk makes the log as it was before, and the gesture no step of undo.
+function takeBack(ids, of) {
+  for (const id of ids) s.pending.delete(id);
+  begun = 0;
+  edit({do: "cancel", gesture: of}, performance.now());
+  handlesSoon();
+}
+
+// Deletes events. If one of them has the focus, the next event gets it; else nothing is selected.
 function remove(ids, began) {
-  const of = gesture(), first = find(ids[0]);
+  const of = gesture(), first = find(ids[0]), isFocused = ids.some(id => handle(id) && handle(id) === document.activeElement);
   begin(of);
-  const rest = s.now.events.filter(it => !ids.includes(it[0])), near = rest.find(it => first && it[1] >= first[1]) || rest[rest.length - 1];
+  const rest = s.now.events.filter(it => !ids.includes(it[0])), near = isFocused && (rest.find(it => first && it[1] >= first[1]) || rest[rest.length - 1]);
   for (const id of ids) { s.selected.delete(id); edit({do: "delete", id, gesture: of, name: ids.length > 1 ? `take ${ids.length} events out` : `take out ${what(find(id) || [0, 0, 0, 0, 0])}`}, began); }
-  if (near) { s.selected = new Set([near[0]]); const element = handle(near[0]); if (element) element.focus(); } else $("canvas").focus();
+  if (near) { s.selected = new Set([near[0]]); const element = handle(near[0]); if (element) element.focus(); } else canvas.focus();
 }
 
 let named = Math.floor(Math.random() * 2 ** 40) + 2 ** 40;
@@ -46,13 +60,16 @@ export function add(time, line, byte, kind = 0, of = gesture(), name = "") {
   const id = ++named;
   begin(of);
   edit({do: "add", id, time: Math.max(0, time), line, byte, kind, gesture: of, name: name || `put in ${what([0, time, line, byte, kind])}`}, performance.now());
-  s.selected = new Set([id]); wanted = id;
+  selectSoon(id);
   return id;
 }
-// An event that was put in has the focus as soon as it is there.
+// Selects an event, which gets the focus as soon as it has a handle.
+function selectSoon(id) { s.selected = new Set([id]); wanted = {id, isTyped: lastInput() === "key"}; }
 export function focusWanted() {
-  const element = wanted !== null && handle(wanted);
-  if (element) { wanted = null; element.focus(); }
+  const element = wanted && handle(wanted.id);
+  if (!element) return;
+  focusOn(element, wanted.isTyped);
+  wanted = null;
 }
 
 export function undo(name) {
@@ -63,110 +80,154 @@ export function undo(name) {
   edit({do: name}, performance.now());
 }
 
-// Dragging
+// Gestures on events
 
 function tip(event, text) {
   $("tip").hidden = false; $("tip").textContent = text;
   $("tip").style.left = Math.min(event.clientX + 12, innerWidth - 220) + "px"; $("tip").style.top = event.clientY + 18 + "px";
 }
 const noTip = () => { $("tip").hidden = true; };
+onIdle(() => { noTip(); handlesSoon(); });      // while a button is held, handles keep their order
+onRefused(refuse);
 
-$("events").addEventListener("pointerdown", event => {
-  const element = event.target.closest(".event");
-  if (!element || event.button) return;
+const canvas = $("canvas"), events = $("events");
+const eventOf = event => { const element = event.target.closest(".event"); return element && present(+element.dataset.id); };
+
+function letType(typed) { isTyped = typed; events.toggleAttribute("data-typed", typed); }
+// Gives a handle the focus. `typed` says whether characters are values from now on.
+function focusOn(element, typed) { element.focus({preventScroll: true}); letType(typed); }
+
+events.addEventListener("pointerdown", event => {
+  const it = eventOf(event);
+  if (!it || event.button) return;
+  wanted = null;
   event.preventDefault();
-  const id = +element.dataset.id;
-  if (event.ctrlKey || event.metaKey) { s.selected.has(id) ? s.selected.delete(id) : s.selected.add(id); element.focus({preventScroll: true}); draw(); panes(); return; }
-  if (!s.selected.has(id)) s.selected = new Set([id]);
-  element.focus({preventScroll: true});
-  element.setPointerCapture(event.pointerId);
-  s.drag = {kind: "event", id, x: event.clientX, by: 0, from: new Map([...s.selected].map(it => [it, present(it)]).filter(([, it]) => it)), gesture: gesture(), moved: false};
+  const id = it[0];
+  if (event.ctrlKey || event.metaKey) s.selected.has(id) ? s.selected.delete(id) : s.selected.add(id);
+  else if (press(event, events, dragOf(event, id))) s.selected.has(id) || (s.selected = new Set([id]));
+  const chosen = s.selected;
+  focusOn(event.target.closest(".event"), false);
+  s.selected = chosen;                      // the focus selects, but Ctrl+click has taken out
   draw(); panes();
 });
 
-// A movement is asked about as it comes, and not when the next frame begins.
-const MOVE = "onpointerrawupdate" in window ? "pointerrawupdate" : "pointermove";
+// The gesture that moves the selected events along time. All of them stay in the run, and keep their distances.
+function dragOf(event, id) {
+  const of = gesture();
+  let x = event.clientX, steps = 0, last = 0, from = null;
+  return {
+    id: of, isRaw: true,
+    drag(event) {
+      from = from || new Map([...s.selected].map(it => [it, present(it)]).filter(([, it]) => it));
+      const it = from.get(id), dx = event.clientX - x;
+      x = event.clientX;
+      if (!it) return;                      // it was deleted before it moved
+      if (perPixel() >= FAR && !event.shiftKey) return tip(event, "A pixel is too many steps here: zoom in, or hold Shift to move by hundredths.");
+      steps += dx * perPixel() * (event.shiftKey ? TURN : 1);
+      const times = [...from.values()].map(one => one[1]), by = within(times, Math.round(steps));
+      if (by === last) return;
+      last = by;
+      const name = from.size > 1 ? `move ${from.size} events` : `move ${what(it)}`;
+      for (const [one, was] of from) change(one, was[1] + by, was[3], of, name, event.timeStamp);
+      tip(event, `step ${number(it[1] + by)} (${by >= 0 ? "+" : ""}${number(by)})`);
+      handlesSoon();
+    },
+    // Letters are commands again.
+    finish() { if (from) canvas.focus({preventScroll: true}); },
+    cancel() { if (begun === of) takeBack(from.keys(), of); canvas.focus({preventScroll: true}); },
+  };
+}
 
-$("events").addEventListener(MOVE, event => {
-  const drag = s.drag;
-  if (!drag || drag.kind !== "event") return;
-  const fine = event.shiftKey;
-  if (perPixel() >= FAR && !fine) { drag.x = event.clientX; return tip(event, "A pixel is too many steps here: zoom in, or hold Shift to move by hundredths."); }
-  drag.by += (event.clientX - drag.x) * perPixel() * (fine ? TURN : 1);
-  drag.x = event.clientX;
-  const least = Math.min(...[...drag.from.values()].map(it => it[1])), by = Math.max(-least, Math.round(drag.by));
-  if (!drag.moved && by === 0 || by === drag.last) return;
-  drag.moved = true; drag.last = by;
-  const one = drag.from.get(drag.id);
-  const name = drag.from.size > 1 ? `move ${drag.from.size} events` : `move ${what(one)}`;
-  for (const [id, it] of drag.from) change(id, it[1] + by, it[3], drag.gesture, name, event.timeStamp);
-  tip(event, `step ${number(one[1] + by)} (${by >= 0 ? "+" : ""}${number(by)})`);
-  handlesSoon();
-});
-for (const name of ["pointerup", "pointercancel"]) $("events").addEventListener(name, () => { s.drag = null; noTip(); });
+// The part of `by` that leaves events at `times` in the run. An event that is out of the run already may only come nearer.
+const within = (times, by) => Math.max(-Math.min(...times), Math.min(Math.max(0, s.state.end - 1 - Math.max(...times)), by));
 
-$("events").addEventListener("focusin", event => {
+events.addEventListener("focusin", event => {
   const element = event.target.closest(".event");
-  if (!element || s.drag) return;
+  if (!element) return;
+  letType(lastInput() === "key");
   const id = +element.dataset.id;
   if (!s.selected.has(id)) { s.selected = new Set([id]); draw(); panes(); }
 });
 
-function turn(it, by, event) {
+// Changes the value of event `it` by `by`, as far as it goes, in the gesture with number `of`.
+function turn(it, by, of, began) {
   const most = it[4] === WIRE ? 1 : 255, byte = Math.max(0, Math.min(most, it[3] + by));
-  if (byte !== it[3]) change(it[0], it[1], byte, inBurst(`value ${it[0]}`, event.timeStamp), `turn ${what(it)}`, event.timeStamp);
+  if (byte !== it[3]) change(it[0], it[1], byte, of, `turn ${what(it)}`, began);
   handlesSoon();
   return byte;
 }
 
-$("events").addEventListener("wheel", event => {
-  const element = event.target.closest(".event"), it = element && present(+element.dataset.id);
+// The value wheel. Without Alt, and across, the wheel does over an event what it does elsewhere.
+const pixels = event => event.deltaY * (event.deltaMode === 1 ? LINE : event.deltaMode === 2 ? SHEET : 1);
+events.addEventListener("wheel", event => {
+  const it = event.altKey && Math.abs(event.deltaY) > Math.abs(event.deltaX) && eventOf(event);
   if (!it) return;
   event.preventDefault(); event.stopPropagation();
-  const byte = turn(it, event.deltaY < 0 ? 1 : -1, event);
+  const wheel = turnWheel(it[0], () => { const of = gesture(); return {id: of, left: 0, cancel() { if (begun === of) takeBack([it[0]], of); }}; });
+  if (!wheel) return;
+  wheel.left += pixels(event);
+  const by = Math.abs(wheel.left) < NOTCH ? 0 : -Math.sign(wheel.left), byte = turn(it, by, wheel.id, event.timeStamp);
+  if (by) wheel.left = 0;
   tip(event, it[4] === WIRE ? `level ${byte}` : `'${shown(byte)}' 0x${byte.toString(16).padStart(2, "0")}`);
-  setTimeout(() => s.drag || noTip(), BURST);
 }, {passive: false});
 
-// The canvas: the cursor, the view, and stretches that select events
+// Gestures on the canvas: the cursor, the view, strips of sweeps, and stretches that select events
 
-const canvas = $("canvas");
+const xOn = event => event.clientX - canvas.getBoundingClientRect().left;
+const yOn = event => event.clientY - canvas.getBoundingClientRect().top;
+const inStrip = (event, row) => s.sweep && row && row.swept && yOn(event) >= row.y + row.h - 17;
+
 canvas.addEventListener("pointerdown", event => {
-  canvas.setPointerCapture(event.pointerId); canvas.focus({preventScroll: true}); event.preventDefault();
-  const row = rowAt(event.offsetY), inStrip = row && row.swept && event.offsetY >= row.y + row.h - 17;
-  if (event.button === 1 || event.offsetY < HEAD - 4) s.drag = {kind: "pan", x: event.clientX, begin: s.view.begin, end: s.view.end};
-  else if (inStrip && s.sweep) { sweeps.choose(Math.max(0, S(event.offsetX))); s.drag = null; }
-  else if (event.shiftKey && row && (row.kind === "in" || row.kind === "wire")) s.drag = {kind: "stretch", row, from: S(event.offsetX)};
-  else { s.drag = {kind: "cursor"}; seek(near(event.offsetX, row), event.timeStamp); }
-});
-canvas.addEventListener("pointermove", event => {
-  const drag = s.drag;
-  if (!drag) return overStrip(event);
-  if (drag.kind === "cursor") seek(S(event.offsetX), event.timeStamp);
-  else if (drag.kind === "pan") { const by = (event.clientX - drag.x) * (drag.end - drag.begin) / columns(); look(drag.begin - by, drag.end - by, event.timeStamp); }
-  else if (drag.kind === "stretch") {
-    const to = S(event.offsetX), low = Math.min(drag.from, to), high = Math.max(drag.from, to);
-    s.selected = new Set(s.now.events.filter(it => it[2] === drag.row.line && (it[4] === WIRE) === (drag.row.kind === "wire") && it[1] >= low && it[1] <= high).map(it => it[0]));
-    tip(event, `${s.selected.size} selected`);
-    draw(); panes();
+  if (event.button > 1) return;
+  wanted = null;
+  canvas.focus({preventScroll: true}); event.preventDefault();
+  const row = rowAt(yOn(event));
+  if (event.button === 1 || yOn(event) < HEAD - 4) press(event, canvas, panOf(event));
+  else if (inStrip(event, row)) press(event, canvas, {click: () => sweeps.choose(Math.max(0, Math.min(s.state.end - 1, S(xOn(event)))))});
+  else if (event.shiftKey && row && (row.kind === "in" || row.kind === "wire")) press(event, canvas, stretchOf(event, row));
+  else {
+    const before = s.cursor;
+    if (press(event, canvas, {drag: moved => seek(S(xOn(moved)), moved.timeStamp), cancel: () => seek(before)})) seek(near(xOn(event), row), event.timeStamp);
   }
 });
-for (const name of ["pointerup", "pointercancel"]) canvas.addEventListener(name, () => {
-  if (s.drag && s.drag.kind === "stretch") { const first = [...s.selected][0], element = first !== undefined && handle(first); if (element) element.focus({preventScroll: true}); }
-  s.drag = null; noTip();
-});
+canvas.addEventListener("pointermove", event => { if (!isHeld()) overStrip(event); });
+
+// The step under the pointer stays there.
+function panOf(event) {
+  const step = S(xOn(event)), before = s.view;
+  return {
+    drag(moved) { const by = step - S(xOn(moved)); look(s.view.begin + by, s.view.end + by, moved.timeStamp); },
+    cancel() { look(before.begin, before.end); },
+  };
+}
+
+function stretchOf(event, row) {
+  const from = S(xOn(event)), before = s.selected;
+  const show = () => { draw(); panes(); };
+  return {
+    drag(moved) {
+      const to = S(xOn(moved)), low = Math.min(from, to), high = Math.max(from, to);
+      s.selected = new Set(s.now.events.filter(it => it[2] === row.line && (it[4] === WIRE) === (row.kind === "wire") && it[1] >= low && it[1] <= high).map(it => it[0]));
+      tip(moved, `${s.selected.size} selected`);
+      show();
+    },
+    finish() { const first = [...s.selected][0], element = first !== undefined && handle(first); if (element) focusOn(element, false); },
+    cancel() { s.selected = before; show(); },
+  };
+}
+
 function overStrip(event) {
-  const row = rowAt(event.offsetY);
-  if (!s.sweep || !row || !row.swept || event.offsetY < row.y + row.h - 17) { if (s.sweep) noTip(); return; }
-  const step = S(event.offsetX);
+  if (!s.sweep) return;
+  if (!inStrip(event, rowAt(yOn(event)))) return noTip();
+  const step = S(xOn(event));
   let at = s.sweep.done.findIndex(it => it[0] > step);
   at = (at < 0 ? s.sweep.done.length : at) - 1;
   if (at >= 0) tip(event, `step ${number(s.sweep.done[at][0])}: ${s.sweep.texts[s.sweep.done[at][1]].slice(-160)}`);
 }
 canvas.addEventListener("dblclick", event => {
-  const row = rowAt(event.offsetY);
-  if (!row || row.kind !== "in" && row.kind !== "wire") return;
-  const time = Math.max(0, Math.min(s.state.end - 1, S(event.offsetX)));
+  const row = rowAt(yOn(event));
+  if (!row || row.kind !== "in" && row.kind !== "wire" || inStrip(event, row)) return;
+  const time = Math.max(0, Math.min(s.state.end - 1, S(xOn(event))));
   if (row.kind === "in") return add(time, row.line, lastByte, event.altKey ? FRAMING : 0);
   const before = s.now.events.filter(it => it[4] === WIRE && it[2] === row.line && it[1] <= time).pop();
   add(time, row.line, 1 - (before ? before[3] : s.now.levels[row.line] || 0), WIRE);
@@ -174,7 +235,7 @@ canvas.addEventListener("dblclick", event => {
 $("stage").addEventListener("wheel", event => {
   event.preventDefault();
   if (event.shiftKey || Math.abs(event.deltaX) > Math.abs(event.deltaY)) { const by = (event.deltaX || event.deltaY) * perPixel(); look(s.view.begin + by, s.view.end + by, event.timeStamp); }
-  else zoom(event.deltaY > 0 ? 1.25 : 0.8, S(event.clientX - canvas.getBoundingClientRect().left), event.timeStamp);
+  else zoom(event.deltaY > 0 ? 1.25 : 0.8, S(xOn(event)), event.timeStamp);
 }, {passive: false});
 
 export function zoom(by, around, began) { look(around - (around - s.view.begin) * by, around + (s.view.end - around) * by, began); }
@@ -191,10 +252,10 @@ export function seek(step, began) {
   ask({draw: true, live: true}, began);
 }
 export function goTo(step) { seek(step); inSight(); }
-// An event has the focus, once it is in view.
+// Selects an event, and brings it into view.
 export function select(id, step) {
   const half = (s.view.end - s.view.begin) / 2;
-  s.selected = new Set([id]); wanted = id;
+  selectSoon(id);
   if (step < s.view.begin || step > s.view.end) return look(step - half, step + half);
   draw(); panes(); focusWanted();
 }
@@ -210,6 +271,7 @@ export async function go(part) {
   if (reply.jump === undefined) return;
   if (reply.jump === null) return say("There is none.");
   s.cursor = reply.cursor_at;
+  if (reply.event !== undefined) s.selected = new Set([reply.event]);
   draw(); panes(); inSight();
   say(`Step ${number(reply.jump)}${s.at && s.at.name && s.at.position === s.cursor ? `, ${s.at.name}` : ""}.`);
 }
@@ -220,13 +282,7 @@ export function onRow(row, goes, forward) {
   if (goes === "store") return go({jump: {to: "store", word: row.word, forward}});
   if (goes === "send") return go({jump: {to: "send", line: row.line, forward}});
   if (goes === "visit") return go({jump: {to: "visit", function: row.name, forward}});
-  if (goes === "event") {
-    const mine = s.now.events.filter(it => it[2] === row.line && (it[4] === WIRE) === (row.kind === "wire"));
-    const found = forward ? mine.find(it => it[1] > s.cursor) : mine.filter(it => it[1] < s.cursor).pop();
-    if (!found) return say("There is none in view.");
-    seek(found[1]);
-    s.selected = new Set([found[0]]);
-  }
+  if (goes === "event") return go({jump: {to: "event", line: row.line, wire: row.kind === "wire", forward}});
 }
 
 // A line that is typed: a text at an event or at the cursor, a name, or a question.
@@ -240,6 +296,9 @@ function closeLine() { $("line").hidden = true; onLine = null; if (backTo && bac
 $("line").addEventListener("submit", event => { event.preventDefault(); const then = onLine, text = $("line-text").value; closeLine(); if (then) then(text); });
 $("line-text").addEventListener("keydown", event => { if (event.key === "Escape") { event.stopPropagation(); closeLine(); } });
 
+// Runs on, if a step that was typed at is after the run's end.
+function runUpTo(step) { if (step >= s.state.end) ask({end: step + 1, draw: true}); }
+
 function typeAt(it) {
   if (it) {
     type(`Text from step ${number(it[1])} on, in place of this event (\\r, \\b, \\x1b):`, shown(it[3]), text => {
@@ -247,18 +306,20 @@ function typeAt(it) {
       if (!bytes.length) return;
       change(it[0], it[1], bytes[0], of, `type '${text}'`);
       bytes.slice(1).forEach((byte, at) => add(it[1] + (at + 1) * GAP, it[2], byte, 0, of, `type '${text}'`));
+      runUpTo(it[1] + (bytes.length - 1) * GAP);
       lastByte = bytes[bytes.length - 1];
     });
   } else {
     const row = rows.find(other => other.kind === "in");
     type(`Text for line ${row ? row.line : 0} from step ${number(s.cursor)} on (\\r, \\b, \\x1b):`, "", text => {
-      const of = gesture();
-      bytesOf(text).forEach((byte, at) => add(s.cursor + at * GAP, row ? row.line : 0, byte, 0, of, `type '${text}'`));
+      const of = gesture(), bytes = bytesOf(text), from = s.cursor;
+      bytes.forEach((byte, at) => add(from + at * GAP, row ? row.line : 0, byte, 0, of, `type '${text}'`));
+      if (bytes.length) runUpTo(from + (bytes.length - 1) * GAP);
     });
   }
 }
 
-// Keys. Letters are commands only outside of events, where they are values.
+// Keys. Characters are values on an event that a key gave the focus, and commands elsewhere.
 export const commands = {};
 document.addEventListener("keydown", event => {
   const element = document.activeElement, key = event.key;
@@ -274,35 +335,36 @@ document.addEventListener("keydown", event => {
   if (key === "Escape" && s.sweep) return sweeps.end("The sweep has ended.");
   if (key === "Escape" && element && element.closest("#why")) return $("why-end").click();
   const it = element && element.classList.contains("event") ? present(+element.dataset.id) : null;
-  if (it) return onEvent(it, event);
+  if (it && onEvent(it, event)) return;
   const isButton = element && (element.tagName === "BUTTON" || element.tagName === "SUMMARY");
   if (isButton && (key === "Enter" || key === " ")) return;
   const far = event.shiftKey ? 10 * Math.max(1, Math.round(perPixel())) : 1;
   const run = key === "ArrowLeft" ? () => { seek(s.cursor - far, event.timeStamp); inSight(); } : key === "ArrowRight" ? () => { seek(s.cursor + far, event.timeStamp); inSight(); }
     : key === "Home" ? () => { seek(0); inSight(); } : key === "End" ? () => { seek(s.state.end); inSight(); }
-    : key === "Enter" && element === canvas ? () => typeAt(null) : commands[key];
+    : key === "Enter" && element === canvas ? () => typeAt(null)
+    : key === "Delete" && element === canvas && s.selected.size ? () => remove([...s.selected].filter(find), event.timeStamp)
+    : key === "Escape" && s.selected.size ? () => { s.selected.clear(); draw(); panes(); } : commands[key];
   if (run) { event.preventDefault(); run(); }
 });
 
+// Does what a key does on event `it`. Returns whether it does anything there.
 function onEvent(it, event) {
   const key = event.key, isWire = it[4] === WIRE, all = [...s.selected].map(present).filter(Boolean);
-  const done = () => event.preventDefault();
   if (key === "ArrowLeft" || key === "ArrowRight") {
-    done();
-    const by = (key === "ArrowRight" ? 1 : -1) * (event.shiftKey ? 10 * Math.max(1, Math.round(perPixel())) : 1);
-    const least = Math.min(...all.map(one => one[1])), of = inBurst(`move ${[...s.selected]}`, event.timeStamp);
-    for (const one of all) change(one[0], one[1] + Math.max(-least, by), one[3], of, all.length > 1 ? `move ${all.length} events` : `move ${what(one)}`, event.timeStamp);
+    const by = within(all.map(one => one[1]), (key === "ArrowRight" ? 1 : -1) * (event.shiftKey ? 10 * Math.max(1, Math.round(perPixel())) : 1));
+    const of = inBurst(`move ${[...s.selected]}`, event.timeStamp);
+    if (by) for (const one of all) change(one[0], one[1] + by, one[3], of, all.length > 1 ? `move ${all.length} events` : `move ${what(one)}`, event.timeStamp);
     handlesSoon();
-  } else if (key === "ArrowUp" || key === "ArrowDown") { done(); turn(it, (key === "ArrowUp" ? 1 : -1) * (event.shiftKey ? 16 : 1), event); }
-  else if (key === "Delete" || key === "Backspace") { done(); remove(s.selected.has(it[0]) ? [...s.selected] : [it[0]], event.timeStamp); }
-  else if (key === "Escape") { done(); s.selected.clear(); canvas.focus(); draw(); }
-  else if (key === "Enter" && !isWire) { done(); typeAt(it); }
-  else if (key.length === 1 && key.charCodeAt(0) < 256) {
+  } else if (key === "ArrowUp" || key === "ArrowDown") {
+    turn(it, (key === "ArrowUp" ? 1 : -1) * (event.shiftKey ? 16 : 1), inBurst(`value ${it[0]}`, event.timeStamp), event.timeStamp);
+  } else if (key === "Delete" || key === "Backspace") remove(s.selected.has(it[0]) ? [...s.selected] : [it[0]], event.timeStamp);
+  else if (key === "Escape") { s.selected.clear(); canvas.focus(); draw(); }
+  else if (key === "Enter" && !isWire) typeAt(it);
+  else if (isTyped && key.length === 1 && key.charCodeAt(0) < 256) {
     const byte = isWire ? "01".indexOf(key) : key.charCodeAt(0);
-    done();
-    if (byte < 0) return;
     if (!isWire) lastByte = byte;
-    change(it[0], it[1], byte, gesture(), `set ${what(it)} to '${key}'`, event.timeStamp);
-    handlesSoon();
-  }
+    if (byte >= 0) { change(it[0], it[1], byte, gesture(), `set ${what(it)} to '${key}'`, event.timeStamp); handlesSoon(); }
+  } else return false;
+  event.preventDefault();
+  return true;
 }

@@ -3,6 +3,7 @@ import {$, s, find, number, say} from "./state.js";
 import {ask, edit, isBusy, leave, onReply, stop, timings, lastEdit} from "./ask.js";
 import {X, draw, handle, onRowButton, readColors, rows, unfold} from "./rows.js";
 import {onGo, outcome, panes, table} from "./panes.js";
+import {stateNow} from "./gestures.js";
 import * as hand from "./hand.js";
 import * as sweeps from "./sweep.js";
 import * as whys from "./why.js";
@@ -99,7 +100,7 @@ addEventListener("pagehide", leave);
 addEventListener("pageshow", event => { if (event.persisted) ask({draw: true}); });
 
 // For tests and measures.
-window.bezhakkom = {s, rows: () => rows, X, handle, timings, isBusy, picture, ask};
+window.bezhakkom = {s, rows: () => rows, X, handle, timings, isBusy, picture, ask, gesture: stateNow};
 
 (async () => {
   await ask({});

@@ -2,6 +2,7 @@
 import {$, s, WIRE, FRAMING, columns, hex, measure, number, shown, shownText, what} from "./state.js";
 import {CanvasPen, colors, hatching, shade} from "./pen.js";
 import {difference} from "./panes.js";
+import {isHeld} from "./gestures.js";
 
 export const LEFT = 160, RIGHT = 110, HEAD = 30;
 const ROW = 36, FUNCTION = 20, STRIP = 16;
@@ -57,7 +58,7 @@ function functionRows(now, ghost) {
   for (const [, name] of now.at) count.set(now.names[name], (count.get(now.names[name]) || 0) + 1);
   if (ghost) for (const [, name] of ghost.at) if (!count.has(ghost.names[name])) { count.set(ghost.names[name], 0); differs.add(ghost.names[name]); }
   const weight = name => count.get(name) + (differs.has(name) ? 0.5 : 0);
-  if (!s.drag) order = [];
+  if (!isHeld()) order = [];
   const names = [...count.keys()].sort((a, b) => weight(b) - weight(a));
   for (const name of names) if (!order.includes(name)) order.push(name);
   order = order.filter(it => count.has(it));
@@ -354,13 +355,15 @@ function place(box, row, event, x, width, together) {
 // Tab goes through events in the order of time.
 let orderKey = "";
 function inOrder(box) {
-  if (s.drag) return;
+  if (isHeld()) return;
   const sorted = [...handleOf.values()].sort((a, b) => a.getAttribute("aria-valuenow") - b.getAttribute("aria-valuenow"));
   const key = sorted.map(it => it.dataset.id).join();
   if (key === orderKey) return;
   orderKey = key;
-  const focused = document.activeElement;
-  sorted.forEach((it, at) => { if (box.children[at] !== it) box.insertBefore(it, box.children[at] || null); });
-  if (focused && box.contains(focused)) focused.focus();
+  // The focused handle stays in the page, and the others move around it: thus it keeps the focus.
+  const at = sorted.indexOf(document.activeElement);
+  if (at < 0) return box.append(...sorted);
+  sorted[at].before(...sorted.slice(0, at));
+  sorted[at].after(...sorted.slice(at + 1));
 }
 export const handle = id => handleOf.get(id);

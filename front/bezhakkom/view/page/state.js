@@ -7,7 +7,7 @@ export const s = {
   state: null,                              // what the desk says of itself
   showGhost: true, allLines: false, samples: 96,
   selected: new Set(), pending: new Map(),  // events under the hand, before the program has answered
-  causes: new Set(), drag: null, sweep: null,
+  causes: new Set(), sweep: null,
   width: null,                              // of a picture that is made
 };
 
