@@ -2,8 +2,11 @@
 the login program are counted on docs/DEBUGGING.md, or are those of a fresh program."""
 from __future__ import annotations
 
+import itertools
 import json
+import math
 import random
+import re
 import signal
 import socket
 import subprocess
@@ -14,6 +17,7 @@ import unittest
 import urllib.request
 from dataclasses import replace
 from pathlib import Path
+from typing import Sequence, Tuple
 from unittest import mock
 
 from bezhakkom import loading, saved
@@ -38,6 +42,24 @@ from front.tests.viewed import BUTTON, DRIVER, LOGIN, Hand, laid_out, posted, se
 SEED = 77
 LENGTH = 0x1020  # the word session+32, by its physical address
 WHOLE = view(0, 3 * SPAN)
+
+
+# What is left of linear red, green and blue to people with all cones, without green cones and without red ones: Machado, Oliveira and
+# Fernandes, "A physiologically-based model for simulation of color vision deficiency", 2009.
+EYES = (((1.0, 0.0, 0.0), (0.0, 1.0, 0.0), (0.0, 0.0, 1.0)),
+        ((0.367322, 0.860646, -0.227968), (0.280085, 0.672501, 0.047413), (-0.01182, 0.04294, 0.968881)),
+        ((0.152286, 1.052583, -0.204868), (0.114503, 0.786281, 0.099216), (-0.003882, -0.048116, 1.051998)))
+
+
+def lab(color: str, eyes: Sequence[Sequence[float]]) -> Tuple[float, float, float]:
+    """An sRGB color in CIELAB, as these eyes see it."""
+    parts = [int(color[at:at + 2], 16) / 255 for at in (1, 3, 5)]
+    linear = [it / 12.92 if it <= 0.04045 else ((it + 0.055) / 1.055) ** 2.4 for it in parts]
+    seen = [min(1.0, max(0.0, sum(a * b for a, b in zip(row, linear)))) for row in eyes]
+    white = ((0.4124, 0.3576, 0.1805, 0.9505), (0.2126, 0.7152, 0.0722, 1.0), (0.0193, 0.1192, 0.9505, 1.089))
+    x, y, z = (sum(a * b for a, b in zip(row, seen)) / row[3] for row in white)
+    x, y, z = (it ** (1 / 3) if it > 0.008856 else 7.787 * it + 16 / 116 for it in (x, y, z))
+    return 116 * y - 16, 500 * (x - y), 200 * (y - z)
 
 
 class Refusals(unittest.TestCase):
@@ -96,6 +118,19 @@ class Refusals(unittest.TestCase):
                 self.assertNotRegex(text, r"(?i)<script(?![^>]*\ssrc=)|\son\w+=|\sstyle=|javascript:|<style")
             self.assertNotRegex(text, r"https?://(?!www\.w3\.org/2000/svg)|\beval\(|insertAdjacentHTML|document\.write|innerHTML\s*=")
 
+    def test_colors_of_outcomes_are_far_apart(self) -> None:
+        """In both themes, also without red or green cones: at least 25 in CIELAB, of which some 2 are seen side by side. The pictures that
+        the page saves have the same colors."""
+        folder = ROOT / "front/bezhakkom/view/page"
+        themes = [re.findall(r"--outcome-\d: (#\w{6})", it) for it in (folder / "page.css").read_text().split("@media")]
+        self.assertEqual([len(it) for it in themes], [7, 7])
+        saved_there = re.findall(r'"outcome-\d": "(#\w{6})"', (folder / "save.js").read_text())
+        self.assertEqual(saved_there, themes[0] + themes[1])
+        for theme in themes:
+            for eyes in EYES:
+                for one, two in itertools.combinations([lab(it, eyes) for it in theme], 2):
+                    self.assertGreater(math.dist(one, two), 25, theme)
+
     def test_damaged_requests(self) -> None:
         """What is wrong with a request is a sentence, or a reply with one; log and edits stay."""
         with laid_out(*LOGIN) as desk:
@@ -113,11 +148,11 @@ class Refusals(unittest.TestCase):
                     {"do": "add", "id": 50, "time": 5, "line": 0, "byte": 256}, {"do": "add", "id": 50, "time": 5, "line": 0, "byte": 2, "kind": 2},
                     {"do": "add", "id": 50, "time": -5, "line": 0, "byte": 2}, {"do": "change", "id": 0, "time": 1 << 40, "byte": 1},
                     {"do": "change", "id": 77, "time": 1, "byte": 1}, {"do": "delete", "id": 77}, {"do": "quit"}, {"do": "back", "name": "x"},
-                    {"do": "against", "name": "x"}, {"do": "keep", "name": " "}, {"do": "shrink", "until": "console 'none'"}), 1):
+                    {"do": "against", "name": "x"}, {"do": "keep", "name": " "}, {"do": "shrink", "until": "console 'none'"},
+                    {"do": "shrink", "until": " "}, {"do": "cancel"}, {"do": "cancel", "gesture": 1}), 1):
                 reply = desk.answer(Fields({"edits": [{"number": number, **edit}]}))
                 self.assertIn("problem", reply, edit)
-                state = {**reply["state"], "undo": before["undo"]}
-                self.assertEqual(state, before, edit)
+                self.assertEqual(reply["state"], before, edit)
 
 
 class Rows(unittest.TestCase):
@@ -308,6 +343,12 @@ class Costs(unittest.TestCase):
                     shown = hand.ask(view=view(0, SPAN), live=True, edits=[hand.edit("change", id=2_000, time=41_003, byte=66)])["now"]
                 self.assertEqual(asked.call_args_list[0].args[0], ["del 2000", "add 41003 0 66"])
                 self.assertTrue(shown["thinned"])
+                # What is selected is shown, though it is not the last event of its line there.
+                held = [2_000, 2_004, 3_001]
+                for numbers in held, []:
+                    shown = hand.ask(view=view(0, 2 * SPAN), held=numbers)["now"]["events"]
+                    self.assertEqual([it[0] for it in shown if it[0] in held], numbers)
+                    self.assertLessEqual(len(shown), 3_000)
                 part = hand.ask(view=view(41_000, 41_100))["now"]
                 self.assertEqual([it[:4] for it in part["events"]], [[2_000, 41_003, 0, 66], *([at, 1_000 + 20 * at, at % 4, 65] for at in range(2_001, 2_006))])
 
@@ -344,6 +385,36 @@ class Pasts(unittest.TestCase):
             hand.ask(edits=[hand.edit("undo"), hand.edit("against")])
             shown = hand.rested(view=WHOLE)
             viewed.check(self, image, brute.without(without, 0), shown["now"], [LENGTH])
+
+    def test_cancel_restores_the_log_undo_redo_and_the_other_past(self) -> None:
+        image, log = brute.image("login/login.elf"), brute.log_of("login")
+        with laid_out(*LOGIN) as desk:
+            hand = Hand(desk)
+            hand.ask(edits=[hand.edit("change", id=1, time=30_500, byte=8, name="one"), hand.edit("delete", id=9, name="two"), hand.edit("undo")])
+            before = hand.rested(view=WHOLE)
+            self.assertEqual((before["state"]["undo"], before["state"]["redo"]), ("one", "two"))
+            drag = [hand.edit("change", id=2, time=41_000 + it, byte=8, again=it > 0) for it in range(3)]
+            self.assertIsNone(hand.ask(edits=drag)["state"]["redo"])
+            hand.ask(edits=[hand.edit("cancel", again=True)])
+            after = hand.rested(view=WHOLE)
+            self.assertEqual((after["state"], after["now"], after["ghost"]), (before["state"], before["now"], before["ghost"]))
+            viewed.check(self, image, brute.moved(log, 1, 30_500), after["now"], [LENGTH])
+            self.assertEqual(hand.ask(edits=[hand.edit("redo")])["state"]["events"], 9)
+
+    def test_cancel_after_an_edit_of_another_page_is_refused(self) -> None:
+        with laid_out(*LOGIN) as desk:
+            for number, edit in enumerate(({"do": "change", "id": 2, "time": 41_000, "byte": 8, "gesture": 5}, {"do": "delete", "id": 0, "gesture": 6},
+                                           {"do": "cancel", "gesture": 5}), 1):
+                reply = desk.answer(Fields({"page": str(number == 2), "edits": [{"number": number, **edit}]}))
+            self.assertRegex(reply["problem"], "not cancelled, as another page has edited the log")
+            self.assertEqual((reply["refused"], reply["state"]["events"]), ([5], 9))
+
+    def test_refused_edit_names_its_gesture(self) -> None:
+        with laid_out(*LOGIN) as desk:
+            hand = Hand(desk)
+            reply = hand.ask(edits=[hand.edit("delete", id=2), hand.edit("change", id=2, time=5, byte=1), hand.edit("change", id=1, time=5, byte=1)])
+            self.assertEqual(reply["refused"], [2])
+            self.assertEqual(reply["problem"], "the event was deleted meanwhile, so it was not edited: `Undo` brings it back")
 
     def test_a_program_that_dies(self) -> None:
         image, log = brute.image("login/login.elf"), brute.log_of("login")
@@ -403,6 +474,42 @@ class Jumps(unittest.TestCase):
             begin = next(at for at in range(last, 39_900, -1) if here[at - 1 - 39_900] != here[last - 39_900])
             self.assertEqual(jump(40_024, to="line"), begin)
 
+    def test_events_are_found_in_the_whole_log(self) -> None:
+        """Also out of view, and in a view that shows only some of them."""
+        log = sorted([*(Event(1_000 + 20 * at, at % 4, 65) for at in range(5_000)), Event(60_500, 1, 1, Kind.WIRE)], key=lambda it: it.time)
+        with tempfile.TemporaryDirectory() as folder:
+            Path(folder, "log").write_bytes(logs.write(log))
+            with laid_out("--log", f"{folder}/log", str(ROOT / "examples/echo/boot.s")) as desk:
+                hand = Hand(desk)
+                for position in (0, 999, 1_000, 41_000, 60_500, 100_980, desk.end):
+                    for line, is_wire in ((0, False), (3, False), (1, True), (2, True)):
+                        mine = [at for at, it in enumerate(log) if (it.line, it.kind == Kind.WIRE) == (line, is_wire)]
+                        for forward in (False, True):
+                            wanted = next((at for at in mine if log[at].time > position), None) if forward \
+                                else next((at for at in reversed(mine) if log[at].time < position), None)
+                            reply = hand.ask(view=view(0, desk.end), cursor=position, jump={"to": "event", "line": line, "wire": is_wire, "forward": forward})
+                            self.assertEqual(reply["jump"], None if wanted is None else log[wanted].time)
+                            self.assertEqual(reply.get("event"), wanted)
+                            if wanted is not None:
+                                self.assertIn(wanted, [it[0] for it in reply["now"]["events"]])
+            # An event after the run's end is not gone to.
+            with laid_out("--log", f"{folder}/log", "--to", "65536", str(ROOT / "examples/echo/boot.s")) as desk:
+                found = Hand(desk).ask(cursor=65_530, jump={"to": "event", "line": 0, "forward": True})
+                self.assertEqual((found["jump"], "event" in found), (None, False))
+
+    def test_visit_of_what_is_no_function_is_refused(self) -> None:
+        with laid_out(*LOGIN) as desk, served(desk) as server:
+            for name in ("zz", "", "-5", "1_0", "0x", "fffffffff", "\u0663"):
+                reply = posted(server, {"cursor": 5, "jump": {"to": "visit", "function": name, "forward": True}})
+                self.assertEqual(json.loads(reply.content), {  # type: ignore[attr-defined]
+                    "problem": f"there is no function {name}: choose a row of the page, or an address of up to 8 hexadecimal digits"})
+            # An instruction and a row of code without a symbol are named by their addresses.
+            entry = desk._symbols.address("receive")
+            found = [Hand(desk).ask(cursor=5, jump={"to": "visit", "function": name, "forward": True})["jump"]
+                     for name in ("receive", f"{entry:x}", f"{entry:#010x}")]
+            self.assertEqual(found, [found[0]] * 3)
+            self.assertGreater(found[0], 5)
+
     def test_differences(self) -> None:
         """The first step after the cursor that two pasts do not share: an event, a byte that is sent, or a store."""
         image, log = brute.image("login/login.elf"), brute.log_of("login")
@@ -450,6 +557,22 @@ class Sweeps(unittest.TestCase):
             asked = hand.ask(sweep={"id": 2, "values": [8, 0x7A], "wanted": "'Welcome'"})["sweep"]
             self.assertEqual((asked["tried"][:1], asked["outcomes"][0]), ([asked["present"]], "it does not come true"))
             self.assertEqual([(it.time, it.byte) for it in desk._driver.log], [(it.time, it.byte) for it in log])
+
+    def test_sweep_of_another_kind_counts_outcomes_from_the_first(self) -> None:
+        """After a sweep of values, one of steps shows only outcomes of steps: in a fresh desk the same ones."""
+        values, steps = {"id": 2, "values": [8, 65, 66, 67]}, {"id": 2, "steps": [40_000, 40_001, 40_002]}
+        with laid_out(*LOGIN) as desk:
+            wanted = Hand(desk).ask(sweep=steps)["sweep"]
+        with laid_out(*LOGIN) as desk:
+            hand = Hand(desk)
+            self.assertGreater(len(hand.ask(sweep=values)["sweep"]["outcomes"]), len(wanted["outcomes"]))
+            found = hand.ask(sweep=steps)["sweep"]
+            self.assertEqual({**found, "serial": 1}, wanted)
+            # A page sees that numbers of outcomes have changed. To keep a past changes none.
+            hand.ask(edits=[hand.edit("keep", name="one")])
+            self.assertEqual(hand.ask(sweep=steps)["sweep"]["serial"], found["serial"])
+            hand.ask(edits=[hand.edit("change", id=1, time=30_001, byte=8)])
+            self.assertNotEqual(hand.ask(sweep=steps)["sweep"]["serial"], found["serial"])
 
     def test_causes_and_shrink(self) -> None:
         with laid_out(*LOGIN) as desk:

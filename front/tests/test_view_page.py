@@ -323,7 +323,7 @@ class Page(PageTest):
             with mock.patch("bezhakkom.view.server.Link.send", broken):
                 self.key_on(2, "Right", "Right")
                 self.assertEqual(self.log(), brute.moved(log, 2, log[2].time + 3))
-            self.assertEqual(broken.call_count, 1)
+            self.assertTrue(broken.called)
             self.assertGreater(self.browser.run(f"return {asked}"), count)
             self.browser.until(lambda: self.posts_nothing(asked))
             self.check("login/login.elf", brute.moved(log, 2, log[2].time + 3), [LENGTH])
@@ -340,6 +340,118 @@ class Page(PageTest):
             Hand(self.desk).ask(page="other", edits=[Hand(self.desk).edit("delete", id=2)])
             self.browser.run("window.dispatchEvent(new Event('focus'))")
             self.check("login/login.elf", brute.without(brute.log_of("login"), 2), [LENGTH])
+
+    def text(self, element: str) -> str:
+        return str(self.browser.run("return document.getElementById(arguments[0]).textContent", element))
+
+    def test_dragged_event_stays_in_a_log_that_is_thinned(self) -> None:
+        """Of 20,000 events some are shown. The one that is dragged is shown in each place, and after the drag."""
+        log = [Event(1_000 + 5 * at, at % 4, 65) for at in range(20_000)]
+        with tempfile.TemporaryDirectory() as folder:
+            Path(folder, "log").write_bytes(logs.write(log))
+            with self.page("--log", f"{folder}/log", str(brute.ROOT / "examples/echo/boot.s")):
+                shown = self.shown()["now"]
+                self.assertTrue(shown["thinned"])
+                x, y = self.place(next(it[0] for it in shown["events"] if it[1] > 30_000))
+                event = int(self.browser.run("return document.elementFromPoint(arguments[0], arguments[1]).dataset.id", x, y))  # one lies over another
+                self.browser.mouse("mousePressed", x, y, 1)
+                for by in range(5, 60, 7):
+                    self.browser.mouse("mouseMoved", x + by, y, 1)
+                    self.rest()
+                    self.assertTrue(self.browser.run("return !!window.bezhakkom.handle(arguments[0])", event), by)
+                self.browser.mouse("mouseReleased", x + by, y)
+                time = next(it[1] for it in self.shown()["now"]["events"] if it[0] == event)
+                self.assertGreater(time, 35_000)
+                self.assertIn(Event(time, event % 4, 65), self.desk._now.log)
+
+    def test_console_shows_its_end_at_the_end_of_the_run(self) -> None:
+        log = [Event(1_000 + 300 * at, 0, byte) for at, byte in enumerate(b"x\n" * 150)]
+        ends = "const it = document.querySelector('.console'); return [it.scrollTop, it.scrollHeight - it.clientHeight]"
+        with tempfile.TemporaryDirectory() as folder:
+            Path(folder, "log").write_bytes(logs.write(log))
+            with self.page("--log", f"{folder}/log", str(brute.ROOT / "examples/echo/boot.s")):
+                for key, is_at_end in (("Home", False), ("End", True), ("Home", False), ("End", True)):
+                    self.browser.run("document.getElementById('canvas').focus()")
+                    self.browser.keys(key)
+                    self.rest()
+                    top, last = self.browser.run(ends)
+                    self.assertGreater(last, 500)
+                    self.assertEqual(abs(top - last) < 2, is_at_end, (key, top, last))
+
+    def test_next_event_is_found_out_of_view(self) -> None:
+        with self.page(*LOGIN):
+            self.browser.run("window.bezhakkom.s.view = {begin: 41000, end: 42000}; window.bezhakkom.s.cursor = 41500; window.bezhakkom.ask({draw: true, live: true})")
+            self.rest()
+            for label, event in (("next", 3), ("next", 4), ("previous", 3), ("previous", 2), ("previous", 1)):
+                self.click(f"[aria-label='{label} event of line 0 receives']")
+                self.browser.waits(f"window.bezhakkom.s.selected.has({event}) && {READY}")
+                self.assertEqual(self.shown()["at"]["position"], 20_000 + 10_000 * event)
+                self.assertTrue(self.browser.run("return !!window.bezhakkom.handle(arguments[0])", event))
+
+    def test_outcomes_look_the_same_in_strip_and_cards_and_differ_from_one_another(self) -> None:
+        with self.page(*LOGIN):
+            self.browser.run("window.bezhakkom.handle(2).focus()")
+            for kind in "value", "time":
+                self.click(f"#sweep-{kind}")
+                self.browser.waits(f"window.bezhakkom.s.sweep && window.bezhakkom.s.sweep.took && {READY}")
+            texts = self.browser.run("return [...document.querySelectorAll('.outcome')].map(it => it.textContent)")
+            cards = self.browser.run("""return Object.fromEntries([...document.querySelectorAll('.outcome')].map(it => {
+                const swatch = getComputedStyle(it.querySelector('.swatch'));
+                return [it.textContent[0], [swatch.backgroundColor, it.querySelector('.swatch').dataset.hatching, swatch.backgroundImage.split('repeating').length - 1]]; }))""")
+            self.assertEqual(sorted(cards), sorted(it[0] for it in texts))
+            self.assertEqual(len({str(it) for it in cards.values()}), len(cards))
+            # What the strip has where an outcome begins: its color, and beside that the paper only where there is a hatching.
+            strip = self.browser.run("""const b = window.bezhakkom, row = b.rows().find(it => it.swept), g = document.getElementById('canvas').getContext('2d');
+                const all = g.getImageData(0, 0, g.canvas.width, g.canvas.height).data;
+                return b.s.sweep.done.map(([step, outcome], at) => { const next = b.s.sweep.done[at + 1], x = Math.round(b.X(step));
+                    if (!next || b.X(next[0]) - x < 2 || at && b.s.sweep.done[at - 1][1] !== outcome) return null;
+                    const pixel = y => { const k = 4 * ((row.y + y) * g.canvas.width + x + 1); return `rgb(${all[k]}, ${all[k + 1]}, ${all[k + 2]})`; };
+                    return [String.fromCharCode(65 + outcome), [...Array(12).keys()].map(k => pixel(36 + k))]; }).filter(Boolean)""")
+            self.assertTrue(strip)
+            for letter, pixels in strip:
+                color, _, hatchings = cards[letter]
+                self.assertIn(color, pixels, letter)
+                self.assertEqual(len(set(pixels)) > 1, hatchings > 0, (letter, pixels))
+            # An outcome that was seen in the sweep of values alone is not counted.
+            count = int(self.text("said").partition(" outcome")[0].rpartition(" ")[2])
+            self.assertEqual(count, len(cards))
+
+    def test_busy_server_is_shown_within_a_second(self) -> None:
+        held = threading.Event()
+        with self.page(*LOGIN):
+            answer = self.desk.answer
+            with mock.patch.object(self.desk, "answer", lambda ask: held.wait(100) and answer(ask)):
+                self.browser.run("window.begun = performance.now(); window.bezhakkom.ask({draw: true, live: true})")
+                after = self.browser.waits("document.getElementById('busy').textContent && performance.now() - window.begun")
+                self.assertEqual(self.text("busy"), "Waiting for the server…")
+                self.browser.waits("/^No answer from the server for [1-9]\\d* s\\.$/.test(document.getElementById('busy').textContent)")
+                held.set()
+            self.rest()
+            self.assertEqual(self.text("busy"), "")
+        self.assertLess(after, 1_000)
+
+    def test_refusal_stays_until_the_next_input(self) -> None:
+        with self.page(*LOGIN):
+            for refused in ("window.bezhakkom.ask({words: [{name: 'nothing'}]})", "window.bezhakkom.ask({jump: {to: 'visit', function: 'zz'}})"):
+                self.browser.run(refused)
+                self.rest()
+            self.assertRegex(self.text("problem"), "^there is no word nothing: .* there is no function zz: ")
+            self.browser.run("document.querySelector('.event').click()")
+            self.browser.keys("Shift")
+            self.assertNotEqual(self.text("problem"), "")
+            self.browser.click(*self.at(70_000, "out"))
+            self.assertEqual(self.text("problem"), "")
+
+    def test_link_comes_back_after_refused_tries(self) -> None:
+        asked = "performance.getEntriesByType('resource').filter(it => it.name.endsWith('/ask')).length"
+        with self.page(*LOGIN):
+            with mock.patch("bezhakkom.view.server._Handler._wants_link", return_value=False) as refused, \
+                    mock.patch("bezhakkom.view.server.Link.send", side_effect=ConnectionError):
+                self.key_on(2, "Right")
+                self.browser.until(lambda: refused.call_count >= 2)
+            self.browser.until(lambda: self.posts_nothing(asked))
+            self.check("login/login.elf", brute.moved(brute.log_of("login"), 2, 40_001), [LENGTH])
+            self.assertTrue(all("WebSocket" in it for it in self.browser.errors()))
 
     def test_labels_stand_apart(self) -> None:
         """The main loop of the driver counts in a word, so that each sample of it has another value. A letter takes some 7 pixels."""
