@@ -239,6 +239,11 @@ def physical_of(address: int) -> int:
     return address & 0x1FFF_FFFF if 0x8000_0000 <= address < 0xC000_0000 else address
 
 
+def in_kseg0(address: int) -> int:
+    """The address in kseg0 of one in kseg1; others are taken as they are."""
+    return address & ~0x2000_0000 if 0xA000_0000 <= address < 0xC000_0000 else address
+
+
 def jump_to(entry: int) -> tuple[int, int, int, int]:
     """The words of a jump: lui r26; ori r26, r26; jr r26; sll."""
     return 0x3C1A_0000 | entry >> 16, 0x375A_0000 | entry & 0xFFFF, 0x0340_0008, 0

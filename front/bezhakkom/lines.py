@@ -1,5 +1,9 @@
-"""Source lines of addresses, from the line tables of ELFs: `.debug_line` of DWARF, versions 2 to 5. A table that is damaged or of
-a later version has none."""
+"""Source lines of addresses, from the line tables of ELFs: `.debug_line` of DWARF, versions 2 to 5.
+
+A table has a part for each source that was compiled, and a part has sequences: rows of ascending addresses, of which the last one only
+ends the row before. So each line belongs to addresses from the begin of its sequence to below its end, and to no others. A part that is
+damaged or of a later version has the lines that were read before the fault, or none. Reading takes time proportional to its bytes.
+"""
 from __future__ import annotations
 
 import re
@@ -7,7 +11,7 @@ import struct
 from bisect import bisect_right
 from dataclasses import dataclass
 from pathlib import PurePosixPath
-from typing import Dict, Iterable, Iterator, List, Optional, Set, Tuple, Union
+from typing import Dict, Iterable, Iterator, List, Optional, Tuple, Union
 
 from . import elf
 from .errors import Problem
@@ -15,19 +19,21 @@ from .image import SymbolFile
 
 _TABLE, _STRINGS, _LINE_STRINGS = ".debug_line", ".debug_str", ".debug_line_str"
 _VERSIONS = range(2, 6)
-_BEGIN = re.compile(rb"\x00\x05\x02(....)", re.DOTALL)  # sets the address of a piece of code; other bytes may look so
+_BEGIN = re.compile(rb"\x00\x05\x02(?=(....))", re.DOTALL)  # sets the address of a sequence; other bytes may look so
 _PATH, _FOLDER = 1, 2  # the parts of a file's entry that are its name and the number of its folder
 # Forms of such parts: a text, and its place in one of two sections; blocks; a number. The others have fixed sizes.
 _TEXT, _IN_STRINGS, _IN_LINE_STRINGS = 0x08, 0x0E, 0x1F
 _BLOCK, _SHORT_BLOCK, _NUMBER = 0x09, 0x0A, 0x0F
 _SIZES = {0x0B: 1, 0x05: 2, 0x06: 4, 0x07: 8, 0x1E: 16}
+_LONGEST = 10  # bytes of a number of any length
 # Of the 12 instructions of each program, those that matter; and of those with a length.
 _COPY, _ADVANCE, _ADVANCE_LINE, _SET_FILE, _NEGATE, _ADVANCE_CONSTANT, _ADVANCE_FIXED = 1, 2, 3, 4, 6, 8, 9
 _END, _SET_ADDRESS = 1, 2
 
-# Where a piece of code begins; an address in it; the number of a file and a line from there on, or None at the end; and whether a
-# statement begins there.
-_Row = Tuple[int, int, Optional[Tuple[int, int]], bool]
+_Text = Tuple[bytes, int]  # bytes, and where in them a text begins that a byte 0 ends
+_Numbers = Tuple[int, int]  # of a file and a line
+_Row = Tuple[int, _Numbers, bool]  # from an address on; whether a statement begins there
+_Rows = Tuple[List[int], List[_Row], int]  # a sequence: the addresses that are set in it, its rows and its end
 
 
 @dataclass(frozen=True)
@@ -46,21 +52,27 @@ class Lines:
 
     def __init__(self, files: Iterable[SymbolFile] = ()) -> None:
         self._files = list(files)
-        self._begins: Optional[List[int]] = None  # of pieces of code
+        self._all: Optional[List[_Part]] = None
+        self._begins: List[int] = []  # of sequences, and perhaps other numbers
         self._parts: List[_Part] = []  # that have them
 
     def at(self, address: int) -> Optional[Line]:
-        """The line of an address, where it is known."""
-        if self._begins is None:
-            found = sorted(((begin, part) for file in self._files for part in _parts(file) for begin in part.begins()),
-                           key=lambda it: it[0])
-            self._begins, self._parts = [begin for begin, _ in found], [part for _, part in found]
-        physical = elf.physical_of(address)
-        # It can only be in the piece that begins last before it.
-        for place in reversed(range(bisect_right(self._begins, physical))):
-            if self._parts[place].begins_at(self._begins[place]):
-                return self._parts[place].line(physical)
+        """Returns the line of a virtual address, if it is known. kseg0 and kseg1 addresses of one word have the same line."""
+        self._find_parts()
+        address = elf.in_kseg0(address)
+        for place in reversed(range(bisect_right(self._begins, address))):
+            found = self._parts[place].sequence(self._begins[place])
+            if found:  # Only the sequence that begins last before the address can have it.
+                numbers = found.at(address)
+                return self._parts[place].line(numbers) if numbers else None
         return None
+
+    def _find_parts(self) -> List[_Part]:
+        if self._all is None:
+            self._all = [part for file in self._files for part in _parts(file)]
+            found = sorted(((begin, part) for part in self._all for begin in part.begins()), key=lambda pair: pair[0])
+            self._begins, self._parts = [begin for begin, _ in found], [part for _, part in found]
+        return self._all
 
 
 def _parts(file: SymbolFile) -> Iterator[_Part]:
@@ -76,56 +88,64 @@ def _parts(file: SymbolFile) -> Iterator[_Part]:
         at = end
 
 
+class _Sequence:
+    """Rows of ascending addresses up to an end. Of several rows at one address the last one at which a statement begins counts, or else
+    the last one of all."""
+
+    def __init__(self, rows: Iterable[_Row], end: int) -> None:
+        lines: Dict[int, _Numbers] = {}
+        statements: Dict[int, bool] = {}  # whether one begins there
+        for address, numbers, is_statement in rows:
+            if address < end and (is_statement or not statements.get(address)):
+                lines[address], statements[address] = numbers, is_statement
+        self.end = end
+        self.addresses = sorted(lines)  # from which on the line of the same place is meant
+        self.lines = [lines[address] for address in self.addresses]
+        self.statements = [statements[address] for address in self.addresses]
+
+    def at(self, address: int) -> Optional[_Numbers]:
+        place = bisect_right(self.addresses, address) - 1
+        return self.lines[place] if place >= 0 and address < self.end else None
+
+
 class _Part:
     def __init__(self, content: bytes, sections: Dict[str, bytes], offset: int) -> None:
         self._content = content
         self._sections = sections
         self._offset = offset
-        self._is_read = False
-        self._begun: Set[int] = set()
-        self._addresses: List[int] = []  # from which on the line of the same place is meant
-        self._lines: List[Optional[Line]] = []
+        self._program: Optional[_Program] = None
+        self._sequences: Optional[Dict[int, _Sequence]] = None  # that have addresses, by where they begin
 
     def begins(self) -> Iterator[int]:
-        """Where its pieces of code begin, and perhaps other numbers."""
-        return (self._physical(int.from_bytes(match[1], "little")) for match in _BEGIN.finditer(self._content))
+        """Where its sequences begin, and perhaps other numbers."""
+        return (self._placed(int.from_bytes(match[1], "little")) for match in _BEGIN.finditer(self._content))
 
-    def begins_at(self, physical: int) -> bool:
-        self._read()
-        return physical in self._begun
+    def sequence(self, begin: int) -> Optional[_Sequence]:
+        """The sequence that begins at an address, if there is one."""
+        return self._read().get(begin)
 
-    def line(self, physical: int) -> Optional[Line]:
-        self._read()
-        place = bisect_right(self._addresses, physical) - 1
-        return self._lines[place] if place >= 0 else None
+    def line(self, numbers: _Numbers) -> Optional[Line]:
+        """The line with its file, by the numbers that rows have for them."""
+        file = self._program.file(numbers[0]) if self._program and numbers[1] > 0 else None
+        return Line(file, numbers[1]) if file is not None else None
 
-    def _physical(self, address: int) -> int:
-        return elf.physical_of(address + self._offset & 0xFFFF_FFFF)
+    def _placed(self, address: int) -> int:
+        return elf.in_kseg0(address + self._offset & 0xFFFF_FFFF)
 
-    def _read(self) -> None:
+    def _read(self) -> Dict[int, _Sequence]:
         """Reads it, where that was not done."""
-        if self._is_read:
-            return
-        self._is_read = True
-        lines: Dict[int, Optional[Line]] = {}
-        statements: Dict[int, bool] = {}  # whether one begins there
-        try:
-            program = _Program(self._content, self._sections)
-            for begin, address, found, is_statement in program.rows():
-                if not begin:
-                    continue  # the linker has left this piece out
-                self._begun.add(self._physical(begin))
-                physical = self._physical(address)
-                if found is None:
-                    lines.setdefault(physical, None)
-                elif is_statement or not statements.get(physical):
-                    file, line = found
-                    lines[physical] = Line(program.files[file], line) if line and file in program.files else None
-                    statements[physical] = is_statement
-        except (IndexError, struct.error, ValueError):
-            pass  # what was read up to there holds
-        self._addresses = sorted(lines)
-        self._lines = [lines[it] for it in self._addresses]
+        if self._sequences is None:
+            self._sequences = {}
+            try:
+                self._program = _Program(self._content, self._sections)
+                for begins, rows, end in self._program.sequences():
+                    # The linker has left out those that begin at 0.
+                    if begins[0]:
+                        made = _Sequence([(self._placed(row[0]), *row[1:]) for row in rows], self._placed(end))
+                        self._sequences.update((self._placed(begin), made) for begin in begins if made.addresses)
+            except (IndexError, struct.error, ValueError):
+                pass  # the sequences before the fault hold
+        return self._sequences
 
 
 class _Program:
@@ -146,10 +166,18 @@ class _Program:
             self._at += 1  # operations of an instruction of a wide machine
         self._is_statement = bool(self._number(1))
         self._line_base, self._line_range, self._first_special = struct.unpack_from("<bBB", content, self._at)
+        if not self._line_range:
+            raise ValueError
         self._at += 3
         self._arguments = [0, *content[self._at:self._at + self._first_special - 1]]
         self._at += self._first_special - 1
-        self.files = dict(enumerate(self._names())) if self._version > 4 else dict(enumerate(self._names_of_old(), 1))
+        self._folders: List[_Text] = []
+        self._files: Dict[int, Tuple[_Text, int]] = {}  # their names, and the numbers of their folders
+        if self._version > 4:
+            self._folders = [name for name, _ in self._entries()]
+            self._files = dict(enumerate(self._entries()))
+        else:
+            self._read_old_names()
         self._at = begin
 
     # Numbers and texts
@@ -163,49 +191,65 @@ class _Program:
     def _long(self, is_signed: bool = False) -> int:
         """A number of any length: seven bits a byte."""
         value = shift = 0
-        while True:
+        while shift < 7 * _LONGEST:
             byte = self._content[self._at]
             self._at += 1
             value |= (byte & 0x7F) << shift
             shift += 7
             if byte < 0x80:
                 return value - (1 << shift) if is_signed and byte & 0x40 else value
+        raise ValueError
 
-    def _text(self) -> str:
+    def _text(self) -> _Text:
         begin, self._at = self._at, self._content.index(b"\0", self._at) + 1
-        return _text_at(self._content, begin)
+        return self._content, begin
 
     # Names of files
 
-    def _names_of_old(self) -> Iterator[str]:
+    def file(self, number: int) -> Optional[str]:
+        """The name of a file by its number, with its folder, or None."""
+        if number not in self._files:
+            return None
+        name, place = self._files[number]
+        folder = _text_at(self._folders[place]) if place and place < len(self._folders) else ""
+        return _joined(folder, _text_at(name))
+
+    def files(self) -> Iterator[Tuple[int, str]]:
+        """All files, by their numbers."""
+        return ((number, self.file(number) or "") for number in self._files)
+
+    def _read_old_names(self) -> None:
         """Up to version 4: folders and files, each list ended by an empty text."""
-        folders = [""]
-        while folder := self._text():
-            folders.append(folder)
-        while name := self._text():
-            place = self._long()
+        self._folders = [(b"\0", 0)]
+        while self._content[self._at]:
+            self._folders.append(self._text())
+        self._at += 1
+        while self._content[self._at]:
+            name, place = self._text(), self._long()
+            self._files[len(self._files) + 1] = name, place
             self._long(), self._long()  # time and size
-            yield _joined(folders[place], name)
 
-    def _names(self) -> List[str]:
-        folders = [name for name, _ in self._entries()]
-        return [_joined(folders[place] if place else "", name) for name, place in self._entries()]
-
-    def _entries(self) -> List[Tuple[str, int]]:
+    def _entries(self) -> List[Tuple[_Text, int]]:
         """The names of a list whose entries have parts, of which a head says the forms, and the numbers of their folders."""
         forms = [(self._long(), self._long()) for _ in range(self._number(1))]
-        entries = []
-        for _ in range(self._long()):
-            parts = {kind: self._part(form) for kind, form in forms}
-            entries.append((str(parts.get(_PATH, "")), int(parts.get(_FOLDER) or 0)))
+        entries: List[Tuple[_Text, int]] = []
+        for _ in range(self._long() if forms else 0):
+            name, folder = (b"\0", 0), 0
+            for kind, form in forms:
+                found = self._part(form)
+                if kind == _PATH and isinstance(found, tuple):
+                    name = found
+                elif kind == _FOLDER and isinstance(found, int):
+                    folder = found
+            entries.append((name, folder))
         return entries
 
-    def _part(self, form: int) -> Union[str, int]:
+    def _part(self, form: int) -> Union[_Text, int]:
         if form == _TEXT:
             return self._text()
         if form in (_IN_STRINGS, _IN_LINE_STRINGS):
             section = self._sections.get(_STRINGS if form == _IN_STRINGS else _LINE_STRINGS, b"")
-            return _text_at(section, self._number(4))
+            return section, self._number(4)
         if form == _NUMBER:
             return self._long()
         if form not in (_BLOCK, _SHORT_BLOCK):
@@ -216,27 +260,33 @@ class _Program:
 
     # Rows
 
-    def rows(self) -> Iterator[_Row]:
+    def sequences(self) -> Iterator[_Rows]:
+        """Sequences that have an end."""
         content, end = self._content, len(self._content)
-        begin, address, file, line, is_statement = 0, 0, 1, 1, self._is_statement
+        begins: List[int] = []
+        rows: List[_Row] = []
+        address, file, line, is_statement = 0, 1, 1, self._is_statement
         while self._at < end:
             code = content[self._at]
             self._at += 1
             if code >= self._first_special:
                 steps, more = divmod(code - self._first_special, self._line_range)
                 address, line = address + steps * self._unit, line + self._line_base + more
-                yield begin, address, (file, line), is_statement
+                rows.append((address, (file, line), is_statement))
             elif not code:
                 size = self._long()
                 following, code = self._at + size, self._number(1)
                 if code == _END:
-                    yield begin, address, None, True
-                    begin, address, file, line, is_statement = 0, 0, 1, 1, self._is_statement
+                    if begins:
+                        yield begins, rows, address
+                    begins, rows = [], []
+                    address, file, line, is_statement = 0, 1, 1, self._is_statement
                 elif code == _SET_ADDRESS:
-                    begin = address = self._number(size - 1)
+                    address = self._number(max(size - 1, 0))
+                    begins.append(address)
                 self._at = following
             elif code == _COPY:
-                yield begin, address, (file, line), is_statement
+                rows.append((address, (file, line), is_statement))
             elif code == _ADVANCE:
                 address += self._long() * self._unit
             elif code == _ADVANCE_LINE:
@@ -254,8 +304,10 @@ class _Program:
                     self._long()
 
 
-def _text_at(content: bytes, at: int) -> str:
-    return content[at:content.index(b"\0", at)].decode("utf-8", "replace")
+def _text_at(text: _Text) -> str:
+    content, at = text
+    end = content.find(b"\0", at)
+    return content[at:end].decode("utf-8", "replace") if end >= 0 else ""
 
 
 def _joined(folder: str, name: str) -> str:

@@ -30,7 +30,7 @@ class Symbols:
         at: dict[int, Symbol] = {}
         for symbol in sorted(symbols, key=lambda it: (_ORDER[it.kind], not it.size, it.name)):
             self._by_name.setdefault(symbol.name, symbol)
-            at.setdefault(_in_kseg0(symbol.address), symbol)
+            at.setdefault(elf.in_kseg0(symbol.address), symbol)
         self._starts = sorted(at)
         self._sorted = [at[it] for it in self._starts]
 
@@ -41,7 +41,7 @@ class Symbols:
 
     def at(self, address: int) -> Optional[tuple[Symbol, int]]:
         """The symbol that an address belongs to, and how far the address is beyond its start."""
-        address = _in_kseg0(address)
+        address = elf.in_kseg0(address)
         place = bisect_right(self._starts, address) - 1
         if place < 0:
             return None
@@ -82,11 +82,6 @@ class Symbols:
     def names(self) -> list[str]:
         """All names, in order."""
         return sorted(self._by_name)
-
-
-def _in_kseg0(address: int) -> int:
-    """The address of kseg0 for one of kseg1; others are taken as they are."""
-    return address & ~0x2000_0000 if 0xA000_0000 <= address < 0xC000_0000 else address
 
 
 # A symbol without a size reaches to the next one, but not beyond this many bytes.
