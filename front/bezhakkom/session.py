@@ -104,6 +104,16 @@ class Session:
         line = self.symbols.line(address)
         return self.place(address) + (f" ({line})" if line else "")
 
+    def value(self, value: int, is_code: bool = False) -> str:
+        """`0xbfc00078 <main+0x78>`, with its source line if it is known to be an address of code, or if it points to a function."""
+        line = self.line_of(value, is_code)
+        return self.address(value) + (f" ({line})" if line else "")
+
+    def line_of(self, value: int, is_code: bool) -> str:
+        """The source line that is shown of a value, or the empty text. A value that is no address of code may have a line by chance alone,
+        so that only one that points to the begin of a function has it."""
+        return self.symbols.line(value) if is_code or self.symbols.is_function(value) else ""
+
     def instruction(self, address: int) -> str:
         """The text of the instruction at a virtual address, with the name of its target."""
         physical = self.driver.physical(address)

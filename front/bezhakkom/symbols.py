@@ -79,6 +79,11 @@ class Symbols:
         found = self.lines.at(address)
         return str(found) if found else ""
 
+    def is_function(self, address: int) -> bool:
+        """Whether a function begins at a virtual address, or a label of code that has a source line."""
+        found = self.at(address)
+        return found is not None and found[0].kind != "object" and not found[1] and not address % 4 and bool(self.line(address))
+
     def names(self) -> list[str]:
         """All names, in order."""
         return sorted(self._by_name)

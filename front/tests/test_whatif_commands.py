@@ -101,6 +101,22 @@ class Said(unittest.TestCase):
         after = json.loads(*compare_as_value)["registers"]["after"]
         self.assertEqual((after["pc"], after["source"]), (0xBFC0_0204, "login.c:33"))
 
+    def test_values_have_no_source_line_unless_they_are_code(self) -> None:
+        """The PC and a return address have one, and so has a pointer to the begin of a function. The address of an instruction within a
+        function, which a word holds by chance, has none, though a line stands there."""
+        within, begin = answers("goto 237,845", "causes record+0x18 by set", "goto 158,800", "causes record+0x18 by set", guest=LOADER)[1::2]
+        self.assertEqual(within[0], "record+0x18 at step 237,845: 0xbfc004c4 <byte_at+0x6c>")
+        self.assertEqual(begin[0], "record+0x18 at step 158,800: 0xbfc004d0 <store_record> (loader.c:100)")
+        _, as_value, why = answers("goto 237,845", "causes record+0x18 by set --json", "why record+0x18 steps 1", guest=LOADER)
+        self.assertEqual((json.loads(*as_value)["place"], json.loads(*as_value)["source"]), ("byte_at+0x6c", None))
+        self.assertRegex(why[0], r"^record\+0x18 at step 237,845: 0xbfc004c4 <byte_at\+0x6c>   from ")
+        _, pc, ra, a0, tried = answers("goto 40,024", "causes pc by set", "causes ra by set", "causes a0 by set",
+                                       "try 2 'a' at 40,100 show pc session+0x20 ra", guest=LOGIN)
+        self.assertRegex(pc[0], r"^pc at step 40,024: 0xbfc00258 <read_line\+0x30> \(login\.c:44\)$")
+        self.assertRegex(ra[0], r"^ra at step 40,024: 0x[0-9a-f]{8} <\w+\+0x[0-9a-f]+> \(login\.c:\d+\)$")
+        self.assertRegex(a0[0], r"^a0 at step 40,024: 0x[0-9a-f]{8}( <[^>]*>)?$")
+        self.assertRegex(tried[-1], r"pc is 0x\w+ <[^>]+> \(login\.c:\d+\), session\+0x20 is 0x0000000\d, ra is 0x\w+ <[^>]+> \(login\.c:\d+\)$")
+
     def test_compare(self) -> None:
         _, of_none, _, shown, as_value, _, _, of_a_log = answers("goto 256", "compare", "set 1 'C'", "compare", "compare --json", "undo", "del 0",
                                                                  "compare examples/echo/log")

@@ -46,7 +46,7 @@ def causes(session: Session, words: list[str]) -> None:
     line.end()
     with pool(line.jobs) as executor:
         found = causes_of(session.driver, question, session.driver.position, _WAYS[by], values, executor)
-    _tell(session, line, shown.causes(session, name, question, _WAYS[by], values, found), shown.causes_value(session, found, _WAYS[by]))
+    _tell(session, line, shown.causes(session, name, question, _WAYS[by], values, found), shown.causes_value(session, question, found, _WAYS[by]))
 
 
 _TRY = "try I [all] [A..B] [del] [moved A..B [by K]] [show WHAT ..] [until CONDITION] [at N] [--jobs N] [--json]"

@@ -6,6 +6,7 @@ from typing import Any, Dict, Iterator, List, Optional, Sequence, Tuple, Union
 
 from .. import expressions, tracing
 from .. import log as logs
+from ..limits import RETURN_ADDRESS
 from ..log import Event, Kind, quoted
 from ..replies import Registers
 from ..session import Session, counted
@@ -14,7 +15,7 @@ from .causes import DEL, SET, Causes
 from .compare import Comparison
 from .futures import OUT, STEP, VALUE, Futures, Label, Outcome
 from .fuzz import Fuzzed
-from .questions import Console, Question, Sent
+from .questions import Console, Question, Register, Sent
 from .shrink import Shrunk
 from .when import When
 from .why import End, Link, Node, Origin, Role, Why
@@ -37,8 +38,12 @@ def value_of(session: Session, question: Question, answer: Any) -> str:
         return text_of(answer)
     if isinstance(question, Sent):
         return "nothing" if answer is None else byte(answer)
-    line = session.symbols.line(answer)
-    return session.address(answer) + (f" ({line})" if line else "")
+    return session.value(answer, is_of_code(question))
+
+
+def is_of_code(question: Question) -> bool:
+    """Whether an answer is an address of an instruction: the PC, the next one, that of an exception, or a return address."""
+    return isinstance(question, Register) and (question.name in ("pc", "next_pc", "epc") or question.number == RETURN_ADDRESS)
 
 
 def text_of(content: bytes) -> str:
@@ -76,9 +81,9 @@ def runs(log: Sequence[Event], indices: Sequence[int]) -> Iterator[str]:
         at = end
 
 
-def _named(session: Session, address: object) -> Value:
-    """The name and the source line of an address, where there are some."""
-    names = (session.symbols.name(address), session.symbols.line(address)) if isinstance(address, int) else ("", "")
+def _named(session: Session, value: object, is_code: bool = True) -> Value:
+    """The name of an address, where there is one, and the source line of code, or of a value that points to a function."""
+    names = (session.symbols.name(value), session.line_of(value, is_code)) if isinstance(value, int) else ("", "")
     return {"place": names[0] or None, "source": names[1] or None}
 
 
@@ -107,10 +112,11 @@ def causes(session: Session, name: str, question: Question, ways: Sequence[str],
             yield f"  {run}"
 
 
-def causes_value(session: Session, found: Causes, ways: Sequence[str]) -> Value:
+def causes_value(session: Session, question: Question, found: Causes, ways: Sequence[str]) -> Value:
     answer = list(found.answer) if isinstance(found.answer, bytes) else found.answer
     lists = {SET: ("by_value", found.by_value), DEL: ("by_being_there", found.by_being_there)}
-    return {"position": found.position, "answer": answer, **_named(session, answer), "events": found.events, "tried": found.asked,
+    named = _named(session, answer, is_of_code(question))
+    return {"position": found.position, "answer": answer, **named, "events": found.events, "tried": found.asked,
             **{lists[way][0]: [{"event": it, **event_value(found.log[it])} for it in lists[way][1]] for way in ways}}
 
 
