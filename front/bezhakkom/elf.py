@@ -19,6 +19,8 @@ _ALLOCATED, _COMPRESSED = 2, 0x800
 _NOTES = {7, 0x7000_0006, 0x7000_002A}  # notes, .reginfo, .MIPS.abiflags
 _UNDEFINED, _ABSOLUTE = 0, 0xFFF1
 _KINDS = {0: "other", 1: "object", 2: "func"}
+_FILE = 4
+_LONGEST_NAME = 1 << 16
 
 _HEADER = struct.Struct("<HHIIIIIHHHHHH")
 _PROGRAM_HEADER = struct.Struct("<8I")
@@ -38,12 +40,14 @@ class Segment:
 
 @dataclass(frozen=True)
 class Symbol:
-    """A name of an address. `kind` is func, object or other; a size of 0 is not known."""
+    """A name of an address. `kind` is func, object or other; a size of 0 is not known. A name that is local to a source has its file, as
+    far as the table says one."""
 
     name: str
     address: int
     size: int
     kind: str
+    file: str = ""
 
 
 @dataclass(frozen=True)
@@ -99,7 +103,7 @@ class _Reader:
         if of_names >= count:
             return {}
         texts = self._bytes(headers[of_names].offset, headers[of_names].size, "its names")
-        found = {texts[it.name:texts.find(b"\0", it.name)].decode("ascii", "replace"): it for it in headers}
+        found = {_text_at(texts, it.name): it for it in headers}
         return {name: self._bytes(found[name].offset, found[name].size, name) for name in names
                 if name in found and not found[name].flags & _COMPRESSED}
 
@@ -136,16 +140,22 @@ class _Reader:
                 yield Segment(virtual, physical, self._bytes(offset, in_file, f"segment {number}"), in_memory)
 
     def _symbols(self, headers: list[_Section]) -> Iterator[Symbol]:
-        for header in headers:
-            if header.type != _SYMBOL_TABLE:
-                continue
+        tables = [header for header in headers if header.type == _SYMBOL_TABLE]
+        if sum(header.size for header in tables) > len(self.content):
+            raise self._problem("has symbol tables that are larger than the file")
+        for header in tables:
             if header.link >= len(headers) or header.entry_size < _SYMBOL.size:
                 raise self._problem("has a symbol table without its strings")
             strings = headers[header.link]
             table = self._bytes(header.offset, header.size, "its symbols")
             names = self._bytes(strings.offset, strings.size, "its names")
+            file = ""  # of the local symbols that follow
             for place in range(0, len(table) - header.entry_size + 1, header.entry_size):
-                yield from _symbol(_SYMBOL.unpack_from(table, place), names)
+                fields = _SYMBOL.unpack_from(table, place)
+                if fields[3] & 15 == _FILE:
+                    file = _text_at(names, fields[0])
+                else:
+                    yield from _symbol(fields, names, file)
 
     def _unpack(self, layout: struct.Struct, at: int, what: str) -> tuple:
         return layout.unpack(self._bytes(at, layout.size, what))
@@ -166,13 +176,18 @@ def _is_note(segment: Segment, sections: list[_Section]) -> bool:
     return bool(types) and _NOTES.issuperset(types)
 
 
-def _symbol(fields: tuple, names: bytes) -> Iterator[Symbol]:
+def _symbol(fields: tuple, names: bytes, file: str) -> Iterator[Symbol]:
     """The symbol of an entry of the table, if it is a name of an address that people use."""
     name_at, address, size, info, _, section = fields
-    end = names.find(b"\0", name_at)
-    name = names[name_at:end].decode("utf-8", "replace") if name_at < end else ""
+    name = _text_at(names, name_at)
     if name and name[0] not in ".$" and info & 15 in _KINDS and section not in (_UNDEFINED, _ABSOLUTE):
-        yield Symbol(name, address, size, _KINDS[info & 15])
+        yield Symbol(name, address, size, _KINDS[info & 15], "" if info >> 4 else file)
+
+
+def _text_at(texts: bytes, at: int) -> str:
+    """The text up to a byte 0, or nothing where none is near."""
+    end = texts.find(b"\0", at, at + _LONGEST_NAME)
+    return texts[at:end].decode("utf-8", "replace") if end >= 0 else ""
 
 
 # What an ELF becomes

@@ -5,7 +5,7 @@ from __future__ import annotations
 import operator
 import re
 from dataclasses import dataclass
-from typing import Callable, Iterable, Optional, Sequence
+from typing import Callable, Iterable, List, Optional, Sequence, Tuple, Union
 
 from . import memory, places
 from .driver import Driver
@@ -21,11 +21,13 @@ _NUMBERS = {name: number for number, name in enumerate(REGISTERS)}
 _NUMBERS.update({f"{sign}{number}": number for sign in "r$" for number in range(32)}, s8=30)
 
 _TERM = re.compile(r"0x[0-9a-fA-F]+|[0-9]{1,3}(?:,[0-9]{3})+(?![0-9,])|[0-9]+(?![0-9,])|'(?:[^'\\]|\\.)+'"
-                   r"|[&$]?[A-Za-z_.][\w.$]*|\$[0-9]+(?!\w)")
+                   r"|[&$]?(?:[\w./]*\.\w+:)?[A-Za-z_.][\w.$]*|\$[0-9]+(?!\w)")
 _OPENED = re.compile(r"(byte|half|)\[")
 _PART = re.compile(r"[&*]*([A-Za-z_]\w*)(?:\.|->|\[)[\w.\[\]>-]*")
+_LINE = re.compile(r"([\w./+-]*[A-Za-z_][\w./+-]*):([0-9]{1,9})")
 _SIZES = {"byte": 1, "half": 2, "": 4}
 _DEEPEST = 16  # brackets within each other
+_SHOWN = 8  # locations of one name that a refusal lists
 
 _GREATEST = (1 << 64) - 1
 _MOST_DIGITS = 64  # zeros before a number count too
@@ -34,7 +36,8 @@ HELP = """\
 Wherever a number may stand: 4096, 40,017, 0x1000, 'a', the name of a register (sp, r29, pc, hi, epc), of a symbol
 (main), `pos` for the position, `last` for the step of the log's last event, and sums and differences of these:
 main+0x78, sp-16. [A] is the word of memory at address A, half[A] two bytes and byte[A] one: [sp+16], byte[[line]+3].
-A name is a symbol if there is one, or else a register; $NAME is always the register, and &NAME the symbol.
+A name that is both a symbol and a word of the shell (a register, `pos`, `last`) is refused: &NAME is the symbol, and
+$NAME the word of the shell. Of several symbols with one name, a.c:NAME is that of the source a.c.
 """ + places.HELP
 
 
@@ -56,14 +59,59 @@ def names() -> Iterable[str]:
     return [*REGISTERS, *(f"r{number}" for number in range(32)), "pc", "hi", "lo", *CONTROL_NAMES, "pos", "last"]
 
 
+_OWN = frozenset((*names(), *_NUMBERS, "next", "position"))  # the words of the shell
+
+
+@dataclass(frozen=True)
+class Sum:
+    """A number, and pieces of memory that are added to it or subtracted from it: each with 1 or -1, its virtual address and its size. One
+    is `is_named` if it consists of symbols and numbers alone, so that it moves with the symbols."""
+
+    constant: int
+    pieces: Tuple[Tuple[int, int, int], ...] = ()
+    is_named: bool = False
+
+    def value(self, driver: Driver) -> int:
+        """What it is at the position of the driver."""
+        return self.constant + sum(sign * _in_memory(driver, address, size) for sign, address, size in self.pieces)
+
+
 def number(text: str, driver: Driver, symbols: Symbols) -> int:
     """The number that a text means at the position."""
+    return read(text, driver, symbols).value(driver)
+
+
+def read(text: str, driver: Driver, symbols: Symbols) -> Sum:
+    """What a text means, where registers, symbols and the addresses within brackets are those of the position."""
     _refuse_types(text, symbols)
     reader = _Reader(text, driver, symbols)
     total = reader.total()
     if reader.rest:
         raise Problem(f"in {shortened(text)} a + or - is missing after {shortened(text[:-len(reader.rest)])}")
     return total
+
+
+def places_of(text: str, driver: Driver, symbols: Symbols) -> Tuple[List[int], bool]:
+    """The addresses of code that a text means, a line of a source (`a.c:12`), a name that several sources have, or a number; and whether
+    they move with the symbols."""
+    line = _LINE.fullmatch(text)
+    if line and not text.startswith(places.PHYSICAL):
+        return symbols.addresses_of_line(line[1], int(line[2])), True
+    several = symbols.found(text.lstrip("&"))
+    if len(several) > 1 and not _is_own(text, symbols):
+        return [it.address for it in several], True
+    total = read(text, driver, symbols)
+    return [total.value(driver)], total.is_named
+
+
+def _is_own(name: str, symbols: Symbols) -> bool:
+    """Whether a name means a word of the shell, and no symbol. A name that may be either is refused."""
+    plain = name.lstrip("&$")
+    if name[0] in "&$" or plain not in _OWN:
+        return name[0] == "$"
+    if symbols.found(plain):
+        raise Problem(f"{plain} is a symbol of the image and a word of the shell: &{plain} is the symbol, and ${plain} the word of the shell")
+    return True
 
 
 def _refuse_types(text: str, symbols: Symbols) -> None:
@@ -93,16 +141,24 @@ class Condition:
         if not self.sign:
             return "" if left else f"{self.left} is 0"
         right = number(self.right, driver, symbols)
-        if _COMPARED[self.sign](left, right):
+        if holds(left, self.sign, right):
             return ""
         return " and ".join(f"{text} is {_value(value)}" for text, value in ((self.left, left), (self.right, right))
                             if not text[0].isdigit())
 
 
 _COMPARED: dict[str, Callable[[int, int], bool]] = {
-    "==": operator.eq, "!=": operator.ne, "<=": operator.le, ">=": operator.ge, "<": operator.lt, ">": operator.gt}
+    "==": operator.eq, "!=": operator.ne, "<=": operator.le, ">=": operator.ge, "<": operator.lt, ">": operator.gt, "=": operator.eq}
+_CHARACTER = r"'(?:[^'\\]|\\.)+'"
+_COMPARES = re.compile(f"{_CHARACTER}|(==|!=|<=|>=|<|(?<!-)>|=)")
 _SIGNS = "+-[]=!<>"
-_SIGN = re.compile("|".join(_COMPARED))
+
+
+def holds(left: int, sign: str, right: int) -> bool:
+    """Whether two numbers compare so. A number below 0 is equal to the word with these bits."""
+    if _COMPARED[sign] in (operator.eq, operator.ne) and min(left, right) < 0:
+        left, right = left & 0xFFFF_FFFF, right & 0xFFFF_FFFF
+    return _COMPARED[sign](left, right)
 
 
 def closed(words: Sequence[str]) -> str:
@@ -114,12 +170,15 @@ def closed(words: Sequence[str]) -> str:
 
 
 def condition(text: str) -> Condition:
-    """The condition that a text is, such as `v0 == 5` and `[length] < 32`."""
-    signs = _SIGN.findall(text)
-    parts = [it.strip() for it in _SIGN.split(text)]
-    if len(signs) > 1 or not all(parts):
-        raise Problem(f"{shortened(text)} is no condition: {' '.join(_COMPARED)} stand between two numbers")
-    return Condition(parts[0], *signs, *parts[1:])
+    """The condition that a text is, such as `v0 == 5` and `[tx] != [tx+4] - [tx+8]`."""
+    signs = [it for it in _COMPARES.finditer(text) if it[1]]
+    if not signs:
+        return Condition(text)
+    sign, *more = signs
+    left, right = text[:sign.start()].strip(), text[sign.end():].strip()
+    if more or not left or not right:
+        raise Problem(f"{shortened(text)} is no condition: one of {' '.join(_COMPARED)} stands between two numbers")
+    return Condition(left, sign[1], right)
 
 
 def shortened(text: str) -> str:
@@ -140,69 +199,92 @@ class _Reader:
         self._driver = driver
         self._symbols = symbols
         self._depth = 0
+        self._has_symbols = self._has_state = False  # whether symbols, and whether registers and positions are among what was read
 
-    def total(self) -> int:
+    def total(self) -> Sum:
         """A sum, up to what is no part of it. One after `p:` is a physical address, and gives a virtual one."""
         if self.rest.startswith(places.PHYSICAL):
             self.rest = self.rest[len(places.PHYSICAL):]
-            return places.always_at(self.total())
-        total, sign = 0, 1
+            return Sum(places.always_at(self.total().value(self._driver)))
+        constant, sign = 0, 1
+        pieces: List[Tuple[int, int, int]] = []
         while True:
-            total += sign * self._term()
+            term = self._term()
+            if isinstance(term, int):
+                constant += sign * term
+            else:
+                pieces.append((sign, *term))
             if self.rest[:1] not in ("+", "-"):
-                return total
+                return Sum(constant, tuple(pieces), self._has_symbols and not self._has_state and not pieces)
             sign = 1 if self.rest[0] == "+" else -1
             self.rest = self.rest[1:]
 
-    def _term(self) -> int:
+    def _term(self) -> Union[int, Tuple[int, int]]:
+        """A number, or the address and the size of a piece of memory."""
         opened = _OPENED.match(self.rest)
         term = _TERM.match(self.rest)
         if opened:
-            return self._in_memory(opened)
+            return self._piece(opened)
         if not term:
             if "," in self.rest:
                 raise Problem(f"{shortened(self._text)} is no number: a comma stands before three digits, as in 40,024")
             raise Problem(f"{shortened(self._text) or 'an empty word'} is no number and no name; `help numbers` says what may stand there")
         self.rest = self.rest[term.end():]
-        return _number(term[0], self._driver, self._symbols)
+        return self._number(term[0])
 
-    def _in_memory(self, opened: re.Match[str]) -> int:
-        """What memory holds at the address between brackets."""
+    def _piece(self, opened: re.Match[str]) -> Tuple[int, int]:
+        """The address between brackets, and the size of what is meant there."""
         self._depth += 1
         if self._depth > _DEEPEST:
             raise Problem(f"{shortened(self._text)} has more than {_DEEPEST} brackets within each other")
         self.rest = self.rest[opened.end():]
-        address = self.total()
+        address = self.total().value(self._driver)
         if not self.rest.startswith("]"):
             raise Problem(f"in {shortened(self._text)} a ] is missing")
         self.rest = self.rest[1:]
         self._depth -= 1
-        size = _SIZES[opened[1]]
-        places.physical(self._driver, address)
-        content = memory.read(self._driver, address, size)
-        if len(content) < size:
-            raise Problem(f"{address:#010x} leads to no memory at this position")
-        return int.from_bytes(content, "little")
+        return address, _SIZES[opened[1]]
+
+    def _number(self, term: str) -> int:
+        if term[0].isdigit() and ":" not in term:
+            return _natural(term)
+        if term[0] == "'":
+            content = unquoted(term[1:-1])
+            if len(content) != 1:
+                raise Problem(f"{shortened(term)} is not one character")
+            return content[0]
+        name = term.lstrip("&$")
+        if not _is_own(term, self._symbols):
+            several = self._symbols.found(name)
+            if len(several) > 1:
+                raise Problem(self._which(name))
+            if several:
+                self._has_symbols = True
+                return several[0].address
+            if term[0] == "&":
+                raise Problem(f"there is no symbol {shortened(name)}")
+        self._has_state = True
+        register = _register(term if term in _NUMBERS else name, self._driver)
+        if register is None:
+            raise Problem(f"there is no register {shortened(name)}" if term[0] == "$" else
+                          f"there is no symbol and no register {shortened(name)}")
+        return register
+
+    def _which(self, name: str) -> str:
+        """That a name has several places, and how one of them is meant."""
+        several = self._symbols.found(name)
+        listed = ", ".join(map(self._symbols.location, several[:_SHOWN])) + (" and more" if len(several) > _SHOWN else "")
+        apart = next((it.name for it in several if it.name != name), f"{several[0].address:#010x}")
+        return f"{shortened(name)} has {len(several):,} locations: {listed}. Name the one that is meant, as in {apart}"
 
 
-def _number(term: str, driver: Driver, symbols: Symbols) -> int:
-    if term[0].isdigit():
-        return _natural(term)
-    if term[0] == "'":
-        content = unquoted(term[1:-1])
-        if len(content) != 1:
-            raise Problem(f"{shortened(term)} is not one character")
-        return content[0]
-    name = term.lstrip("&$")
-    address = symbols.address(name) if term[0] != "$" else None
-    if address is not None:
-        return address
-    register = _register(term if term in _NUMBERS else name, driver) if term[0] != "&" else None
-    if register is None:
-        name = shortened(name)
-        raise Problem(f"there is no symbol and no register {name}" if term[0] not in "&$" else
-                      f"there is no {'register' if term[0] == '$' else 'symbol'} {name}")
-    return register
+def _in_memory(driver: Driver, address: int, size: int) -> int:
+    """What memory holds at a virtual address."""
+    places.physical(driver, address)
+    content = memory.read(driver, address, size)
+    if len(content) < size:
+        raise Problem(f"{address:#010x} leads to no memory at this position")
+    return int.from_bytes(content, "little")
 
 
 def _natural(term: str) -> int:

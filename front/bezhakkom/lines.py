@@ -9,9 +9,10 @@ from __future__ import annotations
 import re
 import struct
 from bisect import bisect_right
+from contextlib import suppress
 from dataclasses import dataclass
 from pathlib import PurePosixPath
-from typing import Dict, Iterable, Iterator, List, Optional, Tuple, Union
+from typing import Dict, Iterable, Iterator, List, Optional, Set, Tuple, Union
 
 from . import elf
 from .errors import Problem
@@ -67,6 +68,20 @@ class Lines:
                 return self._parts[place].line(numbers) if numbers else None
         return None
 
+    def addresses(self, file: str, number: int) -> Optional[List[int]]:
+        """Returns the virtual addresses at which the code of a line begins, or that of the first line after it that has code. `file` is the
+        name of a source, or the end of its path. Returns None if there is no such source. Reads the parts of that source."""
+        wanted = PurePosixPath(file).parts
+        by_line: Dict[int, List[int]] = {}
+        is_known = False
+        for part in self._find_parts():
+            files = {place for place, name in part.files() if PurePosixPath(name).parts[-len(wanted):] == wanted}
+            is_known = is_known or bool(files)
+            for address, line in part.lines_of(files) if files else ():
+                if line >= number:
+                    by_line.setdefault(line, []).append(address)
+        return sorted(set(by_line[min(by_line)])) if by_line else [] if is_known else None
+
     def _find_parts(self) -> List[_Part]:
         if self._all is None:
             self._all = [part for file in self._files for part in _parts(file)]
@@ -92,13 +107,14 @@ class _Sequence:
     """Rows of ascending addresses up to an end. Of several rows at one address the last one at which a statement begins counts, or else
     the last one of all."""
 
-    def __init__(self, rows: Iterable[_Row], end: int) -> None:
+    def __init__(self, rows: Iterable[_Row], end: int, shift: int) -> None:
         lines: Dict[int, _Numbers] = {}
         statements: Dict[int, bool] = {}  # whether one begins there
         for address, numbers, is_statement in rows:
             if address < end and (is_statement or not statements.get(address)):
                 lines[address], statements[address] = numbers, is_statement
         self.end = end
+        self.shift = shift  # added to an address gives the one that the table has, which may be in kseg1
         self.addresses = sorted(lines)  # from which on the line of the same place is meant
         self.lines = [lines[address] for address in self.addresses]
         self.statements = [statements[address] for address in self.addresses]
@@ -113,7 +129,8 @@ class _Part:
         self._content = content
         self._sections = sections
         self._offset = offset
-        self._program: Optional[_Program] = None
+        self._is_open = False
+        self._program: Optional[_Program] = None  # None where the head is damaged
         self._sequences: Optional[Dict[int, _Sequence]] = None  # that have addresses, by where they begin
 
     def begins(self) -> Iterator[int]:
@@ -129,23 +146,45 @@ class _Part:
         file = self._program.file(numbers[0]) if self._program and numbers[1] > 0 else None
         return Line(file, numbers[1]) if file is not None else None
 
+    def files(self) -> Iterator[Tuple[int, str]]:
+        """Its sources, by their numbers."""
+        self._open()
+        return self._program.files() if self._program else iter(())
+
+    def lines_of(self, files: Set[int]) -> Iterator[Tuple[int, int]]:
+        """Virtual addresses at which statements of some sources begin, where a row of another line stands before them, and their lines."""
+        for sequence in {id(it): it for it in self._read().values()}.values():
+            before: Optional[_Numbers] = None
+            for address, numbers, is_statement in zip(sequence.addresses, sequence.lines, sequence.statements):
+                if numbers[0] in files and numbers[1] > 0 and is_statement and numbers != before:
+                    yield address + sequence.shift, numbers[1]
+                before = numbers
+
     def _placed(self, address: int) -> int:
         return elf.in_kseg0(address + self._offset & 0xFFFF_FFFF)
 
     def _read(self) -> Dict[int, _Sequence]:
         """Reads it, where that was not done."""
+        self._open()
         if self._sequences is None:
             self._sequences = {}
             try:
-                self._program = _Program(self._content, self._sections)
-                for begins, rows, end in self._program.sequences():
+                for begins, rows, end in self._program.sequences() if self._program else ():
                     # The linker has left out those that begin at 0.
                     if begins[0]:
-                        made = _Sequence([(self._placed(row[0]), *row[1:]) for row in rows], self._placed(end))
+                        shift = (begins[0] + self._offset & 0xFFFF_FFFF) - self._placed(begins[0])
+                        made = _Sequence([(self._placed(row[0]), *row[1:]) for row in rows], self._placed(end), shift)
                         self._sequences.update((self._placed(begin), made) for begin in begins if made.addresses)
-            except (IndexError, struct.error, ValueError):
+            except (IndexError, ValueError):
                 pass  # the sequences before the fault hold
         return self._sequences
+
+    def _open(self) -> None:
+        """Reads its head, where that was not done."""
+        if not self._is_open:
+            self._is_open = True
+            with suppress(IndexError, struct.error, ValueError):
+                self._program = _Program(self._content, self._sections)
 
 
 class _Program:

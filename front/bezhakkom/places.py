@@ -37,6 +37,13 @@ def check(address: int) -> None:
         raise Problem(f"{address:#x} is no address: they are below 0x100000000")
 
 
+def check_code(address: int) -> None:
+    """Refuses a number that is no address of an instruction."""
+    check(address)
+    if address % 4:
+        raise Problem(f"{address:#x} is no multiple of 4, where instructions stand")
+
+
 def physical(driver: Driver, address: int) -> int:
     """The physical address in RAM or ROM that a virtual one leads to at the position, or a Problem that says what would lead
     there."""

@@ -2,7 +2,7 @@
 from __future__ import annotations
 
 from dataclasses import replace
-from typing import Iterator
+from typing import Iterator, List, Tuple
 
 from . import loading
 from .initial import Boot, boot_of
@@ -26,8 +26,15 @@ def load(session: Session, name: str) -> int:
     session.driver.values([f"patch {place} {word}" for place, word in sorted(changed.items())])
     before = session.driver.image
     others = tuple(it for it in before.elves if it.name != before.name)  # those of --symbols
-    session.symbols = symbols_of(replace(made, elves=made.elves + others))
+    if session.origin:
+        session.origin = session.origin.loaded(name, _options(board) if boot.constants() != board.constants() else [])
+    session.take_symbols(symbols_of(replace(made, elves=made.elves + others)))
     return len(changed)
+
+
+def _options(board: Boot) -> List[Tuple[str, str]]:
+    """The constants of the board as options of the command line."""
+    return [("--unit", str(board.unit)), ("--byte-time", str(board.byte_time)), ("--clock", " ".join(map(str, board.clock)))]
 
 
 def _words(boot: Boot) -> Iterator[tuple[int, int]]:

@@ -2,7 +2,7 @@
 from __future__ import annotations
 
 from contextlib import contextmanager
-from dataclasses import dataclass, field
+from dataclasses import dataclass, field, replace
 from typing import Callable, Iterator, Optional
 
 from . import expressions, gdb_stops, places, saved
@@ -18,13 +18,17 @@ from .travel import Watch
 
 @dataclass(frozen=True)
 class Mark:
-    """A breakpoint, a watch or a catch, with the number by which people know it."""
+    """A breakpoint, a watch or a catch, with the number by which people know it. One that was made by a name, such as `read_line`,
+    `login.c:44` or `session+0x20`, moves with it: `place` is the name, and `which` the index of the address among those of the name."""
 
     number: int
     text: str
     address: int = 0  # of a breakpoint or a watch
     watch: Optional[Watch] = None
     catch: Optional[Catch] = None
+    place: str = ""
+    which: int = 0
+    has_size: bool = False  # a watch of as many bytes as were asked for; others have those of the symbol
 
 
 @dataclass(frozen=True)
@@ -35,6 +39,8 @@ class Edit:
     log: list[Event]
     patches: list[tuple[int, int]]
     made: list[str]
+    symbols: Symbols
+    origin: Optional[Origin]
 
 
 @dataclass(frozen=True)
@@ -124,12 +130,12 @@ class Session:
             return "no instruction can be fetched here"
         return self.symbols.retargeted(address, physical, line.split(None, 2)[2])
 
-    def step(self, step: int, with_line: bool = False) -> str:
-        """`step 40,017, main+0x78, 1,001 steps ago: sw r2, 0(r3)`, as seen from the position, or with the source line."""
+    def step(self, step: int) -> str:
+        """`step 40,017, main+0x78 (login.c:64), 1,001 steps ago: sw r2, 0(r3)`, as seen from the position."""
         with self.at(step):
             pc = self.driver.registers().pc
             text = self.instruction(pc)
-        return f"step {step:,}, {self.code(pc) if with_line else self.place(pc)}, {distance(step, self.driver.position)}: {text}"
+        return f"step {step:,}, {self.code(pc)}, {distance(step, self.driver.position)}: {text}"
 
     @contextmanager
     def at(self, position: int) -> Iterator[None]:
@@ -145,7 +151,7 @@ class Session:
         """Where the run is, and the instruction that comes next."""
         state = self.driver.registers()
         slot = "   (delay slot)" if state.delay else ""
-        self.tell(f"step {self.driver.position:,}, {self.place(state.pc)}: {self.instruction(state.pc)}{slot}")
+        self.tell(f"step {self.driver.position:,}, {self.code(state.pc)}: {self.instruction(state.pc)}{slot}")
 
     # Edits
 
@@ -153,12 +159,90 @@ class Session:
     def editing(self, line: str) -> Iterator[None]:
         """Keeps what stood before, where a line edits, so that it can be taken back."""
         driver = self.driver
-        log, patches, count = list(driver.log), list(driver.patches), len(driver.journal)
+        log, patches, count, symbols, origin = list(driver.log), list(driver.patches), len(driver.journal), self.symbols, self.origin
         try:
             yield
         finally:
-            if driver.log != log or driver.patches != patches:
-                self.edits.append(Edit(line, log, patches, driver.journal[count:]))
+            if driver.log != log or driver.patches != patches or self.symbols is not symbols:
+                self.edits.append(Edit(line, log, patches, driver.journal[count:], symbols, origin))
+
+    def undo(self) -> None:
+        """Takes the last edit back. Symbols are again those that stood before it."""
+        if not self.edits:
+            raise Problem("there is no edit to take back")
+        edit = self.edits[-1]
+        self.driver.revert(edit.log, edit.patches)
+        self.edits.pop()
+        self.typed.clear()
+        self.origin = edit.origin
+        self.tell(f"taken back: {edit.line}" + ("; the symbols are those of before" if edit.symbols is not self.symbols else ""))
+        self.take_symbols(edit.symbols)
+
+    # Stops
+
+    def break_at(self, text: str) -> list[Mark]:
+        """Makes a breakpoint at each place that a text means."""
+        addresses, is_named = expressions.places_of(text, self.driver, self.symbols)
+        for address in addresses:
+            places.check_code(address)
+        if len(addresses) > 1:
+            listed = ", ".join(self.symbols.line(address) or f"{address:#010x}" for address in addresses)
+            self.tell(f"{text} has {len(addresses):,} locations: {listed}")
+        return [self.put(Mark(0, self._breakpoint(address), address, place=text if is_named else "", which=which))
+                for which, address in enumerate(addresses)]
+
+    def watch_at(self, text: str, size: Optional[int] = None) -> Mark:
+        """Makes a watch of some bytes at the place that a text means, or of all bytes of a symbol there."""
+        found = expressions.read(text, self.driver, self.symbols)
+        watch = self._watch(found.value(self.driver), size)
+        return self.put(Mark(0, self._watching(watch), watch.address, watch, place=text if found.is_named else "", has_size=size is not None))
+
+    def put(self, mark: Mark) -> Mark:
+        """Takes a stop, gives it a number, and shows it."""
+        made = replace(mark, number=max((it.number for it in self.marks), default=0) + 1)
+        self.marks.append(made)
+        self.tell(f"{made.number}: {made.text}")
+        return made
+
+    def _breakpoint(self, address: int) -> str:
+        line = self.symbols.line(address)
+        return f"breakpoint at {self.address(address)}" + (f" ({line})" if line else "")
+
+    def _watch(self, address: int, size: Optional[int]) -> Watch:
+        if size is None:
+            found = self.symbols.at(address)
+            size = found[0].size if found and not found[1] and 0 < found[0].size <= _WATCHED else 4
+        if not 1 <= size <= _MOST_WATCHED:
+            raise Problem(f"1 to {_MOST_WATCHED:,} bytes can be watched, and not {size:,}")
+        place = self.physical(address)
+        if self.physical(address + size - 1) != place + size - 1:
+            raise Problem(f"{counted(size, 'byte')} from {address:#010x} on are not in one piece of memory")
+        return Watch(address, size, place)
+
+    def _watching(self, watch: Watch) -> str:
+        return f"watch of {counted(watch.size, 'byte')} at {self.address(watch.address)}"
+
+    def take_symbols(self, symbols: Symbols) -> None:
+        """Takes the symbols of another image. Stops that were made by names move to where these are now, which is told."""
+        if symbols is not self.symbols:
+            self.symbols = symbols
+            self.marks = [it if it.catch else self._renewed(it) for it in self.marks]
+
+    def _renewed(self, mark: Mark) -> Mark:
+        address, watch = mark.address, mark.watch
+        try:
+            if mark.place:
+                addresses, _ = expressions.places_of(mark.place, self.driver, self.symbols)
+                if mark.which >= len(addresses):
+                    raise Problem(f"{mark.place} has {counted(len(addresses), 'location')} now")
+                address = addresses[mark.which]
+                watch = watch and self._watch(address, watch.size if mark.has_size else None)
+        except Problem as problem:
+            self.tell(f"{mark.number}: the stop stays at {mark.address:#010x}, since its name is not found: {problem}")
+        made = replace(mark, address=address, watch=watch, text=self._watching(watch) if watch else self._breakpoint(address))
+        if (address, watch) != (mark.address, mark.watch):
+            self.tell(f"{made.number}: {made.text}: moved with {mark.place} from {mark.address:#010x}")
+        return made
 
     def made_again(self) -> list[str]:
         """Lines that make the edits, stops, settings and the position again, from the log and the image before the first edit."""
@@ -200,6 +284,10 @@ class Session:
         log = ["the log (save-log FILE)"] if self.driver.log != self.saved_log else []
         image = ["the image (save-image FILE)"] if self.driver.patches != self.saved_patches else []
         return log + image
+
+
+_MOST_WATCHED = 1024
+_WATCHED = 64  # the most bytes that are watched without being asked for
 
 
 def counted(count: int, name: str) -> str:

@@ -3,7 +3,7 @@ from __future__ import annotations
 
 from typing import Callable
 
-from . import memory, travel
+from . import expressions, memory, travel
 from .commands import MOVES, STOPS, command
 from .driver import Driver
 from .errors import Problem
@@ -43,16 +43,17 @@ def _move(session: Session, steps: int) -> None:
 
 @command("visit A [K]", "goes on to the next instruction at address A, at most K steps on", MOVES)
 def visit(session: Session, words: list[str]) -> None:
-    address, driver = session.number(words[0]), session.driver
-    nowhere = f"the run does not come to {session.address(address)}"
+    driver = session.driver
+    addresses, _ = expressions.places_of(words[0], driver, session.symbols)
+    nowhere = f"the run does not come to {' or '.join(map(session.address, addresses))}"
     if len(words) > 1:
         limit = session.number(words[1])
-        found = next_visit(driver, [address], limit)
+        found = next_visit(driver, addresses, limit)
         if found is None:
             raise Problem(f"{nowhere} in the next {counted(limit, 'step')}")
     else:
         here = driver.position
-        stop = _travel(session, travel.forward, Stops({address}, idle=session.idle))
+        stop = _travel(session, travel.forward, Stops(set(addresses), idle=session.idle))
         if stop.reason is Reason.IDLE:
             raise Problem(f"{nowhere} up to step {stop.position:,}; {_idle(stop, 'visit')}")
         if stop.reason is not Reason.BREAKPOINT:
@@ -65,27 +66,14 @@ def visit(session: Session, words: list[str]) -> None:
 
 # Stops
 
-@command("break A", "stops where the instruction at address A comes next", STOPS)
+@command("break A", "stops where the instruction at address A comes next: break main, break a.c:12, break a.c:helper", STOPS)
 def break_(session: Session, words: list[str]) -> None:
-    address = session.number(words[0])
-    if address % 4:
-        raise Problem(f"{address:#x} is no multiple of 4, where instructions stand")
-    if not 0 <= address < 1 << 32:
-        raise Problem(f"{address:#x} is no address: they are below 0x100000000")
-    _put(session, Mark(_free(session), f"breakpoint at {session.address(address)}", address))
+    session.break_at(words[0])
 
 
 @command("watch A [SIZE]", "stops where one of the SIZE bytes at address A changes; of a symbol all its bytes, or else 4", STOPS)
 def watch(session: Session, words: list[str]) -> None:
-    address = session.number(words[0])
-    size = session.number(words[1]) if len(words) > 1 else _size(session, address)
-    if not 1 <= size <= _MOST_WATCHED:
-        raise Problem(f"1 to {_MOST_WATCHED:,} bytes can be watched, and not {size:,}")
-    place = session.physical(address)
-    if session.physical(address + size - 1) != place + size - 1:
-        raise Problem(f"{counted(size, 'byte')} from {address:#010x} on are not in one piece of memory")
-    text = f"watch of {counted(size, 'byte')} at {session.address(address)}"
-    _put(session, Mark(_free(session), text, address, Watch(address, size, place)))
+    session.watch_at(words[0], session.number(words[1]) if len(words) > 1 else None)
 
 
 @command("catch exception [KIND]", f"stops where an exception was taken, of a kind or of any: {', '.join(NAMES)}", STOPS)
@@ -93,26 +81,10 @@ def catch(session: Session, words: list[str]) -> None:
     if words[0] != "exception":
         raise Problem("the shell catches exceptions alone: catch exception [KIND]")
     found = Catch(*words[1:])
-    _put(session, Mark(_free(session), found.text, catch=found))
+    session.put(Mark(0, found.text, catch=found))
 
 
-def _size(session: Session, address: int) -> int:
-    found = session.symbols.at(address)
-    return found[0].size if found and not found[1] and 0 < found[0].size <= _WATCHED else 4
-
-
-_MOST_WATCHED = 1024
 _FEW = 4  # this many bytes are shown as a number
-_WATCHED = 64  # the most bytes that are watched without being asked for
-
-
-def _free(session: Session) -> int:
-    return max((it.number for it in session.marks), default=0) + 1
-
-
-def _put(session: Session, mark: Mark) -> None:
-    session.marks.append(mark)
-    session.tell(f"{mark.number}: {mark.text}")
 
 
 @command("stops", "lists breakpoints, watches and catches", STOPS)

@@ -1,8 +1,9 @@
 """Commands of the shell that follow the run step by step, and list what it did before."""
 from __future__ import annotations
 
-from typing import Iterator, Optional, Union
+from typing import Iterator, List, Optional, Union
 
+from . import expressions
 from .commands import BEFORE, STEPS, command
 from .conditions import Conditions, all_hits, last_hit
 from .driver import Driver
@@ -76,8 +77,8 @@ def hits(session: Session, words: list[str]) -> None:
         raise Problem(f"usage: {_HITS}")
     stop = Catch(*words[1:]) if words[0] == "exception" else _stop(session, words[0])
     conditions = {it: [condition] for it, condition in stop.conditions().items()} if isinstance(stop, Catch) else {}
-    places = list(conditions) if isinstance(stop, Catch) else [stop]
-    name = stop.text if isinstance(stop, Catch) else f"visits of {session.code(stop)}"
+    places = list(conditions) if isinstance(stop, Catch) else stop
+    name = stop.text if isinstance(stop, Catch) else f"visits of {' and '.join(map(session.code, stop))}"
     driver, found, is_ended = session.driver, [], False
     try:
         for position in _hits(driver, places, conditions, most):
@@ -111,17 +112,17 @@ def _hits(driver: Driver, places: list[int], conditions: Conditions, most: Optio
         driver.goto(here)
 
 
-def _stop(session: Session, text: str) -> Union[int, Catch]:
-    """The address of a breakpoint, or a catch."""
+def _stop(session: Session, text: str) -> Union[List[int], Catch]:
+    """The addresses of a breakpoint, or a catch."""
     mark = next((it for it in session.marks if str(it.number) == text), None)
     if mark and mark.watch:
         raise Problem(f"{mark.number} is a watch; `stores` lists the stores into a word")
     if mark:
-        return mark.catch or mark.address
-    address = session.number(text)
-    if address % 4 or not 0 <= address < 1 << 32:
+        return mark.catch or [mark.address]
+    addresses, _ = expressions.places_of(text, session.driver, session.symbols)
+    if any(address % 4 or not 0 <= address < 1 << 32 for address in addresses):
         raise Problem(f"{text} is no stop, and no address of an instruction: these are multiples of 4, below 0x100000000")
-    return address
+    return addresses
 
 
 def _exceptions(session: Session, positions: list[int]) -> Iterator[str]:

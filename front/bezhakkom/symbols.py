@@ -4,11 +4,14 @@ from __future__ import annotations
 
 import re
 from bisect import bisect_right
-from typing import Iterable, Optional
+from dataclasses import replace
+from pathlib import PurePosixPath
+from typing import Iterable, Iterator, List, Optional, Tuple
 
 from . import elf
 from .initial import Source
 from .elf import Symbol
+from .errors import Problem
 from .image import Image
 from .limits import ROM
 from .lines import Lines
@@ -20,24 +23,62 @@ _TARGET = re.compile(r"0x[0-9a-f]{8}$")
 # Of several names of one address the first of these kinds is shown.
 _ORDER = {"func": 0, "object": 1, "other": 2}
 
+# Labels that compilers and linkers make. They are names only where nothing else is near.
+_MADE = re.compile(r"\.?L\w*\d|_f(?:text|data|bss)$|_(?:etext|edata|end|gp)$|__bss_start$|_[A-Z]+_START_$")
+
 
 class Symbols:
     """The symbols of a program."""
 
     def __init__(self, symbols: Iterable[Symbol] = (), lines: Lines = Lines()) -> None:
         self.lines = lines
-        self._by_name: dict[str, Symbol] = {}
+        self._by_name: dict[str, List[Symbol]] = {}
         at: dict[int, Symbol] = {}
-        for symbol in sorted(symbols, key=lambda it: (_ORDER[it.kind], not it.size, it.name)):
-            self._by_name.setdefault(symbol.name, symbol)
+        for name, symbol in self._named_apart(symbols):
+            for it in dict.fromkeys((name, symbol.name)):
+                self._by_name.setdefault(it, []).append(symbol)
             at.setdefault(elf.in_kseg0(symbol.address), symbol)
-        self._starts = sorted(at)
-        self._sorted = [at[it] for it in self._starts]
+        self._starts: List[int] = []
+        self._sorted: List[Symbol] = []
+        end = 0  # of the last symbol that people gave
+        for start, symbol in sorted(at.items()):
+            if not _is_made(symbol):
+                end = start + (symbol.size or _UNSIZED)
+            elif start < end:
+                continue
+            self._starts.append(start)
+            self._sorted.append(symbol)
+
+    def _named_apart(self, symbols: Iterable[Symbol]) -> Iterator[Tuple[str, Symbol]]:
+        """Names with their symbols, of which each has a name of its own: where several sources have the same name, it is that of the file,
+        as `a.c:helper`. A symbol that is there twice is left out."""
+        by_name: dict[str, dict[int, Symbol]] = {}
+        for symbol in sorted(symbols, key=_rank):
+            by_name.setdefault(symbol.name, {}).setdefault(elf.in_kseg0(symbol.address), symbol)
+        found: List[Tuple[str, Symbol]] = []
+        for name, places in by_name.items():
+            files = [self._file(symbol) if len(places) > 1 else "" for symbol in places.values()]
+            for symbol, file in zip(places.values(), files):
+                found.append((name, replace(symbol, name=f"{file}:{name}") if file and files.count(file) == 1 else symbol))
+        return iter(sorted(found, key=lambda it: _rank(it[1])))
+
+    def _file(self, symbol: Symbol) -> str:
+        """The name of the source that a symbol is of, without its folder, or the empty text."""
+        line = None if symbol.file or symbol.kind == "object" else self.lines.at(symbol.address)
+        return PurePosixPath(symbol.file or (line.file if line else "")).name
 
     def address(self, name: str) -> Optional[int]:
-        """The address of a name, or None."""
-        symbol = self._by_name.get(name)
-        return symbol.address if symbol else None
+        """The address of a name, or None. Of a name that has several, it is that of the first one: `found` returns all."""
+        return self._by_name[name][0].address if name in self._by_name else None
+
+    def found(self, name: str) -> List[Symbol]:
+        """All symbols of a name, each at another address: `helper`, or `a.c:helper` for that of one source."""
+        return self._by_name.get(name, [])
+
+    def location(self, symbol: Symbol) -> str:
+        """Where a symbol is: `a.c:12`, or its file and its address, as far as they are known."""
+        line = self.line(symbol.address) if symbol.kind != "object" else ""
+        return line or " ".join([*([symbol.file] if symbol.file else []), f"{symbol.address:#010x}"])
 
     def at(self, address: int) -> Optional[tuple[Symbol, int]]:
         """The symbol that an address belongs to, and how far the address is beyond its start."""
@@ -79,14 +120,35 @@ class Symbols:
         found = self.lines.at(address)
         return str(found) if found else ""
 
+    def addresses_of_line(self, file: str, number: int) -> List[int]:
+        """The addresses at which a line of a source begins, one in each function, or the first line after it that has code."""
+        found = self.lines.addresses(file, number)
+        if found is None:
+            raise Problem(f"no source {file} is among the line tables of the image: compile it with -g, or give the ELF that has them by --symbols")
+        if not found:
+            raise Problem(f"{file} has no code in line {number:,} or after it")
+        first: dict[int, int] = {}  # by the begins of functions
+        for address in found:
+            named = self.at(address)
+            first.setdefault(address - named[1] if named else address, address)
+        return sorted(first.values())
+
     def is_function(self, address: int) -> bool:
         """Whether a function begins at a virtual address, or a label of code that has a source line."""
         found = self.at(address)
         return found is not None and found[0].kind != "object" and not found[1] and not address % 4 and bool(self.line(address))
 
     def names(self) -> list[str]:
-        """All names, in order."""
-        return sorted(self._by_name)
+        """All names, in order. One that several sources have is left out where each has a name with its file."""
+        return sorted(name for name, symbols in self._by_name.items() if any(it.name == name for it in symbols))
+
+
+def _is_made(symbol: Symbol) -> bool:
+    return symbol.kind == "other" and bool(_MADE.match(symbol.name))
+
+
+def _rank(symbol: Symbol) -> Tuple[int, bool, bool, str]:
+    return _ORDER[symbol.kind], _is_made(symbol), not symbol.size, symbol.name
 
 
 # A symbol without a size reaches to the next one, but not beyond this many bytes.

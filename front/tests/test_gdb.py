@@ -129,7 +129,7 @@ class Login(GdbTest):
 
     def test_an_edit(self) -> None:
         lines = self.batch("continue", "wb del 2", POSITION, "wb goto 0", "continue", POSITION, "wb log 0 3")
-        self.holds(lines, "Sorry, operatorsesame.", "9 events left", "at 110960", "step 0, start: lui r29, 0x8001",
+        self.holds(lines, "Sorry, operatorsesame.", "9 events left", "at 110960", "step 0, start (start.S:7): lui r29, 0x8001",
                    "Welcome, operator.", "     1: step 30,000, line 0, 0x08, 80,915 steps ago",
                    "     2: step 50,000, line 0, 0x73 's', 60,915 steps ago")
 

@@ -76,7 +76,7 @@ class Saved(unittest.TestCase):
         self.assertEqual(said[0], f"the session is saved in {there}/c d; `bin/wb shell '{there}/c d'` opens it")
         self.assertIn(f"0 words of the image changed by {there}/i j.img", said)
         self.assertEqual(sorted(it.name for it in there.iterdir()), ["c d", "e f", "g h", "i j.img", "k"])
-        self.assertEqual(shell(f"{there}/c d", lines=("pos",)).stdout, "step 0, start: lui r29, 0x8001\n")
+        self.assertEqual(shell(f"{there}/c d", lines=("pos",)).stdout, "step 0, start (start.S:7): lui r29, 0x8001\n")
 
     def test_one_whole_is_opened_elsewhere(self) -> None:
         before = self.save("whole")

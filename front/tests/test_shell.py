@@ -245,7 +245,7 @@ class Scripts(unittest.TestCase):
             self.assertIn(said, done.stdout)
             self.assertNotIn("step 1, start", done.stdout)
         done = self.run_script("frob", "assert v0", "step", strict=False)
-        self.assertEqual((done.returncode, done.stdout.splitlines()[-1]), (0, "step 1, start+0x4: addiu r29, r29, 4096"))
+        self.assertEqual((done.returncode, done.stdout.splitlines()[-1]), (0, "step 1, start+0x4 (start.S:7): addiu r29, r29, 4096"))
 
     def test_conditions(self) -> None:
         """Memory of the image: its first word is 0x3c1d8001, lui r29, 0x8001."""
@@ -297,8 +297,8 @@ class Habits(unittest.TestCase):
         self.addCleanup(talk.driver.close)
         # `la $sp, stack_top` is the first two instructions.
         self.assertEqual(talk("goto 2", "print $29", "reg $29", "print r29-$29+$0", "writer $29", "print $32", "why $29")[:7], [
-            "step 2, start+0x8: lui r8, 0xbfc0", "$29 = 0x80011000  2,147,553,280  <stack_top>", "sp = 0x80011000  2,147,553,280  <stack_top>",
-            "r29-$29+$0 = 0x00000000  0", "step 1, start+0x4, 1 step ago: addiu r29, r29, 4096", "there is no register 32", "sp at step 2: 0x80011000 <stack_top>   from 1"])
+            "step 2, start+0x8 (start.S:8): lui r8, 0xbfc0", "$29 = 0x80011000  2,147,553,280  <stack_top>", "sp = 0x80011000  2,147,553,280  <stack_top>",
+            "r29-$29+$0 = 0x00000000  0", "step 1, start+0x4 (start.S:7), 1 step ago: addiu r29, r29, 4096", "there is no register 32", "sp at step 2: 0x80011000 <stack_top>   from 1"])
 
     def test_lines_that_have_none(self) -> None:
         talk = Talk("login", "login.elf", log=False)
@@ -316,10 +316,10 @@ class Habits(unittest.TestCase):
         talk = Talk("login", "login.elf", log=False)
         self.addCleanup(talk.driver.close)
         self.assertEqual(talk("b *main+4", "c", "x/2i $pc", "p *start", "info b", "rc", "si"), [
-            "1: breakpoint at 0xbfc00358 <main+0x4>", "1: breakpoint at 0xbfc00358 <main+0x4>", "step 113, main+0x4: sw r31, 20(r29)",
+            "1: breakpoint at 0xbfc00358 <main+0x4> (login.c:64)", "1: breakpoint at 0xbfc00358 <main+0x4> (login.c:64)", "step 113, main+0x4 (login.c:64): sw r31, 20(r29)",
             "=> 0xbfc00358 <main+0x4>: 0xafbf0014  sw r31, 20(r29)", "   0xbfc0035c <main+0x8>: 0x3c02bfe0  lui r2, 0xbfe0",
-            "[start] = 0x3c1d8001  1,008,566,273", "1: breakpoint at 0xbfc00358 <main+0x4>", "that is the beginning of the run",
-            "step 0, start: lui r29, 0x8001", "step 1, start+0x4: addiu r29, r29, 4096"])
+            "[start] = 0x3c1d8001  1,008,566,273", "1: breakpoint at 0xbfc00358 <main+0x4> (login.c:64)", "that is the beginning of the run",
+            "step 0, start (start.S:7): lui r29, 0x8001", "step 1, start+0x4 (start.S:7): addiu r29, r29, 4096"])
 
 
 class Damage(unittest.TestCase):

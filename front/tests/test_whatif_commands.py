@@ -181,7 +181,7 @@ class Saved(InFolder):
         found = json.loads(said(*lines, guest=LOADER[2:])[0])
         self.assertEqual(found["file"], str(file))
         opened = shell(str(file), lines=("pos", "log 0 1"))
-        self.assertRegex(opened.stdout, r"^step [\d,]+, fatal: ")
+        self.assertRegex(opened.stdout, r"^step [\d,]+, fatal \(start\.S:32\): ")
         self.assertIn(f"{len(found['shrunk']['events']):,} events, ", opened.stdout)
         file.write_text("no session")
         shown, why = said(*lines, guest=LOADER[2:])

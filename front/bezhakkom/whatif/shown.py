@@ -260,7 +260,7 @@ def when(session: Session, text: str, found: When) -> Iterator[str]:
     elif not found.position:
         yield f"{text} holds at step 0: the image sets it so, or memory begins so"
     else:
-        yield f"{text} holds first at step {found.position:,}, after {session.step(found.position - 1, with_line=True)}"
+        yield f"{text} holds first at step {found.position:,}, after {session.step(found.position - 1)}"
 
 
 def when_value(session: Session, found: When) -> Value:
