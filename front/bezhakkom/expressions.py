@@ -147,7 +147,7 @@ class Condition:
                             if not text[0].isdigit())
 
 
-_COMPARED: dict[str, Callable[[int, int], bool]] = {
+COMPARED: dict[str, Callable[[int, int], bool]] = {
     "==": operator.eq, "!=": operator.ne, "<=": operator.le, ">=": operator.ge, "<": operator.lt, ">": operator.gt, "=": operator.eq}
 _CHARACTER = r"'(?:[^'\\]|\\.)+'"
 _COMPARES = re.compile(f"{_CHARACTER}|(==|!=|<=|>=|<|(?<!-)>|=)")
@@ -156,9 +156,9 @@ _SIGNS = "+-[]=!<>"
 
 def holds(left: int, sign: str, right: int) -> bool:
     """Whether two numbers compare so. A number below 0 is equal to the word with these bits."""
-    if _COMPARED[sign] in (operator.eq, operator.ne) and min(left, right) < 0:
+    if COMPARED[sign] in (operator.eq, operator.ne) and min(left, right) < 0:
         left, right = left & 0xFFFF_FFFF, right & 0xFFFF_FFFF
-    return _COMPARED[sign](left, right)
+    return COMPARED[sign](left, right)
 
 
 def closed(words: Sequence[str]) -> str:
@@ -177,7 +177,7 @@ def condition(text: str) -> Condition:
     sign, *more = signs
     left, right = text[:sign.start()].strip(), text[sign.end():].strip()
     if more or not left or not right:
-        raise Problem(f"{shortened(text)} is no condition: one of {' '.join(_COMPARED)} stands between two numbers")
+        raise Problem(f"{shortened(text)} is no condition: one of {' '.join(COMPARED)} stands between two numbers")
     return Condition(left, sign[1], right)
 
 

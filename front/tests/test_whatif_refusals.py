@@ -16,7 +16,7 @@ from front.tests import brute
 from front.tests.support import ROOT, start
 
 WHAT = "a register, an address of a word, `sent L K`, or `console [L]`"
-CONDITION = "pc ADDRESS, console [L] 'TEXT', or word ADDRESS OP VALUE"
+CONDITION = "pc ADDRESS, console [L] 'TEXT', word ADDRESS OP VALUE, or [A] OP [B] - [C]"
 USAGES = {
     "causes": "causes WHAT .. [by set|del|both] [values N] [--jobs N] [--json]",
     "try": "try I [all] [A..B] [del] [moved A..B [by K]] [show WHAT ..] [until CONDITION] [at N] [--jobs N] [--json]",

@@ -3,7 +3,7 @@ from __future__ import annotations
 
 import random
 import unittest
-from typing import Callable, Optional
+from typing import Callable, Optional, Sequence
 from unittest import mock
 
 from bezhakkom.driver import Driver
@@ -11,7 +11,7 @@ from bezhakkom.errors import Problem
 from bezhakkom.log import Event
 from bezhakkom.whatif import conditions, pasts
 from bezhakkom.whatif.compare import compare
-from bezhakkom.whatif.conditions import SIGNS, Comes, ComesTrue, Holds, Sends, Then
+from bezhakkom.whatif.conditions import SIGNS, Comes, Compares, ComesTrue, Holds, Sends, Then
 from bezhakkom.whatif.questions import At, Console, Register, Sent, SentIn, Word
 from bezhakkom.whatif.shrink import shrink
 from bezhakkom.whatif.when import when
@@ -189,6 +189,42 @@ class Conditions_(unittest.TestCase):
                     if not begin:
                         self.assertEqual(when(driver, condition, end).position, wanted)
             driver.close()
+
+    def test_sums_of_words_hold_first_where_brute_force_says(self) -> None:
+        """Words and bytes of four words, added and subtracted, on both sides."""
+        found_later = 0
+        for seed in range(30):
+            source = random.Random(seed)
+            words = random_rom(source)
+            end = 300
+            driver = start(rom(words))
+            run = list(zip(*(brute.words(driver, end + 1, DATA + 4 * place) for place in range(4))))
+
+            def side() -> conditions.Total:
+                pieces = []
+                for _ in range(source.randrange(1, 3)):
+                    size = source.choice((1, 2, 4, 4))
+                    pieces.append((source.choice((1, -1)), DATA + size * source.randrange(16 // size), size))
+                return source.randrange(-2, 3), tuple(pieces)
+
+            def value(total: conditions.Total, held: Sequence[int]) -> int:
+                content = b"".join(it.to_bytes(4, "little") for it in held)
+                return total[0] + sum(sign * int.from_bytes(content[place - DATA:place - DATA + size], "little") for sign, place, size in total[1])
+
+            small = {"SPAN": 16, "_FEW": source.choice((2, 1024)), "_SPANS": (1, 2, 4)}
+            with self.subTest(seed=seed), mock.patch.multiple(conditions, **small):
+                for _ in range(6):
+                    left, right, (sign, holds) = side(), side(), source.choice(list(SIGNS.items()))
+                    if sign in ("==", "=", "!="):
+                        def holds(one: int, two: int, sign: str = sign) -> bool:
+                            same = one == two or min(one, two) < 0 and (one - two) % (1 << 32) == 0
+                            return same != (sign == "!=")
+                    begin = source.choice((0, source.randrange(end)))
+                    wanted = next((it for it in range(begin, end + 1) if holds(value(left, run[it]), value(right, run[it]))), None)
+                    self.assertEqual(pasts.answer(driver, ComesTrue(Compares(left, sign, right), begin, end)), wanted)
+                    found_later += wanted not in (None, begin)
+            driver.close()
+        self.assertGreater(found_later, 10)
 
     def test_addresses(self) -> None:
         for seed in range(10):

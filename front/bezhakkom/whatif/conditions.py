@@ -2,17 +2,15 @@
 it holds, and is exact."""
 from __future__ import annotations
 
-import operator
 from dataclasses import dataclass
-from typing import Callable, Iterator, Optional, Protocol, Tuple
+from typing import Iterator, List, Optional, Protocol, Sequence, Tuple
 
 from .. import replies
+from ..expressions import COMPARED as SIGNS
+from ..expressions import holds
 from ..limits import SPAN, TRACED, VISIT_STEPS
 from .pasts import Asking, Question
 from .questions import Console, at, together
-
-SIGNS: dict[str, Callable[[int, int], bool]] = {
-    "==": operator.eq, "=": operator.eq, "!=": operator.ne, "<": operator.lt, "<=": operator.le, ">": operator.gt, ">=": operator.ge}
 
 _PIECES = (1, 4, 16, 64)  # visits that are asked for together
 _SPANS = (1, 4, 16, 64, 256)  # that are looked at together for stores
@@ -69,23 +67,24 @@ class Sends:
         return max(replies.last_number(lines) + 1, begin)
 
 
-@dataclass(frozen=True)
-class Holds:
-    """The word at a physical address compares so with a value."""
+class _OfWords:
+    """Something that holds for some values of words of memory."""
 
-    physical: int
-    sign: str
-    value: int
+    @property
+    def words(self) -> Tuple[int, ...]:
+        """The physical addresses of the words."""
+        raise NotImplementedError
 
-    def _holds(self, word: int) -> bool:
-        return SIGNS[self.sign](word, self.value)
+    def holds(self, values: Sequence[int]) -> bool:
+        """Whether it holds for the values of the words, in their order."""
+        raise NotImplementedError
 
     def first(self, begin: int, end: int) -> Asking:
-        at_begin, = (yield [f"goto {begin}", f"mem {self.physical} 1"])[1:]
-        if self._holds(replies.memory(at_begin)[0]):
+        values = yield from self._values(begin)
+        if self.holds(values):
             return begin
         low, sizes = begin, _growing(_SPANS)
-        while low < end:
+        while low < end and self.words:
             spans = next(sizes)
             high = min((low // SPAN + spans) * SPAN, end)
             found, are_few = yield from self._followed(low, high)
@@ -99,33 +98,91 @@ class Holds:
             low = high
         return None
 
+    def _values(self, position: int) -> Asking:
+        """What the words hold at a position."""
+        lines = (yield [f"goto {position}", *self._asked("mem {} 1")])[1:]
+        return [replies.memory(it)[0] for it in lines]
+
+    def _asked(self, command: str) -> List[str]:
+        return [command.format(physical) for physical in self.words]
+
     def _followed(self, low: int, high: int) -> Asking:
         """The least position above `low`, up to `high`, after a store with such a value; and whether the stores are few enough to
         say so."""
-        writer, = (yield [f"goto {high}", f"writer {self.physical}"])[1:]
+        writers = (yield [f"goto {high}", *self._asked("writer {}")])[1:]
         found: Optional[int] = None
         for _ in range(_FEW):
-            step = replies.writer(writer).step
-            if step is None or step < low:
+            steps = [step for it in writers if (step := replies.writer(it).step) is not None and step >= low]
+            if not steps:
                 return found, True
-            _, writer, _, lines = yield [f"goto {step}", f"writer {self.physical}", f"goto {step + 1}", f"mem {self.physical} 1"]
-            found = step + 1 if self._holds(replies.memory(lines)[0]) else found
+            step, count = max(steps), len(self.words)
+            lines = yield [f"goto {step}", *self._asked("writer {}"), f"goto {step + 1}", *self._asked("mem {} 1")]
+            writers = lines[1:1 + count]
+            found = step + 1 if self.holds([replies.memory(it)[0] for it in lines[2 + count:]]) else found
         return None, False
 
     def _looked(self, low: int, high: int) -> Asking:
         """The least position above `low`, up to `high`, with such a value: what each step stores is looked at."""
-        stored = f" store {self.physical:#010x} "
+        stores = {f"{physical:#010x}": place for place, physical in enumerate(self.words)}
+        values = yield from self._values(low)
         for first in range(low, high, _STEPS):
             counts = [min(TRACED, high - at) for at in range(first, min(first + _STEPS, high), TRACED)]
             answered = yield [f"goto {first}", *(command for count in counts for command in (f"trace {count}", f"step {count}"))]
-            for line in (line for lines in answered[1::2] for line in lines if stored in line):
-                if self._holds(int(line.partition(stored)[2].split()[0], 16)):
-                    position = int(line.split()[0]) + 1
-                    # It was no store into memory where a cache is isolated.
-                    _, word = yield [f"goto {position}", f"mem {self.physical} 1"]
-                    if self._holds(replies.memory(word)[0]):
-                        return position
+            for line in (line for lines in answered[1::2] for line in lines if " store " in line):
+                physical, word = line.partition(" store ")[2].split()[:2]
+                if physical in stores:
+                    before = values[stores[physical]]
+                    values[stores[physical]] = int(word, 16)
+                    if self.holds(values):
+                        position = int(line.split()[0]) + 1
+                        # It was no store into memory where a cache is isolated.
+                        held = yield from self._values(position)
+                        if self.holds(held):
+                            return position
+                        values[stores[physical]] = before
         return None
+
+
+@dataclass(frozen=True)
+class Holds(_OfWords):
+    """The word at a physical address compares so with a value."""
+
+    physical: int
+    sign: str
+    value: int
+
+    @property
+    def words(self) -> Tuple[int, ...]:
+        return (self.physical,)
+
+    def holds(self, values: Sequence[int]) -> bool:
+        return SIGNS[self.sign](values[0], self.value)
+
+
+# A constant, and pieces of memory that are added to it or subtracted from it: 1 or -1, the physical address and the size of each.
+Total = Tuple[int, Tuple[Tuple[int, int, int], ...]]
+
+
+@dataclass(frozen=True)
+class Compares(_OfWords):
+    """Two sums of words, or of parts of words, compare so."""
+
+    left: Total
+    sign: str
+    right: Total
+
+    @property
+    def words(self) -> Tuple[int, ...]:
+        return tuple(dict.fromkeys(physical & ~3 for _, pieces in (self.left, self.right) for _, physical, _ in pieces))
+
+    def holds(self, values: Sequence[int]) -> bool:
+        held = dict(zip(self.words, values))
+
+        def total(side: Total) -> int:
+            constant, pieces = side
+            return constant + sum(sign * (held[physical & ~3] >> 8 * (physical & 3) & (1 << 8 * size) - 1) for sign, physical, size in pieces)
+
+        return holds(total(self.left), self.sign, total(self.right))
 
 
 @dataclass(frozen=True)

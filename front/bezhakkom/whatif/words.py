@@ -12,16 +12,15 @@ from ..log import unquoted
 from ..replies import CONTROL_NAMES
 from ..session import Session
 from . import why as reasons
-from .conditions import SIGNS, Comes, Condition, Holds, Sends
+from .conditions import Comes, Compares, Condition, Holds, Sends, Total
 from .pasts import Question
 from .questions import Console, Register, Sent, Word
 from .why import Why
 
 _KEPT = {"pc": "pc", "next": "next_pc", "hi": "hi", "lo": "lo"}
-_COMPARED = re.compile(r"(.+?)(" + "|".join(sorted(SIGNS, key=len, reverse=True)) + r")(.+)")
 _TEXT = re.compile(r"""'(?:[^'\\]|\\.)+'|"(?:[^"\\]|\\.)+\"""")
 
-CONDITION = "pc ADDRESS, console [L] 'TEXT', or word ADDRESS OP VALUE"
+CONDITION = "pc ADDRESS, console [L] 'TEXT', word ADDRESS OP VALUE, or [A] OP [B] - [C]"
 WHAT = "a register, an address of a word, `sent L K`, or `console [L]`"
 
 
@@ -143,18 +142,33 @@ class Words:
             return text, Sends(line, unquoted(rest[-1][1:-1]), likely=session.driver.sent(line))
         if name == "word" and rest:
             return text, self.comparison(rest)
+        if expressions.condition(closed(words)).sign:
+            return text, self.comparison(words)
         raise self.problem(f"`{text}` is no condition; there are {CONDITION}")
 
-    def comparison(self, words: Sequence[str]) -> Holds:
-        """`ADDRESS OP VALUE`."""
-        match = _COMPARED.fullmatch(closed(words)) if words else None
-        if not match:
+    def comparison(self, words: Sequence[str]) -> Condition:
+        """`ADDRESS OP VALUE`, or a comparison with words of memory between brackets. What these are is looked at where the condition is
+        tried; their addresses, and registers, are those of the position."""
+        session = self._session
+        found = expressions.condition(closed(words)) if words else None
+        if not found or not found.sign:
             raise self.problem("a word is compared by ==, !=, <, <=, > or >=")
-        _, physical = self._session.word_at(match[1])
-        value = self._session.number(match[3])
-        if not -1 << 31 <= value < 1 << 32:
-            raise Problem(f"{match[3]} is no word: it is below 0x100000000")
-        return Holds(physical, match[2], value & 0xFFFF_FFFF)
+        right = expressions.read(found.right, session.driver, session.symbols)
+        if "[" in found.left:
+            return Compares(self._total(expressions.read(found.left, session.driver, session.symbols)), found.sign, self._total(right))
+        _, physical = session.word_at(found.left)
+        if right.pieces:
+            return Compares((0, ((1, physical, 4),)), found.sign, self._total(right))
+        if not -1 << 31 <= right.constant < 1 << 32:
+            raise Problem(f"{found.right} is no word: it is below 0x100000000")
+        return Holds(physical, found.sign, right.constant & 0xFFFF_FFFF)
+
+    def _total(self, side: expressions.Sum) -> Total:
+        """A sum with the physical addresses of its pieces."""
+        for _, address, size in side.pieces:
+            if address % size:
+                raise Problem(f"{address:#x} is no multiple of {size}")
+        return side.constant, tuple((sign, self._session.physical(address), size) for sign, address, size in side.pieces)
 
 
 def _register(name: str) -> Optional[Register]:
