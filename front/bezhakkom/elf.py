@@ -3,7 +3,7 @@ from __future__ import annotations
 
 import struct
 from dataclasses import dataclass, replace
-from typing import Iterator, NamedTuple, Sequence
+from typing import Iterator, Literal, NamedTuple, Sequence
 
 from .initial import Boot
 from .errors import Problem
@@ -11,6 +11,7 @@ from .image import ELF_MAGIC, Image, SymbolFile
 from .limits import RAM, RESET_PC, ROM
 
 _MIPS = 8
+_MACHINES = {3: "x86", 20: "PowerPC", 40: "ARM", 62: "x86-64", 183: "AArch64", 243: "RISC-V", 258: "LoongArch"}
 _EXECUTABLE, _SHARED = 2, 3
 _MAPPED_END = 0x8000_0000  # virtual addresses below it are mapped by translation entries
 _LOAD = 1
@@ -109,10 +110,8 @@ class _Reader:
 
     def read(self) -> Elf:
         self._check_machine()
-        (kind, machine, _, entry, programs, sections, flags,
+        (kind, _, _, entry, programs, sections, flags,
          _, program_size, program_count, section_size, section_count, _) = self._unpack(_HEADER, 16, "its header")
-        if machine != _MIPS:
-            raise self._problem(f"is for machine {machine} of ELF's list, not for MIPS ({_MIPS})")
         if kind not in self.kinds:
             raise self._problem("has no fixed addresses yet: link it, without PIE (ld -static -no-pie -Ttext 0xbfc00000)")
         if program_count and program_size < _PROGRAM_HEADER.size or section_count and section_size < _SECTION_HEADER.size:
@@ -125,6 +124,12 @@ class _Reader:
     def _check_machine(self) -> None:
         if not self.content.startswith(ELF_MAGIC) or len(self.content) < 16:
             raise self._problem("is no ELF")
+        order: Literal["little", "big"] = "big" if self.content[5] == 2 else "little"
+        machine = int.from_bytes(self._bytes(18, 2, "its header"), order)
+        if machine != _MIPS:
+            known = f" ({_MACHINES[machine]})" if machine in _MACHINES else ""
+            raise self._problem(f"is for machine {machine} of ELF's list{known}, not for MIPS ({_MIPS}): "
+                                "compile it with a compiler for MIPS, such as mipsel-linux-gnu-gcc")
         if self.content[4] != 1:
             raise self._problem("is a 64-bit ELF; the machine is a 32-bit MIPS: compile with -mabi=32")
         if self.content[5] != 1:
@@ -242,11 +247,20 @@ def _runs(elf: Elf, name: str) -> list[tuple[int, bytes]]:
 def _physical(segment: Segment, name: str) -> int:
     """Where a segment lies in RAM or ROM."""
     start = physical_of(segment.physical)
-    for memory in (RAM, ROM):
-        if start in memory and start + segment.size - 1 in memory:
-            return start
-    raise Problem(f"{name} has a segment of {segment.size:,} bytes at {segment.physical:#010x}, which is neither in RAM, "
-                  f"8 MiB from 0x80000000, nor in ROM, 256 KiB from {RESET_PC:#010x}: link it there (ld -Ttext, -Tdata)", 1)
+    why = outside(start, segment.size)
+    if why:
+        raise Problem(f"{name} has a segment of {segment.size:,} bytes at {segment.physical:#010x}, {why}", 1)
+    return start
+
+
+def outside(start: int, size: int) -> str:
+    """Why bytes at a physical address are not all in RAM or ROM, and what to do, or the empty text."""
+    for memory, text in ((RAM, "RAM, 8 MiB from 0x80000000"), (ROM, f"ROM, 256 KiB from {RESET_PC:#010x}")):
+        if start in memory:
+            over = start + size - memory.stop
+            return f"which is too long by {over:,} byte{'s' * (over > 1)}: it ends after {text}. Make it shorter, or link it elsewhere" if over > 0 else ""
+    return (f"which is neither in RAM, 8 MiB from 0x80000000, nor in ROM, 256 KiB from {RESET_PC:#010x}: "
+            "link it there (ld -Ttext, -Tdata)")
 
 
 def physical_of(address: int) -> int:

@@ -54,9 +54,9 @@ def _boot(text: str) -> Boot:
     start = elf.physical_of(address)
     if address % 4:
         raise Problem(f"{text}: {address:#010x} is no multiple of 4")
-    if not any(start in memory and start + len(content) <= memory.stop for memory in (RAM, ROM)):
-        raise Problem(f"{text}: {len(content):,} bytes at {address:#010x} lie neither in RAM, 8 MiB from 0x80000000, "
-                      "nor in ROM, 256 KiB from 0xbfc00000")
+    why = elf.outside(start, len(content))
+    if why:
+        raise Problem(f"{text} has {len(content):,} bytes at {address:#010x}, {why}")
     if content:
         boot.put(start, content + bytes(-len(content) % 4))
     return boot

@@ -19,6 +19,7 @@ from .errors import Ended, Problem
 from .image import HOW_TO_LINK, KINDS, Image, SymbolFile, is_gnu_source, kind_of
 from .image import MAGIC as IMAGE_MAGIC
 from .installed import NAME
+from .limits import ROM
 from .program import build
 from .progress import TerminalProgress
 
@@ -107,6 +108,9 @@ def image(name: str, kind: Optional[str] = None, tell: Callable[[str], None] = s
     if kind not in (None, *KINDS):
         raise Problem(f"{kind} is no kind of image; there are {', '.join(KINDS)}")
     kind = kind or kind_of(name, content)
+    if kind == "rom" and len(content) > len(ROM):
+        raise Problem(f"{name} has {len(content):,} bytes and is taken as a raw ROM, which has at most {len(ROM):,}. Code in RAM is booted as an "
+                      f"ELF, or as bytes at an address: {NAME} image boot.elf {name}@0x80010000 system.img", 1)
     if kind != "elf":
         return Image(name, kind, content)
     made, notes = elf.image_of(content, name)

@@ -78,7 +78,7 @@ class Board(InFolder):
         done = run(["shell", *names, "all.img"], b"print first\nprint second\n", self.folder)
         self.assertEqual([line.split()[2] for line in done.stdout.decode().splitlines()], ["0x80000000", "0x80001010"])
         for files, said in ((["boot.elf", "boot.elf"], "boot.elf and boot.elf both set the word at 0x00000000"),
-                            (["boot.elf", "initrd@0x80800000"], "initrd@0x80800000: 5 bytes at 0x80800000 lie neither in RAM"),
+                            (["boot.elf", "initrd@0x80800000"], "initrd@0x80800000 has 5 bytes at 0x80800000, which is neither in RAM"),
                             (["boot.elf", "initrd@6"], "initrd@6: 0x00000006 is no multiple of 4"),
                             (["boot.elf", "initrd@0x100000000"], "0x100000000 is no address: they are below 0x100000000"),
                             (["boot.elf", "none@0"], "there is no file none")):

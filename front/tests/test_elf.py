@@ -87,12 +87,15 @@ class Images(unittest.TestCase):
     def test_refused(self) -> None:
         rom = (0xBFC0_0000, 0xBFC0_0000, bytes(4), 4)
         for content, said in (
-                (made([rom], bits=2), "64-bit"), (made([rom], order=2), "big-endian"), (made([rom], machine=3), "machine 3"),
+                (made([rom], bits=2), "64-bit"), (made([rom], order=2, machine=0x0800), "big-endian"), (made([rom], machine=3), "machine 3"),
                 (made([rom], kind=1), "no fixed addresses"), (made([rom], kind=3), "no fixed addresses"),
                 (made([rom, (0x1000_0000, 0x1000_0000, b"x", 1)]), "neither in RAM.*nor in ROM"),
                 (made([rom, (0x8080_0000, 0x8080_0000, b"x", 1)]), "neither in RAM"),
-                (made([rom, (0x807F_F000, 0x807F_F000, b"x", 0x1001)]), "4,097 bytes at 0x807ff000"),
-                (made([rom, (0xBFC3_FFFC, 0xBFC3_FFFC, bytes(8), 8)]), "neither in RAM"),
+                (made([rom, (0x807F_F000, 0x807F_F000, b"x", 0x1001)]), "4,097 bytes at 0x807ff000, which is too long by 1 byte: it ends after RAM"),
+                (made([rom, (0x8000_0000, 0x8000_0000, bytes(8), 10 << 20)]), "10,485,760 bytes at 0x80000000, which is too long by 2,097,152 bytes"),
+                (made([rom, (0xBFC3_FFFC, 0xBFC3_FFFC, bytes(8), 8)]), "which is too long by 4 bytes: it ends after ROM"),
+                (made([rom], bits=2, machine=62), r"is for machine 62 of ELF's list \(x86-64\), not for MIPS"),
+                (made([rom], order=2, machine=0x1400), "machine 20"),
                 (made([rom, (0xC000_0000, 0xC000_0000, b"x", 1)]), "neither in RAM"),
                 (made([rom, (0x9FC0_0002, 0x9FC0_0002, b"x", 1)]), "two segments"),
                 (made([(0x40_0000, 0x40_0000, bytes(8), 8)], entry=0x40_0000), "no address of kseg0 or kseg1"),

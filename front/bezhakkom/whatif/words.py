@@ -104,7 +104,13 @@ class Words:
         if register:
             shown = name.lstrip("$")
             return register.name if shown.isdigit() else shown, register
-        address, physical = session.word_at(name)
+        try:
+            address, physical = session.word_at(name)
+        except Problem as problem:
+            if name[0] != "[" or name[-1] != "]":
+                raise
+            raise Problem(f"{problem}. An address is wanted, of the word that is shown, and {name} is what stands at one: "
+                          f"{name[1:-1]} shows {name}") from None
         return session.place(address), Word(physical)
 
     def why(self, position: int) -> Tuple[str, Question, Why]:
