@@ -49,7 +49,7 @@ GROUPS = (MOVES, STOPS, HOLDS, BEFORE, STEPS, SERIAL, CHECKS, PAST, WHAT_IF, FIL
 
 # Short names, as gdb has them.
 SHORT = {"s": "step", "si": "step", "rs": "back", "rsi": "back", "c": "continue", "rc": "reverse-continue", "b": "break",
-         "p": "print", "x": "mem", "q": "quit", "h": "help", "r": "regs", "d": "delete"}
+         "p": "print", "x": "mem", "q": "quit", "h": "help", "r": "regs", "d": "delete", "l": "list", "bt": "backtrace"}
 
 
 def command(usage: str, text: str, group: str, edits: bool = False, more: str = "") -> Callable[[Run], Run]:

@@ -118,7 +118,7 @@ def _refuse_types(text: str, symbols: Symbols) -> None:
     """Refuses a part of a variable by the name that C has for it."""
     part = _PART.match(text)
     address = symbols.address(part[1]) if part else None
-    if not part or address is None or symbols.address(part[0].lstrip("&*")) is not None:
+    if not part or address is None or symbols.found(part[0].lstrip("&*")) or text[part.end():].startswith(":"):
         return
     found = symbols.at(address)
     size = f" of {found[0].size:,} bytes" if found and found[0].size else ""
@@ -143,8 +143,8 @@ class Condition:
         right = number(self.right, driver, symbols)
         if holds(left, self.sign, right):
             return ""
-        return " and ".join(f"{text} is {_value(value)}" for text, value in ((self.left, left), (self.right, right))
-                            if not text[0].isdigit())
+        shown = [f"{text} is {_value(value)}" for text, value in ((self.left, left), (self.right, right)) if not text[0].isdigit()]
+        return " and ".join(shown) or "these are other numbers"
 
 
 COMPARED: dict[str, Callable[[int, int], bool]] = {
@@ -207,6 +207,8 @@ class _Reader:
             self.rest = self.rest[len(places.PHYSICAL):]
             return Sum(places.always_at(self.total().value(self._driver)))
         constant, sign = 0, 1
+        if self.rest.startswith("-"):  # as gdb shows what is below 0
+            sign, self.rest = -1, self.rest[1:]
         pieces: List[Tuple[int, int, int]] = []
         while True:
             term = self._term()

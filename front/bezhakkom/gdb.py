@@ -99,7 +99,8 @@ def _symbols(image: Image, folder: Path) -> list[str]:
              for word in ("-ex", f"add-symbol-file {shlex.quote(file.name)} -readnow -o {file.offset:#x}")]
     if first:
         # Without --readnow gdb finds no lines of assembler sources.
-        return ["--readnow", "--directory", str(Path(first.name).resolve().parent), first.name, *added]
+        folders = [*(os.path.abspath(it) for it in first.sources), str(Path(first.name).resolve().parent)]
+        return ["--readnow", *(word for folder in folders for word in ("--directory", folder)), first.name, *added]
     symbols = symbols_of(image)
     names = {KSEG0: "ram", RESET_PC: "reset"}
     names |= {address: name for name in symbols.names() if (address := symbols.address(name)) is not None}

@@ -13,17 +13,16 @@ _NAMES = {"stepi": "step", "reverse-stepi": "back", "reverse-step": "back", "hbr
 
 _CALLS = "the shell goes by instructions: `visit pc+8` at a call goes on to where it returns, and `step` goes into it"
 _RETURNS = "`visit ra` goes on to where the function returns to, as long as ra holds that"
-_STACK = f"calls can't be told from the stack alone: `print ra` shows where the function returns to, and `{NAME} gdb` has `bt`"
-_SOURCE = ("the shell knows no source lines and no types: `symbols`, `dis` and `mem` show what it knows, "
-           f"and `{NAME} gdb` has the rest")
+_FRAMES = "`backtrace` shows the calls that are under way, with their steps: `goto` one of them shows what the registers held"
+_TYPES = f"the shell knows no types: `symbols`, `dis` and `mem` show what it knows, and `{NAME} gdb` has the rest"
 _START = "`goto 0` goes to reset, and `continue` goes on from there"
 _GDB = f"the shell has no such stops: `{NAME} gdb` has them"
 _FIXED = "registers and memory follow from the image and the log: `patch A W` changes what the machine starts with"
 _INSTEAD = {
     **dict.fromkeys(("next", "n", "nexti", "ni", "reverse-next", "reverse-nexti", "rn", "rni"), _CALLS),
     **dict.fromkeys(("finish", "fin", "reverse-finish"), _RETURNS),
-    **dict.fromkeys(("backtrace", "bt", "up", "down", "frame", "f"), _STACK),
-    **dict.fromkeys(("list", "l", "ptype", "whatis", "display"), _SOURCE),
+    **dict.fromkeys(("up", "down", "frame", "f"), _FRAMES),
+    **dict.fromkeys(("ptype", "whatis", "display"), _TYPES),
     **dict.fromkeys(("run", "start", "starti", "kill"), _START),
     **dict.fromkeys(("commands", "condition", "ignore", "tbreak", "rwatch", "awatch", "disable", "enable"), _GDB),
     **dict.fromkeys(("call", "jump", "j", "return"), _FIXED),
@@ -59,7 +58,7 @@ def translated(line: str) -> str:
     if name in ("break", "b", "hbreak", "watch", "print", "p"):
         return f"{_NAMES.get(name, name)} {_place(name, rest)}".strip()
     if line == "where":
-        raise Problem(f"{_STACK}; `where A` shows where an address leads")
+        return "backtrace"
     if name in _INSTEAD:
         raise Problem(_INSTEAD[name])
     return f"{_NAMES[name]} {rest}".strip() if name in _NAMES else line
@@ -87,8 +86,6 @@ def _place(name: str, rest: str) -> str:
     """An address, without the star and the cast that gdb has before it."""
     if re.search(r"\sif\s", rest):
         raise Problem(f"the shell has no conditions of breakpoints: `{NAME} gdb` has them")
-    if re.fullmatch(r"[\w./-]+:\d+", rest) and not rest.startswith("p:"):
-        raise Problem(f"{rest} is a line, and the shell knows none: `break` takes a symbol or an address")
     rest = re.sub(r"^-l(?:ocation)?\s+", "", rest)
     cast = _CAST.fullmatch(rest)
     size: Optional[int] = None

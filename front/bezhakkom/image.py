@@ -26,11 +26,12 @@ _GNU = re.compile(rb"^\s*(?:\.(?:text|data|bss|section|globa?l|set|align|p2align
 
 @dataclass(frozen=True)
 class SymbolFile:
-    """An ELF that has symbols of an image, and what is added to their addresses."""
+    """An ELF that has symbols of an image, what is added to their addresses, and folders in which its sources may be."""
 
     name: str
     content: bytes
     offset: int = 0
+    sources: tuple[str, ...] = ()
 
 
 @dataclass(frozen=True)

@@ -24,6 +24,11 @@ IN_GROUPS = re.compile(r"(?<![\w.,])\d{1,3}(?:,\d{3})+(?![\w,])")
 WITHOUT_NUMBER = (gdb.TYPE_CODE_ARRAY, gdb.TYPE_CODE_STRUCT, gdb.TYPE_CODE_UNION, gdb.TYPE_CODE_FUNC)
 REGISTER = re.compile(r"\$[a-z]\w*")  # of `writer`, which then means the register and not the word that it points to
 OF_PLACES = ("causes", "hits", "when", "why")  # the first of their words is mostly a place
+OF_VALUES = ("assert", "fuzz", "shrink", "try")  # they have places or values among their words
+SIGN = re.compile(r"==|!=|<=|>=|<|(?<!-)>")
+C_PLACE = re.compile(r"^[&*(]|\w\.[A-Za-z_]|->|\w\[")  # what only gdb understands
+OF_SHELL = re.compile(r"(?:byte|half)?\[.*|[\w./]*\.\w+:\w+(?:[+-]\w+)*|[A-Za-z_]\w*(?:[+-]\w+)*")
+WORDS_OF_SHELL = ("pos", "position", "last", "pc", "next", "console", "sent")
 OF_WORDS = ("dis", "mem", "patch", "stores", "visit", "where", "writer")  # their numbers have 32 bits, also those that gdb shows below 0
 
 
@@ -150,6 +155,66 @@ def as_place(word: str, of_code: bool) -> str:
     return f"{places[0].pc & 0xFFFF_FFFF:#x}"
 
 
+def as_word(word: str, of_words: bool) -> str:
+    """A word of a command: what gdb can evaluate is gdb's, and the rest may be the shell's, such as t0, [sp+4] and a.c:helper."""
+    try:
+        return as_number(word, of_words)
+    except gdb.GdbError:
+        if OF_SHELL.fullmatch(word):
+            return word
+        raise
+
+
+def as_side(text: str) -> str:
+    """A side of a condition: the value of what gdb can evaluate."""
+    text = text.strip()
+    if not text or text in WORDS_OF_SHELL or text[0] in QUOTES or text.startswith("$"):
+        return text
+    try:
+        return as_number(text.replace(" ", ""), False)
+    except gdb.GdbError:
+        return text
+
+
+def as_lvalue(word: str) -> str:
+    """A place: the address of a variable or of a part of one that only gdb knows. Other names and sums are the shell's."""
+    if word in WORDS_OF_SHELL or word[:1] in QUOTES or not C_PLACE.search(word) and not is_of_scope(word):
+        return word
+    try:
+        value = gdb.parse_and_eval(word)
+        return f"{int(value if value.address is None else value.address) & 0xFFFF_FFFF:#x}"
+    except gdb.error:
+        return word
+
+
+def is_of_scope(word: str) -> bool:
+    """Whether a name is a variable of the present scope, and no global one."""
+    try:
+        found = gdb.lookup_symbol(word)[0] if word.isidentifier() else None
+        return bool(found and found.is_variable and not gdb.lookup_global_symbol(word))
+    except gdb.error:
+        return False
+
+
+def of_gdb(name: str, words: list[str]) -> list[str]:
+    """The words of a command that asks for places or compares values, where what gdb can evaluate is evaluated by gdb."""
+    text = " ".join(words)
+    compared = SIGN.search(text)
+    if compared and QUOTES.intersection(text[:compared.start()]):
+        return words
+    if name == "assert" and compared:
+        return [as_side(text[:compared.start()]), compared[0], as_side(text[compared.end():])]
+    if name == "when" and compared:
+        right, *rest = re.split(r" (?=at |--)", text[compared.end():], maxsplit=1)
+        return [as_lvalue(as_place(text[:compared.start()].strip(), False)), compared[0], as_side(right), *rest]
+    made: list[str] = []
+    is_place = name in OF_PLACES
+    for word in words:
+        made.append(as_lvalue(as_place(word, name == "hits") if name in OF_PLACES and not made else word) if is_place else word)
+        is_place = word in ("show", "word") or is_place and name == "try" and word not in ("until", "at")
+    return made
+
+
 def whole(name: str) -> str:
     """The name that a beginning is of, where its words are no numbers; the stub knows the others."""
     found = [it for it in AS_THEY_ARE if len(name) > 2 and it.startswith(name)]
@@ -177,10 +242,10 @@ Numbers may be expressions without blanks: wb writer &session.length, wb goto $p
         name, *words = line.split()
         name = whole(name)
         before_quit.forget()
-        if name in OF_PLACES and words:
-            line = " ".join([name, as_place(words[0], name == "hits"), *words[1:]])
+        if name in (*OF_PLACES, *OF_VALUES) and words:
+            line = " ".join([name, *of_gdb(name, words)])
         elif name not in AS_THEY_ARE and not QUOTES.intersection(line) and not (name == "writer" and REGISTER.fullmatch(" ".join(words))):
-            line = " ".join([name, *(as_number(word, name in OF_WORDS) for word in words)])
+            line = " ".join([name, *(as_word(word, name in OF_WORDS) for word in words)])
         if name in RUNS:
             asked(f"next-run {line}")
             gdb.execute("continue")

@@ -33,7 +33,8 @@ def image_of(opening: Opening, tell: Callable[[str], None] = loading.say) -> Ima
     for note in notes:
         tell(note)
     elves += map(loading.symbol_file, opening.symbols)
-    return opening.constants().put_on(Image(" ".join(opening.files), "image", whole.write(), tuple(elves)))
+    made = Image(" ".join(opening.files), "image", whole.write(), tuple(elves))
+    return loading.with_sources(opening.constants().put_on(made), opening.sources)
 
 
 def is_one(files: Sequence[str]) -> bool:

@@ -9,7 +9,8 @@ EXTERNAL_LINES = 3
 RAM = range(0, 0x0080_0000)
 ROM = range(0x1FC0_0000, 0x1FC4_0000)
 
-RETURN_ADDRESS = 31  # the register that calls write
+STACK_POINTER = 29  # registers, as compilers use them
+RETURN_ADDRESS = 31
 HI, LO = 32, 33  # after the numbers of the general registers
 
 RESET_PC = 0xBFC0_0000

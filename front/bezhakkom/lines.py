@@ -109,15 +109,18 @@ class _Sequence:
 
     def __init__(self, rows: Iterable[_Row], end: int, shift: int) -> None:
         lines: Dict[int, _Numbers] = {}
-        statements: Dict[int, bool] = {}  # whether one begins there
+        self.statements: Dict[_Numbers, List[int]] = {}  # the addresses at which those of a line begin
+        begun: Set[int] = set()  # addresses at which one begins
         for address, numbers, is_statement in rows:
-            if address < end and (is_statement or not statements.get(address)):
-                lines[address], statements[address] = numbers, is_statement
+            if address < end and (is_statement or address not in begun):
+                lines[address] = numbers
+            if address < end and is_statement:
+                begun.add(address)
+                self.statements.setdefault(numbers, []).append(address)
         self.end = end
         self.shift = shift  # added to an address gives the one that the table has, which may be in kseg1
         self.addresses = sorted(lines)  # from which on the line of the same place is meant
         self.lines = [lines[address] for address in self.addresses]
-        self.statements = [statements[address] for address in self.addresses]
 
     def at(self, address: int) -> Optional[_Numbers]:
         place = bisect_right(self.addresses, address) - 1
@@ -152,13 +155,11 @@ class _Part:
         return self._program.files() if self._program else iter(())
 
     def lines_of(self, files: Set[int]) -> Iterator[Tuple[int, int]]:
-        """Virtual addresses at which statements of some sources begin, where a row of another line stands before them, and their lines."""
+        """Virtual addresses at which statements of some sources begin, and their lines."""
         for sequence in {id(it): it for it in self._read().values()}.values():
-            before: Optional[_Numbers] = None
-            for address, numbers, is_statement in zip(sequence.addresses, sequence.lines, sequence.statements):
-                if numbers[0] in files and numbers[1] > 0 and is_statement and numbers != before:
-                    yield address + sequence.shift, numbers[1]
-                before = numbers
+            for (file, line), addresses in sequence.statements.items():
+                if file in files and line > 0:
+                    yield from ((address + sequence.shift, line) for address in addresses)
 
     def _placed(self, address: int) -> int:
         return elf.in_kseg0(address + self._offset & 0xFFFF_FFFF)

@@ -37,12 +37,13 @@ class Opening:
     unit: Optional[str] = None
     byte_time: Optional[str] = None
     clock: Optional[str] = None
+    sources: tuple[str, ...] = ()
 
     @classmethod
     def of(cls, line: Namespace, *files: str) -> Opening:
         """What an argument line opens."""
         options: dict[str, Any] = {it.name: getattr(line, it.name, None) for it in fields(cls)}
-        options.update(files=files, symbols=tuple(options["symbols"] or ()))
+        options.update(files=files, symbols=tuple(options["symbols"] or ()), sources=tuple(options["sources"] or ()))
         return cls(**options)
 
     def constants(self) -> Constants:
@@ -75,6 +76,8 @@ def add_options(parser: Parser) -> None:
     parser.add_argument("--kind", metavar="KIND", help="what the image is, where it can't be seen: elf, image, rom or source")
     parser.add_argument("--symbols", metavar="FILE", action="append",
                         help="an ELF that has symbols of the image; may come several times. FILE@N adds N to their addresses")
+    parser.add_argument("--sources", metavar="DIR", action="append",
+                        help="a folder with the sources of the image's ELFs; may come several times")
     board.add_options(parser)
 
 
@@ -123,7 +126,15 @@ def booted(opening: Opening, tell: Callable[[str], None] = say) -> Image:
     """The image that is booted of a single file."""
     made = image(opening.files[0], opening.kind, tell)
     added = tuple(map(symbol_file, opening.symbols))
-    return replace(opening.constants().put_on(made), elves=made.elves + added)
+    return with_sources(replace(opening.constants().put_on(made), elves=made.elves + added), opening.sources)
+
+
+def with_sources(image: Image, folders: Sequence[str]) -> Image:
+    """An image whose sources may also be in some folders."""
+    for folder in folders:
+        if not Path(folder).is_dir():
+            raise Problem(f"--sources {folder}: there is no such folder")
+    return replace(image, elves=tuple(replace(file, sources=tuple(folders)) for file in image.elves))
 
 
 def symbol_file(text: str) -> SymbolFile:

@@ -10,7 +10,7 @@ from .installed import NAME
 from .session import Session
 
 # Commands of gdb's own do what these do.
-_OF_GDB = frozenset((*(it.name for it in COMMANDS.values() if it.group == STOPS), "quit"))
+_OF_GDB = frozenset((*(it.name for it in COMMANDS.values() if it.group == STOPS), "quit", "list", "backtrace"))
 
 REFUSED = "refused: "  # begins the answer to what can't be done
 

@@ -27,8 +27,10 @@ def load(session: Session, name: str) -> int:
     before = session.driver.image
     others = tuple(it for it in before.elves if it.name != before.name)  # those of --symbols
     if session.origin:
-        session.origin = session.origin.loaded(name, _options(board) if boot.constants() != board.constants() else [])
-    session.take_symbols(symbols_of(replace(made, elves=made.elves + others)))
+        constants = _options(board) if boot.constants() != board.constants() else []
+        session.origin = session.origin.loaded(name, loading.content_of(name), constants)
+    folders = before.elves[0].sources if before.elves else ()
+    session.take_symbols(symbols_of(loading.with_sources(replace(made, elves=made.elves + others), folders)))
     return len(changed)
 
 

@@ -48,11 +48,11 @@ class Origin:
         names = [image, *(loading.name_and_number(it)[0] for it in opening.symbols)]
         return cls(image, opening.options(), {name: loading.content_of(name) for name in names})
 
-    def loaded(self, name: str, constants: Sequence[tuple[str, str]]) -> Origin:
-        """The same with another image in place of the first one, which `load` took, with the constants of the board."""
-        files = {name: loading.content_of(name), **{it: content for it, content in self.files.items() if it not in (self.image, name)}}
+    def loaded(self, name: str, content: bytes, constants: Sequence[tuple[str, str]] = ()) -> Origin:
+        """The same with another image in place of the first one, which `load` took, and with options for the constants of the board."""
+        others = {file: content for file, content in self.files.items() if file not in (self.image, name)}
         kept = [(option, value) for option, value in self.options if option == "--symbols"]
-        return replace(self, image=name, options=[*constants, *kept], files=files)
+        return replace(self, image=name, options=[*constants, *kept], files={name: content, **others})
 
 
 @dataclass(frozen=True)

@@ -10,6 +10,7 @@ from .driver import Driver
 from .errors import Problem
 from .exceptions import Catch
 from .idle import IDLE_STEPS
+from .lines import Line
 from .log import Event
 from .saved import Origin, lines_of_edit
 from .symbols import Symbols
@@ -70,6 +71,7 @@ class Session:
     paused: Optional[Paused] = None
     origin: Optional[Origin] = None
     logs: dict[str, list[Event]] = field(default_factory=dict)  # that were kept under a name
+    listed: Optional[tuple[int, Line, int]] = None  # where `list` was asked for last: the position, its line, and what comes next
     saved_log: list[Event] = field(default_factory=list)
     saved_patches: list[tuple[int, int]] = field(default_factory=list)
 

@@ -15,6 +15,7 @@ from .errors import Problem
 from .image import Image
 from .limits import ROM
 from .lines import Lines
+from .sources import Sources
 
 _BRANCHES = frozenset("beq bne bltz bgez bltzal bgezal blez bgtz".split())
 _JUMPS = frozenset(("j", "jal"))
@@ -30,8 +31,9 @@ _MADE = re.compile(r"\.?L\w*\d|_f(?:text|data|bss)$|_(?:etext|edata|end|gp)$|__b
 class Symbols:
     """The symbols of a program."""
 
-    def __init__(self, symbols: Iterable[Symbol] = (), lines: Lines = Lines()) -> None:
+    def __init__(self, symbols: Iterable[Symbol] = (), lines: Lines = Lines(), sources: Sources = Sources()) -> None:
         self.lines = lines
+        self.sources = sources
         self._by_name: dict[str, List[Symbol]] = {}
         at: dict[int, Symbol] = {}
         for name, symbol in self._named_apart(symbols):
@@ -40,12 +42,15 @@ class Symbols:
             at.setdefault(elf.in_kseg0(symbol.address), symbol)
         self._starts: List[int] = []
         self._sorted: List[Symbol] = []
-        end = 0  # of the last symbol that people gave
+        end = end_of_sized = 0  # of the last symbol that people gave, and of the last one that has a size
         for start, symbol in sorted(at.items()):
-            if not _is_made(symbol):
-                end = start + (symbol.size or _UNSIZED)
-            elif start < end:
-                continue
+            if _is_made(symbol):
+                if start < end:
+                    continue
+            elif symbol.size:
+                end = end_of_sized = start + symbol.size
+            elif start >= end_of_sized:
+                end = start + _UNSIZED
             self._starts.append(start)
             self._sorted.append(symbol)
 
@@ -133,6 +138,23 @@ class Symbols:
             first.setdefault(address - named[1] if named else address, address)
         return sorted(first.values())
 
+    def function(self, address: int) -> Optional[Tuple[int, int]]:
+        """The addresses from which on and below which the function is that an address belongs to, or the part of code after a label."""
+        placed = elf.in_kseg0(address)
+        shift = address - placed
+        for place in reversed(range(bisect_right(self._starts, placed))):
+            symbol, start = self._sorted[place], self._starts[place]
+            if symbol.kind == "func" and symbol.size:
+                if placed < start + symbol.size:
+                    return start + shift, start + symbol.size + shift
+                break
+        found = self.at(address)
+        if not found:
+            return None
+        place = bisect_right(self._starts, placed)
+        end = self._starts[place] if place < len(self._starts) else placed + _UNSIZED
+        return address - found[1], end + shift
+
     def is_function(self, address: int) -> bool:
         """Whether a function begins at a virtual address, or a label of code that has a source line."""
         found = self.at(address)
@@ -160,7 +182,7 @@ def symbols_of(image: Image) -> Symbols:
     found = [symbol for file in image.elves for symbol in elf.symbols(file)]
     if image.kind == "source":
         found += (Symbol(name, _virtual(place), 0, "other") for name, place in Source(image.content).labels.items())
-    return Symbols(found, Lines(image.elves))
+    return Symbols(found, Lines(image.elves), Sources(image.elves))
 
 
 def _virtual(place: int) -> int:

@@ -140,6 +140,28 @@ class Names(unittest.TestCase):
                          ["buffer+0x7", "label+0x8", "", ""])
         self.assertEqual(names.names(), ["buffer", "label", "main", "other"])
 
+    def test_static_names_of_several_sources_are_told_apart_by_file(self) -> None:
+        """A symbol that two ELFs have at one place is one, and a name without a file is found by its address."""
+        names = Symbols([Symbol("helper", 0x8000_1000, 8, "func", "src/a.c"), Symbol("helper", 0x8000_2000, 8, "func", "b.c"),
+                         Symbol("once", 0x8000_3000, 8, "func", "a.c"), Symbol("once", 0xA000_3000, 8, "func", "a.c"),
+                         Symbol("both", 0x8000_4000, 4, "object"), Symbol("both", 0x8000_5000, 4, "object")])
+        self.assertEqual(names.names(), ["a.c:helper", "b.c:helper", "both", "once"])
+        self.assertEqual([it.address for it in names.found("helper")], [0x8000_1000, 0x8000_2000])
+        self.assertEqual([names.address(it) for it in ("a.c:helper", "b.c:helper", "c.c:helper", "once")],
+                         [0x8000_1000, 0x8000_2000, None, 0x8000_3000])
+        self.assertEqual([names.name(it) for it in (0x8000_1004, 0x8000_2000, 0x8000_5000)], ["a.c:helper+0x4", "b.c:helper", "both"])
+        self.assertEqual([it.address for it in names.found("both")], [0x8000_4000, 0x8000_5000])
+
+    def test_labels_of_tools_never_win_over_a_name(self) -> None:
+        """Not at the begin of a function or a label, not within one, and not after a label without a size."""
+        names = Symbols([Symbol("_ftext", 0x8000_0000, 0, "other"), Symbol("start", 0x8000_0000, 0, "other"), Symbol("L5", 0x8000_0010, 0, "other"),
+                         Symbol(".L2", 0x8000_0024, 0, "other"), Symbol("main", 0x8000_0020, 16, "func"), Symbol("loop", 0x8000_0028, 0, "other"),
+                         Symbol("_etext", 0x8000_0030, 0, "other"), Symbol("buffer", 0x8000_0040, 8, "object"), Symbol("_end", 0x8000_0048, 0, "other")])
+        at = {0x8000_0000: "start", 0x8000_0010: "start+0x10", 0x8000_0024: "main+0x4", 0x8000_0028: "loop", 0x8000_0030: "_etext",
+              0x8000_0044: "buffer+0x4", 0x8000_0048: "_end"}
+        self.assertEqual({it: names.name(it) for it in at}, at)
+        self.assertEqual(names.address("_ftext"), 0x8000_0000)
+
     def test_of_an_elf(self) -> None:
         content = made([(0xBFC0_0000, 0xBFC0_0000, bytes(16), 16)],
                        symbols=[("start", 0xBFC0_0000, 8, 2), ("$L1", 0xBFC0_0004, 0, 0), (".text", 0xBFC0_0000, 0, 3)])

@@ -137,8 +137,8 @@ class Login(GdbTest):
         lines = self.batch("starti 60000", "wb writer &session.length", "wb goto $position-9971",
                            "wb mem session.user+4 1",
                            "frame")
-        self.holds(lines, "step 50,031, read_line+0x94, 9,969 steps ago: sw r3, 32(r4)",
-                   "step 50,029, read_line+0x8c: sb r2, 9(r5)", "47\t            session.line[session.length] = c;",
+        self.holds(lines, "step 50,031, read_line+0x94 (login.c:48), 9,969 steps ago: sw r3, 32(r4)",
+                   "step 50,029, read_line+0x8c (login.c:47): sb r2, 9(r5)", "47\t            session.line[session.length] = c;",
                    "0x80001004 <session+0x4>: 0x726f7461  |ator|")
 
     def test_what_is_typed_and_expected(self) -> None:
@@ -161,10 +161,10 @@ class Login(GdbTest):
             "44\t            session.length--;", "at 40024",
             "1,2 is no number: a comma stands before three digits, as in 40,024",
             "30,0 is no number: a comma stands before three digits, as in 40,024",
-            "usage: goto N", 'nothing: No symbol "nothing" in current context.', "goto N: goes to position N",
+            "usage: goto N", "there is no symbol and no register nothing", "goto N: goes to position N",
             # `session`, a structure, is taken for its address.
-            "step 14, copy+0x10, 40,010 steps ago: sw r12, 0(r9)",
-            "step 30,024, read_line+0x30, 10,000 steps ago: sw r3, 32(r2)", "0x80001000 <session>: 0x7265706f  |oper|",
+            "step 14, copy+0x10 (start.S:15), 40,010 steps ago: sw r12, 0(r9)",
+            "step 30,024, read_line+0x30 (login.c:44), 10,000 steps ago: sw r3, 32(r2)", "0x80001000 <session>: 0x7265706f  |oper|",
             "no memory stands at the physical address 0x80001000: RAM is 8 MiB from 0x80000000 (physical 0), "
             "ROM 256 KiB from 0xbfc00000 (physical 0x1fc00000)",
             "0xc0000000 leads nowhere at this position: its translation entry is missing or not valid. It leads to memory at "
@@ -172,7 +172,7 @@ class Login(GdbTest):
             "0x00001000 leads nowhere at this position: no translation entry has its page. It leads to memory at positions "
             "where an entry maps its page 0x00001, mostly in user mode. The word with that physical address is at 0x80001000, "
             "which is p:0x1000", "there is no command frob; `help` lists them",
-            "-5 is no number and no name; `help numbers` says what may stand there",
+            "a position is 0 to 1,099,511,627,775",
             "0x8000ffd3 is no multiple of 4; the word that it is in is at 0x8000ffd0"])
 
     def test_an_expression_of_a_far_step(self) -> None:

@@ -170,7 +170,7 @@ class Echo(unittest.TestCase):
                 ("watch 0xbfe00000", "no memory"), ("watch loop 0", "1 to 1,024 bytes"), ("watch loop 2000", "not 2,000"),
                 ("watch 0x807ffffc 8", "0x80800003 leads to the physical address 0x00800003, where no memory"),
                 ("save-log /no/such", "can't be written"), ("st", "may be step, stops"),
-                ("goto 5+", "no number"), ("goto 5 5", "usage"), ("print 'ab'", "not one character"), ("goto -1", "no number"),
+                ("goto 5+", "no number"), ("goto 5 5", "usage"), ("print 'ab'", "not one character"), ("goto -1", "a position is 0 to"),
                 ("wb foo", "error 2 Syntax"), ("undo", "no edit"), ("back", "refused: a position")):
             self.assertRegex("\n".join(self.talk(line)), said, line)
 
@@ -307,8 +307,8 @@ class Habits(unittest.TestCase):
                 ("watch session.length", "is C, whose types the shell does not know. session is at 0x80001000 of 36 bytes: .* print "
                  "&session.length"),
                 ("watch session->user", "session\\+4, and for `watch` its size"), ("p session[3]", "session is at 0x80001000"),
-                ("bt", "`bin/wb gdb` has `bt`"), ("where", "`bin/wb gdb` has `bt`"), ("next", "`visit pc\\+8` at a call"), ("finish", "`visit ra`"), ("run", "`goto 0`"),
-                ("list", "no source lines"), ("info locals", "`info` of registers"), ("break login.c:42", "is a line"),
+                ("up", "`backtrace` shows the calls"), ("ptype session", "the shell knows no types"), ("next", "`visit pc\\+8` at a call"), ("finish", "`visit ra`"), ("run", "`goto 0`"),
+                ("info locals", "`info` of registers"), ("break login.c:999", "no code in line 999"),
                 ("break main if v0 == 1", "no conditions"), ("set var x = 1", "`patch A W`"), ("tbreak main", "`bin/wb gdb` has them")):
             self.assertRegex(talk(line)[0], said, line)
 
