@@ -20,7 +20,7 @@ REGISTERS = ("zero at v0 v1 a0 a1 a2 a3 t0 t1 t2 t3 t4 t5 t6 t7 "
 _NUMBERS = {name: number for number, name in enumerate(REGISTERS)}
 _NUMBERS.update({f"{sign}{number}": number for sign in "r$" for number in range(32)}, s8=30)
 
-_TERM = re.compile(r"0x[0-9a-fA-F]+|[0-9]{1,3}(?:,[0-9]{3})+(?![0-9,])|[0-9]+(?![0-9,])|'(?:[^'\\]|\\.)+'"
+_TERM = re.compile(r"[\w./]*\.\w+:[0-9]+|0x[0-9a-fA-F]+|[0-9]{1,3}(?:,[0-9]{3})+(?![0-9,])|[0-9]+(?![0-9,])|'(?:[^'\\]|\\.)+'"
                    r"|[&$]?(?:[\w./]*\.\w+:)?[A-Za-z_.][\w.$]*|\$[0-9]+(?!\w)")
 _OPENED = re.compile(r"(byte|half|)\[")
 _PART = re.compile(r"[&*]*([A-Za-z_]\w*)(?:\.|->|\[)[\w.\[\]>-]*")
@@ -34,7 +34,7 @@ _MOST_DIGITS = 64  # zeros before a number count too
 
 HELP = """\
 Wherever a number may stand: 4096, 40,017, 0x1000, 'a', the name of a register (sp, r29, pc, hi, epc), of a symbol
-(main), `pos` for the position, `last` for the step of the log's last event, and sums and differences of these:
+(main) or a line (a.c:12), `pos` for the position, `last` for the step of the log's last event, and sums and differences of these:
 main+0x78, sp-16. [A] is the word of memory at address A, half[A] two bytes and byte[A] one: [sp+16], byte[[line]+3].
 A name that is both a symbol and a word of the shell (a register, `pos`, `last`) is refused: &NAME is the symbol, and
 $NAME the word of the shell. Of several symbols with one name, a.c:NAME is that of the source a.c.
@@ -248,6 +248,8 @@ class _Reader:
         return address, _SIZES[opened[1]]
 
     def _number(self, term: str) -> int:
+        if _LINE.fullmatch(term):
+            return self._line(*term.rsplit(":", 1))
         if term[0].isdigit() and ":" not in term:
             return _natural(term)
         if term[0] == "'":
@@ -271,6 +273,15 @@ class _Reader:
             raise Problem(f"there is no register {shortened(name)}" if term[0] == "$" else
                           f"there is no symbol and no register {shortened(name)}")
         return register
+
+    def _line(self, file: str, number: str) -> int:
+        """The address of a line of a source."""
+        found = self._symbols.addresses_of_line(file, int(number))
+        if len(found) > 1:
+            raise Problem(f"{file}:{number} has {len(found):,} locations: {', '.join(map(self._symbols.address_and_name, found))}. "
+                          "Name the address that is meant")
+        self._has_symbols = True
+        return found[0]
 
     def _which(self, name: str) -> str:
         """That a name has several places, and how one of them is meant."""

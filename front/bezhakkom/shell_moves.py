@@ -22,8 +22,16 @@ def pos(session: Session, words: list[str]) -> None:
 
 @command("goto N", "goes to position N", MOVES)
 def goto(session: Session, words: list[str]) -> None:
-    session.driver.goto(session.number(words[0]))
+    session.driver.goto(_position(session, words[0]))
     session.show_position()
+
+
+def _position(session: Session, text: str) -> int:
+    """The number of a step, which the name of a place is not."""
+    found = expressions.read(text, session.driver, session.symbols)
+    if found.is_named:
+        raise Problem(f"{text} is a place, and a position is a number of steps: `visit {text}` goes on to where its instruction comes next")
+    return found.value(session.driver)
 
 
 @command("step [N]", "goes N steps on, or one", MOVES)
@@ -115,7 +123,7 @@ def continue_(session: Session, words: list[str]) -> None:
 
 @command("until N", "goes on to position N, or the next breakpoint or watch: until 40,000, until last+1,000", STOPS)
 def until(session: Session, words: list[str]) -> None:
-    _go_on(session, session.number(words[0]))
+    _go_on(session, _position(session, words[0]))
 
 
 def _go_on(session: Session, end: int) -> None:

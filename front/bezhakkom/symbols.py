@@ -69,7 +69,7 @@ class Symbols:
 
     def _file(self, symbol: Symbol) -> str:
         """The name of the source that a symbol is of, without its folder, or the empty text."""
-        line = None if symbol.file or symbol.kind == "object" else self.lines.at(symbol.address)
+        line = self.lines.at(symbol.address) if symbol.kind == "func" and not symbol.file else None
         return PurePosixPath(symbol.file or (line.file if line else "")).name
 
     def address(self, name: str) -> Optional[int]:

@@ -157,7 +157,7 @@ class Login(GdbTest):
                            "wb mem 0xc0000000 1", "wb mem 0x1000 1", "wb frob", "wb goto -5",
                            "wb writer $sp-0x1000+0x3")
         self.assertEqual(lines[4:-1], [
-            "step 40,024, read_line+0x30: sw r3, 32(r2)", "#0  0xbfc00258 in read_line () at login.c:44",
+            "step 40,024, read_line+0x30 (login.c:44): sw r3, 32(r2)", "#0  0xbfc00258 in read_line () at login.c:44",
             "44\t            session.length--;", "at 40024",
             "1,2 is no number: a comma stands before three digits, as in 40,024",
             "30,0 is no number: a comma stands before three digits, as in 40,024",

@@ -18,7 +18,7 @@ from front.tests.outside import run
 from front.tests.scripts import shell
 from front.tests.support import ROOT
 
-COMPILER, NM = "mipsel-linux-gnu-gcc", "mipsel-linux-gnu-nm"
+COMPILER, NM, READELF = "mipsel-linux-gnu-gcc", "mipsel-linux-gnu-nm", "mipsel-linux-gnu-readelf"
 OPTIONS = ("-march=mips1 -mabi=32 -EL -msoft-float -mno-abicalls -fno-pic -G0 -ffreestanding -Og -g -nostdlib -static "
            "-Wl,-n,--build-id=none").split()
 START = ROOT / "examples/login/start.S"
@@ -80,6 +80,12 @@ def addresses(elf: str, name: str) -> List[int]:
     """The addresses of a name in the order of the ELF, as nm shows them."""
     shown = subprocess.run([NM, "-n", elf], capture_output=True, text=True, check=True).stdout
     return [int(line.split()[0], 16) & 0xFFFF_FFFF for line in shown.splitlines() if line.split()[-1] == name]
+
+
+def addresses_of_line(elf: str, file: str, number: int) -> int:
+    """The least address of a statement of a line, as readelf shows the table."""
+    shown = subprocess.run([READELF, "-W", "--debug-dump=decodedline", elf], capture_output=True, text=True, check=True).stdout
+    return min(int(it[1], 16) for it in re.finditer(rf"(?m)^{re.escape(file)}\s+{number}\s+(0x[0-9a-f]+)(?:\s+\d+)?\s+x$", shown))
 
 
 def answers(elf: str, *lines: str, options: Sequence[str] = ()) -> List[List[str]]:
@@ -147,6 +153,11 @@ class Words(InFolder):
         self.assertRegex(sum_[-1], "^step 5, ")
         self.assertEqual(position, ["pos = 0x00000005  5"])
 
+    def test_place_is_no_position(self) -> None:
+        """A position of 3 thousand million steps was run to."""
+        for line in "until main", "goto main+4", "until one.c:16":
+            self.assertRegex(answers(self.elf, line)[0][0], " is a place, and a position is a number of steps: `visit ")
+
     def test_help_says_what_a_double_name_means(self) -> None:
         text = " ".join(answers(self.elf, "help numbers")[0])
         self.assertIn("A name that is both a symbol and a word of the shell (a register, `pos`, `last`) is refused", text)
@@ -173,6 +184,13 @@ class Sources(InFolder):
         text = ONE.splitlines()
         self.assertEqual(list_, [f"{'=>' if it == 16 else '  '} {it:5}  {text[it - 1]}" for it in range(11, 21)])
         self.assertEqual(on, [f"   {it:5}  {text[it - 1]}" for it in range(21, 23)])
+
+    def test_line_is_an_address_in_all_commands(self) -> None:
+        at, there, when = answers(self.elf, "print one.c:16", "visit one.c:16", "hits one.c:16")
+        address = int(at[0].split()[2], 16)
+        self.assertEqual(addresses_of_line(self.elf, "one.c", 16), address)
+        self.assertRegex(there[0], r"^step \d+, main\+0x[0-9a-f]+ \(one\.c:16\): ")
+        self.assertRegex(when[0], r"\(one\.c:16\), up to step \d+: 1$")
 
     def test_sources_are_found_in_named_folder(self) -> None:
         elsewhere = self.folder / "elsewhere"
