@@ -62,12 +62,29 @@ def _entry(driver: Driver, symbols: Symbols, pc: int, position: int, stack: int)
         if found is None:
             return None
         state, before = registers_at(driver, [found, max(found - 2, 0)])
+        called = _called(driver, state, found, begin) if found > 1 and begin <= before.pc < end else None
+        if called is not None:  # `found` is a turn of a loop at the begin of the function
+            found = called
+            state, before = registers_at(driver, [found, found - 2])
         is_call = found < 2 or before.pc + 8 & 0xFFFF_FFFF == state.general[RETURN_ADDRESS]
         is_of_stack = 0 <= state.general[STACK_POINTER] - stack <= _LARGEST
         if found < 2 or is_of_stack and (is_call or not begin <= before.pc < end) and not _has_returned(driver, state, found, position):
             return found, state
         at, found = found, None
     return None
+
+
+def _called(driver: Driver, state: Registers, position: int, begin: int) -> Optional[int]:
+    """The last position at which a function was entered by the call to which its return address belongs."""
+    back = state.general[RETURN_ADDRESS]
+    if back % 4:
+        return None
+    driver.goto(position)
+    call = search.last_visit(driver, [back - 8 & 0xFFFF_FFFF], 0)
+    entered = None if call is None else call + 2
+    if entered is None or entered > position or registers_at(driver, [entered])[0].pc != begin:
+        return None
+    return entered
 
 
 def _has_returned(driver: Driver, state: Registers, entered: int, position: int) -> bool:

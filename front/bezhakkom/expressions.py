@@ -34,8 +34,9 @@ _MOST_DIGITS = 64  # zeros before a number count too
 
 HELP = """\
 Wherever a number may stand: 4096, 40,017, 0x1000, 'a', the name of a register (sp, r29, pc, hi, epc), of a symbol
-(main) or a line (a.c:12), `pos` for the position, `last` for the step of the log's last event, and sums and differences of these:
-main+0x78, sp-16. [A] is the word of memory at address A, half[A] two bytes and byte[A] one: [sp+16], byte[[line]+3].
+(main) or of a line (a.c:12), `pos` for the position, `last` for the step of the log's last event, and sums and
+differences of these: main+0x78, sp-16. [A] is the word of memory at address A, half[A] two bytes and byte[A] one:
+[sp+16], byte[[line]+3].
 A name that is both a symbol and a word of the shell (a register, `pos`, `last`) is refused: &NAME is the symbol, and
 $NAME the word of the shell. Of several symbols with one name, a.c:NAME is that of the source a.c.
 """ + places.HELP

@@ -28,7 +28,7 @@ OF_VALUES = ("assert", "fuzz", "shrink", "try")  # they have places or values am
 SIGN = re.compile(r"==|!=|<=|>=|<|(?<!-)>")
 C_PLACE = re.compile(r"^[&*(]|\w\.[A-Za-z_]|->|\w\[")  # what only gdb understands
 OF_SHELL = re.compile(r"(?:byte|half)?\[.*|[\w./]*\.\w+:\w+(?:[+-]\w+)*|[A-Za-z_]\w*(?:[+-]\w+)*")
-WORDS_OF_SHELL = ("pos", "position", "last", "pc", "next", "console", "sent")
+WORDS_OF_SHELL = ("pos", "position", "last", "pc", "next", "console", "sent", "exception")
 OF_WORDS = ("dis", "mem", "patch", "stores", "visit", "where", "writer")  # their numbers have 32 bits, also those that gdb shows below 0
 
 

@@ -224,6 +224,17 @@ class Sources(InFolder):
         self.assertGreater(max(map(len, shown)), 5)
 
 
+class Interrupted(unittest.TestCase):
+    def test_backtrace_passes_an_interrupt_and_a_loop_at_the_begin_of_a_function(self) -> None:
+        """The first byte of the loader's log arrives in step 20,000, when `receive` waits for one in a loop at its begin."""
+        loader = str(ROOT / "examples/loader/loader.elf")
+        _, shown, most = answers(loader, "visit interrupt", "backtrace", "backtrace 2", options=("--log", str(ROOT / "examples/loader/log")))
+        self.assertEqual([re.sub(r"\+0x[0-9a-f]+|:\d+", "", it) for it in shown[:5]], [
+            "#0  interrupt (loader.c)", "#1  exception (start.S), in step 20,025", "#2  receive (loader.c), in step 20,000, where exception int was taken",
+            "#3  read_line (loader.c), in step 1,803", "#4  main (loader.c), in step 1,796"])
+        self.assertEqual(most, [*shown[:2], "there are more: `backtrace C` shows at most 2 calls where C is 2"])
+
+
 class Builds(InFolder):
     """Another build of the program, in which functions and variables are elsewhere."""
 
@@ -302,6 +313,21 @@ class Expressions(InFolder):
         self.assertRegex(shown, r"(?m)^\S+ > 0 holds first at step \d+, after step \d+, main\+0x[0-9a-f]+ \(one\.c:18\)")
         self.assertRegex(shown, r"(?m)^step \d+, main\+0x[0-9a-f]+ \(one\.c:17\), ")
         self.assertIn(f"one.c:helper = {addresses(self.elf, 'helper')[0]:#010x}", shown)
+
+    def test_gdb_evaluates_places_that_are_tried_and_finds_sources(self) -> None:
+        """The event is a backspace: the letter in its place makes the length 1."""
+        debugger.needed()
+        login = str(ROOT / "examples/login/login.elf")
+        commands = ("wb goto 40,100", "wb try 2 'a' show &session.length session.user", "wb assert session.length + 1 == 0")
+        text = debugger.run([debugger.WB, "gdb", "--log", str(ROOT / "examples/login/log"), login, *debugger.PLAIN, "-batch",
+                             *(word for it in commands for word in ("-ex", it))])
+        self.assertRegex(text, r"(?m)^ +line 0 sends '\*', in \w+, session\+0x20 is 0x00000001, session is 0x7265706f$")
+        self.assertIn("that holds", text)
+        elsewhere = self.folder / "elsewhere"
+        elsewhere.mkdir()
+        (self.folder / "two.c").rename(elsewhere / "two.c")
+        text = debugger.run([debugger.WB, "gdb", "--sources", str(elsewhere), self.elf, *debugger.PLAIN, "-batch", "-ex", "list two.c:5,6"])
+        self.assertIn(f"5\t{TWO.splitlines()[4]}\n6\t", text)
 
     def test_word_in_brackets_where_an_address_is_wanted_is_explained(self) -> None:
         said, = answers(self.elf, "causes [start]")
