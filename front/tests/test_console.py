@@ -183,7 +183,7 @@ class Shell(unittest.TestCase):
         terminal = self.start(LOGIN)
         terminal.until(b"wb 0> ")
         terminal.type(b"visit read_l\t\r")
-        terminal.until(b"read_line: ")
+        terminal.until(b"read_line (login.c:39): ")
         terminal.until(b"> ")
         terminal.type(b"add 5 0 1\r")
         terminal.until(b"event 0")

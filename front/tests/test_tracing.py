@@ -114,7 +114,7 @@ class InTheShell(unittest.TestCase):
                                              "wb stores &session.length 1", log="login/log"))
             self.assertEqual(len(name.read_text().splitlines()), 6)
         self.assertIn("40,024 read_line+0x30 (login.c:44): sw r3, 32(r2)   stores 0xffffffff into 0x80001020 <session+0x20>", shown)
-        self.assertIn("0xffffffff by step 40,024, read_line+0x30, 1 step ago", shown)
+        self.assertIn("0xffffffff by step 40,024, read_line+0x30 (login.c:44), 1 step ago", shown)
 
     def test_io(self) -> None:
         shown = self.shown("goto 6684", "io 3").splitlines()
