@@ -61,12 +61,16 @@ class Lines:
         """Returns the line of a virtual address, if it is known. kseg0 and kseg1 addresses of one word have the same line."""
         self._find_parts()
         address = elf.in_kseg0(address)
-        for place in reversed(range(bisect_right(self._begins, address))):
+        end = place = bisect_right(self._begins, address)
+        found: Optional[_Sequence] = None
+        while place and not found:
+            place -= 1
             found = self._parts[place].sequence(self._begins[place])
-            if found:  # Only the sequence that begins last before the address can have it.
-                numbers = found.at(address)
-                return self._parts[place].line(numbers) if numbers else None
-        return None
+        # Only the sequence that begins last before the address can have it. What begins none is not looked at again.
+        first = place + 1 if found else place
+        del self._begins[first:end], self._parts[first:end]
+        numbers = found.at(address) if found else None
+        return self._parts[place].line(numbers) if numbers else None
 
     def addresses(self, file: str, number: int) -> Optional[List[int]]:
         """Returns the virtual addresses at which the code of a line begins, or that of the first line after it that has code. `file` is the
@@ -137,8 +141,9 @@ class _Part:
         self._sequences: Optional[Dict[int, _Sequence]] = None  # that have addresses, by where they begin
 
     def begins(self) -> Iterator[int]:
-        """Where its sequences begin, and perhaps other numbers."""
-        return (self._placed(int.from_bytes(match[1], "little")) for match in _BEGIN.finditer(self._content))
+        """Where its sequences begin, and perhaps other numbers. The linker has left out those that begin at 0."""
+        begins = (int.from_bytes(match[1], "little") for match in _BEGIN.finditer(self._content))
+        return (self._placed(begin) for begin in begins if begin)
 
     def sequence(self, begin: int) -> Optional[_Sequence]:
         """The sequence that begins at an address, if there is one."""
@@ -171,8 +176,7 @@ class _Part:
             self._sequences = {}
             try:
                 for begins, rows, end in self._program.sequences() if self._program else ():
-                    # The linker has left out those that begin at 0.
-                    if begins[0]:
+                    if begins[0]:  # else the linker has left it out
                         shift = (begins[0] + self._offset & 0xFFFF_FFFF) - self._placed(begins[0])
                         made = _Sequence([(self._placed(row[0]), *row[1:]) for row in rows], self._placed(end), shift)
                         self._sequences.update((self._placed(begin), made) for begin in begins if made.addresses)
