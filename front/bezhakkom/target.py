@@ -78,11 +78,15 @@ def last_exception(driver: Driver) -> int:
         driver.goto(here)
 
 
+def bits(number: int) -> int:
+    """Returns how many bits the register of a number has."""
+    return BITS.get(NAMES[number], 32)
+
+
 def text(registers: dict[str, int], number: int) -> bytes:
     """The hexadecimal digits of a register, low byte first."""
-    name = NAMES[number]
-    bits = BITS.get(name, 32)
-    return (registers[name] & (1 << bits) - 1).to_bytes(bits // 8, "little").hex().encode()
+    size = bits(number)
+    return (registers[NAMES[number]] & (1 << size) - 1).to_bytes(size // 8, "little").hex().encode()
 
 
 def all_text(registers: dict[str, int]) -> bytes:
