@@ -48,6 +48,7 @@ class CtrlC:
         self._file = os.environ.get("BEZHAKKOM_INTERRUPTS")
         self._is_new = True  # nothing ran since the prompt
         self._has_ended = False  # Ctrl-C has ended a run since the prompt
+        self._has_prompt = False  # gdb shows prompts, as it does not under MI
 
     def begin(self) -> None:
         """Something runs. What was pressed before it was typed is forgotten."""
@@ -82,11 +83,16 @@ class CtrlC:
         """A run or steps have stopped."""
         self.drop()
         self._has_ended = getattr(event, "stop_signal", "") == "SIGINT"
+        # gdb gets to this when what was typed has ended, or when it next waits for a run. MI has no prompt hook.
+        gdb.post_event(self._line_ended)
+
+    def _line_ended(self) -> None:
+        self._is_new, self._has_ended = self._is_new or not self._has_prompt, False
 
     def prompted(self) -> None:
         """gdb shows its prompt."""
         self.drop()
-        self._is_new, self._has_ended = True, False
+        self._is_new, self._has_ended, self._has_prompt = True, False, True
 
 
 ctrl_c = CtrlC()

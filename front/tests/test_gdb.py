@@ -11,6 +11,7 @@ import signal
 import subprocess
 import sys
 import tempfile
+import time
 import unittest
 from pathlib import Path
 from typing import Sequence
@@ -18,6 +19,7 @@ from typing import Sequence
 from front.tests import debugger
 from front.tests.debugger import batch
 from front.tests.support import needs_erase
+from front.tests.wire import COUNTER
 
 POSITION = 'printf "at %d\\n", $position'
 
@@ -310,6 +312,49 @@ class Reads(GdbTest):
                 "examples/login/login.elf",
                 *(word for command in commands for word in ("-ex", command))]
         self.holds(debugger.run(line).splitlines(), "at 112", "at 100", "0x80000200:\t0x00000007")
+
+
+
+class MachineInterface(unittest.TestCase):
+    """gdb under MI, as editors start it, which calls no prompt hook."""
+
+    def setUp(self) -> None:
+        folder = tempfile.TemporaryDirectory()
+        self.addCleanup(folder.cleanup)
+        image = Path(folder.name, "counter.rom")
+        image.write_bytes(b"".join(word.to_bytes(4, "little") for word in COUNTER))
+        self.process = subprocess.Popen([debugger.WB, "gdb", str(image), *debugger.PLAIN, "--interpreter=mi3"], cwd=debugger.ROOT,
+                                        stdin=subprocess.PIPE, stdout=subprocess.PIPE, stderr=subprocess.STDOUT, start_new_session=True)
+        self.addCleanup(self.process.communicate)
+        self.addCleanup(self.process.kill)
+
+    def send(self, line: str) -> None:
+        assert self.process.stdin
+        self.process.stdin.write(line.encode() + b"\n")
+        self.process.stdin.flush()
+
+    def until(self, *beginnings: str) -> str:
+        """The next line that begins so."""
+        assert self.process.stdout
+        for line in self.process.stdout:
+            text = line.decode("latin-1").rstrip()
+            if text.startswith(beginnings):
+                return text
+        raise AssertionError(f"gdb has ended without {beginnings}")
+
+    def test_step_after_an_interrupted_run_is_made(self) -> None:
+        self.until("*stopped")
+        for _ in range(2):
+            self.send("-exec-continue")
+            self.until("*running")
+            time.sleep(0.3)
+            os.killpg(self.process.pid, signal.SIGINT)
+            self.assertIn('signal-name="SIGINT"', self.until("*stopped"))
+            self.send("-exec-step-instruction")
+            self.assertEqual(self.until("^"), "^running")
+            self.assertIn('reason="end-stepping-range"', self.until("*stopped"))
+        self.send("-gdb-exit")
+        self.assertEqual(self.until("^exit"), "^exit")
 
 
 if __name__ == "__main__":
