@@ -2,6 +2,7 @@
 from __future__ import annotations
 
 import os
+import re
 import shlex
 import shutil
 import signal
@@ -28,7 +29,9 @@ from .symbols import symbols_of
 DEBUGGER = "gdb-multiarch"
 IN_GDB = PACKAGE / "in_gdb.py"
 
-JUMP = "BEZHAKKOM_JUMP"  # names the file of the jump's symbol for what runs in gdb
+# Of the environment of what runs in gdb:
+JUMP = "BEZHAKKOM_JUMP"  # names the file of the jump's symbol
+MI = "BEZHAKKOM_MI"  # is set if gdb's interpreter is MI
 
 DESCRIPTION = """\
 gdb on the run of an image, forward and back. What stands after the image is gdb's own. In gdb `wb LINE` asks the
@@ -77,6 +80,8 @@ def main(arguments: Sequence[str]) -> int:
         words += ["-ex", "python stops.make()"]
         presses = Path(folder, "interrupts")
         environment = {**os.environ, JUMP: _jump(image, Path(folder)), interrupts.VARIABLE: str(presses)}
+        if _is_mi(line.rest):
+            environment[MI] = "1"
         if progress:
             with suppress(OSError):  # a terminal may have no name here
                 environment[TERMINAL] = os.ttyname(sys.stdout.fileno())
@@ -88,6 +93,11 @@ def main(arguments: Sequence[str]) -> int:
 def _python() -> list[str]:
     """The words that start this Python, which keeps compiled modules where this process does."""
     return [sys.executable, *(["-X", f"pycache_prefix={sys.pycache_prefix}"] if sys.pycache_prefix else [])]
+
+
+def _is_mi(words: Sequence[str]) -> bool:
+    """Returns whether words for gdb choose MI: `--interpreter=mi3`, `-i mi`."""
+    return bool(re.search(r"(?:^| )--?(?:i|int\w*)[= ]mi", " ".join(words)))
 
 
 def _symbols(image: Image, folder: Path) -> list[str]:

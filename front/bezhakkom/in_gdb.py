@@ -48,7 +48,7 @@ class CtrlC:
         self._file = os.environ.get("BEZHAKKOM_INTERRUPTS")
         self._is_new = True  # nothing ran since the prompt
         self._has_ended = False  # Ctrl-C has ended a run since the prompt
-        self._has_prompt = False  # gdb shows prompts, as it does not under MI
+        self._is_mi = bool(os.environ.get("BEZHAKKOM_MI"))  # gdb has no prompt, and each line is one command
 
     def begin(self) -> None:
         """Something runs. What was pressed before it was typed is forgotten."""
@@ -82,17 +82,13 @@ class CtrlC:
     def stopped(self, event: object) -> None:
         """A run or steps have stopped."""
         self.drop()
-        self._has_ended = getattr(event, "stop_signal", "") == "SIGINT"
-        # gdb gets to this when what was typed has ended, or when it next waits for a run. MI has no prompt hook.
-        gdb.post_event(self._line_ended)
-
-    def _line_ended(self) -> None:
-        self._is_new, self._has_ended = self._is_new or not self._has_prompt, False
+        self._has_ended = getattr(event, "stop_signal", "") == "SIGINT" and not self._is_mi
+        self._is_new = self._is_new or self._is_mi
 
     def prompted(self) -> None:
         """gdb shows its prompt."""
         self.drop()
-        self._is_new, self._has_ended, self._has_prompt = True, False, True
+        self._is_new, self._has_ended = True, False
 
 
 ctrl_c = CtrlC()
