@@ -77,7 +77,7 @@ def main(arguments: Sequence[str]) -> int:
         # The notes are the stub's to give.
         image = loading.booted(found.opening, tell=lambda note: None)
         words += [*_symbols(image, Path(folder)), "-x", str(IN_GDB), "-ex", f"target extended-remote | {command}"]
-        words += ["-ex", "python stops.make()"]
+        words += ["-ex", "python image.begin(); stops.make()"]
         presses = Path(folder, "interrupts")
         environment = {**os.environ, JUMP: _jump(image, Path(folder)), interrupts.VARIABLE: str(presses)}
         if _is_mi(line.rest):

@@ -48,6 +48,11 @@ class Origin:
         names = [image, *(loading.name_and_number(it)[0] for it in opening.symbols)]
         return cls(image, opening.options(), {name: loading.content_of(name) for name in names})
 
+    def loaded(self, name: str, content: bytes) -> Origin:
+        """The same with another image in place of the first one, which `load` took."""
+        others = {file: content for file, content in self.files.items() if file not in (self.image, name)}
+        return replace(self, image=name, files={name: content, **others})
+
 
 @dataclass(frozen=True)
 class Opened:

@@ -35,6 +35,8 @@ class Edit:
     log: list[Event]
     patches: list[tuple[int, int]]
     made: list[str]
+    symbols: Symbols
+    origin: Optional[Origin]
 
 
 @dataclass(frozen=True)
@@ -143,12 +145,28 @@ class Session:
     def editing(self, line: str) -> Iterator[None]:
         """Keeps what stood before, where a line edits, so that it can be taken back."""
         driver = self.driver
-        log, patches, count = list(driver.log), list(driver.patches), len(driver.journal)
+        log, patches, count, symbols, origin = list(driver.log), list(driver.patches), len(driver.journal), self.symbols, self.origin
         try:
             yield
         finally:
-            if driver.log != log or driver.patches != patches:
-                self.edits.append(Edit(line, log, patches, driver.journal[count:]))
+            if driver.log != log or driver.patches != patches or self.symbols is not symbols:
+                self.edits.append(Edit(line, log, patches, driver.journal[count:], symbols, origin))
+
+    def undo(self) -> None:
+        """Takes the last edit back. Symbols are again those that stood before it."""
+        if not self.edits:
+            raise Problem("there is no edit to take back")
+        edit = self.edits[-1]
+        self.driver.revert(edit.log, edit.patches)
+        self.edits.pop()
+        self.typed.clear()
+        self.origin = edit.origin
+        self.tell(f"taken back: {edit.line}" + ("; the symbols are those of before" if edit.symbols is not self.symbols else ""))
+        self.take_symbols(edit.symbols)
+
+    def take_symbols(self, symbols: Symbols) -> None:
+        """Takes the symbols of another image."""
+        self.symbols = symbols
 
     def made_again(self) -> list[str]:
         """Lines that make the edits, stops, settings and the position again, from the log and the image before the first edit."""

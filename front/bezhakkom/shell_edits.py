@@ -85,13 +85,7 @@ def patch(session: Session, words: list[str]) -> None:
 
 @command("undo", "takes the last edit back", PAST)
 def undo(session: Session, words: list[str]) -> None:
-    if not session.edits:
-        raise Problem("there is no edit to take back")
-    edit = session.edits[-1]
-    session.driver.revert(edit.log, edit.patches)
-    session.edits.pop()
-    session.typed.clear()
-    session.tell(f"taken back: {edit.line}")
+    session.undo()
 
 
 @command("type [L] 'TEXT' [GAP]", "lets TEXT arrive at line L, or 0, from this position on, GAP steps apart", SERIAL, edits=True)

@@ -4,11 +4,12 @@ from __future__ import annotations
 import fcntl
 import os
 import re
+import shlex
 import signal
 import sys
 from typing import Callable, Optional, Sequence
 
-from . import agent, elf, gdb_stops, listening, loading, memory, monitor, places, rescue, saved, target, through
+from . import agent, elf, gdb_stops, listening, loading, memory, monitor, places, reloading, rescue, saved, target, through
 from .arguments import Parser
 from .errors import Interrupted, Problem, Unexpected
 from .gdb_stops import MOST_WATCHED
@@ -36,6 +37,7 @@ FEATURES = (b"PacketSize=%x;QStartNoAckMode+;qXfer:features:read+;ReverseStep+;R
 OK, FAILED, NOT_KNOWN, GONE = b"OK", b"E01", b"", b"W00"
 CODE, CODE_IN_HARDWARE, WRITE = range(3)  # of the kinds of breakpoints and watches; the others watch reads
 
+ELF_FILE = "elf-file"  # of `monitor`: names the ELF of the present image, for front/bezhakkom/in_gdb.py
 NEXT_RUN = "next-run "  # of `monitor`: the next continue runs the line after it, so that it is shown and ended as a run is
 
 NOT_WRITTEN = ("registers can't be written: they follow from the image and the log, which can be edited. "
@@ -64,6 +66,9 @@ class Stub:
         self._places: dict[int, int] = {}  # where watched addresses led last
         self._loaded = False  # memory was written since the last run
         self._next_run = ""  # a line of `monitor` that the next continue runs
+        self._on_disk = reloading.OnDisk(session)
+        self._told: list[str] = []  # changed files that were named
+        self._elf_file = reloading.ElfFile(session)
         # The position and the number of edits that gdb knows of: `monitor` moves and edits without gdb.
         self._known: Optional[tuple[int, int]] = None
         driver.wants_stop = self._motion.wants_stop
@@ -91,6 +96,7 @@ class Stub:
             reply = ANSWERS[begin](self, packet[len(begin):])
             if begin in MOVES:
                 self._known = self._here()
+                self._tell_of_changes()
             return reply
         except Interrupted:
             # Where the run was not made yet it can't be shown at once.
@@ -110,6 +116,16 @@ class Stub:
 
     def _here(self) -> tuple[int, int]:
         return self._driver.position, len(self._driver.journal)
+
+    def _tell_of_changes(self) -> None:
+        """Names the files that were written since they were loaded, each change once."""
+        changed = self._on_disk.changed()
+        for name in changed:
+            if name not in self._told:
+                is_image = self._session.origin and name == self._session.origin.image
+                self._tell(f"{name} has changed on disk, and this is a run of what it was: "
+                           + ("`run` or `load` loads it, and keeps the log" if is_image else "start again to read its symbols"))
+        self._told = list(changed)
 
     # What the stub is
 
@@ -291,11 +307,22 @@ class Stub:
         return self._motion.leave(range(first, end, 4))
 
     def _run(self, rest: bytes) -> bytes:
-        """Starts again, at the position that is the first word after the file's name."""
+        """Starts again, at the position that is the first word after the file's name. An image that was built again is loaded first."""
+        self._load_changed()
         words = [_from_digits(word).decode("latin-1") for word in rest.split(b";")[1:]]
         self._driver.goto(self._session.number(words[0]) if words else 0)
         self._killed, self._next_run = False, ""
         return TRAP
+
+    def _load_changed(self) -> None:
+        """Loads the image if its file has changed, or fails with the reason why that is not possible."""
+        origin = self._session.origin
+        if origin is None or origin.image not in self._on_disk.changed():
+            return
+        refusal = monitor.refusal(self._session, f"load {shlex.quote(origin.image)}", self._tell)
+        if refusal:
+            raise Problem(f"{origin.image} has changed on disk and can't be loaded: {refusal}")
+        self._on_disk.changed()
 
     def _kill(self, rest: bytes) -> bytes:
         self._killed = True
@@ -307,8 +334,12 @@ class Stub:
 
     def _command(self, rest: bytes) -> bytes:
         line = _from_digits(rest).decode("utf-8", "surrogateescape")
+        if line == ELF_FILE:
+            self._say(self._elf_file.text(self._on_disk.changed()))
+            return OK
         if not line.startswith(NEXT_RUN):
             self._say(monitor.answer(self._session, line))
+            self._on_disk.changed()  # a `load` reads what is on disk
             return OK
         line = line[len(NEXT_RUN):]
         if line.split()[:1] == ["until"]:
