@@ -166,10 +166,9 @@ _DUP, _POP, _SWAP, _PICK, _ROTATE = 0x28, 0x29, 0x2B, 0x32, 0x33
 
 
 def taken(code: Optional[int]) -> bytes:
-    """Returns the expression that an exception was just taken, of a code or of any. Cause is read first, which takes less time. The shell
-    does not evaluate it again, so that it has one value: the exception is extended from its 32 bits."""
+    """Returns the expression that an exception was just taken, of a code or of any. Cause is read first, which takes less time. Its value
+    is one alone, as the shell does not evaluate it again: the exception has 64 bits, and those of Cause that are used are its low ones."""
     exception, cause = (bytes([_REGISTER, *target.NUMBERS[name].to_bytes(2, "big")]) for name in (target.EXCEPTION, "cause"))
-    exception += bytes([_EXTEND, 32])
     if code is None:
         return exception + bytes([_BYTE, 0, _LESS, _LOG_NOT, _END])
     first = cause + bytes([_BYTE, 2, _SHIFTED, _BYTE, 31, _AND, _BYTE, code, _EQUAL])

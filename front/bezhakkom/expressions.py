@@ -147,6 +147,8 @@ class _Reader:
             self.rest = self.rest[len(places.PHYSICAL):]
             return places.always_at(self.total())
         total, sign = 0, 1
+        if self.rest.startswith("-"):  # as gdb shows what is below 0
+            sign, self.rest = -1, self.rest[1:]
         while True:
             total += sign * self._term()
             if self.rest[:1] not in ("+", "-"):

@@ -127,7 +127,14 @@ class Login(GdbTest):
             "      00400000 00000000 00000000 00000000 00000000 bfc00258 ",
             "      00000000 00000000 ",
             "position: 0x9c58",
-            "      bfc0025c 00000000 00000000 00000000 00000000 00001700 00000000 00000000 ")
+            "exception: 0xffffffffffffffff",
+            "      bfc0025c 00000000 00000000 00000000 00000000 00001700 00000000 00000000 ",
+            "       entryhi      epc     prid",
+            "      00000000 00000000 00000220 ")
+
+    def test_wb_print_takes_negative_values(self) -> None:
+        lines = self.batch("starti 50029", "wb print session.length", "wb print -1746062932", "wb print session.length-4")
+        self.holds(lines, "-1 = 0xffffffff  -1", "-1746062932 = 0x97ed31ac  -1,746,062,932", "-5 = 0xfffffffb  -5")
 
     def test_an_edit(self) -> None:
         lines = self.batch("continue", "wb del 2", POSITION, "wb goto 0", "continue", POSITION, "wb log 0 3")
