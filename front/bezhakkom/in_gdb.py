@@ -421,6 +421,7 @@ class BeforeQuit(gdb.Command):
         if unsaved and unsaved != self._said and os.isatty(0):
             self._said = unsaved
             raise gdb.GdbError(f"{unsaved}`quit` again leaves without it.")
+        asked("leaves")
 
 
 def prompt(current_prompt: str) -> str:

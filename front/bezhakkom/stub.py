@@ -38,6 +38,7 @@ OK, FAILED, NOT_KNOWN, GONE = b"OK", b"E01", b"", b"W00"
 CODE, CODE_IN_HARDWARE, WRITE = range(3)  # of the kinds of breakpoints and watches; the others watch reads
 
 ELF_FILE = "elf-file"  # of `monitor`: names the ELF of the present image, for front/bezhakkom/in_gdb.py
+LEAVES = "leaves"  # of `monitor`: the user leaves the debugger, and unsaved edits with it
 NEXT_RUN = "next-run "  # of `monitor`: the next continue runs the line after it, so that it is shown and ended as a run is
 
 NOT_WRITTEN = ("registers can't be written: they follow from the image and the log, which can be edited. "
@@ -62,6 +63,7 @@ class Stub:
         self._breakpoints: dict[tuple[int, int], list[bytes]] = {}  # conditions by kinds and addresses
         self._killed = False  # the debugger may start the run again
         self._ended = False
+        self.is_left = False  # the user leaves, and knows what is not saved
         self._functions: Optional[tuple[Symbols, frozenset[int]]] = None  # their addresses, by the symbols of an image
         self._places: dict[int, int] = {}  # where watched addresses led last
         self._loaded = False  # memory was written since the last run
@@ -334,6 +336,9 @@ class Stub:
 
     def _command(self, rest: bytes) -> bytes:
         line = _from_digits(rest).decode("utf-8", "surrogateescape")
+        if line == LEAVES:
+            self.is_left = True
+            return OK
         if line == ELF_FILE:
             self._say(self._elf_file.text(self._on_disk.changed()))
             return OK
@@ -464,14 +469,18 @@ def main(arguments: Sequence[str]) -> int:
     with saved.opened(loading.Opening.of(line, line.image)) as found, loading.running(found.opening) as driver:
         session = Session(driver, symbols_of(driver.image), origin=found.origin, saved_log=list(driver.log))
         open_session(session, found.commands)
-        with rescue.kept(lambda: session.text(os.getcwd(), True) if session.unsaved() else None):
+        with rescue.kept(session.unsaved_text, line.image) as reason:
             if where is not None:
                 _listen(session, where, whole)
                 return 0
             stub = Stub(session, Link(sys.stdin.fileno(), sys.stdout.fileno()), exceptions_whole=whole)
             if line.progress:
                 stub.show_progress()
+            # The stub gets no signal of gdb's terminal, from which gdb keeps it apart. And gdb detaches also if a signal ends it.
+            reason.text = "the debugger has ended"
             stub.serve()
+            if stub.is_left:
+                reason.text = ""
     return 0
 
 

@@ -170,7 +170,7 @@ class Echo(unittest.TestCase):
                 ("watch 0xbfe00000", "no memory"), ("watch loop 0", "1 to 1,024 bytes"), ("watch loop 2000", "not 2,000"),
                 ("watch 0x807ffffc 8", "0x80800003 leads to the physical address 0x00800003, where no memory"),
                 ("save-log /no/such", "can't be written"), ("st", "may be step, stops"),
-                ("goto 5+", "no number"), ("goto 5 5", "usage"), ("print 'ab'", "not one character"), ("goto -1", "no number"),
+                ("goto 5+", "no number"), ("goto 5 5", "usage"), ("print 'ab'", "not one character"), ("goto -1", "a position is 0 to"),
                 ("wb foo", "error 2 Syntax"), ("undo", "no edit"), ("back", "refused: a position")):
             self.assertRegex("\n".join(self.talk(line)), said, line)
 
