@@ -41,6 +41,10 @@ ELF_FILE = "elf-file"  # of `monitor`: names the ELF of the present image, for f
 LEAVES = "leaves"  # of `monitor`: the user leaves the debugger, and unsaved edits with it
 NEXT_RUN = "next-run "  # of `monitor`: the next continue runs the line after it, so that it is shown and ended as a run is
 
+MANY_BACK = 500
+SLOW_BACK = (f"\n[gdb steps back one instruction at a time, {MANY_BACK} up to here. Ctrl-C ends that. `reverse-next` passes over calls, "
+             "`reverse-continue` to a breakpoint goes back at once, and `reverse-finish` leaves a function.]\n")
+
 NOT_WRITTEN = ("registers can't be written: they follow from the image and the log, which can be edited. "
                "To run other code, patch it; to call a function, let the program call it")
 
@@ -68,6 +72,7 @@ class Stub:
         self._places: dict[int, int] = {}  # where watched addresses led last
         self._loaded = False  # memory was written since the last run
         self._next_run = ""  # a line of `monitor` that the next continue runs
+        self._back_steps = 0  # steps back in a row
         self._on_disk = reloading.OnDisk(session)
         self._told: list[str] = []  # changed files that were named
         self._elf_file = reloading.ElfFile(session)
@@ -98,6 +103,7 @@ class Stub:
             reply = ANSWERS[begin](self, packet[len(begin):])
             if begin in MOVES:
                 self._known = self._here()
+                self._back_steps = self._back_steps if begin == b"bs" else 0
                 self._tell_of_changes()
             return reply
         except Interrupted:
@@ -292,6 +298,9 @@ class Stub:
         return self._motion.go_back()
 
     def _step_back(self, rest: bytes) -> bytes:
+        self._back_steps += 1
+        if self._back_steps == MANY_BACK:
+            self._say(SLOW_BACK)
         return self._motion.step_back()
 
     def _actions(self, rest: bytes) -> bytes:

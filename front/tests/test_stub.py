@@ -133,6 +133,20 @@ class Runs(StubTest):
         self.stops(wire, ("s", "T05", 1), ("vCont;s:1;c", "T05", 2), ("bs", "T05", 1), ("bs", "T05", 0),
                    ("bs", "T05replaylog:begin;", 0))
 
+    def test_many_steps_back_name_what_is_faster_once(self) -> None:
+        wire = self.wire(COUNTER)
+        wire.command("goto 2000")
+        for _ in range(499):
+            wire.ask("bs")
+        self.assertEqual(wire.console, b"")
+        for _ in range(700):
+            wire.ask("bs")
+        self.assertEqual(wire.console.count(b"`reverse-next` passes over calls"), 1)
+        wire.ask("s")
+        for _ in range(499):
+            wire.ask("bs")
+        self.assertEqual(wire.console.count(b"`reverse-next` passes over calls"), 1)
+
     def test_a_step_beyond_the_end(self) -> None:
         needs_erase(self)
         wire = self.wire(COUNTER)
