@@ -13,6 +13,7 @@ from . import loading
 from .initial import Boot, boot_of
 from .errors import Problem
 from .image import ELF_MAGIC
+from .saved import Origin
 from .session import Session
 from .symbols import symbols_of
 
@@ -51,7 +52,8 @@ class OnDisk:
     def __init__(self, session: Session) -> None:
         self._session = session
         self._known: dict[str, bytes] = {}  # by absolute names: contents that were on disk when they were loaded
-        self._looked: Optional[tuple[object, ...]] = None  # at these files, as the system describes them
+        self._origin: Optional[Origin] = None  # whose files were looked at last
+        self._looked: list[object] = []  # these, as the system describes them
         self._changed: list[str] = []
 
     def changed(self) -> list[str]:
@@ -60,9 +62,9 @@ class OnDisk:
         origin = self._session.origin
         if origin is None or origin.is_packed:
             return []
-        looked = (origin.image, id(origin.files), *map(_described, origin.files))
-        if looked != self._looked:
-            self._looked = looked
+        looked: list[object] = [_described(name) for name in origin.files]
+        if origin is not self._origin or looked != self._looked:
+            self._origin, self._looked = origin, looked
             self._changed = [name for name, content in origin.files.items() if self._differs(name, content)]
         return self._changed
 
