@@ -59,7 +59,8 @@ def kept(session: Text, image: str) -> Iterator[Reason]:
         if reason.text:
             _keep(session, image, reason.text)
         for it in taken:
-            signal.signal(it, signal.SIG_DFL)
+            if signal.getsignal(it) is end:  # else the process ends, and another signal is to change nothing
+                signal.signal(it, signal.SIG_DFL)
 
 
 def _keep(session: Text, image: str, why: str) -> None:

@@ -181,7 +181,7 @@ class Login(GdbTest):
             "0x00001000 leads nowhere at this position: no translation entry has its page. It leads to memory at positions "
             "where an entry maps its page 0x00001, mostly in user mode. The word with that physical address is at 0x80001000, "
             "which is p:0x1000", "there is no command frob; `help` lists them",
-            "-5 is no number and no name; `help numbers` says what may stand there",
+            "a position is 0 to 1,099,511,627,775",
             "0x8000ffd3 is no multiple of 4; the word that it is in is at 0x8000ffd0"])
 
     def test_an_expression_of_a_far_step(self) -> None:
