@@ -11,7 +11,7 @@ from dataclasses import dataclass, field
 from typing import Collection, Iterator, Mapping, Optional, Sequence
 
 from . import agent, replies, search
-from .agent import Failed, Known, Unknown
+from .agent import Known, Unknown
 from .driver import Driver
 from .limits import GREATEST_POSITION, RESET_PC, VISIT_STEPS
 
@@ -186,7 +186,4 @@ class _Condition:
         yield from sorted(hits)
 
     def _holds(self, known: Known) -> bool:
-        try:
-            return not self.expressions or any(agent.value(it, known) for it in self.expressions)
-        except Failed:
-            return True
+        return not self.expressions or any(agent.may_hold(expression, known) for expression in self.expressions)

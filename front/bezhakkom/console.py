@@ -10,7 +10,7 @@ import tty
 from contextlib import contextmanager
 from typing import Iterator, Sequence
 
-from . import loading, saved
+from . import loading, rescue, saved
 from . import log as logs
 from .arguments import Parser, natural
 from .arriving import gap_of
@@ -66,9 +66,12 @@ def main(arguments: Sequence[str]) -> int:
         raise Problem(f"a line is 0 to {LINES - 1}, and a speed at least 1 step a second")
     if not all(it and it.isatty() for it in (sys.stdin, sys.stdout)):
         raise Problem(f"console wants a terminal; scripts have `type` and `expect` of {NAME} shell")
-    with saved.running(loading.Opening.of(line, line.image)) as driver:
-        print(f"line {serial}, {speed:,} steps a second; Ctrl-] ? shows the keys")
-        Console(driver, serial, speed).run()
+    with saved.opened(loading.Opening.of(line, line.image)) as found, loading.running(found.opening) as driver:
+        driver.values(found.edits())
+        console = Console(driver, serial, speed)
+        with rescue.kept(lambda: saved.text_of_state(found.origin, os.getcwd(), driver) if console.is_unsaved() else None, line.image):
+            print(f"line {serial}, {speed:,} steps a second; Ctrl-] ? shows the keys")
+            console.run()
     return 0
 
 
@@ -177,8 +180,11 @@ class Console:
         """Whether an event is of the terminal's line."""
         return event.kind != Kind.WIRE and event.line == self._line
 
+    def is_unsaved(self) -> bool:
+        return self._driver.log != self._saved
+
     def _leave(self) -> None:
-        if self._driver.log != self._saved:
+        if self.is_unsaved():
             self._save()
         self._left = True
 

@@ -2,6 +2,7 @@
 from __future__ import annotations
 
 import os
+import re
 import shlex
 import shutil
 import signal
@@ -11,9 +12,9 @@ import tempfile
 from argparse import REMAINDER
 from contextlib import suppress
 from pathlib import Path
-from typing import Sequence
+from typing import Mapping, Sequence
 
-from . import interrupts, loading, saved, symbol_file, through
+from . import interrupts, loading, rescue, saved, symbol_file, through
 from .arguments import Parser
 from .elf import jump_to
 from .errors import Problem
@@ -28,7 +29,9 @@ from .symbols import symbols_of
 DEBUGGER = "gdb-multiarch"
 IN_GDB = PACKAGE / "in_gdb.py"
 
-JUMP = "BEZHAKKOM_JUMP"  # names the file of the jump's symbol for what runs in gdb
+# Of the environment of what runs in gdb:
+JUMP = "BEZHAKKOM_JUMP"  # names the file of the jump's symbol
+MI = "BEZHAKKOM_MI"  # is set if gdb's interpreter is MI
 
 DESCRIPTION = """\
 gdb on the run of an image, forward and back. What stands after the image is gdb's own. In gdb `wb LINE` asks the
@@ -74,20 +77,48 @@ def main(arguments: Sequence[str]) -> int:
         # The notes are the stub's to give.
         image = loading.booted(found.opening, tell=lambda note: None)
         words += [*_symbols(image, Path(folder)), "-x", str(IN_GDB), "-ex", f"target extended-remote | {command}"]
-        words += ["-ex", "python stops.make()"]
+        words += ["-ex", "python image.begin(); stops.make()"]
+        if any(re.fullmatch("--?batch(-silent)?", word) for word in line.rest):
+            words += ["-ex", "python asked('leaves')"]  # the lines that edit are kept where they came from
         presses = Path(folder, "interrupts")
         environment = {**os.environ, JUMP: _jump(image, Path(folder)), interrupts.VARIABLE: str(presses)}
+        if _is_mi(line.rest):
+            environment[MI] = "1"
         if progress:
             with suppress(OSError):  # a terminal may have no name here
                 environment[TERMINAL] = os.ttyname(sys.stdout.fileno())
         # A Ctrl-C is gdb's, and is noted for the stub.
         signal.signal(signal.SIGINT, lambda number, frame: interrupts.note(presses))
-        return subprocess.call([*words, *arguments[count:]], env=environment)
+        status = _run([*words, *arguments[count:]], environment)
+    rescue.offer(line.image)  # what the stub has kept: gdb shows nothing more of it after its own end
+    return status
+
+
+def _run(words: Sequence[str], environment: Mapping[str, str]) -> int:
+    """Runs gdb, and returns its status. A signal that ends this process ends gdb, which leaves the stub, which keeps unsaved edits."""
+    ended: list[int] = []
+    with subprocess.Popen(words, env=environment) as process:
+        def end(number: int, frame: object) -> None:
+            ended.append(number)
+            process.send_signal(signal.SIGHUP)  # at SIGTERM gdb also shows an error of its Python
+
+        for number in (signal.SIGTERM, signal.SIGHUP):
+            if signal.getsignal(number) == signal.SIG_DFL:
+                signal.signal(number, end)
+        status = process.wait()
+    for number in set(ended):
+        signal.signal(number, signal.SIG_IGN)  # the process ends, and another signal is to change nothing
+    return 128 + ended[0] if ended else 128 - status if status < 0 else status
 
 
 def _python() -> list[str]:
     """The words that start this Python, which keeps compiled modules where this process does."""
     return [sys.executable, *(["-X", f"pycache_prefix={sys.pycache_prefix}"] if sys.pycache_prefix else [])]
+
+
+def _is_mi(words: Sequence[str]) -> bool:
+    """Returns whether words for gdb choose MI: `--interpreter=mi3`, `-i mi`."""
+    return bool(re.search(r"(?:^| )--?(?:i|int\w*)[= ]mi", " ".join(words)))
 
 
 def _symbols(image: Image, folder: Path) -> list[str]:

@@ -53,6 +53,7 @@ class CtrlC:
         self._file = os.environ.get("BEZHAKKOM_INTERRUPTS")
         self._is_new = True  # nothing ran since the prompt
         self._has_ended = False  # Ctrl-C has ended a run since the prompt
+        self._is_mi = bool(os.environ.get("BEZHAKKOM_MI"))  # gdb has no prompt, and each line is one command
 
     def begin(self) -> None:
         """Something runs. What was pressed before it was typed is forgotten."""
@@ -86,7 +87,8 @@ class CtrlC:
     def stopped(self, event: object) -> None:
         """A run or steps have stopped."""
         self.drop()
-        self._has_ended = getattr(event, "stop_signal", "") == "SIGINT"
+        self._has_ended = getattr(event, "stop_signal", "") == "SIGINT" and not self._is_mi
+        self._is_new = self._is_new or self._is_mi
 
     def prompted(self) -> None:
         """gdb shows its prompt."""
@@ -257,6 +259,7 @@ Numbers may be expressions without blanks: wb writer &session.length, wb goto $p
             asked(line, gdb.write)
         finally:
             flush()
+        image.follow()
         if here() != before:
             gdb.execute("frame")
 
@@ -331,11 +334,98 @@ class Stops:
         return ("" if stop.enabled else "disabled ") + ("t" if stop.temporary else "") + line
 
 
+    def places(self) -> dict[int, tuple[str, str]]:
+        """Where each stop is: what it was made with, and its addresses."""
+        return {it.number: (it.location or it.expression or "", self._addresses(it)) for it in gdb.breakpoints()}
+
+    def _addresses(self, stop: gdb.Breakpoint) -> str:
+        try:
+            if stop.location:
+                return ", ".join(f"{it.pc & 0xFFFF_FFFF:#010x}" for it in gdb.decode_line(stop.location)[1] or ())
+            return f"{int(gdb.parse_and_eval(f'&({stop.expression})')) & 0xFFFF_FFFF:#010x}" if stop.expression else ""
+        except gdb.error:
+            return ""
+
+    def tell_moved(self, before: dict[int, tuple[str, str]]) -> None:
+        """Names the stops that are elsewhere than before, as symbols of another program were read."""
+        for number, (where, addresses) in self.places().items():
+            _, earlier = before.get(number, (where, addresses))
+            if addresses and addresses != earlier:
+                gdb.write(f"stop {number} moved with {where}" + (f", from {earlier}" if earlier else "") + f" to {addresses}\n")
+            elif earlier and not addresses:
+                gdb.write(f"stop {number} was at {where}, which this program does not have: `delete {number}` removes it\n")
+
+
 stops = Stops()
 
 
+def quoted(name: str) -> str:
+    """The name of a file as a word of a line: it may have blanks."""
+    quote = '"' if "'" in name else "'"
+    return f"{quote}{name}{quote}"
+
+
+class Image:
+    """The image of the run. gdb has the symbols of its ELF: after `load`, and after an `undo` of that, those of another one."""
+
+    def __init__(self) -> None:
+        self._digest = ""  # of the ELF whose symbols gdb has
+
+    def begin(self) -> None:
+        """gdb has read the symbols at its start."""
+        self._digest = self._asked()[0]
+
+    def follow(self) -> None:
+        """Lets gdb have the symbols of the image, and names the stops that move with them."""
+        digest, file, _, _ = self._asked()
+        if digest == self._digest:
+            return
+        self._digest = digest
+        if file:
+            before = stops.places()
+            gdb.execute(f"file {quoted(file)}", to_string=True)
+            stops.tell_moved(before)
+
+    def name(self) -> str:
+        """The file of the image, by the name that the user knows, or '' if it is no ELF."""
+        return self._asked()[2]
+
+    def load(self, name: str) -> None:
+        before_quit.forget()
+        before = here()
+        asked("goto 0")
+        try:
+            gdb.write(asked(f"load {quoted(name)}"))
+        except gdb.GdbError:
+            asked(f"goto {before[0] if before else 0}")
+            raise
+        self.follow()
+        flush()
+
+    def load_changed(self) -> None:
+        """Loads the ELF if it was built again since it was loaded."""
+        _, _, name, state = self._asked()
+        if state != "changed":
+            return
+        gdb.write(f"{name} has changed on disk: it is loaded, and the log stays\n")
+        try:
+            self.load(name)
+        except gdb.GdbError as error:
+            raise gdb.GdbError(f"it can't be loaded: {error}\nNothing runs. Build it again, or move the old file back.") from None
+
+    def _asked(self) -> list[str]:
+        """What the stub says of the ELF: a digest, a file, the user's name for it, and whether that has changed on disk."""
+        try:
+            return (asked("elf-file").splitlines() + [""] * 4)[:4] if here() else [""] * 4
+        except gdb.GdbError:
+            return [""] * 4
+
+
+image = Image()
+
+
 class Load(gdb.Command):
-    """Loads a program that was built anew: load [FILE]. Without FILE it is the present one, and its symbols are read again.
+    """Loads a program that was built again: load [FILE]. Without FILE it is the present one. gdb then has its symbols.
 The log and all else stay, and the run is at position 0."""
 
     def __init__(self) -> None:
@@ -343,18 +433,10 @@ The log and all else stay, and the run is at position 0."""
 
     def invoke(self, line: str, from_terminal: bool) -> None:
         space = gdb.current_progspace()
-        present = space.filename if space else None
-        name = os.path.abspath(line.strip()) if line.strip() else present
-        if name is None:
-            raise gdb.GdbError("load wants a file: load FILE")
-        before_quit.forget()
-        asked("goto 0")
-        quote = '"' if "'" in name else "'"  # a name may have blanks
-        quoted = f"{quote}{name}{quote}"
-        gdb.write(asked(f"load {quoted}"))
-        if name == present:
-            gdb.execute(f"file {quoted}", to_string=True)
-        flush()
+        name = os.path.abspath(line.strip()) if line.strip() else image.name() or (space and space.filename)
+        if not name:
+            raise gdb.GdbError("load needs a file: load FILE")
+        image.load(name)
 
 
 def name_the_jump() -> None:
@@ -372,6 +454,17 @@ class BeforeRun(gdb.Command):
 
     def invoke(self, line: str, from_terminal: bool) -> None:
         ctrl_c.go()
+
+
+class BeforeStart(gdb.Command):
+    """Begins what starts again: a program that was built again is loaded first."""
+
+    def __init__(self) -> None:
+        super().__init__("before-start", gdb.COMMAND_OBSCURE)
+
+    def invoke(self, line: str, from_terminal: bool) -> None:
+        ctrl_c.go()
+        image.load_changed()
 
 
 class BeforeQuit(gdb.Command):
@@ -393,6 +486,7 @@ class BeforeQuit(gdb.Command):
         if unsaved and unsaved != self._said and os.isatty(0):
             self._said = unsaved
             raise gdb.GdbError(f"{unsaved}`quit` again leaves without it.")
+        asked("leaves")
 
 
 def prompt(current_prompt: str) -> str:
@@ -414,13 +508,14 @@ Workbench()
 CatchException()
 Load()
 BeforeRun()
+BeforeStart()
 before_quit = BeforeQuit()
 name_the_jump()
 hook("hook-quit", "before-quit")
 hook("hookpost-file", "python name_the_jump()")
 for start in "run", "start", "starti":
     # gdb would start at the position of an earlier `starti N` again.
-    hook(f"hook-{start}", "set args\nbefore-run")
+    hook(f"hook-{start}", "set args\nbefore-start")
 for move in MOVES:
     hook(f"hook-{move}", "before-run")
 gdb.prompt_hook = prompt

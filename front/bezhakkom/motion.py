@@ -48,10 +48,13 @@ class Motion:
         self._interrupted = self._interrupted or self._link.interrupted() or self.interrupts.end_run()
         return self._interrupted
 
-    def go_on(self, idle: int) -> bytes:
-        """A run to the next stop, which pauses after idle steps."""
+    def go_on(self, idle: int, from_here: bool) -> bytes:
+        """Runs to the next stop, and pauses after `idle` steps in which nothing happens. With `from_here` a breakpoint at the position
+        stops the run at once: gdb steps off a breakpoint before it continues, unless it means to hit that one (`run`, `jump`)."""
         stops = replace(self.stops, end=self._end, idle=idle)
         self._end = GREATEST_POSITION
+        if from_here and travel.is_at_breakpoint(self._driver, stops):
+            return TRAP
         return self._forward(lambda: travel.forward(self._driver, stops, self._pause))
 
     def go_until(self, position: int) -> None:

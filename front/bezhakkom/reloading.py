@@ -1,12 +1,19 @@
-"""Another image in place of the present one, under the same log: a program that was built anew."""
+"""Another image in place of the present one, under the same log: a program that was built again; and whether it was."""
 from __future__ import annotations
 
+import hashlib
+import os
+import tempfile
+from contextlib import suppress
 from dataclasses import replace
-from typing import Iterator, List, Tuple
+from pathlib import Path
+from typing import Iterator, List, Optional, Sequence, Tuple
 
 from . import loading
 from .initial import Boot, boot_of
 from .errors import Problem
+from .image import ELF_MAGIC
+from .saved import Origin
 from .session import Session
 from .symbols import symbols_of
 
@@ -44,3 +51,77 @@ def _words(boot: Boot) -> Iterator[tuple[int, int]]:
     for start, run in boot.runs():
         for at in range(0, len(run), 4):
             yield start + at, int.from_bytes(run[at:at + 4], "little")
+
+
+class OnDisk:
+    """The files that a session was opened with. `changed` names those that were written since they were read."""
+
+    def __init__(self, session: Session) -> None:
+        self._session = session
+        self._known: dict[str, bytes] = {}  # by absolute names: contents that were on disk when they were loaded
+        self._origin: Optional[Origin] = None  # whose files were looked at last
+        self._looked: list[object] = []  # these, as the system describes them
+        self._changed: list[str] = []
+
+    def changed(self) -> list[str]:
+        """Returns the names of the files whose content on disk differs from that at the time when they were loaded. After an `undo` of a
+        `load` the content on disk is known, and no change. A missing file counts as unchanged: it may be in the making."""
+        origin = self._session.origin
+        if origin is None or origin.is_packed:
+            return []
+        looked: list[object] = [_described(name) for name in origin.files]
+        if origin is not self._origin or looked != self._looked:
+            self._origin, self._looked = origin, looked
+            self._changed = [name for name, content in origin.files.items() if self._differs(name, content)]
+        return self._changed
+
+    def _differs(self, name: str, loaded: bytes) -> bool:
+        try:
+            found = Path(name).read_bytes()
+        except OSError:
+            return False
+        path = os.path.abspath(name)
+        if found == loaded:
+            self._known[path] = found
+        return found != self._known.setdefault(path, loaded)
+
+
+def _described(name: str) -> Optional[tuple[int, int, int]]:
+    try:
+        status = os.stat(name)
+    except OSError:
+        return None
+    return status.st_mtime_ns, status.st_size, status.st_ino
+
+
+class ElfFile:
+    """The ELF of the present image as a file, from which gdb reads the symbols of a run."""
+
+    def __init__(self, session: Session) -> None:
+        self._session = session
+        self._content = b""
+        self._lines: tuple[str, ...] = ()
+        self._folder: Optional[tempfile.TemporaryDirectory[str]] = None  # of images that are no longer on disk
+
+    def text(self, changed: Sequence[str]) -> str:
+        """Returns lines for front/bezhakkom/in_gdb.py: the digest of the ELF, a file with its content, the name by which the user knows it,
+        and `changed` if what is on disk under this name is among the changed files. Returns nothing if the image is no ELF."""
+        origin = self._session.origin
+        content = origin.files[origin.image] if origin else b""
+        if origin is None or not content.startswith(ELF_MAGIC):
+            return ""
+        if content is not self._content:
+            name = os.path.abspath(origin.image)
+            digest = hashlib.sha256(content).hexdigest()
+            self._content, self._lines = content, (digest, self._file(name, content, digest), name)
+        return "".join(f"{line}\n" for line in (*self._lines, "changed" if origin.image in changed else "same"))
+
+    def _file(self, name: str, content: bytes, digest: str) -> str:
+        with suppress(OSError):
+            if Path(name).read_bytes() == content:
+                return name
+        self._folder = self._folder or tempfile.TemporaryDirectory(prefix="bezhakkom-")
+        file = Path(self._folder.name, digest[:16], Path(name).name)
+        file.parent.mkdir(exist_ok=True)
+        file.write_bytes(content)
+        return str(file)

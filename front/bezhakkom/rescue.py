@@ -1,15 +1,25 @@
-"""What was edited and is not saved goes to a file where a session is ended by SIGTERM, or because its terminal is gone."""
+"""Unsaved edits are kept as a session in a file if SIGTERM, a closed terminal or the end of a debugger ends a run. The next start of the
+same image names the file, unless its name was shown on a terminal."""
 from __future__ import annotations
 
+import hashlib
+import os
+import shlex
 import signal
+import sys
 import tempfile
-from contextlib import contextmanager
+from contextlib import contextmanager, suppress
+from dataclasses import dataclass
+from pathlib import Path
 from typing import Any, Callable, Iterator, Optional
 
 from .installed import NAME
 from .loading import say
 
 _SIGNALS = (signal.SIGTERM, signal.SIGHUP)
+_UNSEEN = ".unseen"  # after the name of a session: it was not shown on a terminal
+
+Text = Callable[[], Optional[str]]  # of a session that is to be kept, if there are unsaved edits
 
 
 class _Terminated(SystemExit):
@@ -17,30 +27,87 @@ class _Terminated(SystemExit):
 
     def __init__(self, number: int) -> None:
         super().__init__(128 + number)
-        self.number = number
+
+
+@dataclass
+class Reason:
+    """Why a session is to be kept at the end, or nothing."""
+
+    text: str = ""
 
 
 @contextmanager
-def kept(session: Callable[[], Optional[str]]) -> Iterator[None]:
-    """While it lasts, such a signal ends what is done here. Then `session` is asked for what is kept, if there is something."""
-    taken = [it for it in _SIGNALS if signal.getsignal(it) == signal.SIG_DFL]  # `nohup` ignores one
-    for it in taken:
-        signal.signal(it, _end)
-    try:
-        yield
-    except _Terminated as end:
+def kept(session: Text, image: str) -> Iterator[Reason]:
+    """Ends what is done within it at such a signal, and then keeps the session, as it does for another reason that is set. Names sessions of
+    the image that were kept earlier."""
+    offer(image)
+    reason = Reason()
+
+    def end(number: int, frame: Any) -> None:
+        reason.text = f"ended by {signal.Signals(number).name}"
         for it in taken:
             signal.signal(it, signal.SIG_IGN)
-        text = session()
-        if text is not None:
-            with tempfile.NamedTemporaryFile("wb", prefix="bezhakkom-", suffix=".session", delete=False) as file:
-                file.write(text.encode("utf-8", "surrogateescape"))
-            say(f"ended by {signal.Signals(end.number).name}: what was not saved is in {file.name}, which `{NAME} shell` opens")
-        raise
+        raise _Terminated(number)
+
+    taken = [it for it in _SIGNALS if signal.getsignal(it) == signal.SIG_DFL]  # `nohup` ignores one
+    for it in taken:
+        signal.signal(it, end)
+    try:
+        yield reason
     finally:
+        # Not only after _Terminated: if the terminal is gone, and the program with it, another exception may have taken its place.
+        if reason.text:
+            _keep(session, image, reason.text)
         for it in taken:
-            signal.signal(it, signal.SIG_DFL)
+            if signal.getsignal(it) is end:  # else the process ends, and another signal is to change nothing
+                signal.signal(it, signal.SIG_DFL)
 
 
-def _end(number: int, frame: Any) -> None:
-    raise _Terminated(number)
+def _keep(session: Text, image: str, why: str) -> None:
+    """Keeps a session of an image, if there are unsaved edits, and names its file."""
+    text = session()
+    if text is None:
+        return
+    content = text.encode("utf-8", "surrogateescape")
+    prefix = f"{Path(image).name}-{_digest(image)}-"
+    try:
+        folder = _folder()
+        folder.mkdir(parents=True, exist_ok=True)
+        name = _written(content, prefix, str(folder))
+        Path(name + _UNSEEN).touch()
+    except OSError:
+        name = _written(content, prefix, None)
+    say(f"{why}: what was not saved is in {name}, which `{NAME} shell` opens")
+    _seen(name)
+
+
+def offer(image: str) -> None:
+    """Names the sessions of an image that were kept and not yet shown on a terminal."""
+    with suppress(OSError):
+        for marker in sorted(_folder().glob(f"*-{_digest(image)}-*{_UNSEEN}")):
+            name = str(marker)[:-len(_UNSEEN)]
+            if os.path.exists(name):
+                say(f"an earlier run of {image} ended with edits that were not saved: `{NAME} shell {shlex.quote(name)}` opens them")
+            _seen(name)
+
+
+def _seen(name: str) -> None:
+    """Forgets that a session is to be named, if this process has shown its name on a terminal."""
+    with suppress(OSError, ValueError):
+        if sys.stderr and sys.stderr.isatty() and os.isatty(sys.stderr.fileno()):
+            Path(name + _UNSEEN).unlink(missing_ok=True)
+
+
+def _written(content: bytes, prefix: str, folder: Optional[str]) -> str:
+    with tempfile.NamedTemporaryFile("wb", prefix=prefix, suffix=".session", dir=folder, delete=False) as file:
+        file.write(content)
+    return file.name
+
+
+def _folder() -> Path:
+    return Path(os.environ.get("XDG_STATE_HOME") or Path.home() / ".local/state") / "bezhakkom"
+
+
+def _digest(image: str) -> str:
+    """Returns a short name of an image's absolute path, for names of files."""
+    return hashlib.sha256(os.path.abspath(image).encode("utf-8", "surrogateescape")).hexdigest()[:12]

@@ -101,6 +101,12 @@ def text_of(origin: Origin, folder: str, events: Sequence[Event], commands: Sequ
     return "".join(f"{line}\n" for line in [*head, "", *commands, *packed])
 
 
+def text_of_state(origin: Origin, folder: str, driver: Driver) -> str:
+    """The text of a session of the present log, image and position, for a front end without lines of the shell."""
+    patches = [f"wb patch {place:#010x} {word:#010x}" for place, word in driver.patches]
+    return text_of(origin, folder, driver.log, [*patches, f"goto {driver.position:,}"], True)
+
+
 def _packed_name(origin: Origin, name: str) -> str:
     """The name of a file that is packed in: its last part, after its number where two have the same."""
     last = Path(name).name

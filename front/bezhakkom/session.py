@@ -1,6 +1,7 @@
 """What the shell knows while it runs: the driver, symbols, stops and edits; and how steps and addresses are shown to people."""
 from __future__ import annotations
 
+import os
 from contextlib import contextmanager
 from dataclasses import dataclass, field, replace
 from typing import Callable, Iterator, Optional
@@ -269,6 +270,10 @@ class Session:
         if self.origin is None:
             raise Problem("a session is saved by what has opened an image")
         return saved.text_of(self.origin, folder, self.edits[0].log if self.edits else self.driver.log, self.made_again(), is_whole)
+
+    def unsaved_text(self) -> Optional[str]:
+        """A file of the session with its files packed in, if there are unsaved edits."""
+        return self.text(os.getcwd(), True) if self.unsaved() else None
 
     def _stop_again(self, address: int, size: Optional[int]) -> str:
         return f"break {self._named(address)}" if size is None else f"watch {self._named(address)} {size}"

@@ -8,7 +8,7 @@ from contextlib import nullcontext
 from pathlib import Path
 from typing import Container, Iterator, Optional, Sequence, TextIO
 
-from . import expressions, loading, saved, shell_edits, shell_moves, shell_sources, shell_traces, shell_views  # noqa: F401 - they fill the table of commands
+from . import expressions, loading, rescue, saved, shell_edits, shell_moves, shell_sources, shell_traces, shell_views  # noqa: F401 - they fill the table of commands
 from .arguments import Parser
 from .commands import COMMANDS, GROUPS, SHELL, SHORT, command, find, run, words_of
 from .errors import Ended, Interrupted, Problem, Refused, Unexpected
@@ -46,7 +46,8 @@ def main(arguments: Sequence[str]) -> int:
         session = Session(driver, symbols_of(driver.image), origin=found.origin)
         shell = Shell(session)
         shell.open(found.commands)
-        return shell.run(script, line.echo, line.strict)
+        with rescue.kept(session.unsaved_text, line.image):
+            return shell.run(script, line.echo, line.strict)
 
 
 class Shell:

@@ -4,11 +4,12 @@ from __future__ import annotations
 import fcntl
 import os
 import re
+import shlex
 import signal
 import sys
 from typing import Callable, Optional, Sequence
 
-from . import elf, gdb_stops, listening, loading, memory, monitor, places, rescue, saved, target, through
+from . import agent, elf, gdb_stops, listening, loading, memory, monitor, places, reloading, rescue, saved, target, through
 from .arguments import Parser
 from .errors import Interrupted, Problem, Unexpected
 from .gdb_stops import MOST_WATCHED
@@ -17,7 +18,7 @@ from .limits import RAM, ROM
 from .motion import TRAP, Motion
 from .rsp import PACKET_BYTES, Link
 from .session import Session, counted
-from .symbols import symbols_of
+from .symbols import Symbols, symbols_of
 from .travel import Watch
 
 DESCRIPTION = f"""\
@@ -36,7 +37,13 @@ FEATURES = (b"PacketSize=%x;QStartNoAckMode+;qXfer:features:read+;ReverseStep+;R
 OK, FAILED, NOT_KNOWN, GONE = b"OK", b"E01", b"", b"W00"
 CODE, CODE_IN_HARDWARE, WRITE = range(3)  # of the kinds of breakpoints and watches; the others watch reads
 
+ELF_FILE = "elf-file"  # of `monitor`: names the ELF of the present image, for front/bezhakkom/in_gdb.py
+LEAVES = "leaves"  # of `monitor`: the user leaves the debugger, and unsaved edits with it
 NEXT_RUN = "next-run "  # of `monitor`: the next continue runs the line after it, so that it is shown and ended as a run is
+
+MANY_BACK = 500
+SLOW_BACK = (f"\n[gdb steps back one instruction at a time, {MANY_BACK} up to here. Ctrl-C ends that. `reverse-next` passes over calls, "
+             "`reverse-continue` to a breakpoint goes back at once, and `reverse-finish` leaves a function.]\n")
 
 NOT_WRITTEN = ("registers can't be written: they follow from the image and the log, which can be edited. "
                "To run other code, patch it; to call a function, let the program call it")
@@ -60,9 +67,17 @@ class Stub:
         self._breakpoints: dict[tuple[int, int], list[bytes]] = {}  # conditions by kinds and addresses
         self._killed = False  # the debugger may start the run again
         self._ended = False
+        self.is_left = False  # the user leaves, and knows what is not saved
+        self._functions: Optional[tuple[Symbols, frozenset[int]]] = None  # their addresses, by the symbols of an image
         self._places: dict[int, int] = {}  # where watched addresses led last
         self._loaded = False  # memory was written since the last run
         self._next_run = ""  # a line of `monitor` that the next continue runs
+        self._back_steps = 0  # steps back in a row
+        self._on_disk = reloading.OnDisk(session)
+        self._told: list[str] = []  # changed files that were named
+        self._elf_file = reloading.ElfFile(session)
+        # The position and the number of edits that gdb knows of: `monitor` moves and edits without gdb.
+        self._known: Optional[tuple[int, int]] = None
         driver.wants_stop = self._motion.wants_stop
 
     def show_progress(self) -> None:
@@ -85,7 +100,12 @@ class Stub:
             return NOT_KNOWN
         self._motion.interrupts.begin()
         try:
-            return ANSWERS[begin](self, packet[len(begin):])
+            reply = ANSWERS[begin](self, packet[len(begin):])
+            if begin in MOVES:
+                self._known = self._here()
+                self._back_steps = self._back_steps if begin == b"bs" else 0
+                self._tell_of_changes()
+            return reply
         except Interrupted:
             # Where the run was not made yet it can't be shown at once.
             self._driver.goto(min(self._driver.position, self._driver.made))
@@ -102,6 +122,19 @@ class Stub:
             self._tell(f"{Unexpected(error)}; the session goes on")
             return FAILED
 
+    def _here(self) -> tuple[int, int]:
+        return self._driver.position, len(self._driver.journal)
+
+    def _tell_of_changes(self) -> None:
+        """Names the files that were written since they were loaded, each change once."""
+        changed = self._on_disk.changed()
+        for name in changed:
+            if name not in self._told:
+                is_image = self._session.origin and name == self._session.origin.image
+                self._tell(f"{name} has changed on disk, and this is a run of what it was: "
+                           + ("`run` or `load` loads it, and keeps the log" if is_image else "start again to read its symbols"))
+        self._told = list(changed)
+
     # What the stub is
 
     def _features(self, rest: bytes) -> bytes:
@@ -112,7 +145,7 @@ class Stub:
         return OK
 
     def _description(self, rest: bytes) -> bytes:
-        first, count = _numbers(rb"(\w+),(\w+)", rest)
+        first, count = _numbers(b"N,N", rest)
         whole = target.description()
         return (b"m" if first + count < len(whole) else b"l") + whole[first:first + count]
 
@@ -131,7 +164,7 @@ class Stub:
         return target.all_text(target.values(self._driver))
 
     def _register(self, rest: bytes) -> bytes:
-        number, = _numbers(rb"(\w+)", rest)
+        number, = _numbers(b"N", rest)
         if number >= len(target.NAMES):
             raise Malformed
         if target.NAMES[number] == target.EXCEPTION:
@@ -144,13 +177,13 @@ class Stub:
         return OK
 
     def _set_register(self, rest: bytes) -> bytes:
-        _numbers(rb"(\w+)=(\w+)", rest)
+        _numbers(b"N=N", rest)
         number, _, value = rest.partition(b"=")
         if value.lower() == self._register(number):
             return OK
         if int(number, 16) != target.NUMBERS["pc"] or not self._loaded or self._driver.position:
             raise Problem(NOT_WRITTEN)
-        self._begin_at(int.from_bytes(_from_digits(value), "little"))
+        self._begin_at(_address(int.from_bytes(_from_digits(value), "little")))
         return OK
 
     def _begin_at(self, entry: int) -> None:
@@ -164,7 +197,7 @@ class Stub:
             self._driver.values([f"patch {place} {word}" for place, word in zip(vector, elf.jump_to(entry))])
 
     def _read(self, rest: bytes) -> bytes:
-        address, count = _numbers(rb"(\w+),(\w+)", rest)
+        address, count = _numbers(b"A,N", rest)
         content = memory.read(self._driver, address, min(count, PACKET_BYTES // 2))
         return content.hex().encode() if content or not count else FAILED
 
@@ -174,7 +207,7 @@ class Stub:
 
     def _write(self, rest: bytes) -> bytes:
         place, _, content = rest.partition(b":")
-        address, count = _numbers(rb"(\w+),(\w+)", place)
+        address, count = _numbers(b"A,N", place)
         if count != len(content):
             raise Malformed
         with self._session.editing(f"a write of {counted(len(content), 'byte')} at {address:#010x}"):
@@ -186,11 +219,11 @@ class Stub:
 
     def _insert(self, rest: bytes) -> bytes:
         place, *more = rest.split(b";")
-        kind, address, size = _numbers(rb"(\w),(\w+),(\w+)", place)
+        kind, address, size = _numbers(b"N,A,N", place)
         if kind in (CODE, CODE_IN_HARDWARE):
-            if address % 4 or address >= 1 << 32:
-                raise Problem(f"no instruction stands at 0x{address:08x}: an address is a multiple of 4, of 32 bits")
-            self._breakpoints[kind, address] = [it for part in more for it in _expressions(part)]
+            if address % 4:
+                raise Problem(f"no instruction is at {address:#010x}: the address of one is a multiple of 4")
+            self._breakpoints[kind, address] = [self._condition(code) for part in more for code in _expressions(part)]
             self._set_breakpoints()
         elif kind == WRITE:
             self._motion.stops.watches.add(self._watch(address, size))
@@ -198,8 +231,16 @@ class Stub:
             raise Problem("reads can't be watched, as the workbench notes stores alone: use `watch`")
         return OK
 
+    def _condition(self, code: bytes) -> agent.Expression:
+        symbols = self._session.symbols
+        if self._functions is None or self._functions[0] is not symbols:
+            self._functions = symbols, frozenset(symbols.address(name) or 0 for name in symbols.names())
+        made = agent.Expression(code)
+        made.functions = self._functions[1]
+        return made
+
     def _remove(self, rest: bytes) -> bytes:
-        kind, address, size = _numbers(rb"(\w),(\w+),(\w+)", rest)
+        kind, address, size = _numbers(b"N,A,N", rest)
         stops = self._motion.stops
         self._breakpoints.pop((kind, address), None)
         self._set_breakpoints()
@@ -240,7 +281,7 @@ class Stub:
         """A run to the next stop, or to where a line of `monitor` goes on to."""
         line, self._next_run = self._next_run, ""
         if not line:
-            return self._motion.go_on(self._session.idle)
+            return self._motion.go_on(self._session.idle, from_here=self._known == self._here())
         return self._motion.obey(lambda: monitor.refusal(self._session, line, lambda shown: None))
 
     def _step(self, rest: bytes) -> bytes:
@@ -257,6 +298,9 @@ class Stub:
         return self._motion.go_back()
 
     def _step_back(self, rest: bytes) -> bytes:
+        self._back_steps += 1
+        if self._back_steps == MANY_BACK:
+            self._say(SLOW_BACK)
         return self._motion.step_back()
 
     def _actions(self, rest: bytes) -> bytes:
@@ -270,15 +314,26 @@ class Stub:
             return self._go_on()
         if action[:1] in (b"s", b"S"):
             return self._motion.step()
-        first, end = _numbers(rb"r(\w+),(\w+)", action)
+        first, end = _numbers(b"rA,A", action)
         return self._motion.leave(range(first, end, 4))
 
     def _run(self, rest: bytes) -> bytes:
-        """Starts again, at the position that is the first word after the file's name."""
+        """Starts again, at the position that is the first word after the file's name. An image that was built again is loaded first."""
+        self._load_changed()
         words = [_from_digits(word).decode("latin-1") for word in rest.split(b";")[1:]]
         self._driver.goto(self._session.number(words[0]) if words else 0)
         self._killed, self._next_run = False, ""
         return TRAP
+
+    def _load_changed(self) -> None:
+        """Loads the image if its file has changed, or fails with the reason why that is not possible."""
+        origin = self._session.origin
+        if origin is None or origin.image not in self._on_disk.changed():
+            return
+        refusal = monitor.refusal(self._session, f"load {shlex.quote(origin.image)}", self._tell)
+        if refusal:
+            raise Problem(f"{origin.image} has changed on disk and can't be loaded: {refusal}")
+        self._on_disk.changed()
 
     def _kill(self, rest: bytes) -> bytes:
         self._killed = True
@@ -290,8 +345,15 @@ class Stub:
 
     def _command(self, rest: bytes) -> bytes:
         line = _from_digits(rest).decode("utf-8", "surrogateescape")
+        if line == LEAVES:
+            self.is_left = True
+            return OK
+        if line == ELF_FILE:
+            self._say(self._elf_file.text(self._on_disk.changed()))
+            return OK
         if not line.startswith(NEXT_RUN):
             self._say(monitor.answer(self._session, line))
+            self._on_disk.changed()  # a `load` reads what is on disk
             return OK
         line = line[len(NEXT_RUN):]
         if line.split()[:1] == ["until"]:
@@ -347,13 +409,24 @@ ANSWERS: dict[bytes, Answer] = {
     b"k": Stub._end,
 }
 
+# After the answers to these gdb has the position: those that move, and the one that reports a stop.
+MOVES = frozenset((b"vCont;", b"vRun;", b"?", b"bc", b"bs", b"c", b"s"))
+
 
 def _numbers(form: bytes, text: bytes) -> list[int]:
-    """The hexadecimal numbers of a text of a form."""
-    match = re.fullmatch(form, text)
-    if not match or not all(re.fullmatch(rb"[0-9a-fA-F]{1,16}", word) for word in match.groups()):
+    """Returns the hexadecimal numbers of a packet. In its form `A` stands for an address and `N` for another number. Fails with `Malformed`
+    if the packet has another form."""
+    match = re.fullmatch(re.sub(rb"[AN]", rb"([0-9a-fA-F]{1,16})", form), text)
+    if not match:
         raise Malformed
-    return [int(word, 16) for word in match.groups()]
+    kinds = re.findall(rb"[AN]", form)
+    numbers = [int(word, 16) for word in match.groups()]
+    return [_address(number) if kind == b"A" else number for kind, number in zip(kinds, numbers)]
+
+
+def _address(number: int) -> int:
+    """Returns the 32 bits of an address. gdb sign-extends addresses of MIPS to 64 bits, and masks them in some packets only."""
+    return number & 0xFFFF_FFFF
 
 
 def _expressions(text: bytes) -> list[bytes]:
@@ -405,14 +478,18 @@ def main(arguments: Sequence[str]) -> int:
     with saved.opened(loading.Opening.of(line, line.image)) as found, loading.running(found.opening) as driver:
         session = Session(driver, symbols_of(driver.image), origin=found.origin, saved_log=list(driver.log))
         open_session(session, found.commands)
-        with rescue.kept(lambda: session.text(os.getcwd(), True) if session.unsaved() else None):
+        with rescue.kept(session.unsaved_text, line.image) as reason:
             if where is not None:
                 _listen(session, where, whole)
                 return 0
             stub = Stub(session, Link(sys.stdin.fileno(), sys.stdout.fileno()), exceptions_whole=whole)
             if line.progress:
                 stub.show_progress()
+            # The stub gets no signal of gdb's terminal, from which gdb keeps it apart. And gdb detaches also if a signal ends it.
+            reason.text = "the debugger has ended"
             stub.serve()
+            if stub.is_left:
+                reason.text = ""
     return 0
 
 

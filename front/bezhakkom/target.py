@@ -13,7 +13,7 @@ from .replies import Registers
 GENERAL = [f"r{number}" for number in range(32)]
 FLOATING = [f"f{number}" for number in range(32)] + ["fcsr", "fir"]
 CONTROL = ["index", "random", "entrylo", "context", "entryhi", "epc", "prid"]
-EXCEPTION = "exception"  # the last one of all: it is asked for alone, where it is wanted
+EXCEPTION = "exception"  # the last one of all: it is read alone, when it is needed
 OWN = ["position", "nextpc", "delay", "loadreg", "loadval", *CONTROL, EXCEPTION]
 NAMES = [*GENERAL, "status", "lo", "hi", "badvaddr", "cause", "pc", *FLOATING, *OWN]
 NUMBERS = {name: number for number, name in enumerate(NAMES)}
@@ -21,11 +21,13 @@ FEATURES = {
     "org.gnu.gdb.mips.cpu": [*GENERAL, "lo", "hi", "pc"],
     "org.gnu.gdb.mips.cp0": ["status", "badvaddr", "cause"],
     "org.gnu.gdb.mips.fpu": FLOATING,
-    "bezhakkom.workbench": OWN,
+    # gdb prints the first two of these in rows of their own if they have 64 bits, and the others in columns, one of which `exception`
+    # would fill up to its neighbour.
+    "bezhakkom.workbench": [OWN[0], EXCEPTION, *OWN[1:-1]],
 }
 POINTERS = {"pc": "code_ptr", "nextpc": "code_ptr", "epc": "code_ptr"}
 UNSIGNED = {"position", "delay", "loadreg"}
-BITS = {"position": 64}  # all others have 32
+BITS = {"position": 64, EXCEPTION: 64}  # all others have 32
 
 NO_EXCEPTION = -1
 
@@ -42,10 +44,10 @@ def description() -> bytes:
 
 
 def _register(name: str) -> str:
-    bits = BITS.get(name, 32)
-    kind = POINTERS.get(name, f"uint{bits}" if name in UNSIGNED else "int")
+    size = bits(NUMBERS[name])
+    kind = POINTERS.get(name, f"uint{size}" if name in UNSIGNED else f"int{size}" if size > 32 else "int")
     group = ' group="float"' if name in FLOATING else ""
-    return f'<reg name="{name}" bitsize="{bits}" type="{kind}" regnum="{NUMBERS[name]}"{group}/>'
+    return f'<reg name="{name}" bitsize="{size}" type="{kind}" regnum="{NUMBERS[name]}"{group}/>'
 
 
 def values(driver: Driver) -> dict[str, int]:
@@ -78,11 +80,15 @@ def last_exception(driver: Driver) -> int:
         driver.goto(here)
 
 
+def bits(number: int) -> int:
+    """Returns how many bits the register of a number has."""
+    return BITS.get(NAMES[number], 32)
+
+
 def text(registers: dict[str, int], number: int) -> bytes:
     """The hexadecimal digits of a register, low byte first."""
-    name = NAMES[number]
-    bits = BITS.get(name, 32)
-    return (registers[name] & (1 << bits) - 1).to_bytes(bits // 8, "little").hex().encode()
+    size = bits(number)
+    return (registers[NAMES[number]] & (1 << size) - 1).to_bytes(size // 8, "little").hex().encode()
 
 
 def all_text(registers: dict[str, int]) -> bytes:

@@ -127,6 +127,12 @@ def within(driver: Driver, stops: Stops, end: int) -> Optional[Stop]:
     return None
 
 
+def is_at_breakpoint(driver: Driver, stops: Stops) -> bool:
+    """Returns whether a breakpoint stops the run at the position itself: its instruction is next, and its condition holds."""
+    here, pc = driver.position, driver.registers().pc
+    return pc in stops.breakpoints and here in conditions.all_hits(driver, [pc], stops.conditions, here, here)
+
+
 def step_to(driver: Driver, stops: Stops, step: int, end: Stop) -> Stop:
     """The end of a single step, one way or the other, or the watch that the step changes."""
     watch = next((watch for watch in stops.watches if watch.changes(driver, step)), None)

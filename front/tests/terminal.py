@@ -4,6 +4,7 @@ from __future__ import annotations
 import os
 import pty
 import select
+import signal
 import sys
 import time
 from typing import NoReturn, Optional, Sequence
@@ -76,6 +77,24 @@ class Terminal:
             return False
         self._shown += content
         return bool(content)
+
+    def close(self) -> None:
+        """Closes the terminal, as a window is closed, and waits for the command."""
+        os.close(self._terminal)
+        os.waitpid(self.process, 0)
+
+    def terminate(self) -> tuple[int, bytes]:
+        """Sends SIGTERM until the command ends, twice a second: one that comes while Python begins to wait for a key is handled after the
+        key. Returns its status as the system has it, and what it showed."""
+        end, pressed = time.monotonic() + PATIENCE, -1.0
+        while self._read():
+            now = time.monotonic()
+            if now > end:
+                raise AssertionError(f"the command does not end; it shows {self._shown!r}")
+            if now > pressed + 0.5:
+                pressed = now
+                os.kill(self.process, signal.SIGTERM)
+        return os.waitpid(self.process, 0)[1], self._shown
 
     def end(self) -> int:
         """Waits until the command ends, and gives its status as the system has it."""

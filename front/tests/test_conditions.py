@@ -26,7 +26,8 @@ def number(value: int) -> bytes:
 
 class Expressions(unittest.TestCase):
     def value(self, *code: bytes) -> int:
-        return agent.signed(agent.value(b"".join(code) + END_OF, Known(40_024)))
+        only, = agent.values(b"".join(code) + END_OF, Known(40_024))
+        return agent.signed(only)
 
     def test_arithmetic(self) -> None:
         # As C has it: a quotient goes towards 0, a remainder has the sign of what is divided.
@@ -42,7 +43,7 @@ class Expressions(unittest.TestCase):
         for code, wanted in (
                 (number(5) + bytes((NOT,)), 0), (number(0) + bytes((NOT,)), 1), (number(5) + bytes((INVERT,)), -6),
                 (b"\x22\xff\x16\x08", -1), (b"\x22\xff\x2a\x07", 127), (b"\x23\x80\x00", 0x8000),
-                (b"\x24\x80\x00\x00\x00\x16\x20", -1 << 31),
+                (b"\x24\x7f\x00\x00\x00\x16\x20", 0x7F000000),
                 (POSITION, 40_024)):
             self.assertEqual(self.value(code), wanted, code)
 
@@ -57,6 +58,39 @@ class Expressions(unittest.TestCase):
         # if_goto leads to const8 5 at 10, or else const8 4 is followed by a goto to the end at 12.
         for condition, wanted in ((0, 4), (3, 5)):
             self.assertEqual(self.value(bytes((0x22, condition, 0x20, 0, 10, 0x22, 4, 0x21, 0, 12, 0x22, 5))), wanted)
+
+    def test_address_is_equal_by_either_extension(self) -> None:
+        # 0x80000100 from memory or a register, as it is, sign- or zero-extended, against `const32 0x80000100; ext 32`.
+        known = Known(0, {"mem 256 1": ["0x00000100 0x80000100"], "reg 4": ["reg 0x80000100"]})
+        address, other = b"\x24\x80\x00\x01\x00\x16\x20", b"\x24\x80\x00\x02\x00\x16\x20"
+        for loaded in address + b"\x19", b"\x26\x00\x04":
+            for extended in b"", b"\x16\x20", b"\x2a\x20":
+                self.assertTrue(agent.may_hold(loaded + extended + address + bytes((EQUAL,)) + END_OF, known))
+                self.assertTrue(agent.may_hold(loaded + extended + other + bytes((LESS_U,)) + END_OF, known))
+                self.assertFalse(agent.may_hold(loaded + extended + other + bytes((EQUAL,)) + END_OF, known))
+
+    def test_condition_that_reads_nothing_or_has_no_value_holds(self) -> None:
+        for code in b"\x22\x00", number(1) + number(0) + bytes((DIV,)), b"\x01":
+            self.assertTrue(agent.may_hold(code + END_OF, Known(0)), code)
+        self.assertFalse(agent.may_hold(POSITION + END_OF, Known(0)))
+
+    def test_condition_of_more_than_64_choices_holds(self) -> None:
+        # Registers 1, 2, 3 .. have two values each, whose upper halves are 0 or ones: combined by different shifts, N of them have 2^N.
+        known = Known(0, {f"reg {it}": ["reg 0x80000000"] for it in range(1, 8)})
+        for count, wanted in (6, False), (7, True):
+            code = number(0) + b"".join(bytes((0x26, 0, it)) + number(it) + bytes((LSH, XOR)) for it in range(1, count + 1))
+            self.assertEqual(agent.may_hold(code + number(5) + bytes((EQUAL,)) + END_OF, known), wanted)
+
+    def test_constant_0_may_be_a_function(self) -> None:
+        """gdb pushes 0 for the address of a function."""
+        known = Known(0, {"reg 4": ["reg 0xbfc00200"]})
+        code = agent.Expression(b"\x26\x00\x04\x22\x00" + bytes((EQUAL,)) + END_OF)
+        self.assertFalse(agent.may_hold(code, known))
+        code.functions = {0xBFC00200}
+        self.assertTrue(agent.may_hold(code, known))
+        inverse = agent.Expression(code[:-1] + bytes((NOT,)) + END_OF)
+        inverse.functions = code.functions
+        self.assertTrue(agent.may_hold(inverse, known))
 
     def test_what_has_no_value(self) -> None:
         for code, why in (

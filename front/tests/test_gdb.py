@@ -11,6 +11,7 @@ import signal
 import subprocess
 import sys
 import tempfile
+import time
 import unittest
 from pathlib import Path
 from typing import Sequence
@@ -18,6 +19,7 @@ from typing import Sequence
 from front.tests import debugger
 from front.tests.debugger import batch
 from front.tests.support import needs_erase
+from front.tests.wire import COUNTER
 
 POSITION = 'printf "at %d\\n", $position'
 
@@ -125,7 +127,14 @@ class Login(GdbTest):
             "      00400000 00000000 00000000 00000000 00000000 bfc00258 ",
             "      00000000 00000000 ",
             "position: 0x9c58",
-            "      bfc0025c 00000000 00000000 00000000 00000000 00001700 00000000 00000000 ")
+            "exception: 0xffffffffffffffff",
+            "      bfc0025c 00000000 00000000 00000000 00000000 00001700 00000000 00000000 ",
+            "       entryhi      epc     prid",
+            "      00000000 00000000 00000220 ")
+
+    def test_wb_print_takes_negative_values(self) -> None:
+        lines = self.batch("starti 50029", "wb print session.length", "wb print -1746062932", "wb print session.length-4")
+        self.holds(lines, "-1 = 0xffffffff  -1", "-1746062932 = 0x97ed31ac  -1,746,062,932", "-5 = 0xfffffffb  -5")
 
     def test_an_edit(self) -> None:
         lines = self.batch("continue", "wb del 2", POSITION, "wb goto 0", "continue", POSITION, "wb log 0 3")
@@ -310,6 +319,49 @@ class Reads(GdbTest):
                 "examples/login/login.elf",
                 *(word for command in commands for word in ("-ex", command))]
         self.holds(debugger.run(line).splitlines(), "at 112", "at 100", "0x80000200:\t0x00000007")
+
+
+
+class MachineInterface(unittest.TestCase):
+    """gdb under MI, as editors start it, which calls no prompt hook."""
+
+    def setUp(self) -> None:
+        folder = tempfile.TemporaryDirectory()
+        self.addCleanup(folder.cleanup)
+        image = Path(folder.name, "counter.rom")
+        image.write_bytes(b"".join(word.to_bytes(4, "little") for word in COUNTER))
+        self.process = subprocess.Popen([debugger.WB, "gdb", str(image), *debugger.PLAIN, "--interpreter=mi3"], cwd=debugger.ROOT,
+                                        stdin=subprocess.PIPE, stdout=subprocess.PIPE, stderr=subprocess.STDOUT, start_new_session=True)
+        self.addCleanup(self.process.communicate)
+        self.addCleanup(self.process.kill)
+
+    def send(self, line: str) -> None:
+        assert self.process.stdin
+        self.process.stdin.write(line.encode() + b"\n")
+        self.process.stdin.flush()
+
+    def until(self, *beginnings: str) -> str:
+        """The next line that begins so."""
+        assert self.process.stdout
+        for line in self.process.stdout:
+            text = line.decode("latin-1").rstrip()
+            if text.startswith(beginnings):
+                return text
+        raise AssertionError(f"gdb has ended without {beginnings}")
+
+    def test_step_after_an_interrupted_run_is_made(self) -> None:
+        self.until("*stopped")
+        for _ in range(2):
+            self.send("-exec-continue")
+            self.until("*running")
+            time.sleep(0.3)
+            os.killpg(self.process.pid, signal.SIGINT)
+            self.assertIn('signal-name="SIGINT"', self.until("*stopped"))
+            self.send("-exec-step-instruction")
+            self.assertEqual(self.until("^"), "^running")
+            self.assertIn('reason="end-stepping-range"', self.until("*stopped"))
+        self.send("-gdb-exit")
+        self.assertEqual(self.until("^exit"), "^exit")
 
 
 if __name__ == "__main__":

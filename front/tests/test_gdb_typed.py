@@ -193,6 +193,54 @@ class Kernel(unittest.TestCase):
         terminal.until(b"$2 = 33\r")
         self.assertEqual(terminal.end(), 0)
 
+    def changed(self, *commands: str) -> str:
+        """What gdb shows for commands, among which `shell` moves another build over the ELF."""
+        return "\n".join(self.gdb("echo \\n<begin>\\n", *commands)).split("<begin>\n")[1]
+
+    def prepare(self) -> str:
+        """Puts another build, whose step is 3 and whose data begins 16 bytes later, next to the ELF, and returns the line that moves it."""
+        kept = Path(self.elf).read_bytes()
+        source = self.SOURCE
+        self.SOURCE = source.replace(".word 1", ".word 0, 0, 0, 0, 1").replace("b loop", "nop\n b loop")
+        self.build(3)
+        self.SOURCE = source
+        Path(self.elf).rename(self.folder / "new.elf")
+        Path(self.elf).write_bytes(kept)
+        return f"shell mv '{self.folder}/new.elf' '{self.elf}'"
+
+    def test_run_loads_the_elf_that_was_built_again(self) -> None:
+        shown = self.changed("break loop", "watch *(int *)&count", "continue", self.prepare(), "stepi", "run", "print $position", "delete",
+                             "starti 50", "print $r8")
+        self.assertIn(f"{self.elf} has changed on disk, and this is a run of what it was", shown)
+        self.assertIn("has changed on disk: it is loaded, and the log stays\n", shown)
+        self.assertRegex(shown, r"stop 2 moved with \*\(int \*\)&count, from 0x\w+ to 0x\w+")
+        # Four steps of the jump, lui, and then turns of 5 steps in place of 4, which add 3: 9 of them are whole up to step 50.
+        self.assertIn("$1 = 5\n", shown)
+        self.assertIn("$2 = 27\n", shown)
+
+    def test_run_with_a_damaged_elf_is_refused(self) -> None:
+        shown = self.changed("starti 7", f"shell echo damaged > '{self.elf}'", "run", "print $position", "print $r8")
+        self.assertIn("it can't be loaded: ", shown)
+        self.assertIn("Nothing runs.", shown)
+        self.assertRegex(shown, r"\$1 = 7\n\$2 = 1")
+
+    def test_undo_of_a_load_brings_the_symbols_back(self) -> None:
+        shown = self.changed("break *&loop", "print/x (long)&count", self.prepare(), "load", "print/x (long)&count", "wb undo",
+                             "print/x (long)&count", "starti 46", "print $r8", "info breakpoints")
+        addresses = re.findall(r"\$[123] = (0x\w+)", shown)
+        self.assertEqual(addresses[0], addresses[2], shown)
+        self.assertNotEqual(addresses[0], addresses[1], shown)
+        self.assertIn("$4 = 11\n", shown)
+
+    def test_stub_loads_the_elf_that_was_built_again_at_vrun(self) -> None:
+        """For a gdb without front/bezhakkom/in_gdb.py, which reads the new symbols by itself."""
+        commands = (f"target extended-remote | '{debugger.WB}' stub '{self.elf}'", self.prepare(), "stepi", "run", "starti 50", "print $r8")
+        settings = ("osabi none", "architecture mips:3000", "endian little", "confirm off", "remotetimeout 100000")
+        words = [word for it in settings for word in ("-iex", f"set {it}")] + [word for it in commands for word in ("-ex", it)]
+        shown = debugger.run([debugger.DEBUGGER, "-q", *debugger.PLAIN, "-batch", self.elf, *words])
+        self.assertIn("of the image changed by ", shown)
+        self.assertIn("$1 = 27\n", shown)
+
 
 if __name__ == "__main__":
     unittest.main()

@@ -133,6 +133,20 @@ class Runs(StubTest):
         self.stops(wire, ("s", "T05", 1), ("vCont;s:1;c", "T05", 2), ("bs", "T05", 1), ("bs", "T05", 0),
                    ("bs", "T05replaylog:begin;", 0))
 
+    def test_many_steps_back_name_what_is_faster_once(self) -> None:
+        wire = self.wire(COUNTER)
+        wire.command("goto 2000")
+        for _ in range(499):
+            wire.ask("bs")
+        self.assertEqual(wire.console, b"")
+        for _ in range(700):
+            wire.ask("bs")
+        self.assertEqual(wire.console.count(b"`reverse-next` passes over calls"), 1)
+        wire.ask("s")
+        for _ in range(499):
+            wire.ask("bs")
+        self.assertEqual(wire.console.count(b"`reverse-next` passes over calls"), 1)
+
     def test_a_step_beyond_the_end(self) -> None:
         needs_erase(self)
         wire = self.wire(COUNTER)
@@ -142,11 +156,12 @@ class Runs(StubTest):
     def test_breakpoints_go_both_ways(self) -> None:
         wire = self.wire(ECHO)
         self.dialog(wire, ("Z0,bfc01000,4", "OK"))
-        self.stops(wire, ("c", "T05", 9), ("vCont;c", "T05", 20), ("bc", "T05", 9), ("bc", "T05replaylog:begin;", 0))
+        self.stops(wire, ("c", "T05", 9), ("s", "T05", 10), ("vCont;c", "T05", 20), ("bc", "T05", 9), ("bc", "T05replaylog:begin;", 0))
         self.dialog(wire, ("Z1,bfc01004,4", "OK"))
-        self.stops(wire, ("c", "T05", 9), ("c", "T05", 10), ("c", "T05", 20), ("bc", "T05", 10), ("bc", "T05", 9))
+        self.stops(wire, ("c", "T05", 9), ("s", "T05", 10), ("c", "T05", 10), ("s", "T05", 11), ("c", "T05", 20), ("bc", "T05", 10),
+                   ("bc", "T05", 9))
         self.dialog(wire, ("z0,bfc01000,4", "OK"))
-        self.stops(wire, ("c", "T05", 10), ("c", "T05", 21))
+        self.stops(wire, ("c", "T05", 10), ("s", "T05", 11), ("c", "T05", 21))
 
     def test_breakpoints_have_conditions(self) -> None:
         # r2 counts the turns of 4 steps, which begin at step 1; its addiu stands at 0xbfc00004. Expressions are `r2 == 3`, and
@@ -156,9 +171,10 @@ class Runs(StubTest):
         self.dialog(wire, (f"Z0,bfc00004,4;{three}", "OK"))
         self.stops(wire, ("c", "T05", 13), ("bc", "T05replaylog:begin;", 0))
         self.dialog(wire, (f"Z0,bfc00004,4;{three}{later}", "OK"))
-        self.stops(wire, ("c", "T05", 13), ("c", "T05", 17), ("c", "T05", 21), ("bc", "T05", 17), ("bc", "T05", 13))
+        self.stops(wire, ("c", "T05", 13), ("s", "T05", 14), ("c", "T05", 17), ("s", "T05", 18), ("c", "T05", 21), ("bc", "T05", 17),
+                   ("bc", "T05", 13))
         self.dialog(wire, ("Z1,bfc00004,4", "OK"))
-        self.stops(wire, ("bc", "T05", 9), ("c", "T05", 13))
+        self.stops(wire, ("bc", "T05", 9), ("s", "T05", 10), ("c", "T05", 13))
         self.dialog(wire, ("z1,bfc00004,4", "OK"), ("Z0,bfc00004,4", "OK"))
         self.stops(wire, ("bc", "T05", 9))
         self.dialog(wire, ("Z0,bfc00004,4;X5,2601", "E01"), ("Z0,bfc00004,4;Y", "E01"), ("z0,bfc00004,4", "OK"))
@@ -178,7 +194,7 @@ class Runs(StubTest):
         # The branch is run in step 3, and each later turn has 4 steps.
         wire = self.wire(COUNTER)
         self.dialog(wire, ("Z0,bfc00010,4", "OK"))
-        self.stops(wire, ("c", "T05", 4), ("c", "T05", 8), ("bc", "T05", 4))
+        self.stops(wire, ("c", "T05", 4), ("s", "T05", 5), ("c", "T05", 8), ("bc", "T05", 4))
 
     def test_watches_stop_where_a_store_changes_their_bytes(self) -> None:
         # The loop stores what RBUF gave into 0x100 in steps 11, 22 ..: 0x8041 in step 77, 0x8042 in 209, and 0 else.
@@ -217,7 +233,10 @@ class Runs(StubTest):
                     ("Z0,bfc01018,4", "OK"))
         self.stops(wire, ("c", "T05watch:a0000100;", 77))
         wire.command("goto 78")
-        self.stops(wire, ("c", "T05", 81), ("c", "T05watch:a0000104;", 81))
+        self.stops(wire, ("c", "T05", 81))
+        self.dialog(wire, ("z0,bfc01018,4", "OK"))
+        self.stops(wire, ("c", "T05watch:a0000104;", 81))
+        self.dialog(wire, ("Z0,bfc01018,4", "OK"))
         wire.command("goto 200")
         self.stops(wire, ("bc", "T05watch:a0000100;", 89))
         wire.command("goto 88")
@@ -226,7 +245,7 @@ class Runs(StubTest):
     def test_what_cannot_be_stopped_at_is_refused(self) -> None:
         wire = self.wire(ECHO)
         self.refusals(wire, ("Z3,a0000100,4", "reads can't be watched"), ("Z4,a0000100,4", "reads can't be watched"),
-                      ("Z0,bfc01002,4", "a multiple of 4"), ("Z0,100000000,4", "of 32 bits"),
+                      ("Z0,bfc01002,4", "a multiple of 4"),
                       ("Z2,bfe00000,4", "0xbfe00000 leads to the physical address 0x1fe00000, where no memory is"),
                       ("Z2,400000,4", "it can't be watched yet: 0x00400000 leads nowhere at this position: "
                        "no translation entry has its page. "
@@ -242,12 +261,43 @@ class Runs(StubTest):
         self.dialog(wire, ("Z0,bfc0100c,4", "OK"))
         self.stops(wire, ("vCont;rbfc01000,bfc01038", "T05", 23), ("vCont;rbfc01000,bfc01038", "T05", 34))
 
+    def test_sign_extended_addresses_mean_their_32_bits(self) -> None:
+        """gdb sign-extends addresses of MIPS: the same packets with 64 bits and with 32 have the same replies."""
+        wire = self.wire(ECHO)
+        wire.command("goto 9")
+        self.stops(wire, ("vCont;rffffffffbfc01000,ffffffffbfc01014", "T05", 14))
+        self.dialog(wire, ("mffffffffbfc00000,4", wire.ask("mbfc00000,4")), ("Mffffffffbfc00200,1:01", "OK"),
+                    ("Z0,ffffffffbfc01018,4", "OK"), ("z0,bfc01018,4", "OK"), ("Z2,ffffffffa0000104,4", "OK"),
+                    ("z2,a0000104,4", "OK"), ("Z0,ffffffffbfc01000,4", "OK"))
+        self.stops(wire, ("c", "T05", 20))
+
+    def test_continue_hits_a_breakpoint_at_the_position_that_gdb_knows(self) -> None:
+        # The loop of 4 steps begins in step 1, at 0xbfc00004. gdb steps off a breakpoint before it continues, unless it means to hit it.
+        wire = self.wire(COUNTER)
+        self.dialog(wire, ("Z0,bfc00000,4", "OK"), ("Z0,bfc00004,4", "OK"), ("vRun;", "T05"))
+        self.stops(wire, ("vCont;c", "T05", 0), ("vCont;c", "T05", 0), ("vCont;s", "T05", 1), ("vCont;c", "T05", 1),
+                   ("bc", "T05", 0), ("bc", "T05replaylog:begin;", 0))
+
+    def test_continue_leaves_a_breakpoint_to_which_monitor_moved(self) -> None:
+        wire = self.wire(COUNTER)
+        self.dialog(wire, ("Z0,bfc00004,4", "OK"), ("vRun;", "T05"))
+        wire.command("goto 5")
+        self.stops(wire, ("vCont;c", "T05", 9), ("vCont;c", "T05", 9))
+        wire.command("patch 0xbfc00100 1")  # the position is the same, in another run
+        self.stops(wire, ("vCont;c", "T05", 13))
+
+    def test_continue_judges_the_condition_of_a_breakpoint_at_the_position(self) -> None:
+        # r2 == 3 holds at 13, the fourth time that the loop begins.
+        wire = self.wire(COUNTER)
+        self.dialog(wire, ("Z0,bfc00004,4;X7,26000222031327", "OK"), ("vRun;39", "T05"))
+        self.stops(wire, ("vCont;c", "T05", 13), ("vCont;c", "T05", 13))
+
     def test_what_is_sent_is_shown_once(self) -> None:
         wire = self.wire(ECHO, TYPED)
         self.dialog(wire, ("Z0,bfc01018,4", "OK"))
         self.dialog(wire, ("c", "T05"))
         self.assertEqual(wire.console, b"")
-        self.dialog(wire, ("c", "T05"))
+        self.dialog(wire, ("s", "T05"), ("c", "T05"))
         self.assertEqual(wire.console, b"A")
         self.dialog(wire, ("bc", "T05"))
         self.assertEqual(wire.console, b"A")

@@ -51,7 +51,7 @@ def main(arguments: Sequence[str]) -> int:
     line = parser().read(arguments)
     if not 0 <= line.port < 65_536:
         raise Problem("--port wants a number from 0 to 65,535")
-    with laid_out(line) as desk, rescue.kept(desk.unsaved_session):
+    with laid_out(line) as desk, rescue.kept(desk.unsaved_session, line.image):
         serve(desk, line.port, line.open)
     return 0
 

@@ -1,0 +1,3 @@
+#include <stdlib.h>
+#undef assert
+#define assert(condition) ((condition) ? (void) 0 : abort())
