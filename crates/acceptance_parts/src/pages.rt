@@ -57,12 +57,11 @@ fn turn<const PAGES: u32>(
     ensures same { SameOutside set.now earlier.now words.new.items }
     ensures whole { length words.new.items ≡ length words.old.items }
 {
-    let is_marked = place < words.len() && set.holds(page_of(place) as u32);
-    same_at(rt, &place, &is_marked, &true);
-    if is_marked {
-        page_laws();
-        words[place] = !words[place];
-    }
+    let page = page_of(place);
+    assert!(rt; place < words.len());
+    assert!(rt; set.pages().iter().any(|other| *other as usize == page));
+    page_laws();
+    words[place] = !words[place];
 }
 
 // Turns the first and the last word of each page of a set, and takes a snapshot.
