@@ -5,7 +5,7 @@ use input_log::Log;
 use r3k_image::{Image, read_image, write_image};
 use refusal::Fault;
 use samples::shown;
-use std::alloc::Global;
+use std::alloc::{AllocError, Global};
 use std::fmt::Debug;
 use std::test::Fail;
 use timeline::Timeline;
@@ -13,7 +13,7 @@ use timeline::Timeline;
 /// The timeline, and how many steps it had run when that was asked last.
 #[derive(Drop)]
 pub struct Asked<const PAGES: u32, const SPAN: u32> {
-    timeline: Timeline<PAGES, SPAN>,
+    timeline: Box<Timeline<PAGES, SPAN>>,
     steps: u64,
 }
 
@@ -23,7 +23,7 @@ impl<const PAGES: u32, const SPAN: u32> Asked<PAGES, SPAN> {
         requires { AreSizes PAGES SPAN }
     {
         Ok(Asked {
-            timeline: Timeline::new(alloc, image, Log::new(alloc))?,
+            timeline: boxed(alloc, Timeline::new(alloc, image, Log::new(alloc))?)?,
             steps: 0,
         })
     }
@@ -36,7 +36,8 @@ impl<const PAGES: u32, const SPAN: u32> Asked<PAGES, SPAN> {
             return Err("no past".into());
         }
         let image = read_image(alloc, &write_image(alloc, self.timeline.image())?)?;
-        self.timeline = Timeline::with_pasts(alloc, image, Log::new(alloc), pasts as usize)?;
+        let timeline = Timeline::with_pasts(alloc, image, Log::new(alloc), pasts as usize)?;
+        self.timeline = boxed(alloc, timeline)?;
         self.steps = 0;
         Ok(())
     }
@@ -53,6 +54,15 @@ impl<const PAGES: u32, const SPAN: u32> Asked<PAGES, SPAN> {
             ("costs", []) => Ok(shown(alloc, &self.cost())?),
             ("costs-at-most", [most]) => Ok(shown(alloc, &(self.cost() <= *most))?),
             ("events", []) => Ok(shown(alloc, &self.timeline.log().events().len())?),
+            _ => self.state(alloc, name, numbers),
+        }
+    }
+
+    // What the run holds at a position, and what it reported before.
+    fn state(&mut self, alloc: Global, name: &str, numbers: &[u64]) -> Result<String, Fail>
+        requires { AreSizes PAGES SPAN }
+    {
+        match (name, numbers) {
             ("pc", [position]) => {
                 let core = self.timeline.core_at(*position);
                 answered(alloc, core.map(|core| core.pc()))
@@ -61,13 +71,23 @@ impl<const PAGES: u32, const SPAN: u32> Asked<PAGES, SPAN> {
                 let (total, bytes) = self.timeline.console_at(*position, 0, 0, 8)?;
                 Ok(shown(alloc, &(total, bytes.as_slice()))?)
             }
-            ("writer" | "word", [position, address]) => {
+            ("word", [position, address]) => {
                 let address = u32::try_from(*address)?;
-                if name == "word" {
-                    return answered(alloc, self.timeline.word_at(*position, address));
-                }
+                answered(alloc, self.timeline.word_at(*position, address))
+            }
+            ("writer", [position, address]) => {
+                let address = u32::try_from(*address)?;
                 answered(alloc, self.timeline.writer_at(*position, address))
             }
+            _ => self.search(alloc, name, numbers),
+        }
+    }
+
+    // Searches of the run.
+    fn search(&mut self, alloc: Global, name: &str, numbers: &[u64]) -> Result<String, Fail>
+        requires { AreSizes PAGES SPAN }
+    {
+        match (name, numbers) {
             ("regwriter", [position, register]) => {
                 let register = u8::try_from(*register)?;
                 answered(alloc, self.timeline.register_writer_at(*position, register))
@@ -100,6 +120,14 @@ impl<const PAGES: u32, const SPAN: u32> Asked<PAGES, SPAN> {
                 let (line, level) = (u8::try_from(*line)?, u8::try_from(*level)?);
                 self.timeline.wire(*time, line, level)?;
             }
+            _ => return self.edit_events(alloc, name, numbers),
+        }
+        Ok(String::new(alloc))
+    }
+
+    // Edits events of the log, or the image.
+    fn edit_events(&mut self, alloc: Global, name: &str, numbers: &[u64]) -> Result<String, Fail> {
+        match (name, numbers) {
             ("del", [place]) => self.timeline.del(*place)?,
             ("set", [place, byte]) => self.timeline.set(*place, u8::try_from(*byte)?)?,
             ("erase", [from, to]) => return answered(alloc, self.timeline.erase(*from, *to)),
@@ -127,6 +155,11 @@ impl<const PAGES: u32, const SPAN: u32> Asked<PAGES, SPAN> {
         }
         Ok(())
     }
+}
+
+/// Boxes a large value. Functions that own it are then checked in less time, as its end is proved in `Box` alone.
+pub fn boxed<T: Drop>(alloc: Global, value: T) -> Result<Box<T>, AllocError> {
+    Box::new(alloc, value).map_err(|_| AllocError)
 }
 
 // An answer, or why it is refused.

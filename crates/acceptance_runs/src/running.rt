@@ -3,7 +3,7 @@ ghost use Rattle.std.specs.Prelude.{◌≡◌, ◌^◌, ◌<◌, ◌≤◌, IfOk
 ghost use Rattle.r3k_word.specs.declared.layout.TheConstants.{MAX_RAM_PAGES};
 ghost use Rattle.timeline.specs.Sizes.{AreSizes};
 
-use crate::asked::Asked;
+use crate::asked::{Asked, boxed};
 use checkpoints::Kept;
 use cop0::number::{RANDOM, STATUS};
 use input_log::Log;
@@ -22,14 +22,14 @@ use std::test::Fail;
 #[derive(Drop)]
 pub struct Running<const PAGES: u32, const SPAN: u32> {
     image: Image,
-    live: Live<PAGES>,
-    recorder: Recorder<PAGES, SPAN>,
+    // Boxed, as is all that is large, so that its end is proved once.
+    live: Box<Live<PAGES>>,
+    recorder: Box<Recorder<PAGES, SPAN>>,
     log: Log,
     places: Vec<Rc<Boundary<PAGES>>>,
     // The record that was made last, until it is put.
     fact: Option<Fact<PAGES, SPAN>>,
-    kept: Kept<PAGES, SPAN>,
-    // Boxed, so that it is proved apart that what it has is freed.
+    kept: Box<Kept<PAGES, SPAN>>,
     timeline: Box<Asked<PAGES, SPAN>>,
 }
 
@@ -38,18 +38,18 @@ impl<const PAGES: u32, const SPAN: u32> Running<PAGES, SPAN> {
     pub fn of(alloc: Global, image: Image, other: Image) -> Result<Running<PAGES, SPAN>, Fail>
         requires { AreSizes PAGES SPAN }
     {
-        let mut live = Live::new(alloc, &image)?;
+        let mut live = boxed(alloc, Live::new(alloc, &image)?)?;
         let mut places = Vec::new(alloc);
         places.push(live.keep(alloc)?)?;
         Ok(Running {
             image,
             live,
-            recorder: Recorder::new(alloc)?,
+            recorder: boxed(alloc, Recorder::new(alloc)?)?,
             log: Log::new(alloc),
             places,
             fact: None,
-            kept: Kept::new(alloc, 1),
-            timeline: Box::new(alloc, Asked::of(alloc, other)?).map_err(|_| AllocError)?,
+            kept: boxed(alloc, Kept::new(alloc, 1))?,
+            timeline: boxed(alloc, Asked::of(alloc, other)?)?,
         })
     }
 

@@ -2,7 +2,7 @@
 ghost use Rattle.timeline.specs.Sizes.{AreSizes};
 
 use crate::record::show_record;
-use crate::script::begun;
+use crate::script::{begun, boxed};
 use crate::show::Show;
 use input_log::{Log, LogFault, read_log, write_log};
 use r3k_asm::assemble;
@@ -111,9 +111,9 @@ fn made<const PAGES: u32, const SPAN: u32, W: Sink>(
     requires sizes { AreSizes PAGES SPAN }
 {
     match call {
-        Call::Timeline => show_timeline::<PAGES, SPAN, W>(alloc, name, show),
-        Call::Follow => show_followed::<PAGES, SPAN, W>(alloc, name, show),
-        Call::RegisterWriter => show_register_writer::<PAGES, SPAN, W>(alloc, name, show),
+        Call::Timeline | Call::Follow | Call::RegisterWriter => {
+            made_of_timeline::<PAGES, SPAN, W>(alloc, call, name, show)
+        }
         Call::Session => show_session::<PAGES, SPAN, W>(alloc, name, show),
         Call::Serve => show_served::<PAGES, SPAN, W>(alloc, name, show),
         Call::Record => show_first_record::<PAGES, SPAN, W>(alloc, name, show),
@@ -203,33 +203,47 @@ fn show_assembled<W: Sink>(alloc: Global, name: &[u8], show: &mut Show<W>) -> Re
     Ok(())
 }
 
-fn show_timeline<const PAGES: u32, const SPAN: u32, W: Sink>(
+// The timeline of an image and a log.
+fn timeline_of<const PAGES: u32, const SPAN: u32>(
     alloc: Global,
+) -> Result<Box<Timeline<PAGES, SPAN>>, RunFault>
+    requires sizes { AreSizes PAGES SPAN }
+{
+    let image = read_image(alloc, &LOAD_SLOT)?;
+    let log = read_log(alloc, LOG)?;
+    boxed(alloc, Timeline::<PAGES, SPAN>::new(alloc, image, log)?)
+}
+
+// Makes a timeline, and a call of it.
+fn made_of_timeline<const PAGES: u32, const SPAN: u32, W: Sink>(
+    alloc: Global,
+    call: Call,
     name: &[u8],
     show: &mut Show<W>,
 ) -> Result<(), RunFault>
     requires sizes { AreSizes PAGES SPAN }
 {
-    let image = read_image(alloc, &LOAD_SLOT)?;
-    let log = read_log(alloc, LOG)?;
-    let made = Timeline::<PAGES, SPAN>::new(alloc, image, log)?;
-    show_image(name, made.image(), show);
-    show_events(name, made.log(), show);
-    Ok(())
+    let mut timeline = timeline_of::<PAGES, SPAN>(alloc)?;
+    match call {
+        Call::Follow => show_followed::<PAGES, SPAN, W>(&mut timeline, name, show),
+        Call::RegisterWriter => show_register_writer::<PAGES, SPAN, W>(&mut timeline, name, show),
+        _ => {
+            show_image(name, timeline.image(), show);
+            show_events(name, timeline.log(), show);
+            Ok(())
+        }
+    }
 }
 
 // Shows what the first steps of a second span do.
 fn show_followed<const PAGES: u32, const SPAN: u32, W: Sink>(
-    alloc: Global,
+    timeline: &mut Timeline<PAGES, SPAN>,
     name: &[u8],
     show: &mut Show<W>,
 ) -> Result<(), RunFault>
     requires sizes { AreSizes PAGES SPAN }
 {
-    let image = read_image(alloc, &LOAD_SLOT)?;
-    let log = read_log(alloc, LOG)?;
-    let mut made = Timeline::<PAGES, SPAN>::new(alloc, image, log)?;
-    let Ok(steps) = made.follow(64, 4) else {
+    let Ok(steps) = timeline.follow(64, 4) else {
         return Err(RunFault::Memory);
     };
     for step in &steps {
@@ -241,16 +255,13 @@ fn show_followed<const PAGES: u32, const SPAN: u32, W: Sink>(
 
 // Shows which step wrote r2 last before the third step of a third span: that of its load.
 fn show_register_writer<const PAGES: u32, const SPAN: u32, W: Sink>(
-    alloc: Global,
+    timeline: &mut Timeline<PAGES, SPAN>,
     name: &[u8],
     show: &mut Show<W>,
 ) -> Result<(), RunFault>
     requires sizes { AreSizes PAGES SPAN }
 {
-    let image = read_image(alloc, &LOAD_SLOT)?;
-    let log = read_log(alloc, LOG)?;
-    let mut made = Timeline::<PAGES, SPAN>::new(alloc, image, log)?;
-    let Ok(step) = made.register_writer_at(130, 2) else {
+    let Ok(step) = timeline.register_writer_at(130, 2) else {
         return Err(RunFault::Memory);
     };
     show.number(name, step);

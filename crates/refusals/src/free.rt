@@ -184,7 +184,7 @@ fn log_of(alloc: Global) -> Result<Log, RunFault> {
 // The session of the echo program with three bytes. It has what an edit forgets: records of spans, and the state of a position.
 fn session_of<const PAGES: u32, const SPAN: u32>(
     alloc: Global,
-) -> Result<Session<PAGES, SPAN>, RunFault>
+) -> Result<Box<Session<PAGES, SPAN>>, RunFault>
     requires sizes { AreSizes PAGES SPAN }
 {
     let mut session = begun::<PAGES, SPAN>(

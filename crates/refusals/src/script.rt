@@ -55,10 +55,16 @@ pub fn begun<const PAGES: u32, const SPAN: u32>(
     alloc: Global,
     boot: &[u8],
     log: &[u8],
-) -> Result<Session<PAGES, SPAN>, RunFault>
+) -> Result<Box<Session<PAGES, SPAN>>, RunFault>
     requires sizes { AreSizes PAGES SPAN }
 {
-    Session::new(alloc, image_of(alloc, boot)?, log_of(alloc, log)?)
+    let (image, log) = (image_of(alloc, boot)?, log_of(alloc, log)?);
+    boxed(alloc, Session::new(alloc, image, log)?)
+}
+
+/// Boxes a large value. Functions that own it are then checked in less time, as its end is proved in `Box` alone.
+pub fn boxed<T: Drop>(alloc: Global, value: T) -> Result<Box<T>, RunFault> {
+    Box::new(alloc, value).map_err(|_| RunFault::Memory)
 }
 
 fn image_of(alloc: Global, boot: &[u8]) -> Result<Image, RunFault> {
