@@ -21,6 +21,15 @@ from front.tests.support import DATA, random_rom, rom, start, states
 FATAL = 0xBFC0_0100  # of the loader, where it ends
 
 
+def _ticks(turns: int) -> list[int]:
+    """A ROM that counts in the word at 0x1000: each time after so many turns of a loop of three instructions."""
+    return [0x3C08A000, 0x35081000, 0xAD000000,  # lui t0, 0xa000; ori t0, t0, 0x1000; sw zero, 0(t0)
+            0x24090000 | turns,  # li t1, turns
+            0x2529FFFF, 0x1520FFFE, 0,  # addiu t1, t1, -1; bnez t1, .-4; nop
+            0x8D0A0000, 0, 0x254A0001, 0xAD0A0000,  # lw t2, 0(t0); nop; addiu t2, t2, 1; sw t2, 0(t0)
+            0x1000FFF7, 0]  # b to the li; nop
+
+
 class Shrink_(unittest.TestCase):
     def check(self, guest: str, log: list[Event], condition: conditions.Condition, end: int,
               holds: Callable[[Driver], Optional[int]]) -> list[Event]:
@@ -177,8 +186,8 @@ class Conditions_(unittest.TestCase):
             end = 300
             driver = start(rom(words))
             run = brute.words(driver, end + 1, DATA)
-            few = source.choice((2, 1024))
-            small = {"SPAN": 16, "_FEW": few, "_SPANS": (1, 2, 4)} if seed % 3 else {"_FEW": few}
+            sample = source.choice((1, 2, 1024))
+            small = {"SPAN": 16, "_SAMPLE": sample, "_SPANS": (1, 2, 4)} if seed % 3 else {"_SAMPLE": sample}
             with self.subTest(seed=seed), mock.patch.multiple(conditions, **small):
                 for sign, holds in SIGNS.items():
                     value = source.choice(run)
@@ -211,7 +220,7 @@ class Conditions_(unittest.TestCase):
                 content = b"".join(it.to_bytes(4, "little") for it in held)
                 return total[0] + sum(sign * int.from_bytes(content[place - DATA:place - DATA + size], "little") for sign, place, size in total[1])
 
-            small = {"SPAN": 16, "_FEW": source.choice((2, 1024)), "_SPANS": (1, 2, 4)}
+            small = {"SPAN": 16, "_SAMPLE": source.choice((1, 2, 1024)), "_SPANS": (1, 2, 4)}
             with self.subTest(seed=seed), mock.patch.multiple(conditions, **small):
                 for _ in range(6):
                     left, right, (sign, holds) = side(), side(), source.choice(list(SIGNS.items()))
@@ -225,6 +234,19 @@ class Conditions_(unittest.TestCase):
                     found_later += wanted not in (None, begin)
             driver.close()
         self.assertGreater(found_later, 10)
+
+    def test_when_of_thousands_of_stores_takes_few_turns(self) -> None:
+        """The ticks are 379 steps apart, or 4,978. Step 380 or 4,979 is the first position with a 1."""
+        for turns in (124, 1657):
+            apart = 3 * turns + 7
+            guest = start(rom(_ticks(turns)))
+            stored = 1500
+            end = 3 + (stored + 9) * apart
+            with mock.patch.object(guest, "ask_all", wraps=guest.ask_all) as asked, self.subTest(apart=apart):
+                found = when(guest, Holds(0x1000, "==", stored), end)
+            self.assertEqual(found.position, 1 + stored * apart)
+            self.assertLess(asked.call_count, 600)
+            guest.close()
 
     def test_addresses(self) -> None:
         for seed in range(10):

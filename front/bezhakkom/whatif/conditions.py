@@ -14,7 +14,8 @@ from .questions import Console, at, together
 
 _PIECES = (1, 4, 16, 64)  # visits that are asked for together
 _SPANS = (1, 4, 16, 64, 256)  # that are looked at together for stores
-_FEW = 256  # stores are followed back one by one; where there are more in a span, each step of it is looked at
+_SAMPLE = 16  # stores of a span show how far apart its stores are
+_APART = 512  # if they are fewer steps apart, tracing each step takes less time than following the stores back
 _STEPS = 4096  # that are asked for together
 
 
@@ -85,17 +86,13 @@ class _OfWords:
             return begin
         low, sizes = begin, _growing(_SPANS)
         while low < end and self.words:
-            spans = next(sizes)
-            high = min((low // SPAN + spans) * SPAN, end)
-            found, are_few = yield from self._followed(low, high)
-            if not are_few:
-                sizes = _growing(_SPANS)
-                if spans > 1:
-                    continue
-                found = yield from self._looked(low, high)
+            bounds = [low, *range((low // SPAN + 1) * SPAN, end, SPAN)[:next(sizes)]]
+            if len(bounds) == 1 or bounds[-1] + SPAN >= end:
+                bounds.append(end)
+            found = yield from self._stored(bounds)
             if found is not None:
                 return found
-            low = high
+            low = bounds[-1]
         return None
 
     def _values(self, position: int) -> Asking:
@@ -106,20 +103,35 @@ class _OfWords:
     def _asked(self, command: str) -> List[str]:
         return [command.format(physical) for physical in self.words]
 
-    def _followed(self, low: int, high: int) -> Asking:
-        """The least position above `low`, up to `high`, after a store with such a value; and whether the stores are few enough to
-        say so."""
-        writers = (yield [f"goto {high}", *self._asked("writer {}")])[1:]
+    def _stored(self, bounds: Sequence[int]) -> Asking:
+        """The least position after a store between some positions at which it holds; all but the outermost are bounds of spans.
+
+        The stores of each span are followed back from its end, in all spans together: at the step of a store `writer` returns the
+        store before it, and `mem` the words that were left by that one.
+        """
+        writers = (yield [f"goto {bounds[-1]}", *self._asked("writer {}")])[1:]
+        if all(_step_of(it) < bounds[0] for it in writers):
+            return None
         found: Optional[int] = None
-        for _ in range(_FEW):
-            steps = [step for it in writers if (step := replies.writer(it).step) is not None and step >= low]
-            if not steps:
-                return found, True
-            step, count = max(steps), len(self.words)
-            lines = yield [f"goto {step}", *self._asked("writer {}"), f"goto {step + 1}", *self._asked("mem {} 1")]
-            writers = lines[1:1 + count]
-            found = step + 1 if self.holds([replies.memory(it)[0] for it in lines[2 + count:]]) else found
-        return None, False
+        dense: List[Tuple[int, int]] = []
+        followed = [_Followed(low, high, high) for low, high in zip(bounds, bounds[1:])]
+        while followed:
+            lines = iter((yield [command for it in followed for command in
+                                 (f"goto {it.position}", *self._asked("writer {}"), *self._asked("mem {} 1"))]))
+            for it in followed:
+                next(lines)
+                it.position = max(_step_of(next(lines)) for _ in self.words)
+                if self.holds([replies.memory(next(lines))[0] for _ in self.words]) and it.position >= it.low:
+                    found = it.position + 1 if found is None else min(found, it.position + 1)
+                it.count += 1
+            dense += [(it.low, it.position) for it in followed if it.is_dense()]
+            followed = [it for it in followed if it.position > it.low and not it.is_dense() and (found is None or it.low < found)]
+        for low, high in sorted(dense):
+            if found is None or low < found:
+                looked = yield from self._looked(low, high)
+                if looked is not None:
+                    return looked
+        return found
 
     def _looked(self, low: int, high: int) -> Asking:
         """The least position above `low`, up to `high`, with such a value: what each step stores is looked at."""
@@ -141,6 +153,26 @@ class _OfWords:
                             return position
                         values[stores[physical]] = before
         return None
+
+
+@dataclass
+class _Followed:
+    """A span whose stores were followed back from its end to a position, and how many of them these were."""
+
+    low: int
+    high: int
+    position: int
+    count: int = 0
+
+    def is_dense(self) -> bool:
+        """Whether so many stores are in the span that tracing the rest of it takes less time."""
+        return self.position > self.low and self.count >= _SAMPLE and self.high - self.position < _APART * self.count
+
+
+def _step_of(lines: Sequence[str]) -> int:
+    """The step of a reply to `writer`, or -1 if no step stored there."""
+    step = replies.writer(lines).step
+    return -1 if step is None else step
 
 
 @dataclass(frozen=True)
