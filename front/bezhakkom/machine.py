@@ -387,18 +387,19 @@ class Machine:
 
     def futures(self, event: int, *, values: Optional[Iterable[int]] = None, without: bool = False, steps: Iterable[int] = (),
                 show: Sequence[str] = (), until: Optional[str] = None, at: Optional[int] = None,
-                executor: Optional[Executor] = None) -> Futures:
+                executor: Optional[Executor] = None, by_sent: bool = False) -> Futures:
         """What comes of an event with other values, without it, or at other steps, grouped by outcome; without any of these, of all
-        its values. It is looked at here or at a position, or where a condition of the shell's holds first."""
+        its values. It is looked at here or at a position, or where a condition of the shell's holds first. With `by_sent` the function
+        in which the program stands is no part of an outcome."""
         self._check_event(event, self.log)
         steps = list(steps)
         if values is None:
             values = () if without or steps else range(2 if self.log[event].kind == Kind.WIRE else 256)
-        changes = [*_futures.values(self.log, event, list(values)), *(_futures.taken_out(self.log, event) if without else ()),
-                   *_futures.moved(self.log, event, steps)]
+        changes = _futures.values(self.log, event, list(values))
+        changes = (changes + _futures.taken_out(self.log, event) if without else changes) + _futures.moved(self.log, event, list(steps))
         condition = None if until is None else self._condition(until)
         return _futures.futures(self.driver, self.session.symbols, event, changes, self.position if at is None else at,
-                               tuple(map(self._question, show)), condition, executor)
+                               tuple(map(self._question, show)), condition, executor, by_sent)
 
     def shrink(self, until: str, *, at: Optional[int] = None, executor: Optional[Executor] = None) -> Shrunk:
         """The smallest log in which a condition of the shell's comes true up to here, or a position: `pc fatal`, `console 'Sorry'`,

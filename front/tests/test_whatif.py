@@ -220,6 +220,41 @@ class Futures_(unittest.TestCase):
         with mock.patch("bezhakkom.whatif.futures._FAR", 1):
             self.assertEqual(futures(driver, symbols_of(guest), 4, changes, 5_000_000), near)
 
+    def test_grouped_by_sent_the_function_is_no_part_of_an_outcome(self) -> None:
+        """At a position amid what is sent, the program stands in several functions after the same bytes."""
+        guest, log = brute.image("login/login.elf"), brute.log_of("login")
+        driver = start(guest, log)
+        self.addCleanup(driver.close)
+        changes = moved(log, 8, range(79_000, 81_000, 20))
+        by_place = futures(driver, symbols_of(guest), 8, changes, 80_420)
+        by_sent = futures(driver, symbols_of(guest), 8, changes, 80_420, by_sent=True)
+        self.assertGreater(len(by_place.outcomes), len(by_sent.outcomes))
+        wanted: dict[tuple[bytes, ...], list[tuple[str, int]]] = {}
+        for outcome, labels in by_place.outcomes.items():
+            wanted.setdefault(outcome.sent, []).extend(labels)
+        self.assertEqual({it.sent: labels for it, labels in by_sent.outcomes.items()}, {it: sorted(them) for it, them in wanted.items()})
+        self.assertEqual({it.place for it in by_sent.outcomes}, {""})
+
+    def test_pasts_are_made_when_they_are_asked_for(self) -> None:
+        """A line may try a million pasts. After a Ctrl-C what was tried before is shown, also at a far position."""
+        guest, log = brute.image("echo/boot.s"), brute.log_of("echo")
+        driver = start(guest, log)
+        self.addCleanup(driver.close)
+        changes = moved(log, 1, range(1, 300_001))
+        made = 0
+
+        def interrupted(label: tuple[str, int]) -> pasts.Past:
+            nonlocal made
+            made += 1
+            if made > 200:
+                raise KeyboardInterrupt
+            return pasts.moved(log, 1, label[1])
+
+        with mock.patch.object(changes, "past", interrupted), mock.patch("bezhakkom.whatif.futures._FAR", -1 << 40):
+            found = futures(driver, symbols_of(guest), 1, changes, 5_000_000)
+        self.assertEqual((found.whole, found.tried), (300_000, 192))
+        self.assertEqual(sorted(it for labels in found.outcomes.values() for _, it in labels), list(range(1, 193)))
+
     def test_bad_ones(self) -> None:
         log = brute.log_of("echo")
         driver = start(brute.image("echo/boot.s"), log)

@@ -3,7 +3,7 @@ from __future__ import annotations
 
 import json
 import os
-from typing import Iterable, List, Optional, Tuple
+from typing import Iterable, List, Optional
 
 from .. import log as logs
 from .. import loading, saved
@@ -20,14 +20,15 @@ from . import shrink as shrinking
 from . import when as first_time
 from .causes import DEL, SET
 from .causes import causes as causes_of
-from .futures import Label
+from .futures import Changes
 from .jobs import pool
-from .pasts import Past, answer, undisturbed
+from .pasts import answer, undisturbed
 from .words import CONDITION, WHAT, Words
 
 _WAYS = {"set": (SET,), "del": (DEL,), "both": (SET, DEL)}
 _TRIES = 100_000
 _MOST_PASTS = 1 << 20  # that one line tries
+_SENT, _PLACE = "sent", "place"  # by which `try` groups
 
 _CAUSES = "causes WHAT .. [by set|del|both] [values N] [--jobs N] [--json]"
 
@@ -49,14 +50,18 @@ def causes(session: Session, words: list[str]) -> None:
     _tell(session, line, shown.causes(session, name, question, _WAYS[by], values, found), shown.causes_value(session, question, found, _WAYS[by]))
 
 
-_TRY = "try I [all] [A..B] [del] [moved A..B [by K]] [show WHAT ..] [until CONDITION] [at N] [--jobs N] [--json]"
+_TRY = ("try I [all] [A..B] [del] [moved A..B [by K]] [show WHAT ..] [until CONDITION] [at N] [by sent|place] [--jobs N] [--json]\n"
+        "`by sent` groups by what was sent and what `show` asks for, `by place` also by the function in which the program stands; "
+        "with `show`, and with `until console`, it is `by sent`")
 
 
 @command("try I ..", "shows what comes of event I with other values, without it, or at other steps: all, A..B, del, moved A..B", WHAT_IF,
          more=_TRY)
 def try_(session: Session, words: list[str]) -> None:
     line = Words(session, words, _TRY, "all", "del", "moved", "by", "show", "until", "at")
+    by = next((it for it in (_SENT, _PLACE) if line.has_pair("by", it)), None)
     position, asked, until = line.position(), line.following("show"), line.following("until")
+    by_sent = by == _SENT if by else bool(asked) or until[:1] == ["console"]
     names = []
     while asked:
         names.append(line.question(asked))
@@ -69,11 +74,12 @@ def try_(session: Session, words: list[str]) -> None:
         raise Problem(f"there is no event {index:,}: " + (f"they are 0 to {len(log) - 1:,}" if log else "the log is empty"))
     tried = _changes(session, line, index)
     with pool(line.jobs) as executor:
-        found = futures_of.futures(session.driver, session.symbols, index, tried, position, [it for _, it in names], condition, executor)
+        found = futures_of.futures(session.driver, session.symbols, index, tried, position, [it for _, it in names], condition, executor,
+                                   by_sent)
     _tell(session, line, shown.futures(session, index, names, position, found), shown.futures_value(index, names, position, found))
 
 
-def _changes(session: Session, line: Words, index: int) -> list[Tuple[Label, Past]]:
+def _changes(session: Session, line: Words, index: int) -> Changes:
     """The changes of an event that the words name, or else all values."""
     log = session.driver.log
     moved, by, out = line.after("moved"), line.number_after("by", 1), line.has("del")
@@ -83,8 +89,8 @@ def _changes(session: Session, line: Words, index: int) -> list[Tuple[Label, Pas
         values += range(256 if log[index].kind != logs.Kind.WIRE else 2)
     while line.rest:
         values += _range(session, line, line.rest.pop(0), 1)
-    return (futures_of.values(log, index, list(dict.fromkeys(values))) + (futures_of.taken_out(log, index) if out else [])
-            + futures_of.moved(log, index, steps))
+    made = futures_of.values(log, index, list(dict.fromkeys(values)))
+    return (made + futures_of.taken_out(log, index) if out else made) + futures_of.moved(log, index, steps)
 
 
 def _range(session: Session, line: Words, text: str, by: int) -> range:

@@ -139,7 +139,7 @@ def _outcome(session: Session, names: Sequence[Tuple[str, Question]], outcome: O
         return "it does not come true"
     sent = [f"line {line} sends {text_of(it)}" for line, it in enumerate(outcome.sent) if it] or ["nothing is sent"]
     values = [f"{name} is {value_of(session, question, it)}" for (name, question), it in zip(names, outcome.values)]
-    return ", ".join([*sent, f"in {outcome.place}", *values])
+    return ", ".join([*sent, *([f"in {outcome.place}"] if outcome.place else []), *values])
 
 
 def futures_value(index: int, names: Sequence[Tuple[str, Question]], position: int, found: Futures) -> Value:
@@ -149,7 +149,7 @@ def futures_value(index: int, names: Sequence[Tuple[str, Question]], position: i
         if not outcome.came:
             return {"came_true": False, **changes}
         answers = {name: list(it) if isinstance(it, bytes) else it for (name, _), it in zip(names, outcome.values)}
-        return {"came_true": True, "sent": [list(it) for it in outcome.sent], "in": outcome.place, "answers": answers, **changes}
+        return {"came_true": True, "sent": [list(it) for it in outcome.sent], "in": outcome.place or None, "answers": answers, **changes}
 
     return {"event": index, **event_value(found.event), "position": position, "pasts": found.whole, "tried": found.tried,
             "outcomes": [one(*it) for it in found.outcomes.items()]}

@@ -44,6 +44,13 @@ class Words:
             self.rest.remove(key)
         return found
 
+    def has_pair(self, key: str, value: str) -> bool:
+        """Whether a word stands somewhere with another one after it. Both are taken out."""
+        place = next((at for at in range(len(self.rest) - 1) if self.rest[at:at + 2] == [key, value]), None)
+        if place is not None:
+            del self.rest[place:place + 2]
+        return place is not None
+
     def after(self, key: str) -> Optional[str]:
         """The word after another one, if that is there. Both are taken out."""
         if key not in self.rest:
