@@ -52,6 +52,10 @@ SHORT = {"s": "step", "si": "step", "rs": "back", "rsi": "back", "c": "continue"
          "p": "print", "x": "mem", "q": "quit", "h": "help", "r": "regs", "d": "delete", "l": "list", "bt": "backtrace"}
 
 
+# An empty line on a terminal repeats these, as in gdb.
+_REPEATED = frozenset(("step", "back", "continue", "reverse-continue"))
+
+
 def command(usage: str, text: str, group: str, edits: bool = False, more: str = "") -> Callable[[Run], Run]:
     """Puts a function into the table of commands."""
     def put(run: Run) -> Run:
@@ -72,6 +76,15 @@ def find(name: str) -> Command:
     if found:
         raise Problem(f"{name} may be {', '.join(found)}")
     raise Problem(f"there is no command {name[:40]}; `help` lists them")
+
+
+def is_repeated(line: str) -> bool:
+    """Returns whether an empty line after this one repeats it."""
+    try:
+        words = words_of(translated(line))
+        return bool(words) and find(words[0]).name in _REPEATED
+    except Problem:
+        return False
 
 
 def run(session: Session, line: str) -> None:

@@ -10,7 +10,8 @@ from typing import Container, Iterator, Optional, Sequence, TextIO
 
 from . import expressions, loading, rescue, saved, shell_edits, shell_moves, shell_sources, shell_traces, shell_views  # noqa: F401 - they fill the table of commands
 from .arguments import Parser
-from .commands import COMMANDS, GROUPS, SHELL, SHORT, command, find, run, words_of
+from .command_examples import EXAMPLES
+from .commands import COMMANDS, GROUPS, SHELL, SHORT, command, find, is_repeated, run, words_of
 from .errors import Ended, Interrupted, Problem, Refused, Unexpected
 from .expressions import shortened
 from .installed import NAME
@@ -92,10 +93,13 @@ class Shell:
         return 0
 
     def _typed(self) -> Iterator[str]:
-        """Lines from a terminal, until the shell is left."""
+        """Lines from a terminal, until the shell is left. An empty line is the one before, if that is repeated."""
+        repeated = ""
         while True:
             try:
-                yield input(f"wb {self._session.driver.position:,}> ")
+                line = input(f"wb {self._session.driver.position:,}> ").strip() or repeated
+                repeated = line if is_repeated(line) else ""
+                yield line
             except KeyboardInterrupt:
                 print()
                 continue
@@ -160,6 +164,7 @@ def help_(session: Session, words: list[str]) -> None:
         session.tell(f"{found.usage}: {found.text}" + (f" (short: {', '.join(short)})" if short else ""))
         if found.more:
             session.tell(f"usage: {found.more}")
+        session.tell(f"example: {EXAMPLES[found.name]}")
 
 
 @command("quit", "leaves; what is not saved is told first", SHELL)

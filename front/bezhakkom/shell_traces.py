@@ -1,7 +1,8 @@
 """Commands of the shell that follow the run step by step, and list what it did before."""
 from __future__ import annotations
 
-from typing import Iterator, List, Optional, Union
+import json
+from typing import Any, Dict, Iterator, List, Optional, Tuple, Union
 
 from . import expressions
 from .commands import BEFORE, STEPS, command
@@ -13,23 +14,30 @@ from .limits import GREATEST_POSITION, RAM, ROM, TRACED
 from .saving import FORCE_WORD, Form, is_forced, name_of, save
 from .session import Session, counted
 from .step_lines import StepLines
-from .tracing import Traced, read
+from .tracing import Traced, read, value_of
 
 # How many are shown where the line has no number.
 _STEPS = 8
 _IO_STEPS = 1000
 _STORES = 16
 
+_JSON = "--json"
 _BEGIN = "# what steps "
 _FORM = Form("trace", (_BEGIN.encode(),))
 
 
-@command("trace [C] [to] [FILE] [..]", "shows what the next C steps do, or writes it: trace 100000 to FILE", STEPS)
+@command("trace [C] [to] [FILE] [..]", "shows what the next C steps do, or writes it: trace 100000 to FILE", STEPS,
+         more="trace [C] [--json], or trace [C] to FILE; with --json each step is an object on its line")
 def trace(session: Session, words: list[str]) -> None:
+    is_json, words = _JSON in words, [it for it in words if it != _JSON]
     numbers, to = (words[:words.index("to")], words[words.index("to") + 1:]) if "to" in words else (words, None)
-    if len(numbers) > 1 or to == []:
-        raise Problem("usage: trace [C], or trace [C] to FILE")
+    if len(numbers) > 1 or to == [] or is_json and to is not None:
+        raise Problem("usage: trace [C] [--json], or trace [C] to FILE")
     count = _count(session, numbers, _STEPS)
+    if is_json:
+        for step in _next(session, count):
+            session.tell(json.dumps({**value_of(step), **_named(session, step.pc)}))
+        return
     lines = map(StepLines(session).of, _next(session, count))
     if to is None:
         for line in lines:
@@ -52,9 +60,16 @@ def io(session: Session, words: list[str]) -> None:
         session.tell(f"none of the next {counted(count, 'step')} does")
 
 
-@command("stores A [C]", f"lists the last C stores, or {_STORES}, into the word at virtual address A before the position", BEFORE)
+@command("stores A [C] [--json]", f"lists the last C stores, or {_STORES}, into the word at virtual address A before the position", BEFORE)
 def stores(session: Session, words: list[str]) -> None:
+    is_json, words = _JSON in words, [it for it in words if it != _JSON]
+    if not 1 <= len(words) <= 2:
+        raise Problem("usage: stores A [C] [--json]")
     address, physical = session.word_at(words[0])
+    if is_json:
+        made = session.driver.stores(physical, _count(session, words[1:], _STORES))
+        session.tell(json.dumps([{"step": step, "word": word, **_stood(session, step)} for step, word in made]))
+        return
     found = False
     for step, word in session.driver.stores(physical, _count(session, words[1:], _STORES)):
         session.tell(f"{word:#010x} by {session.step(step)}")
@@ -64,12 +79,13 @@ def stores(session: Session, words: list[str]) -> None:
 
 
 _MOST_LISTED = 1_000  # of hits, where no number is given
-_HITS = "hits A [last C], where A is an address, the number of a breakpoint or a catch, or `exception [KIND]`"
+_HITS = "hits A [last C] [--json], where A is an address, the number of a breakpoint or a catch, or `exception [KIND]`"
 
 
 @command("hits A ..", "lists all positions up to here at which breakpoint A stops: its number, an address, or `exception [KIND]`", BEFORE, more=_HITS)
 def hits(session: Session, words: list[str]) -> None:
     most = None
+    is_json, words = _JSON in words, [it for it in words if it != _JSON]
     if words[-2:-1] == ["last"]:
         most = _count(session, words[-1:], 0)
         words = words[:-2]
@@ -86,6 +102,10 @@ def hits(session: Session, words: list[str]) -> None:
     except STOPPED:
         is_ended = True
     found.sort()
+    if is_json:
+        listed_as = [_exception_value(session, it) for it in _taken(session, found)] if isinstance(stop, Catch) else [{"step": it} for it in found]
+        session.tell(json.dumps({"position": driver.position, "hits": listed_as, "stopped": is_ended}))
+        return
     session.tell(f"{name}, up to step {driver.position:,}: {len(found):,}" + (", and Ctrl-C came before all were found" if is_ended else ""))
     listed = found if most is not None else found[:_MOST_LISTED]
     for line in _exceptions(session, listed) if isinstance(stop, Catch) else (f"step {it:,}" for it in listed):
@@ -126,14 +146,37 @@ def _stop(session: Session, text: str) -> Union[List[int], Catch]:
 
 
 def _exceptions(session: Session, positions: list[int]) -> Iterator[str]:
-    """The exceptions that were taken right before some positions."""
+    """The exceptions that were taken right before some positions, as text."""
+    for step, code in _taken(session, positions):
+        yield f"step {step.step:,}, {session.code(step.pc)}: {NAMES[code]}, {TEXTS[code]}"
+
+
+def _taken(session: Session, positions: list[int]) -> Iterator[Tuple[Traced, int]]:
+    """The steps right before some positions, each with the code of the exception that it took."""
     for first in range(0, len(positions), TRACED):
         steps = [it - 1 for it in positions[first:first + TRACED]]
         with session.at(session.driver.position):
             answers = session.driver.values([line for it in steps for line in (f"goto {it}", "trace 1")])[1::2]
         for step in map(read, (lines[0] for lines in answers)):
             assert step.exception is not None
-            yield f"step {step.step:,}, {session.code(step.pc)}: {NAMES[step.exception]}, {TEXTS[step.exception]}"
+            yield step, step.exception
+
+
+def _exception_value(session: Session, taken: Tuple[Traced, int]) -> Dict[str, Any]:
+    step, code = taken
+    return {"step": step.step, "pc": step.pc, **_named(session, step.pc), "exception": NAMES[code]}
+
+
+def _stood(session: Session, step: int) -> Dict[str, Any]:
+    """The PC of a step, with its name."""
+    with session.at(step):
+        pc = session.driver.registers().pc
+    return {"pc": pc, **_named(session, pc)}
+
+
+def _named(session: Session, pc: int) -> Dict[str, Any]:
+    """The name of an address of code and its source line, as far as they are known."""
+    return {"place": session.symbols.name(pc) or None, "source": session.symbols.line(pc) or None}
 
 
 def _count(session: Session, words: list[str], usual: int) -> int:

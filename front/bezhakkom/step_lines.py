@@ -51,7 +51,7 @@ class StepLines:
         if step.sent:
             yield f"sends {chr(step.sent[1])!r} on line {step.sent[0]}"
         if step.shuts_down:
-            yield "sets TS: several entries match"
+            yield "TS becomes 1: several translation entries match"
         if step.exception is not None:
             yield f"exception {step.exception}: {TEXTS[step.exception]}"
 

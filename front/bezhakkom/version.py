@@ -1,16 +1,18 @@
-"""What is shipped, and what is started, by their checksums."""
+"""The version, and what is shipped and started, by checksums."""
 from __future__ import annotations
 
 import hashlib
 
 from . import program
 
+VERSION = "1.0"  # that of pyproject.toml
+
 
 def about() -> str:
-    """What is shipped: the checksums of the program and of its sources, and the toolchain. And which program is started, where that is
-    another one."""
+    """Returns the version, the checksums of the shipped program and of its sources, and the toolchain; and the program that is started if
+    that is another one."""
     shipped, started = program.SHIPPED.read_text(), program.itself()
-    text = f"Bezhakkom\n{shipped}"
+    text = f"Bezhakkom {VERSION}\n{shipped}"
     if started.is_file():
         checksum = hashlib.sha256(started.read_bytes()).hexdigest()
         if f"program {checksum}" not in shipped.splitlines():

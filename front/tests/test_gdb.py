@@ -170,7 +170,7 @@ class Login(GdbTest):
             "44\t            session.length--;", "at 40024",
             "1,2 is no number: a comma stands before three digits, as in 40,024",
             "30,0 is no number: a comma stands before three digits, as in 40,024",
-            "usage: goto N", "there is no symbol and no register nothing", "goto N: goes to position N",
+            "usage: goto N", "there is no symbol and no register nothing", "goto N: goes to position N", "example: goto 40,024",
             # `session`, a structure, is taken for its address.
             "step 14, copy+0x10 (start.S:15), 40,010 steps ago: sw r12, 0(r9)",
             "step 30,024, read_line+0x30 (login.c:44), 10,000 steps ago: sw r3, 32(r2)", "0x80001000 <session>: 0x7265706f  |oper|",

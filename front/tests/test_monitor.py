@@ -91,7 +91,7 @@ class Commands(StubTest):
         for name in ("continue", "break A", "quit"):
             self.assertNotIn(f"\n  {name}", shown)
         self.assertIn("p:0x1000", shown)
-        self.assertEqual(wire.command("help goto"), "goto N: goes to position N\n")
+        self.assertEqual(wire.command("help goto"), "goto N: goes to position N\nexample: goto 40,024\n")
 
     def test_what_is_typed_and_expected(self) -> None:
         # Without a byte the last turn of the loop that begins before 300 begins at 295.

@@ -16,6 +16,7 @@ import unittest
 from pathlib import Path
 
 from bezhakkom.cli import COMMANDS
+from bezhakkom.version import VERSION
 from front.tests.outside import WB, InFolder, run
 from front.tests.support import ROOT, needs_erase, needs_kinds
 from front.tests.test_elf import made
@@ -101,10 +102,11 @@ class Plain(InFolder):
         self.check(["echo.rom"], b"mem 0x1fc01034 1\n", b"0x1fc01034 0x00000000\n", "", 0)
 
     def test_version(self) -> None:
-        """The checksums are those of the files, and another program than the shipped one is named."""
+        """The version is that of the package, the checksums are those of the files, and another program than the shipped one is named."""
+        self.assertIn(f'\nversion = "{VERSION}"\n', (ROOT / "pyproject.toml").read_text())
         shipped = (ROOT / "bin/r3kwb.txt").read_text()
         program = lzma.decompress((ROOT / "bin/r3kwb.xz").read_bytes())
-        self.check(["--version"], b"", f"Bezhakkom\n{shipped}".encode(), "", 0)
+        self.check(["--version"], b"", f"Bezhakkom {VERSION}\n{shipped}".encode(), "", 0)
         self.assertIn(f"program {hashlib.sha256(program).hexdigest()}\n", shipped)
         other = self.folder / "other"
         other.write_bytes(b"another")

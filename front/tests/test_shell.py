@@ -3,6 +3,7 @@ from __future__ import annotations
 
 import os
 import random
+import shutil
 import subprocess
 import tempfile
 import time
@@ -11,6 +12,7 @@ from pathlib import Path
 
 from bezhakkom import expressions, loading
 from bezhakkom import log as logs
+from bezhakkom.command_examples import EXAMPLES
 from bezhakkom.commands import COMMANDS
 from bezhakkom.driver import Driver
 from bezhakkom.errors import Problem
@@ -21,6 +23,7 @@ from bezhakkom.shell import Shell
 from bezhakkom.symbols import symbols_of
 from front.tests.scripts import Done, shell
 from front.tests.support import ROOT, needs_erase, needs_kinds
+from front.tests.terminal import Terminal
 
 
 class Talk:
@@ -407,10 +410,42 @@ class Help(unittest.TestCase):
         for name in ("pos goto step back visit regs reg cp0 tlb where mem dis console find writer log add del set move patch quit "
                      "break watch continue reverse-continue type expect save-log save-image undo").split():
             self.assertRegex(said, rf"(?m)^  {name}( |$)")
-        self.assertEqual(talk("help continue"), ["continue [N]: goes on to the next breakpoint or watch, at most N steps (short: c)"])
+        self.assertEqual(talk("help continue"), ["continue [N]: goes on to the next breakpoint or watch, at most N steps (short: c)",
+                                                 "example: continue 1,000"])
         self.assertRegex(talk("help numbers")[0], "Wherever a number may stand")
         self.assertEqual(talk("", "# a comment"), [])
         talk.driver.close()
+
+    def test_help_of_each_command_has_an_example_that_runs(self) -> None:
+        """Each is run at a position where all that it names is there, with a stop and, for `undo` and `compare`, an edit before it."""
+        self.assertEqual([line.split()[0] for line in EXAMPLES.values()], list(EXAMPLES))
+        self.assertEqual(set(EXAMPLES), set(COMMANDS))
+        positions = {"visit": 0, "continue": 0, "until": 0, "expect": 0, "type": 0, "assert": 5_000, "shrink": 130_000}
+        lines: list[str] = []
+        for name, line in EXAMPLES.items():
+            is_edited = name in ("undo", "compare")
+            lines += [*(["add 50 1 0"] if is_edited else []), "delete", "break send", f"goto {positions.get(name, 112_000)}", line]
+            if name == "compare" or COMMANDS[name].edits and name not in ("load", "wb"):
+                lines.append("undo")
+        with tempfile.TemporaryDirectory() as folder:
+            shutil.copytree(ROOT / "examples/login", folder, dirs_exist_ok=True)
+            done = shell("--strict", "--echo", "--log", str(ROOT / "examples/login/log"), "login.elf", lines=tuple(lines), folder=Path(folder))
+        self.assertEqual((done.returncode, done.stderr), (0, ""), done.stdout[-1000:])
+
+
+class Repeats(unittest.TestCase):
+    def test_empty_line_repeats_moves_and_nothing_else(self) -> None:
+        """On a terminal, as in gdb: step 10 twice, back once and again, and after `pos` nothing."""
+        terminal = Terminal("shell", str(ROOT / "examples/login/login.elf"))
+        self.addCleanup(terminal.leave, b"quit\n")
+        terminal.until(b"wb 0> ")
+        for line, position in ((b"step 10", 10), (b"", 20), (b"si", 21), (b"", 22), (b"back 2", 20), (b"", 18), (b"pos", 18), (b"", 18),
+                               (b"break send", 18), (b"", 18), (b"c", 140), (b"", 157), (b"rc", 140), (b"", 0)):
+            terminal.type(line + b"\n")
+            shown = terminal.until(b"> ")
+            while b"wb " not in shown:  # a name ends with > too
+                shown = terminal.until(b"> ")
+            self.assertTrue(shown.endswith(f"wb {position}> ".encode()), (line, shown))
 
 
 if __name__ == "__main__":

@@ -72,6 +72,18 @@ class Said(unittest.TestCase):
         self.assertEqual(said("goto 256", "try 1 moved 180..190 by 5 until console 'B' show pc")[:2], [
             "event 1, line 0, 'B' in step 200: 3 pasts, 1 outcome at step 256", "     3: steps 180..190 by 5"])
 
+    def test_try_groups_by_what_was_sent_if_something_is_shown_or_sent(self) -> None:
+        """The function is part of an outcome without `show` and `until console`, or with `by place`."""
+        sent, placed = "        line 0 sends 'B'", "        line 0 sends 'B', in loop"
+        for line, shown in (("try 1 'B'", placed), ("try 1 'B' by sent", sent), ("try 1 'B' show 0xa0000100", f"{sent}, 0xa0000100 is 0x00000000"),
+                            ("try 1 'B' by place show 0xa0000100", f"{placed}, 0xa0000100 is 0x00000000"),
+                            ("try 1 'B' until console 'B'", sent), ("try 1 moved 200..201 by 2 by sent", sent),
+                            ("try 1 'B' until word 0xa0000100 == 0x8042", "        nothing is sent, in loop")):
+            with self.subTest(line):
+                self.assertEqual(said("goto 256", line)[2], shown)
+        self.assertEqual([it["in"] for it in value("goto 256", "try 1 'B' by sent")["outcomes"]], [None])
+        self.assertEqual(said("goto 256", "try 1 by luck")[0].partition(". usage")[0], "there is no symbol and no register luck")
+
     def test_try_as_a_value(self) -> None:
         found = value("goto 256", "try 1 'A'..'C' until console 'C'")
         self.assertEqual((found["event"], found["pasts"], found["tried"]), (1, 3, 3))
@@ -145,7 +157,7 @@ class Said(unittest.TestCase):
     def test_help(self) -> None:
         self.assertEqual(said("help when"), [
             "when A ..: shows the first step up to here after which the word at A has a value: when count == 3, when count > 8",
-            "usage: when ADDRESS OP VALUE [at N] [--json]"])
+            "usage: when ADDRESS OP VALUE [at N] [--json]", "example: when session+0x20 == -1"])
 
     def test_jobs(self) -> None:
         for line in ("causes session+0x20 values 3", "try 2 all"):
