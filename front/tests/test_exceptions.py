@@ -1,6 +1,7 @@
 """Stops at exceptions and lists of visits, against each step of a run, in the shell and in gdb."""
 from __future__ import annotations
 
+import json
 import re
 import shutil
 import tempfile
@@ -114,6 +115,10 @@ class InTheShell(unittest.TestCase):
         self.assertEqual(self.said("catch exception ov", "goto 100", "hits 1"), ["exceptions: overflow, up to step 100: 1", "  step 51, copy+0x34: ov, overflow"])
         self.assertEqual(self.said("break 0x80000080", "goto 51", "hits 1"), ["visits of 0x80000080, up to step 51: 1", "  step 34"])
         self.assertEqual(self.said("goto 52", "hits 0x80000080 last 9"), ["visits of 0x80000080, up to step 52: 2", "  step 34", "  step 52"])
+        self.assertEqual(json.loads(*self.said("goto 52", "hits 0x80000080 last 9 --json")),
+                         {"position": 52, "hits": [{"step": 34}, {"step": 52}], "stopped": False})
+        found = json.loads(*self.said("goto 100", "hits exception last 1 --json"))["hits"]
+        self.assertEqual([(it["step"], it["place"], it["exception"]) for it in found], [(67, "copy+0x38", "adel")])
         self.assertEqual(self.said("hits 0xbfc00000"), ["visits of 0xbfc00000, up to step 0: 1", "  step 0"])
         # The loop of the echo program takes 11 steps, from step 9 on.
         echo = (str(ROOT / "examples/echo/boot.s"),)
@@ -134,7 +139,7 @@ class InTheShell(unittest.TestCase):
                 self.assertEqual(shown.count("stop only if ($cause >> 2 & 31) == 8 && $exception == 8"), 2, shown)
 
     def test_refusals(self) -> None:
-        usage = "usage: hits A [last C], where A is an address, the number of a breakpoint or a catch, or `exception [KIND]`"
+        usage = "usage: hits A [last C] [--json], where A is an address, the number of a breakpoint or a catch, or `exception [KIND]`"
         kinds = "they are int, mod, tlbl, tlbs, adel, ades, ibe, dbe, sys, bp, ri, cpu, ov, and without one all are caught"
         for line, wanted in (
                 ("catch", "usage: catch exception [KIND]"), ("catch throw", "the shell catches exceptions alone: catch exception [KIND]"),

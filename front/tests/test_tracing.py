@@ -1,6 +1,7 @@
 """What steps do, against the machine stepped from outside: its registers, memory and console before and after each step."""
 from __future__ import annotations
 
+import json
 import unittest
 from pathlib import Path
 from tempfile import TemporaryDirectory
@@ -96,6 +97,17 @@ class InTheShell(unittest.TestCase):
         shown = self.shown("goto 40,023", "trace 2").splitlines()
         self.assertRegex(shown[-2], r"^40,023 read_line\+\w+ \(login.c:44\): addiu r3, r3, -1   v1 = 0xffffffff$")
         self.assertRegex(shown[-1], r"^40,024 read_line\+\w+ \(login.c:44\): sw r3, 32\(r2\)   stores 0xffffffff into 0x80001020 <session\+0x20>$")
+
+    def test_trace_and_stores_as_json(self) -> None:
+        """Each step is an object on its line, and stores are an array. The address is the physical one of session+0x20."""
+        steps = [json.loads(it) for it in self.shown("goto 40,023", "trace 2 --json").splitlines()[-2:]]
+        self.assertEqual([(it["step"], it["source"]) for it in steps], [(40_023, "login.c:44"), (40_024, "login.c:44")])
+        self.assertEqual((steps[0]["register"], steps[0]["value"]), (3, 0xFFFF_FFFF))
+        self.assertEqual(steps[1]["store"], {"address": 0x1020, "word": 0xFFFF_FFFF})
+        stored = json.loads(self.shown("goto 40,025", "stores session+0x20 1 --json").splitlines()[-1])
+        self.assertEqual([(it["step"], it["word"], it["place"], it["source"]) for it in stored],
+                         [(40_024, 0xFFFF_FFFF, "read_line+0x30", "login.c:44")])
+        self.assertIn("usage: trace [C] [--json], or trace [C] to FILE", self.shown("trace 2 to here --json"))
 
     def test_a_trace_in_a_file(self) -> None:
         with TemporaryDirectory() as folder:
