@@ -4,10 +4,10 @@ from __future__ import annotations
 
 from typing import Iterator
 
-from . import places
+from . import places, replies
 from .driver import Driver
 from .errors import Problem
-from .limits import RAM, ROM
+from .limits import RAM, ROM, WORDS
 
 PAGE = 4096
 
@@ -29,6 +29,17 @@ def at(driver: Driver, place: int, size: int) -> bytes:
     first = place & ~3
     words = driver.words(first, (place + size - first + 3) // 4)
     return b"".join(word.to_bytes(4, "little") for word in words)[place - first:place - first + size]
+
+
+def at_both(driver: Driver, place: int, size: int, step: int) -> "tuple[bytes, bytes]":
+    """Returns the bytes at a physical address, all in memory, before and after a step. They are read in one turn."""
+    first = place & ~3
+    end = place + size
+    commands = [f"mem {at} {min(WORDS, (end - at + 3) // 4)}" for at in range(first, end, 4 * WORDS)]
+    lines = driver.answers([(position, it) for position in (step, step + 1) for it in commands])
+    found = [b"".join(word.to_bytes(4, "little") for reply in half for word in replies.memory(reply))[place - first:end - first]
+             for half in (lines[:len(commands)], lines[len(commands):])]
+    return found[0], found[1]
 
 
 def write(driver: Driver, address: int, content: bytes) -> None:

@@ -61,11 +61,9 @@ class Watch:
         return range(self.place & ~3, self.place + self.size, 4)
 
     def changes(self, driver: Driver, step: int) -> bool:
-        """Whether a step changes one of the bytes."""
-        driver.goto(step)
-        before = memory.at(driver, self.place, self.size)
-        driver.goto(step + 1)
-        return memory.at(driver, self.place, self.size) != before
+        """Whether a step changes one of the bytes. Memory before and after the step is read in one turn."""
+        before, after = memory.at_both(driver, self.place, self.size, step)
+        return before != after
 
 
 @dataclass

@@ -19,9 +19,8 @@ WHAT = "a register, an address of a word, `sent L K`, or `console [L]`"
 CONDITION = "pc ADDRESS, console [L] 'TEXT', word ADDRESS OP VALUE, or [A] OP [B] - [C]"
 USAGES = {
     "causes": "causes WHAT .. [by set|del|both] [values N] [--jobs N] [--json]",
-    "try": "try I [all] [A..B] [del] [moved A..B [by K]] [show WHAT ..] [until CONDITION] [at N] [by sent|place] [--jobs N] [--json]\n"
-           "`by sent` groups by what was sent and what `show` asks for, `by place` also by the function in which the program stands; "
-           "with `show`, and with `until console`, it is `by sent`",
+    "try": "try I [all] [A..B] [del] [moved A..B [by K]] [show WHAT ..] [until CONDITION] [at N] [by sent|place] [--jobs N] [--json]; "
+           "`by sent` leaves the function in which the program stands out of outcomes, as `show` and `until console` do without `by place`",
     "shrink": f"shrink until CONDITION [at N] [as NAME] [--jobs N] [--json]; a condition is {CONDITION}",
     "compare": "compare [LOG] [--json]; LOG is a file, or a log that `shrink` kept",
     "when": "when ADDRESS OP VALUE [at N] [--json]",

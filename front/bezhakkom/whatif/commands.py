@@ -50,9 +50,8 @@ def causes(session: Session, words: list[str]) -> None:
     _tell(session, line, shown.causes(session, name, question, _WAYS[by], values, found), shown.causes_value(session, question, found, _WAYS[by]))
 
 
-_TRY = ("try I [all] [A..B] [del] [moved A..B [by K]] [show WHAT ..] [until CONDITION] [at N] [by sent|place] [--jobs N] [--json]\n"
-        "`by sent` groups by what was sent and what `show` asks for, `by place` also by the function in which the program stands; "
-        "with `show`, and with `until console`, it is `by sent`")
+_TRY = ("try I [all] [A..B] [del] [moved A..B [by K]] [show WHAT ..] [until CONDITION] [at N] [by sent|place] [--jobs N] [--json]; "
+        "`by sent` leaves the function in which the program stands out of outcomes, as `show` and `until console` do without `by place`")
 
 
 @command("try I ..", "shows what comes of event I with other values, without it, or at other steps: all, A..B, del, moved A..B", WHAT_IF,

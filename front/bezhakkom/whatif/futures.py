@@ -7,7 +7,7 @@ from __future__ import annotations
 
 from concurrent.futures import Executor
 from dataclasses import dataclass, field
-from typing import Any, Dict, Iterator, List, Optional, Sequence, Tuple
+from typing import Any, Dict, Iterable, Iterator, List, Optional, Sequence, Tuple
 
 from ..driver import Driver
 from ..errors import STOPPED, Problem
@@ -29,7 +29,7 @@ _FAR = 1 << 22  # steps that are worth a look before them
 _FIRST, _MOST = 64, 1 << 14  # pasts that are ordered together, at first and at most
 
 
-class Changes:
+class Changes(Iterable[Tuple[Label, Past]]):
     """Changes of one event, by their labels. The past of a change is made when it is asked for, because a line may try a million."""
 
     def __init__(self, log: Sequence[Event], index: int, labels: List[Label]) -> None:
