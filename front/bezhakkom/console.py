@@ -19,7 +19,7 @@ from .errors import Problem, Unexpected
 from .installed import NAME
 from .limits import GREATEST_POSITION, LINES
 from .log import Event, Kind
-from .saving import FORCE_WORD, save
+from .saving import FORCE_WORD, Seen, save
 
 KEYS = """\
 Ctrl-] and then:
@@ -86,6 +86,7 @@ class Console:
         self._next = 0  # the step in which a typed byte may arrive
         self._shown = 0  # how many bytes of the line are shown
         self._saved = list(driver.log)
+        self._seen = Seen()
         self._escaped = False
         self._stopped = False
         self._left = False
@@ -204,7 +205,7 @@ class Console:
     def _save_as(self, answer: str) -> None:
         """Saves the log by the name in an answer, after which `force` may stand."""
         name = answer.removesuffix(f" {FORCE_WORD}").strip()
-        save(name, logs.write(self._driver.log), logs.LOG, name != answer, f"{name} {FORCE_WORD}")
+        save(name, logs.write(self._driver.log), logs.LOG, name != answer, f"{name} {FORCE_WORD}", self._seen)
         self._saved = list(self._driver.log)
 
     def _tell(self, message: str) -> None:

@@ -435,8 +435,9 @@ class Machine:
         return Words(self.session, (), "CONDITION, as the shell's `shrink` takes it").condition(words_of(text))[1]
 
     def save_log(self, name: Path, force: bool = False) -> None:
-        """Writes the log to a file. One that is there and is no log is kept, unless that is forced."""
-        save(os.fspath(name), logs.write(self.driver.log), logs.LOG, force, "force=True")
+        """Writes the log to a file. A file that is no log, or that another program changed since it was read or saved here, is overwritten
+        only if `force` is true."""
+        save(os.fspath(name), logs.write(self.driver.log), logs.LOG, force, "force=True", self.session.seen)
 
 
 class Memory:

@@ -24,7 +24,7 @@ from .log import ADDS, Event, Kind, quoted
 from .progress import TerminalProgress
 from .protocol import LOG_EDITS
 from .replies import number_of
-from .saving import Form
+from .saving import Form, Seen
 
 BEGINNING = "bezhakkom session 1"
 FORM = Form("session", (SESSION_MAGIC,))
@@ -35,23 +35,31 @@ _LINES = (*LOG_EDITS, "arrive", "wb", "goto", "break", "watch", "catch", "gdb", 
 
 @dataclass(frozen=True)
 class Origin:
-    """What a run was opened with: the name of its image, options with their values, and the files that these name."""
+    """What a run was opened with: the name of its image, options with their values, and the files that these name. `seen` has all
+    files that were read, also the log and the session."""
 
     image: str
     options: list[tuple[str, str]]
     files: dict[str, bytes]
     is_packed: bool = False  # the files came with the session
+    seen: Seen = field(default_factory=Seen, compare=False)
 
     @classmethod
     def of(cls, opening: Opening) -> Origin:
         image = opening.files[0]
         names = [image, *(loading.name_and_number(it)[0] for it in opening.symbols)]
-        return cls(image, opening.options(), {name: loading.content_of(name) for name in names})
+        origin = cls(image, opening.options(), {name: loading.content_of(name) for name in names})
+        for name, content in origin.files.items():
+            origin.seen.note(name, content)
+        if opening.log is not None:
+            origin.seen.note(opening.log, loading.content_of(opening.log))
+        return origin
 
     def loaded(self, name: str, content: bytes, constants: Sequence[tuple[str, str]] = ()) -> Origin:
         """The same with another image in place of the first one, which `load` took, and with options for the constants of the board."""
         others = {file: content for file, content in self.files.items() if file not in (self.image, name)}
         kept = [(option, value) for option, value in self.options if option == "--symbols"]
+        self.seen.note(name, content)
         return replace(self, image=name, options=[*constants, *kept], files={name: content, **others})
 
 
@@ -203,13 +211,15 @@ class _Reader:
         self._packed: dict[str, str] = {}
 
     def opened(self, opening: Opening) -> Opened:
-        self._read(loading.content_of(self._name).decode("utf-8", "surrogateescape"))
+        content = loading.content_of(self._name)
+        self._read(content.decode("utf-8", "surrogateescape"))
         files = {name: self._file(name) for name in self._sums}
         options = [(name, self._placed(value, files)) for name, value in self._options]
         log = self._folder / "log"
         log.write_bytes(logs.write(logs.make(self._log, self._name)))
         boots = replace(opening.completed(options), files=(self._placed(self._image, files),), log=str(log))
         origin = Origin.of(boots)
+        origin.seen.note(self._name, content)
         return Opened(boots, replace(origin, is_packed=bool(self._packed)), self._commands)
 
     def _read(self, text: str) -> None:

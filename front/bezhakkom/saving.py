@@ -1,15 +1,20 @@
-"""Files are written whole or not at all, and never over a file of another kind, unless that is forced."""
+"""Files are written whole or not at all. A file of another kind, or one that somebody else changed meanwhile, is overwritten only if
+that is forced."""
 from __future__ import annotations
 
+import fcntl
+import hashlib
 import os
 import tempfile
+import time
+from contextlib import contextmanager, suppress
 from dataclasses import dataclass
 from pathlib import Path
-from typing import Sequence
+from typing import Dict, Iterator, List, Optional, Sequence
 
 from .errors import Problem
 
-# How a user says that a file of another kind is overwritten: on an argument line, and in the shell and gdb.
+# How a user says that such a file is overwritten: on an argument line, and in the shell and gdb.
 FORCE_OPTION = "--force"
 FORCE_WORD = "force"
 
@@ -22,20 +27,69 @@ class Form:
     beginnings: tuple[bytes, ...] = ()
 
 
-def save(name: str, content: bytes, form: Form, force: bool = False, how: str = FORCE_OPTION) -> None:
-    """Writes a file in place of one of its form. Where that fails, what was there stays. `how` names what would set `force`."""
+class Seen:
+    """The contents that files had when a session read or wrote them last."""
+
+    def __init__(self) -> None:
+        self._began = time.time()
+        self._sums: Dict[str, bytes] = {}
+
+    def note(self, name: str, content: bytes) -> None:
+        """Records the content of a file that was read or written."""
+        self._sums[os.path.realpath(name)] = hashlib.sha256(content).digest()
+
+    def change(self, path: Path) -> str:
+        """Returns when somebody else changed the file at a real path, as the end of a sentence, or '' if nobody did. A file that the
+        session neither read nor wrote is compared with the time at which the session began."""
+        known = self._sums.get(str(path))
+        if known is None:
+            return "after this session began" if path.stat().st_ctime > self._began else ""
+        return "" if hashlib.sha256(path.read_bytes()).digest() == known else "since it was read or saved here"
+
+    def changed(self) -> List[str]:
+        """Returns the real paths of the files that differ from what was read or written last. A file that is gone is left out."""
+        return [name for name in self._sums if os.path.isfile(name) and os.access(name, os.R_OK) and self.change(Path(name))]
+
+
+def save(name: str, content: bytes, form: Form, force: bool = False, how: str = FORCE_OPTION, seen: Optional[Seen] = None) -> None:
+    """Writes a file in place of one of its form that nobody else changed, as far as `seen` tells. If that fails, the former content stays.
+    `how` names what would set `force`."""
     # A link stays a link, and what is no file (a device, a pipe) is written as it is.
     path = Path(os.path.realpath(name))
     try:
         if path.exists() and not path.is_file():
             path.write_bytes(content)
             return
-        if path.exists() and not force and not _may_go(path, content, form):
-            what = f" and is no {form.name}" if form.beginnings else f" already; it can't be seen whether it is a {form.name}"
-            raise Problem(f"{name} is there{what}. `{how}` overwrites it")
-        _replace(path, content)
+        with _alone_in(path.parent):
+            if path.exists() and not force:
+                _check(path, name, content, form, how, seen)
+            _replace(path, content)
+        if seen:
+            seen.note(str(path), content)
     except OSError as error:
         raise Problem(f"{name} can't be written: {error.strerror}") from None
+
+
+def _check(path: Path, name: str, content: bytes, form: Form, how: str, seen: Optional[Seen]) -> None:
+    """Refuses to overwrite a file of another form, or one that somebody else changed."""
+    if not _may_go(path, content, form):
+        what = f" and is no {form.name}" if form.beginnings else f" already; it can't be seen whether it is a {form.name}"
+        raise Problem(f"{name} is there{what}. `{how}` overwrites it")
+    change = seen.change(path) if seen and path.stat().st_size and path.read_bytes() != content else ""
+    if change:
+        raise Problem(f"{name} was changed by another program {change}. Save under another name to keep both; `{how}` overwrites it")
+
+
+@contextmanager
+def _alone_in(folder: Path) -> Iterator[None]:
+    """Lets no other front end check and replace a file of a folder meanwhile, if its file system has locks."""
+    descriptor = os.open(folder, os.O_RDONLY)
+    try:
+        with suppress(OSError):
+            fcntl.flock(descriptor, fcntl.LOCK_EX)
+        yield
+    finally:
+        os.close(descriptor)
 
 
 def name_of(word: str) -> str:

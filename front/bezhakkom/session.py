@@ -14,6 +14,7 @@ from .idle import IDLE_STEPS
 from .lines import Line
 from .log import Event
 from .saved import Origin, lines_of_edit
+from .saving import Seen
 from .symbols import Symbols
 from .travel import Watch
 
@@ -75,6 +76,11 @@ class Session:
     listed: Optional[tuple[int, Line, int]] = None  # where `list` was asked for last: the position, its line, and what comes next
     saved_log: list[Event] = field(default_factory=list)
     saved_patches: list[tuple[int, int]] = field(default_factory=list)
+    seen: Seen = field(default_factory=Seen)
+
+    def __post_init__(self) -> None:
+        if self.origin:
+            self.seen = self.origin.seen
 
     def number(self, text: str) -> int:
         return expressions.number(text, self.driver, self.symbols)

@@ -17,7 +17,7 @@ from .installed import NAME
 from .limits import GREATEST_POSITION
 from .log import Kind, unquoted
 from .replies import refusal_of
-from .saving import is_forced, name_of, save
+from .saving import FORCE_WORD, is_forced, name_of, save
 from .session import Paused, Session, counted
 
 _TEXT = re.compile(r"""'(?:[^'\\]|\\.)+'|"(?:[^"\\]|\\.)+\"""")
@@ -158,9 +158,9 @@ def _line_and_text(session: Session, words: list[str], usage: str) -> tuple[int,
 
 # Files
 
-@command("save-log FILE [force]", "saves the log, with all edits; `force` overwrites a file that is no log", FILES)
+@command("save-log FILE [force]", "saves the log, with all edits; `force` overwrites a file that is no log, or was changed meanwhile", FILES)
 def save_log(session: Session, words: list[str]) -> None:
-    save(name_of(words[0]), logs.write(session.driver.log), logs.LOG, is_forced(words[1:]), f"save-log {words[0]} force")
+    save(name_of(words[0]), logs.write(session.driver.log), logs.LOG, is_forced(words[1:]), f"save-log {words[0]} force", session.seen)
     session.saved_log = list(session.driver.log)
     session.tell(f"{counted(len(session.driver.log), 'event')} saved in {words[0]}")
 
@@ -169,7 +169,7 @@ def save_log(session: Session, words: list[str]) -> None:
 def save_image(session: Session, words: list[str]) -> None:
     name = name_of(words[0])
     form, content = file_for(name, session.driver.boot())
-    save(name, content, form, is_forced(words[1:]), f"save-image {words[0]} force")
+    save(name, content, form, is_forced(words[1:]), f"save-image {words[0]} force", session.seen)
     session.saved_patches = list(session.driver.patches)
     session.tell(f"{counted(len(content), 'byte')} saved in {words[0]}")
 
@@ -188,7 +188,8 @@ def save_(session: Session, words: list[str]) -> None:
     name = name_of(word)
     is_whole = "whole" in rest[:1]
     text = session.text(os.path.dirname(os.path.abspath(name)), is_whole)
-    save(name, text.encode("utf-8", "surrogateescape"), saved.FORM, is_forced(rest[is_whole:]), f"save {word} force")
+    how = " ".join(["save", word, *rest[:is_whole], FORCE_WORD])
+    save(name, text.encode("utf-8", "surrogateescape"), saved.FORM, is_forced(rest[is_whole:]), how, session.seen)
     session.saved_log, session.saved_patches = list(session.driver.log), list(session.driver.patches)
     session.tell(f"the session is saved in {name}; `{NAME} shell {shlex.quote(name)}` opens it")
 

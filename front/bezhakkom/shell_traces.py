@@ -45,7 +45,7 @@ def trace(session: Session, words: list[str]) -> None:
         return
     name, forced, first = name_of(to[0]), is_forced(to[1:]), session.driver.position
     heading = f"{_BEGIN}{first:,} to {first + count - 1:,} do"
-    save(name, "\n".join([heading, *lines, ""]).encode(), _FORM, forced, FORCE_WORD)
+    save(name, "\n".join([heading, *lines, ""]).encode(), _FORM, forced, f"trace {count} to {to[0]} {FORCE_WORD}", session.seen)
     session.tell(f"{name} has {counted(count, 'step')}")
 
 

@@ -7,11 +7,19 @@ import shutil
 import subprocess
 import tempfile
 import unittest
+from contextlib import contextmanager
 from pathlib import Path
+from typing import Callable, Iterator
 from unittest import mock
 
-from bezhakkom import gdb_stops, saved
+from bezhakkom import gdb_stops, loading, saved
+from bezhakkom.commands import run
+from bezhakkom.errors import Problem
+from bezhakkom.loading import Opening
 from bezhakkom.log import Event
+from bezhakkom.session import Session
+from bezhakkom.shell import Shell
+from bezhakkom.symbols import symbols_of
 from front.tests import debugger
 from front.tests.scripts import shell
 from front.tests.support import ROOT
@@ -64,6 +72,81 @@ class Saved(unittest.TestCase):
                      "wb patch 0x1fc00358 0x24040001", "goto 55,555", "watch session+0x8 1", "break receive", "idle 7,000,000"):
             self.assertIn(f"\n{line}\n", text)
         self.assertNotIn("'z'", text)
+
+    @contextmanager
+    def on(self, name: str) -> Iterator[Callable[[str], str]]:
+        """A shell on an image or a session: what it shows for a line."""
+        with saved.opened(Opening((name,))) as found, loading.running(found.opening) as driver:
+            session = Session(driver, symbols_of(driver.image), origin=found.origin)
+            Shell(session).open(found.commands)
+
+            def shown(line: str) -> str:
+                lines: list[str] = []
+                session.tell = lines.append
+                Shell(session).do(line)
+                return "\n".join(lines)
+
+            yield shown
+
+    def test_save_after_another_shell_saved_is_refused(self) -> None:
+        self.save()
+        with self.on(self.file) as first, self.on(self.file) as second:
+            first("add 60,000 0 'a'")
+            self.assertIn("is saved", first(f"save {self.file}"))
+            self.assertIn("is saved", first(f"save {self.file}"))
+            kept = Path(self.file).read_bytes()
+            second("add 60,000 0 'b'")
+            self.assertEqual(second(f"save {self.file} whole"),
+                             f"{self.file} was changed by another program since it was read or saved here. Save under another name to keep "
+                             f"both; `save {self.file} whole force` overwrites it")
+            self.assertEqual(Path(self.file).read_bytes(), kept)
+            self.assertIn("is saved", second(f"save {self.folder}/other.session"))
+            self.assertIn("is saved", second(f"save {self.file} whole force"))
+            self.assertIn("was changed by another program", first(f"save {self.file}"))
+            # The content that would be written, or no content, is nobody's work.
+            os.truncate(self.file, 0)
+            self.assertIn("is saved", first(f"save {self.file}"))
+            shutil.copy(self.file, self.folder / "copy")
+            os.replace(self.folder / "copy", self.file)
+            self.assertIn("is saved", first(f"save {self.file}"))
+            os.remove(self.file)
+            self.assertIn("is saved", first(f"save {self.file}"))
+
+    def test_save_over_a_file_that_is_newer_than_the_session_is_refused(self) -> None:
+        """Two shells on one image save under one name, which neither of them had read."""
+        image = str(self.folder / "i.img")
+        shell(LOGIN, lines=(f"save-image {image}",))
+        lines = [f"save {self.folder}/session", f"save-log {self.folder}/log", f"save-image {self.folder}/x.img", f"trace 9 to {self.folder}/trace"]
+        with self.on(image) as first, self.on(image) as second:
+            second("patch 0xbfc00000 7"), second("add 5 0 1"), second("step")
+            for line in lines:
+                self.assertNotIn("changed by another program", first(line))
+                self.assertIn("was changed by another program after this session began. Save under another name to keep both; "
+                              f"`{line} force` overwrites it", second(line))
+                self.assertNotIn("overwrites", second(f"{line} force"))
+        with self.on(image) as third:  # a script that is run again writes its files again
+            self.assertNotIn("overwrites", third(lines[0]))
+
+    def test_save_log_over_a_changed_log_is_refused(self) -> None:
+        log = self.folder / "log"
+        shutil.copy(ROOT / "examples/login/log", log)
+        stamp = os.stat(log)
+        with saved.opened(Opening((LOGIN,), str(log))) as found, loading.running(found.opening, None) as driver:
+            session = Session(driver, symbols_of(driver.image), origin=found.origin)
+            log.write_bytes(log.read_bytes()[:8] + bytes(4))
+            os.utime(log, ns=(stamp.st_atime_ns, stamp.st_mtime_ns))
+            with self.assertRaisesRegex(Problem, "was changed by another program since it was read or saved here"):
+                run(session, f"save-log {log}")
+
+    def test_gdb_save_after_another_program_changed_the_file_is_refused(self) -> None:
+        debugger.needed()
+        self.save()
+        shown = self.gdb(self.file, commands=(f"wb save {self.file}", f"shell echo '# mine' >> {self.file}", f"wb save {self.file}",
+                                              f"shell tail -n 1 {self.file}", f"wb save {self.file} force"))
+        self.assertEqual(sum("is saved in" in it for it in shown), 2, shown)
+        self.assertIn(f"{self.file} was changed by another program since it was read or saved here. Save under another name to keep both; "
+                      f"`save {self.file} force` overwrites it", shown)
+        self.assertIn("# mine", shown)
 
     def test_names_with_blanks(self) -> None:
         """Such a name stands between quotes, and `~` begins the user's folder."""

@@ -648,6 +648,16 @@ class Saving(unittest.TestCase):
                 self.assertEqual(again._driver.log, wanted)
             self.assertEqual(loading.image(str(files["image"]), "image").kind, "image")
 
+    def test_save_after_another_program_changed_the_session_names_it(self) -> None:
+        with laid_out(*LOGIN) as desk, tempfile.TemporaryDirectory() as folder:
+            file = Path(folder, "walk.session").resolve()
+            file.write_bytes(bytes.fromhex(Hand(desk).ask(save={"kind": "session"})["save"]["content"]))
+            with laid_out(str(file)) as opened:
+                self.assertEqual(Hand(opened).ask(save={"kind": "session"})["save"]["changed"], [])
+                with open(file, "a") as other:
+                    other.write("# mine\n")
+                self.assertEqual(Hand(opened).ask(save={"kind": "log"})["save"]["changed"], [str(file)])
+
     def test_markup_stays_text(self) -> None:
         """The server gives texts of a run as JSON strings, whatever is in them."""
         with laid_out(*LOGIN) as desk, served(desk) as server:

@@ -535,7 +535,7 @@ class Desk:
     # Saving
 
     def _save(self, ask: Fields, position: int) -> Dict[str, Any]:
-        """The content of a file, as digits."""
+        """Returns the content of a file, as digits, and the files that another program changed since the page opened them."""
         kind = ask.text("kind")
         driver = self._driver
         if kind == "log":
@@ -550,7 +550,7 @@ class Desk:
             content = "".join(f"{it}\n" for it in logs.show(self._now.log)).encode()
         else:
             raise Problem(f"there is no file of kind `{kind}`")
-        return {"kind": kind, "content": content.hex()}
+        return {"kind": kind, "content": content.hex(), "changed": self._opened.origin.seen.changed()}
 
     def _session_text(self, position: int) -> str:
         """A session: what was opened, then the edits of each gesture."""

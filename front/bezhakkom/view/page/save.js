@@ -44,19 +44,19 @@ async function page() {
 const bytes = digits => Uint8Array.from(digits.match(/../g) || [], it => parseInt(it, 16));
 
 export async function save(kind) {
-  let content;
+  let content, changed = [];
   if (kind === "svg") content = await picture();
   else if (kind === "page") content = await page();
   else {
     const reply = await ask({save: {kind}});
     if (!reply.save) return;
-    content = bytes(reply.save.content);
+    content = bytes(reply.save.content); changed = reply.save.changed;
   }
   const [ending, type] = KINDS[kind], link = document.createElement("a");
   link.href = URL.createObjectURL(new Blob([content], {type}));
   link.download = s.state.image.replace(/\.\w+$/, "") + ending;
   link.click();
   setTimeout(() => URL.revokeObjectURL(link.href), 10000);
-  say(`Saved as ${link.download}.`);
+  say(`Saved as ${link.download}.` + changed.map(it => ` ${it} was changed by another program since the page opened it: the saved file has nothing of that change.`).join(""));
   ask({draw: true});
 }
