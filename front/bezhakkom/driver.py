@@ -293,14 +293,33 @@ class Driver:
         words = {address: before.get(address, self._original.word(address)) for address, _ in undone}
         if None in words.values():
             # The program can't take a word out of the image again.
-            self.close()
-            self.visits.forget()
-            self._boot = deepcopy(self._original)
-            for address, word in patches:
-                self._boot.patch(address, word)
+            self._start_with(self.log, patches)
         else:
             self.values([f"patch {address} {word}" for address, word in words.items()])
         self.patches = list(patches)
+
+    def restore(self, log: Sequence[Event], patches: Sequence[Tuple[int, int]], position: int) -> None:
+        """Makes log, patches and position those of an earlier moment, as `revert` does, also if the program dies or does not go on: then what is
+        asked next starts it anew with them."""
+        try:
+            self.revert(log, patches)
+        except BaseException as error:
+            self._start_with(log, patches)
+            if not isinstance(error, Ended):
+                raise
+        finally:
+            self.position = position
+
+    def _start_with(self, log: Sequence[Event], patches: Sequence[Tuple[int, int]]) -> None:
+        """Ends the program. What is asked next starts it with this log and these patches."""
+        self.close()
+        self.visits.forget()
+        self.log[:] = log
+        self.patches = list(patches)
+        if self._original:
+            self._boot = deepcopy(self._original)
+            for address, word in patches:
+                self._boot.patch(address, word)
 
     # Turns
 

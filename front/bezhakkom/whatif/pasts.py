@@ -78,16 +78,15 @@ def with_log(log: Sequence[Event], wanted: Sequence[Event]) -> Past:
 
 @contextmanager
 def kept(driver: Driver) -> Iterator[None]:
-    """Log, image and position are as they were afterwards, however it ends. Ctrl-C waits for that."""
+    """Log, image and position are as they were afterwards, however it ends, also if the program died. Ctrl-C waits for that."""
     log, patches, position, count = list(driver.log), list(driver.patches), driver.position, len(driver.journal)
     with driver.long_run():
         try:
             yield
         finally:
             with undisturbed(driver):
-                driver.revert(log, patches)
+                driver.restore(log, patches, position)
             del driver.journal[count:]
-            driver.goto(position)
 
 
 @contextmanager
