@@ -106,8 +106,8 @@ def _run(words: Sequence[str], environment: Mapping[str, str]) -> int:
             if signal.getsignal(number) == signal.SIG_DFL:
                 signal.signal(number, end)
         status = process.wait()
-    for number in set(ended):
-        signal.signal(number, signal.SIG_IGN)  # the process ends, and another signal is to change nothing
+    for caught in set(ended):
+        signal.signal(caught, signal.SIG_IGN)  # the process ends, and another signal is to change nothing
     return 128 + ended[0] if ended else 128 - status if status < 0 else status
 
 

@@ -1,18 +1,24 @@
 """The library: what `until` finds is compared with a look at each position, and another past with a machine that is booted with it."""
 from __future__ import annotations
 
+import copy
 import os
 import random
+import signal
 import subprocess
 import sys
 import tempfile
+import threading
 import unittest
+import weakref
+from contextlib import nullcontext
 from dataclasses import replace
 from pathlib import Path
 from typing import Callable, Iterable, Optional
+from unittest import mock
 
 import bezhakkom
-from bezhakkom import Event, Kind, Machine, NotReached, Problem, Refused
+from bezhakkom import Ended, Event, Kind, Machine, NotReached, Problem, Refused
 from front.tests.support import DATA, ROOT, random_rom
 
 LOGIN = ROOT / "examples/login/login.elf"
@@ -127,17 +133,18 @@ class Holds(unittest.TestCase):
             here, log = machine.position, machine.log
             for wrong, why in (
                     (lambda: machine.delete(3), "there is no event 3: the log is empty"),
-                    (lambda: machine.goto(-1), "a position is 0 to 1,099,511,627,775"),
+                    (lambda: machine.goto(-1), "`position` is 0 to 1,099,511,627,775, and not -1"),
                     (lambda: machine.step(-1000), "a position is 0 to"),
                     (lambda: machine.memory["nothing"], "there is no symbol and no register nothing"),
                     (lambda: machine.memory[0x8000_0001], "0x80000001 is no multiple of 4"),
                     (lambda: machine.memory["session":], "memory[first:end]"),
                     (lambda: machine.memory.read(0x807F_FFFE, 4), "0x80800000 leads to the physical address 0x00800000, where no memory"),
                     (lambda: machine.send(""), "there is nothing to send"),
-                    (lambda: machine.send("\u20ac"), "'\u20ac' is no byte"),
+                    (lambda: machine.send("\ud800"), r"`text` has '\ud800', which is no character of UTF-8"),
                     (lambda: machine.send("a", line=4), "there is no line 4"),
                     (lambda: machine.console(-1), "there is no line -1"),
-                    (lambda: machine.arrive(5, "ab"), "'ab' is not one byte"),
+                    (lambda: machine.arrive(5, "ab"), "`value` is one byte, and 'ab' is 2 bytes"),
+                    (lambda: machine.arrive(5, "\u00e4"), "`value` is one byte, and '\u00e4' is 2 bytes in UTF-8"),
                     (lambda: machine.arrive(5, 256), "a byte is 0 to 255"),
                     (lambda: machine.patch("session", 1 << 32), "0x100000000 is no word"),
                     (lambda: machine.until(), "takes one of console, pc, word, position"),
@@ -155,6 +162,106 @@ class Holds(unittest.TestCase):
                     wrong()
                 self.assertIn(why, str(caught.exception))
                 self.assertEqual((machine.position, machine.log), (here, log))
+
+    def test_results_set_by_a_program_are_refused(self) -> None:
+        with bezhakkom.boot(LOGIN) as machine:
+            registers, devices = machine.registers, machine.devices
+            for wrong in (lambda: registers.__setitem__("t0", 7), lambda: registers.__delitem__("t0"), lambda: registers.update(t0=7),
+                          lambda: registers.setdefault("t99", 7), lambda: devices.__setitem__("board", 7),
+                          lambda: devices["board"].__setitem__("csr", 7), lambda: machine.memory.__setitem__("session", 7)):
+                with self.assertRaisesRegex(Problem, "is a result of its run and can't be set.*`patch` sets a word of the image") as caught:
+                    wrong()
+                self.assertIsInstance(caught.exception, TypeError)
+            self.assertEqual(machine.registers["t0"], copy.deepcopy(registers)["t0"])
+            self.assertIs(type(copy.copy(registers)), dict)
+            with self.assertRaises(AttributeError):
+                registers.t0 = 7
+
+    def test_text_sent_is_utf8_as_in_the_shell_and_bytes_stay(self) -> None:
+        """The bytes of the characters are those of the Unicode standard's table of UTF-8."""
+        said = subprocess.run([ROOT / "bin/wb", "shell", ECHO], input="type '\u00e4\u00f6\u20ac'\nwb log 0 9\n", capture_output=True, encoding="utf-8").stdout
+        of_shell = [int(it.split()[3], 16) for it in said.splitlines()[2:]]
+        with bezhakkom.boot(ECHO) as machine:
+            machine.send("\u00e4\u00f6\u20ac")
+            self.assertEqual([it.byte for it in machine.log], [0xC3, 0xA4, 0xC3, 0xB6, 0xE2, 0x82, 0xAC])
+            self.assertEqual([it.byte for it in machine.log], of_shell)
+            machine.log = ()
+            machine.send(b"\xe4\xff")
+            self.assertEqual([it.byte for it in machine.log], [0xE4, 0xFF])
+
+    def test_console_shows_utf8_and_has_bytes(self) -> None:
+        """The echo program sends back what it receives."""
+        with bezhakkom.boot(ECHO, log=bezhakkom.events("100 0 '\\xc3\\xa4\\xff' 1000")) as machine:
+            machine.until(console="\u00e4")
+            self.assertEqual(machine.sent()[-2:], b"\xc3\xa4")
+            machine.until(console=b"\xff")
+            self.assertEqual((machine.console(), machine.sent()), ("\u00e4\\xff", b"\xc3\xa4\xff"))
+
+    def test_a_call_after_close_is_refused(self) -> None:
+        machine = bezhakkom.boot(LOGIN, log=TYPED)
+        machine.goto(9)
+        machine.close()
+        machine.close()
+        arguments = {"goto": (5,), "value": ("pc",), "address": ("pc",), "writer": ("sp",), "stores": ("sp",), "hits": ("main",), "send": ("a",),
+                     "arrive": (5, 1), "delete": (0,), "change": (0, 1), "move": (0, 1), "erase": (0, 9), "patch": (0xBFC0_0000, 0), "causes": ("pc",),
+                     "futures": (0,), "shrink": ("pc main",), "fuzz": (0, "pc main"), "compare": ((),), "when": ("session == 0",), "why": ("pc",),
+                     "save_log": ("/none/x",), "words": (0, 1), "read": (0, 1), "text": (0,), "until": ()}
+
+        def call(holder: object, name: str) -> None:
+            found = getattr(holder, name)
+            found = found(*arguments.get(name, ()), **({"pc": 0} if name == "until" else {}))
+            if hasattr(found, "__enter__"):
+                found.__enter__()
+
+        public = [(holder, name) for holder in (machine, machine.memory) for name in dir(type(holder)) if not name.startswith("_") and name != "close"]
+        self.assertGreater(len(public), 35)
+        for holder, name in public:
+            with self.subTest(name), self.assertRaisesRegex(Problem, "the machine is closed: `boot` starts another one"):
+                call(holder, name)
+        for other in (lambda: setattr(machine, "log", ()), lambda: machine.memory[0]):
+            with self.assertRaisesRegex(Problem, "the machine is closed"):
+                other()
+        self.assertIsNone(machine._session.driver._program)
+        self.assertEqual(repr(machine), f"<Machine {LOGIN} that is closed>")
+
+    def test_arguments_of_another_type_or_range_name_the_parameter(self) -> None:
+        with bezhakkom.boot(LOGIN, log=TYPED) as machine:
+            before = machine.position, machine.log
+            for call, name in ((lambda: machine.goto("ticks"), "position"), (lambda: machine.goto(1.5), "position"), (lambda: machine.goto(None), "position"),
+                               (lambda: machine.step("1"), "steps"), (lambda: machine.memory.words("session", -1), "count"),
+                               (lambda: machine.memory.read("session", 1.5), "count"), (lambda: machine.memory.text("session", "9"), "most"),
+                               (lambda: machine.memory[1.5], "place"), (lambda: machine.memory[None], "place"), (lambda: machine.memory["":"9"], "first"),
+                               (lambda: machine.arrive(5, 1, kind=7), "kind"), (lambda: machine.arrive("5", 1), "step"),
+                               (lambda: machine.arrive(5, None), "value"), (lambda: machine.arrive(5, 1, line="x"), "line"),
+                               (lambda: machine.causes(""), "what"), (lambda: machine.causes(5), "what"), (lambda: machine.causes("pc", by="set"), "by"),
+                               (lambda: machine.causes("pc", by=["x"]), "by"), (lambda: machine.causes("pc", values=-1), "values"),
+                               (lambda: machine.why(""), "what"), (lambda: machine.why(None), "what"), (lambda: machine.shrink(" "), "until"),
+                               (lambda: machine.shrink("pc main", at="x"), "at"), (lambda: machine.when(""), "condition"),
+                               (lambda: machine.until(word="session", value="six"), "value"), (lambda: machine.until(pc="main", value=6), "value"),
+                               (lambda: machine.until(pc=1.5), "place"), (lambda: machine.until(console=5), "console"),
+                               (lambda: machine.until(pc="main", steps=-5), "steps"), (lambda: machine.until(position="5"), "position"),
+                               (lambda: machine.send(1.5), "text"), (lambda: machine.send("a", gap=-5), "gap"), (lambda: machine.send("a", line="0"), "line"),
+                               (lambda: machine.console("0"), "line"), (lambda: machine.sent(1.5), "line"), (lambda: machine.stores("session", None), "most"),
+                               (lambda: machine.trace("5"), "steps"), (lambda: machine.hits(None), "place"), (lambda: machine.value(5), "text"),
+                               (lambda: machine.delete("x"), "event"), (lambda: machine.change(0, 1.5), "value"), (lambda: machine.move(0, "x"), "step"),
+                               (lambda: machine.erase(None, 5), "first"), (lambda: machine.patch("session", "x"), "word"),
+                               (lambda: machine.what_if(without=0).__enter__(), "without"), (lambda: machine.what_if(without=["0"]).__enter__(), "without"),
+                               (lambda: machine.what_if(changed={0: "ab"}).__enter__(), "changed"), (lambda: machine.what_if(changed=[0]).__enter__(), "changed"),
+                               (lambda: machine.what_if(moved={0: 1.5}).__enter__(), "moved"), (lambda: machine.what_if(log="x").__enter__(), "log"),
+                               (lambda: machine.futures("0"), "event"), (lambda: machine.futures(0, values=["a"]), "values"),
+                               (lambda: machine.futures(0, steps="5"), "steps"), (lambda: machine.futures(0, show="session"), "show"),
+                               (lambda: machine.fuzz("0", "pc main"), "first"), (lambda: machine.fuzz(0, "pc main", seed="x"), "seed"),
+                               (lambda: machine.compare([5]), "log"), (lambda: setattr(machine, "log", [5]), "log"),
+                               (lambda: setattr(machine, "log", [Event("5", 0, 1)]), "log"), (lambda: machine.save_log(5), "name"),
+                               (lambda: bezhakkom.boot(5), "files"), (lambda: bezhakkom.boot([5]), "files"), (lambda: bezhakkom.boot(LOGIN, log=5), "log"),
+                               (lambda: bezhakkom.boot(LOGIN, symbols=[5]), "symbols"), (lambda: bezhakkom.boot(LOGIN, unit="x"), "unit"),
+                               (lambda: bezhakkom.boot(LOGIN, clock=5), "clock"), (lambda: bezhakkom.events(5), "text")):
+                with self.assertRaises(Problem) as caught:
+                    call()
+                self.assertRegex(str(caught.exception), f"^`{name}\\W")
+                self.assertEqual((machine.position, machine.log), before)
+            with self.assertRaisesRegex(TypeError, '`position` is a whole number, and not \'ticks\'. `until\\(pc="ticks"\\)` goes on to a place'):
+                machine.goto("ticks")
 
     def test_a_refusal_is_one_too(self) -> None:
         with bezhakkom.boot(ECHO) as machine, self.assertRaises(Refused) as caught:
@@ -228,6 +335,34 @@ class Past(unittest.TestCase):
                     raise ZeroDivisionError
             self.assertEqual((machine.memory["session"], machine.memory[0xBFC0_0000], machine.log), (first, start, log))
 
+    def test_what_if_whose_program_dies_restores_all(self) -> None:
+        """Whether the death is seen within it, or only at its end."""
+        with bezhakkom.boot(LOGIN, log=TYPED) as machine:
+            before = self.state(machine, 150_000)
+            log = machine.log
+            for asked in (False, True):
+                with self.assertRaises(bezhakkom.Ended) if asked else nullcontext():
+                    with machine.what_if(without=[0]):
+                        machine.patch(0xBFC0_0000, 0)
+                        machine.goto(70_000)
+                        self.assertEqual(len(machine.log), 9)
+                        machine.registers
+                        os.kill(machine.driver._program._process.pid, signal.SIGKILL)
+                        machine.driver._program._process.wait()
+                        if asked:
+                            machine.registers
+                self.assertEqual((machine.position, machine.log, machine.driver.patches), (150_000, log, []))
+                self.assertEqual(self.state(machine, 150_000), before)
+
+    def test_causes_whose_program_dies_restores_all(self) -> None:
+        with bezhakkom.boot(LOGIN, log=TYPED) as machine:
+            log = machine.log
+            machine.goto(130_000)
+            program = machine.driver._started()
+            with mock.patch.object(program, "_take", side_effect=Ended("the program was ended by SIGKILL")), self.assertRaises(Ended):
+                machine.causes("session+0x20")
+            self.assertEqual((machine.position, machine.log), (130_000, log))
+
     def test_what_is_sent_goes_on(self) -> None:
         """As in the shell: bytes that are sent before the last ones have arrived come after these."""
         with bezhakkom.boot(LOGIN) as machine:
@@ -237,6 +372,63 @@ class Past(unittest.TestCase):
                 self.assertEqual(machine.send("am"), range(3355, 4356, 1000))
             self.assertEqual(machine.send(b"ame\r", gap=500), range(3355, 4856, 500))
             machine.until(console="Welcome, operator.")
+
+
+class Shared(unittest.TestCase):
+    """One machine in several threads, and in a fork."""
+
+    def test_answers_in_threads_are_those_of_one_thread(self) -> None:
+        positions = range(0, 60_000, 601)
+        with bezhakkom.boot(LOGIN, log=TYPED) as machine:
+            wanted = {position: (machine.goto(position), machine.registers, machine.console())[1:] for position in positions}
+            wrong: list[object] = []
+
+            def ask(seed: int) -> None:
+                source = random.Random(seed)
+                try:
+                    for _ in range(60):
+                        position = source.choice(positions)
+                        with machine.alone():
+                            machine.goto(position)
+                            if (machine.registers, machine.console()) != wanted[position]:
+                                wrong.append(position)
+                        with machine.what_if(without=[0]) as other:
+                            if len(other.log) != 9:
+                                wrong.append("log")
+                        if len(machine.log) != 10 or machine.value("[0xbfc00000]") != wanted_word:
+                            wrong.append("call")
+                except BaseException as error:
+                    wrong.append(error)
+
+            wanted_word = machine.memory[0xBFC0_0000]
+            threads = [threading.Thread(target=ask, args=(seed,)) for seed in range(3)]
+            for it in threads:
+                it.start()
+            for it in threads:
+                it.join()
+            self.assertEqual(wrong, [])
+
+    def test_a_call_in_a_fork_is_refused_and_the_machine_lives_on(self) -> None:
+        with bezhakkom.boot(LOGIN) as machine:
+            read, write = os.pipe()
+            child = os.fork()
+            if not child:
+                said = ""
+                try:
+                    machine.console()
+                except Problem as problem:
+                    said = str(problem)
+                machine.close()
+                os.write(write, said.encode())
+                weakref.finalize._exitfunc()  # as at the end of a Python process
+                os._exit(0)
+            os.waitpid(child, 0)
+            self.assertEqual(os.read(read, 1000).decode(), f"this machine belongs to process {os.getpid()}, of which this one is a fork: boot another "
+                             "machine here")
+            os.close(read), os.close(write)
+            program = machine.driver._program
+            self.assertEqual(machine.until(console="password: "), 355)
+            self.assertIs(machine.driver._program, program)
 
 
 class WhatIf(unittest.TestCase):
