@@ -40,7 +40,7 @@ class Page(unittest.TestCase):
             self.assertEqual((done.stdout.splitlines(), done.stderr), (lines, ""), words)
 
     def test_there_are_some(self) -> None:
-        self.assertEqual([words[0] for words, _ in blocks()], ["shell", "shell", "shell", "log", "log"])
+        self.assertEqual([words[0] for words, _ in blocks()], ["shell"] * 4 + ["log"] * 2)
 
 
 if __name__ == "__main__":
