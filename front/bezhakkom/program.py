@@ -16,6 +16,7 @@ from .errors import Ended, Problem
 from .installed import IS_INSTALLED, PACKAGE, REPOSITORY
 from .limits import READ_BYTES
 from .protocol import has_reply, lines_after
+from .replies import no_reply
 
 # What is shipped, by checksums.
 SHIPPED = (PACKAGE if IS_INSTALLED else REPOSITORY / "bin") / "r3kwb.txt"
@@ -142,7 +143,10 @@ class Program:
             return []
         if not self._lines:
             return None
-        count = 1 + lines_after(command, self._lines[0])
+        try:
+            count = 1 + lines_after(command, self._lines[0])
+        except (ValueError, IndexError):
+            raise no_reply(self._lines[0]) from None
         if len(self._lines) < count:
             return None
         return [self._lines.popleft() for _ in range(count)]

@@ -3,15 +3,35 @@ from __future__ import annotations
 
 import re
 from dataclasses import dataclass
-from functools import lru_cache
-from typing import Any, Optional, Sequence
+from functools import lru_cache, wraps
+from typing import Any, Callable, Optional, Sequence, TypeVar, Union, cast
 
-from .errors import Refused
+from .errors import Problem, Refused
 from .limits import COMMAND_BYTES
 
 WORD_LINE = 22  # bytes of a line of a reply to `mem`: `0x00001000 0x00000020` and a line end
 
 CONTROL_NAMES = ("index", "random", "entrylo", "context", "badvaddr", "entryhi", "status", "cause", "epc", "prid")
+
+
+Reads = TypeVar("Reads", bound=Callable[..., Any])
+
+
+def checked(reads: Reads) -> Reads:
+    """A function that reads a reply, of which the lines are its last argument. What is no reply of the program is a Problem."""
+    @wraps(reads)
+    def made(*arguments: Any) -> Any:
+        try:
+            return reads(*arguments)
+        except (ValueError, IndexError):
+            raise no_reply(arguments[-1]) from None
+    return cast(Reads, made)
+
+
+def no_reply(lines: Union[str, Sequence[str]]) -> Problem:
+    """The Problem of lines that no reply of the program has."""
+    first = lines if isinstance(lines, str) else "".join(lines[:1])
+    return Problem(f"{first[:60]!r} is no reply of the program: what was started is another one, which WB_PROGRAM names where that is set", 70)
 
 
 @dataclass(frozen=True)
@@ -64,6 +84,7 @@ def is_refusal(line: str) -> bool:
     return line.startswith("error ")
 
 
+@checked
 def refusal_of(command: str, lines: Sequence[str]) -> Optional[Refused]:
     """The refusal that a reply is, or None."""
     if not lines or not is_refusal(lines[0]):
@@ -72,6 +93,7 @@ def refusal_of(command: str, lines: Sequence[str]) -> Optional[Refused]:
     return Refused(int(number), name, command)
 
 
+@checked
 def registers(lines: Sequence[str]) -> Registers:
     """The value of a reply to `regs`."""
     _, pc, _, following, _, hi, _, lo, _, delay, _, *load = lines[0].split()
@@ -80,12 +102,14 @@ def registers(lines: Sequence[str]) -> Registers:
     return Registers(int(pc, 16), int(following, 16), int(hi, 16), int(lo, 16), delay == "1", pending, general)
 
 
+@checked
 def control(lines: Sequence[str]) -> dict[str, int]:
     """The value of a reply to `cp0`: the registers by their names."""
     words = lines[0].split()
     return {name: int(word, 16) for name, word in zip(words[::2], words[1::2])}
 
 
+@checked
 def where(lines: Sequence[str]) -> Where:
     """The value of a reply to `where`."""
     words = lines[0].split()
@@ -94,34 +118,40 @@ def where(lines: Sequence[str]) -> Where:
     return Where(words[-1], None)
 
 
+@checked
 def writer(lines: Sequence[str]) -> Writer:
     """The value of a reply to `writer`."""
     word = lines[0].split()[1]
     return Writer("step", int(word)) if word.isdigit() else Writer(word, None)
 
 
+@checked
 def memory(lines: Sequence[str]) -> list[int]:
     """The words of a reply to `mem`."""
     return [int(line.split()[1], 16) for line in lines]
 
 
+@checked
 def console(lines: Sequence[str]) -> tuple[int, bytes]:
     """How many bytes a line had sent, and those that a reply to `console` shows."""
     _, count, shown = lines[0].split()[1:]
     return int(count), b"" if shown == "none" else bytes.fromhex(shown)
 
 
+@checked
 def last_number(lines: Sequence[str]) -> int:
     """The number at the end of a reply of one line: of `pos`, `event`, `find` and `log`."""
     return int(lines[0].split()[-1], 0)
 
 
+@checked
 def timed(lines: Sequence[str]) -> list[tuple[int, int]]:
     """The lines after the first one of a reply to `stores`, `finds` or `pcs`: of each the two numbers."""
     pairs = (line.split() for line in lines[1:])
     return [(int(first), int(second, 0)) for first, second in pairs]
 
 
+@checked
 def devices(lines: Sequence[str]) -> dict[str, Any]:
     """What a reply to `devices` says. The registers are as reads would give them, and words of the silo as RBUF would."""
     serial, *four, silo, clock, board = (it.split() for it in lines)

@@ -5,6 +5,8 @@ import re
 from dataclasses import dataclass
 from typing import Any, Optional
 
+from .replies import no_reply
+
 
 @dataclass(frozen=True)
 class Access:
@@ -41,7 +43,8 @@ _LINE = re.compile(r"(?P<step>\d+) pc (?P<pc>0x\w{8}) word (?P<word>none|0x\w{8}
 def read(line: str) -> Traced:
     """What a line of a reply says."""
     match = _LINE.fullmatch(line)
-    assert match, line
+    if not match:
+        raise no_reply(line)
     found = match.groupdict()
 
     def number(name: str) -> Optional[int]:

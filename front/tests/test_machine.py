@@ -505,6 +505,24 @@ class WhatIf(unittest.TestCase):
 
 
 class Boots(unittest.TestCase):
+    def test_a_program_that_answers_garbage_is_a_problem(self) -> None:
+        """From its start on, or later."""
+        with tempfile.TemporaryDirectory() as folder:
+            program = Path(folder, "garbage")
+            for last in ("'garbage'", "'error'"):
+                for good in 0, 1:
+                    program.write_text(f"#!{sys.executable}\nimport sys\nfor number, line in enumerate(it for it in sys.stdin.buffer if it != b'x'):\n"
+                                       f"    print('pos 0' if line.startswith(b'goto') or line == b'pos\\n' and {good} else {last}, flush=True)\n")
+                    program.chmod(0o755)
+                    image = Path(folder, "i.rom")
+                    image.write_bytes(bytes(4))
+                    with mock.patch.dict(os.environ, WB_PROGRAM=str(program)), self.assertRaisesRegex(Problem, "is no reply of the program"):
+                        with bezhakkom.boot(image) as machine:
+                            for ask in (lambda: machine.registers, lambda: machine.memory[0xA000_0000], machine.console, machine.sent, machine.next_step,
+                                        lambda: machine.devices, lambda: machine.writer(0xA000_0000), machine.trace):
+                                self.assertRaises(Problem, ask)
+                            machine.registers
+
     def test_several_files(self) -> None:
         """An ELF, and bytes at an address beside it; the options are put on the whole."""
         with tempfile.TemporaryDirectory() as folder:
