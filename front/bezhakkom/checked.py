@@ -26,8 +26,8 @@ class Results(Dict[str, Any]):
     __slots__ = ()
 
     def _refuse(self, *_: Any, **__: Any) -> NoReturn:
-        raise WrongType("what the machine holds is a result of its run and can't be set. Change what leads to it: `send` and `arrive` add bytes, "
-                        "`log` sets all events, and `patch` sets a word of the image")
+        raise WrongType("what the machine holds is a result of its run and can't be set. Change what leads to it: `send` and "
+                        "`arrive` add bytes, `log` sets all events, and `patch` sets a word of the image")
 
     __setitem__ = __delitem__ = __ior__ = clear = pop = popitem = setdefault = update = _refuse  # type: ignore[assignment]
 

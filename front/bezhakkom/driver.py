@@ -299,8 +299,8 @@ class Driver:
         self.patches = list(patches)
 
     def restore(self, log: Sequence[Event], patches: Sequence[Tuple[int, int]], position: int) -> None:
-        """Makes log, patches and position those of an earlier moment, as `revert` does, also if the program dies or does not go on: then what is
-        asked next starts it anew with them."""
+        """Makes log, patches and position those of an earlier moment, as `revert` does, also if the program dies meanwhile: then the next
+        question starts it with them."""
         try:
             self.revert(log, patches)
         except BaseException as error:

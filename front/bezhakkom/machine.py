@@ -152,8 +152,8 @@ class Machine:
 
     @contextmanager
     def alone(self) -> Iterator[Machine]:
-        """Lets other threads wait, so that several calls stay together, such as `goto` and what is asked there. Each call does so by itself,
-        and so do `edits` and `what_if` up to their ends."""
+        """Lets other threads wait, so that several calls stay together, such as `goto` and what is asked there. Each call does so by
+        itself, and so do `edits` and `what_if` up to their ends."""
         if os.getpid() != self._process:
             raise Problem(f"this machine belongs to process {self._process}, of which this one is a fork: boot another machine here")
         with self._lock:
@@ -350,7 +350,8 @@ class Machine:
     @_alone
     def stores(self, place: Place, most: int = 16) -> list[tuple[Step, int]]:
         """The last stores before this position into the word at a place, from the last one back, each with the word after it."""
-        return [(self._step(step), word) for step, word in self.driver.stores(self._word_at("place", place)[1], checked.whole("most", most, 0))]
+        physical, most = self._word_at("place", place)[1], checked.whole("most", most, 0)
+        return [(self._step(step), word) for step, word in self.driver.stores(physical, most)]
 
     @property
     @_alone
@@ -403,7 +404,8 @@ class Machine:
     def arrive(self, step: int, value: Union[int, Text], *, line: int = 0, kind: Kind = Kind.BYTE) -> int:
         """Lets a byte arrive in a step, also one with a framing error; or an external line gets a level. Gives its number in the
         log."""
-        return self.driver.add(checked.whole("step", step), checked.whole("line", line), checked.byte("value", value), checked.kind("kind", kind))
+        step, line = checked.whole("step", step), checked.whole("line", line)
+        return self.driver.add(step, line, checked.byte("value", value), checked.kind("kind", kind))
 
     @_alone
     def delete(self, event: int) -> None:
@@ -510,8 +512,8 @@ class Machine:
              executor: Optional[Executor] = None) -> Fuzzed:
         """Other bytes from step `first` on until a condition of the shell's comes true up to here, or a position. What does it is
         shrunk. The seed decides what is tried."""
-        return _fuzz.fuzz(self.driver, self._condition("until", until), checked.position("first", first), self._at(at), checked.whole("seed", seed),
-                          checked.whole("tries", tries, 1), executor)
+        first, seed, tries = checked.position("first", first), checked.whole("seed", seed), checked.whole("tries", tries, 1)
+        return _fuzz.fuzz(self.driver, self._condition("until", until), first, self._at(at), seed, tries, executor)
 
     @_alone
     def compare(self, log: Iterable[Event]) -> Comparison:

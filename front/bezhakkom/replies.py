@@ -31,7 +31,7 @@ def checked(reads: Reads) -> Reads:
 def no_reply(lines: Union[str, Sequence[str]]) -> Problem:
     """The Problem of lines that no reply of the program has."""
     first = lines if isinstance(lines, str) else "".join(lines[:1])
-    return Problem(f"{first[:60]!r} is no reply of the program: what was started is another one, which WB_PROGRAM names where that is set", 70)
+    return Problem(f"{first[:60]!r} is no reply of the program: another one was started, which WB_PROGRAM may name", 70)
 
 
 @dataclass(frozen=True)

@@ -10,7 +10,7 @@ import time
 from contextlib import contextmanager, suppress
 from dataclasses import dataclass
 from pathlib import Path
-from typing import Dict, Iterator, List, Optional, Sequence
+from typing import Dict, Iterator, List, Optional, Sequence, Tuple
 
 from .errors import Problem
 
@@ -32,23 +32,25 @@ class Seen:
 
     def __init__(self) -> None:
         self._began = time.time()
-        self._sums: Dict[str, bytes] = {}
+        self._known: Dict[str, Tuple[int, bytes]] = {}  # sizes and checksums by real paths
 
     def note(self, name: str, content: bytes) -> None:
         """Records the content of a file that was read or written."""
-        self._sums[os.path.realpath(name)] = hashlib.sha256(content).digest()
+        self._known[os.path.realpath(name)] = len(content), hashlib.sha256(content).digest()
 
     def change(self, path: Path) -> str:
         """Returns when somebody else changed the file at a real path, as the end of a sentence, or '' if nobody did. A file that the
         session neither read nor wrote is compared with the time at which the session began."""
-        known = self._sums.get(str(path))
-        if known is None:
-            return "after this session began" if path.stat().st_ctime > self._began else ""
-        return "" if hashlib.sha256(path.read_bytes()).digest() == known else "since it was read or saved here"
+        status = path.stat()
+        if str(path) not in self._known:
+            return "after this session began" if status.st_ctime > self._began else ""
+        size, checksum = self._known[str(path)]
+        is_same = status.st_size == size and hashlib.sha256(path.read_bytes()).digest() == checksum
+        return "" if is_same else "since it was read or saved here"
 
     def changed(self) -> List[str]:
         """Returns the real paths of the files that differ from what was read or written last. A file that is gone is left out."""
-        return [name for name in self._sums if os.path.isfile(name) and os.access(name, os.R_OK) and self.change(Path(name))]
+        return [name for name in self._known if os.path.isfile(name) and os.access(name, os.R_OK) and self.change(Path(name))]
 
 
 def save(name: str, content: bytes, form: Form, force: bool = False, how: str = FORCE_OPTION, seen: Optional[Seen] = None) -> None:
@@ -75,7 +77,9 @@ def _check(path: Path, name: str, content: bytes, form: Form, how: str, seen: Op
     if not _may_go(path, content, form):
         what = f" and is no {form.name}" if form.beginnings else f" already; it can't be seen whether it is a {form.name}"
         raise Problem(f"{name} is there{what}. `{how}` overwrites it")
-    change = seen.change(path) if seen and path.stat().st_size and path.read_bytes() != content else ""
+    size = path.stat().st_size
+    is_nothing_lost = not size or size == len(content) and path.read_bytes() == content
+    change = seen.change(path) if seen and not is_nothing_lost else ""
     if change:
         raise Problem(f"{name} was changed by another program {change}. Save under another name to keep both; `{how}` overwrites it")
 

@@ -158,7 +158,7 @@ def _line_and_text(session: Session, words: list[str], usage: str) -> tuple[int,
 
 # Files
 
-@command("save-log FILE [force]", "saves the log, with all edits; `force` overwrites a file that is no log, or was changed meanwhile", FILES)
+@command("save-log FILE [force]", "saves the log, with all edits; `force` overwrites a file that is no log or was changed", FILES)
 def save_log(session: Session, words: list[str]) -> None:
     save(name_of(words[0]), logs.write(session.driver.log), logs.LOG, is_forced(words[1:]), f"save-log {words[0]} force", session.seen)
     session.saved_log = list(session.driver.log)

@@ -179,7 +179,8 @@ class Holds(unittest.TestCase):
 
     def test_text_sent_is_utf8_as_in_the_shell_and_bytes_stay(self) -> None:
         """The bytes of the characters are those of the Unicode standard's table of UTF-8."""
-        said = subprocess.run([ROOT / "bin/wb", "shell", ECHO], input="type '\u00e4\u00f6\u20ac'\nwb log 0 9\n", capture_output=True, encoding="utf-8").stdout
+        said = subprocess.run([ROOT / "bin/wb", "shell", ECHO], input="type '\u00e4\u00f6\u20ac'\nwb log 0 9\n", capture_output=True,
+                              encoding="utf-8").stdout
         of_shell = [int(it.split()[3], 16) for it in said.splitlines()[2:]]
         with bezhakkom.boot(ECHO) as machine:
             machine.send("\u00e4\u00f6\u20ac")
@@ -202,10 +203,11 @@ class Holds(unittest.TestCase):
         machine.goto(9)
         machine.close()
         machine.close()
-        arguments = {"goto": (5,), "value": ("pc",), "address": ("pc",), "writer": ("sp",), "stores": ("sp",), "hits": ("main",), "send": ("a",),
-                     "arrive": (5, 1), "delete": (0,), "change": (0, 1), "move": (0, 1), "erase": (0, 9), "patch": (0xBFC0_0000, 0), "causes": ("pc",),
-                     "futures": (0,), "shrink": ("pc main",), "fuzz": (0, "pc main"), "compare": ((),), "when": ("session == 0",), "why": ("pc",),
-                     "save_log": ("/none/x",), "words": (0, 1), "read": (0, 1), "text": (0,), "until": ()}
+        arguments = {"goto": (5,), "value": ("pc",), "address": ("pc",), "writer": ("sp",), "stores": ("sp",), "hits": ("main",),
+                     "send": ("a",), "arrive": (5, 1), "delete": (0,), "change": (0, 1), "move": (0, 1), "erase": (0, 9),
+                     "patch": (0xBFC0_0000, 0), "causes": ("pc",), "futures": (0,), "shrink": ("pc main",), "fuzz": (0, "pc main"),
+                     "compare": ((),), "when": ("session == 0",), "why": ("pc",), "save_log": ("/none/x",), "words": (0, 1),
+                     "read": (0, 1), "text": (0,), "until": ()}
 
         def call(holder: object, name: str) -> None:
             found = getattr(holder, name)
@@ -213,7 +215,8 @@ class Holds(unittest.TestCase):
             if hasattr(found, "__enter__"):
                 found.__enter__()
 
-        public = [(holder, name) for holder in (machine, machine.memory) for name in dir(type(holder)) if not name.startswith("_") and name != "close"]
+        public = [(holder, name) for holder in (machine, machine.memory) for name in dir(type(holder))
+                  if not name.startswith("_") and name != "close"]
         self.assertGreater(len(public), 35)
         for holder, name in public:
             with self.subTest(name), self.assertRaisesRegex(Problem, "the machine is closed: `boot` starts another one"):
@@ -227,40 +230,50 @@ class Holds(unittest.TestCase):
     def test_arguments_of_another_type_or_range_name_the_parameter(self) -> None:
         with bezhakkom.boot(LOGIN, log=TYPED) as machine:
             before = machine.position, machine.log
-            for call, name in ((lambda: machine.goto("ticks"), "position"), (lambda: machine.goto(1.5), "position"), (lambda: machine.goto(None), "position"),
-                               (lambda: machine.step("1"), "steps"), (lambda: machine.memory.words("session", -1), "count"),
-                               (lambda: machine.memory.read("session", 1.5), "count"), (lambda: machine.memory.text("session", "9"), "most"),
-                               (lambda: machine.memory[1.5], "place"), (lambda: machine.memory[None], "place"), (lambda: machine.memory["":"9"], "first"),
-                               (lambda: machine.arrive(5, 1, kind=7), "kind"), (lambda: machine.arrive("5", 1), "step"),
-                               (lambda: machine.arrive(5, None), "value"), (lambda: machine.arrive(5, 1, line="x"), "line"),
-                               (lambda: machine.causes(""), "what"), (lambda: machine.causes(5), "what"), (lambda: machine.causes("pc", by="set"), "by"),
-                               (lambda: machine.causes("pc", by=["x"]), "by"), (lambda: machine.causes("pc", values=-1), "values"),
-                               (lambda: machine.why(""), "what"), (lambda: machine.why(None), "what"), (lambda: machine.shrink(" "), "until"),
-                               (lambda: machine.shrink("pc main", at="x"), "at"), (lambda: machine.when(""), "condition"),
-                               (lambda: machine.until(word="session", value="six"), "value"), (lambda: machine.until(pc="main", value=6), "value"),
-                               (lambda: machine.until(pc=1.5), "place"), (lambda: machine.until(console=5), "console"),
-                               (lambda: machine.until(pc="main", steps=-5), "steps"), (lambda: machine.until(position="5"), "position"),
-                               (lambda: machine.send(1.5), "text"), (lambda: machine.send("a", gap=-5), "gap"), (lambda: machine.send("a", line="0"), "line"),
-                               (lambda: machine.console("0"), "line"), (lambda: machine.sent(1.5), "line"), (lambda: machine.stores("session", None), "most"),
-                               (lambda: machine.trace("5"), "steps"), (lambda: machine.hits(None), "place"), (lambda: machine.value(5), "text"),
-                               (lambda: machine.delete("x"), "event"), (lambda: machine.change(0, 1.5), "value"), (lambda: machine.move(0, "x"), "step"),
-                               (lambda: machine.erase(None, 5), "first"), (lambda: machine.patch("session", "x"), "word"),
-                               (lambda: machine.what_if(without=0).__enter__(), "without"), (lambda: machine.what_if(without=["0"]).__enter__(), "without"),
-                               (lambda: machine.what_if(changed={0: "ab"}).__enter__(), "changed"), (lambda: machine.what_if(changed=[0]).__enter__(), "changed"),
-                               (lambda: machine.what_if(moved={0: 1.5}).__enter__(), "moved"), (lambda: machine.what_if(log="x").__enter__(), "log"),
-                               (lambda: machine.futures("0"), "event"), (lambda: machine.futures(0, values=["a"]), "values"),
-                               (lambda: machine.futures(0, steps="5"), "steps"), (lambda: machine.futures(0, show="session"), "show"),
-                               (lambda: machine.fuzz("0", "pc main"), "first"), (lambda: machine.fuzz(0, "pc main", seed="x"), "seed"),
-                               (lambda: machine.compare([5]), "log"), (lambda: setattr(machine, "log", [5]), "log"),
-                               (lambda: setattr(machine, "log", [Event("5", 0, 1)]), "log"), (lambda: machine.save_log(5), "name"),
-                               (lambda: bezhakkom.boot(5), "files"), (lambda: bezhakkom.boot([5]), "files"), (lambda: bezhakkom.boot(LOGIN, log=5), "log"),
-                               (lambda: bezhakkom.boot(LOGIN, symbols=[5]), "symbols"), (lambda: bezhakkom.boot(LOGIN, unit="x"), "unit"),
-                               (lambda: bezhakkom.boot(LOGIN, clock=5), "clock"), (lambda: bezhakkom.events(5), "text")):
+            for call, name in ((lambda: machine.goto("ticks"), "position"), (lambda: machine.goto(1.5), "position"),
+                    (lambda: machine.goto(None), "position"), (lambda: machine.step("1"), "steps"),
+                    (lambda: machine.memory.words("session", -1), "count"),
+                    (lambda: machine.memory.read("session", 1.5), "count"),
+                    (lambda: machine.memory.text("session", "9"), "most"), (lambda: machine.memory[1.5], "place"),
+                    (lambda: machine.memory[None], "place"), (lambda: machine.memory["":"9"], "first"),
+                    (lambda: machine.arrive(5, 1, kind=7), "kind"), (lambda: machine.arrive("5", 1), "step"),
+                    (lambda: machine.arrive(5, None), "value"), (lambda: machine.arrive(5, 1, line="x"), "line"),
+                    (lambda: machine.causes(""), "what"), (lambda: machine.causes(5), "what"),
+                    (lambda: machine.causes("pc", by="set"), "by"), (lambda: machine.causes("pc", by=["x"]), "by"),
+                    (lambda: machine.causes("pc", values=-1), "values"), (lambda: machine.why(""), "what"),
+                    (lambda: machine.why(None), "what"), (lambda: machine.shrink(" "), "until"),
+                    (lambda: machine.shrink("pc main", at="x"), "at"), (lambda: machine.when(""), "condition"),
+                    (lambda: machine.until(word="session", value="six"), "value"),
+                    (lambda: machine.until(pc="main", value=6), "value"), (lambda: machine.until(pc=1.5), "place"),
+                    (lambda: machine.until(console=5), "console"), (lambda: machine.until(pc="main", steps=-5), "steps"),
+                    (lambda: machine.until(position="5"), "position"), (lambda: machine.send(1.5), "text"),
+                    (lambda: machine.send("a", gap=-5), "gap"), (lambda: machine.send("a", line="0"), "line"),
+                    (lambda: machine.console("0"), "line"), (lambda: machine.sent(1.5), "line"),
+                    (lambda: machine.stores("session", None), "most"), (lambda: machine.trace("5"), "steps"),
+                    (lambda: machine.hits(None), "place"), (lambda: machine.value(5), "text"),
+                    (lambda: machine.delete("x"), "event"), (lambda: machine.change(0, 1.5), "value"),
+                    (lambda: machine.move(0, "x"), "step"), (lambda: machine.erase(None, 5), "first"),
+                    (lambda: machine.patch("session", "x"), "word"),
+                    (lambda: machine.what_if(without=0).__enter__(), "without"),
+                    (lambda: machine.what_if(without=["0"]).__enter__(), "without"),
+                    (lambda: machine.what_if(changed={0: "ab"}).__enter__(), "changed"),
+                    (lambda: machine.what_if(changed=[0]).__enter__(), "changed"),
+                    (lambda: machine.what_if(moved={0: 1.5}).__enter__(), "moved"),
+                    (lambda: machine.what_if(log="x").__enter__(), "log"), (lambda: machine.futures("0"), "event"),
+                    (lambda: machine.futures(0, values=["a"]), "values"), (lambda: machine.futures(0, steps="5"), "steps"),
+                    (lambda: machine.futures(0, show="session"), "show"), (lambda: machine.fuzz("0", "pc main"), "first"),
+                    (lambda: machine.fuzz(0, "pc main", seed="x"), "seed"), (lambda: machine.compare([5]), "log"),
+                    (lambda: setattr(machine, "log", [5]), "log"), (lambda: setattr(machine, "log", [Event("5", 0, 1)]), "log"),
+                    (lambda: machine.save_log(5), "name"), (lambda: bezhakkom.boot(5), "files"),
+                    (lambda: bezhakkom.boot([5]), "files"), (lambda: bezhakkom.boot(LOGIN, log=5), "log"),
+                    (lambda: bezhakkom.boot(LOGIN, symbols=[5]), "symbols"), (lambda: bezhakkom.boot(LOGIN, unit="x"), "unit"),
+                    (lambda: bezhakkom.boot(LOGIN, clock=5), "clock"), (lambda: bezhakkom.events(5), "text")):
                 with self.assertRaises(Problem) as caught:
                     call()
                 self.assertRegex(str(caught.exception), f"^`{name}\\W")
                 self.assertEqual((machine.position, machine.log), before)
-            with self.assertRaisesRegex(TypeError, '`position` is a whole number, and not \'ticks\'. `until\\(pc="ticks"\\)` goes on to a place'):
+            with self.assertRaisesRegex(TypeError, "`position` is a whole number, and not 'ticks'. "
+                                                   '`until\\(pc="ticks"\\)` goes on to a place'):
                 machine.goto("ticks")
 
     def test_a_refusal_is_one_too(self) -> None:
@@ -423,8 +436,8 @@ class Shared(unittest.TestCase):
                 weakref.finalize._exitfunc()  # as at the end of a Python process
                 os._exit(0)
             os.waitpid(child, 0)
-            self.assertEqual(os.read(read, 1000).decode(), f"this machine belongs to process {os.getpid()}, of which this one is a fork: boot another "
-                             "machine here")
+            self.assertEqual(os.read(read, 1000).decode(), f"this machine belongs to process {os.getpid()}, of which this one is a fork: "
+                             "boot another machine here")
             os.close(read), os.close(write)
             program = machine.driver._program
             self.assertEqual(machine.until(console="password: "), 355)
@@ -511,15 +524,17 @@ class Boots(unittest.TestCase):
             program = Path(folder, "garbage")
             for last in ("'garbage'", "'error'"):
                 for good in 0, 1:
-                    program.write_text(f"#!{sys.executable}\nimport sys\nfor number, line in enumerate(it for it in sys.stdin.buffer if it != b'x'):\n"
-                                       f"    print('pos 0' if line.startswith(b'goto') or line == b'pos\\n' and {good} else {last}, flush=True)\n")
+                    program.write_text(f"#!{sys.executable}\nimport sys\nfor line in sys.stdin.buffer:\n"
+                                       f"    print('pos 0' if line[:4] == b'goto' or {good} and line == b'pos\\n' else {last}, "
+                                       "flush=True)\n")
                     program.chmod(0o755)
                     image = Path(folder, "i.rom")
                     image.write_bytes(bytes(4))
-                    with mock.patch.dict(os.environ, WB_PROGRAM=str(program)), self.assertRaisesRegex(Problem, "is no reply of the program"):
+                    wrong = self.assertRaisesRegex(Problem, "is no reply of the program")
+                    with mock.patch.dict(os.environ, WB_PROGRAM=str(program)), wrong:
                         with bezhakkom.boot(image) as machine:
-                            for ask in (lambda: machine.registers, lambda: machine.memory[0xA000_0000], machine.console, machine.sent, machine.next_step,
-                                        lambda: machine.devices, lambda: machine.writer(0xA000_0000), machine.trace):
+                            for ask in (lambda: machine.registers, lambda: machine.memory[0xA000_0000], machine.console, machine.sent,
+                                        machine.next_step, lambda: machine.devices, lambda: machine.writer(0xA000_0000), machine.trace):
                                 self.assertRaises(Problem, ask)
                             machine.registers
 
