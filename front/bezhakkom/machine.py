@@ -500,7 +500,6 @@ class Machine:
         asked = tuple(self._question("show", text) for text in checked.texts("show", show))
         return _futures.futures(self.driver, self.session.symbols, event, changes, self._at(at), asked, condition, executor, by_sent)
 
-
     @_alone
     def shrink(self, until: str, *, at: Optional[int] = None, executor: Optional[Executor] = None) -> Shrunk:
         """The smallest log in which a condition of the shell's comes true up to here, or a position: `pc fatal`, `console 'Sorry'`,
