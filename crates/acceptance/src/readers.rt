@@ -3,8 +3,11 @@ use crate::same::{same, same_at};
 use std::alloc::{AllocError, Global};
 use std::io;
 use std::io::{ErrorKind, Read, Write};
+use std::process::Abort;
 use std::test::Fail;
-use workbench::{Failed, FromRead, Kind, Options, Plan, Sink, Source, ToWrite, serve, status};
+use workbench::{
+    Failed, FromRead, Kind, Options, Order, Plan, Sink, Source, ToWrite, serve, serve_words, status,
+};
 
 const NO_IMAGE: Options = Options {
     kind: Kind::Rom,
@@ -154,17 +157,38 @@ fn half_a_line(rt: HostRuntime) -> Result<(), Fail> {
 #[test]
 fn image_of_all_reads(rt: HostRuntime) -> Result<(), Fail> {
     let input = vec![in rt.alloc(); 0u8; 1_048_577]?;
-    for (size, ends) in [(1_048_576, 1), (1_048_577, 3)] {
-        let mut reader = Plan::new(rt.alloc(), &input, 1, 0)?;
-        let mut writer = Plan::new(rt.alloc(), &[], 4096, 100)?;
-        let options = Options {
-            kind: Kind::Rom,
-            size,
-            log_size: 0,
-        };
-        let outcome = serve::<16, 64, Plan, Plan>(rt.alloc(), options, &mut reader, &mut writer);
-        same_at(&rt, &size, &status(&outcome), &ends);
-        same_at(&rt, &size, &writer.written().len(), &0);
+    for (size, ends, line) in [
+        ("1048576", 1, "r3kwb: error 9 BadImage RawSize\n"),
+        ("1048577", 3, "r3kwb: error 11 ReadFault\n"),
+    ] {
+        rom_ends(&rt, &input, size, ends, line)?;
     }
+    Ok(())
+}
+
+// Starts the program on a raw ROM that comes byte by byte, and compares its status and the line of its fault.
+fn rom_ends(
+    rt: &(impl Abort + AllocGlobal),
+    input: &[u8],
+    size: &str,
+    ends: u8,
+    line: &str,
+) -> Result<(), Fail> {
+    let alloc = rt.alloc();
+    let mut input = Plan::new(alloc, input, 1, 0)?;
+    let mut output = Plan::new(alloc, &[], 4096, 64)?;
+    let mut errors = Plan::new(alloc, &[], 4096, 64)?;
+    let words = ["r3kwb", "--size", size];
+    let status = serve_words::<16, 64, Plan, Plan, Plan>(
+        alloc,
+        Ok(&words),
+        &mut input,
+        &mut output,
+        &mut errors,
+        &mut Order::new(),
+    );
+    same_at(rt, &size, &status, &ends);
+    same_at(rt, &size, &output.written().len(), &0);
+    same_at(rt, &size, &errors.written(), &line.as_bytes());
     Ok(())
 }
