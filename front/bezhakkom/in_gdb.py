@@ -384,6 +384,7 @@ class Image:
         if file:
             before = stops.places()
             gdb.execute(f"file {quoted(file)}", to_string=True)
+            gdb.execute("maintenance flush source-cache", to_string=True)  # `file` keeps the text of sources that were edited since
             stops.tell_moved(before)
 
     def name(self) -> str:

@@ -232,6 +232,16 @@ class Kernel(unittest.TestCase):
         self.assertNotEqual(addresses[0], addresses[1], shown)
         self.assertIn("$4 = 11\n", shown)
 
+    def test_load_of_edited_source_shows_its_new_text(self) -> None:
+        source = self.folder / "kernel.S"
+        before = source.read_text()
+        move = self.prepare()
+        source.with_suffix(".new").write_text("\n\n" + source.read_text())
+        source.write_text(before)
+        shown = self.changed("list loop,+0", move, f"shell mv '{self.folder}/kernel.new' '{source}'", "load", "list 8,8")
+        self.assertRegex(shown, r"6\s+loop: +addiu \$8, \$8, 1\n")
+        self.assertRegex(shown, r"8\s+loop: +addiu \$8, \$8, 3\n")
+
     def test_stub_loads_the_elf_that_was_built_again_at_vrun(self) -> None:
         """For a gdb without front/bezhakkom/in_gdb.py, which reads the new symbols by itself."""
         commands = (f"target extended-remote | '{debugger.WB}' stub '{self.elf}'", self.prepare(), "stepi", "run", "starti 50", "print $r8")
