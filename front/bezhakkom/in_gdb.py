@@ -383,8 +383,16 @@ class Image:
         self._digest = digest
         if file:
             before = stops.places()
+            position = here()
+            # gdb 13 crashes if it stopped at the start of an inlined function, whose symbol `file` frees: it keeps a pointer to
+            # that symbol for as long as the PC stays. A frame at another PC drops the pointer.
+            asked("goto 0")
+            flush()
+            gdb.newest_frame().type()
             gdb.execute(f"file {quoted(file)}", to_string=True)
             gdb.execute("maintenance flush source-cache", to_string=True)  # `file` keeps the text of sources that were edited since
+            asked(f"goto {position[0] if position else 0}")
+            flush()
             stops.tell_moved(before)
 
     def name(self) -> str:
