@@ -208,7 +208,7 @@ def fuzz(session: Session, words: list[str]) -> None:
         patches = [f"wb patch {address:#010x} {word:#010x}" for address, word in session.driver.patches]
         content = saved.text_of(session.origin, folder, found.shrunk.log, [*patches, f"goto {found.shrunk.position:,}"], False)
         try:
-            save(file, content.encode("utf-8", "surrogateescape"), saved.FORM, is_forced, f"fuzz .. save {file} {FORCE_WORD}")
+            save(file, content.encode("utf-8", "surrogateescape"), saved.FORM, is_forced, f"fuzz .. save {file} {FORCE_WORD}", session.seen)
             saved_in = file
         except Problem as problem:
             why = problem
