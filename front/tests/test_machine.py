@@ -10,7 +10,6 @@ import sys
 import tempfile
 import threading
 import unittest
-import weakref
 from contextlib import nullcontext
 from dataclasses import replace
 from pathlib import Path
@@ -422,26 +421,28 @@ class Shared(unittest.TestCase):
             self.assertEqual(wrong, [])
 
     def test_a_call_in_a_fork_is_refused_and_the_machine_lives_on(self) -> None:
-        with bezhakkom.boot(LOGIN) as machine:
-            read, write = os.pipe()
-            child = os.fork()
-            if not child:
-                said = ""
-                try:
-                    machine.console()
-                except Problem as problem:
-                    said = str(problem)
-                machine.close()
-                os.write(write, said.encode())
-                weakref.finalize._exitfunc()  # as at the end of a Python process
-                os._exit(0)
-            os.waitpid(child, 0)
-            self.assertEqual(os.read(read, 1000).decode(), f"this machine belongs to process {os.getpid()}, of which this one is a fork: "
-                             "boot another machine here")
-            os.close(read), os.close(write)
-            program = machine.driver._program
-            self.assertEqual(machine.until(console="password: "), 355)
-            self.assertIs(machine.driver._program, program)
+        # In a process of its own, since the end of the fork runs all finalizers that it shares.
+        script = """
+import os, sys, bezhakkom
+machine = bezhakkom.boot(sys.argv[1])
+program = machine.driver._program
+child = os.fork()
+if not child:
+    try:
+        machine.console()
+    except bezhakkom.Problem as problem:
+        print(problem, flush=True)
+    machine.close()
+    sys.exit()
+os.waitpid(child, 0)
+print(os.getpid(), machine.until(console="password: "), machine.driver._program is program)
+"""
+        done = subprocess.run([sys.executable, "-c", script, str(LOGIN)], env={**os.environ, "PYTHONPATH": str(ROOT / "front")},
+                              stdout=subprocess.PIPE, text=True, check=True)
+        refused, lives = done.stdout.splitlines()
+        process, _, rest = lives.partition(" ")
+        self.assertEqual(refused, f"this machine belongs to process {process}, of which this one is a fork: boot another machine here")
+        self.assertEqual(rest, "355 True")
 
 
 class WhatIf(unittest.TestCase):
