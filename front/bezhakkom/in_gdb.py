@@ -408,6 +408,7 @@ class Image:
         except gdb.GdbError:
             asked(f"goto {before[0] if before else 0}")
             raise
+        flush()  # gdb is to know position 0, to which `follow` returns
         self.follow()
         flush()
 

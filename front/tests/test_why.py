@@ -220,8 +220,9 @@ class Isolated(unittest.TestCase):
             self.assertEqual(asked(run, Register("r", 6), 14).nodes[8].links, [Link(Role.VALUE, End(Origin.CACHE))])
 
     def test_when(self) -> None:
-        with brute.fresh(rom(self.WORDS), []) as run, mock.patch("bezhakkom.whatif.conditions._FEW", 0):
-            self.assertEqual([when(run, Holds(DATA, "==", it), 14).position for it in (5, 7)], [3, None])
+        for apart in (0, 1 << 40):  # stores are followed back, and steps are traced
+            with brute.fresh(rom(self.WORDS), []) as run, mock.patch("bezhakkom.whatif.conditions._APART", apart):
+                self.assertEqual([when(run, Holds(DATA, "==", value), 14).position for value in (5, 7)], [3, None])
 
 
 class Needs(unittest.TestCase):
