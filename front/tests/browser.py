@@ -33,6 +33,7 @@ class Browser:
         environment = {**os.environ, "HOME": self._folder.name, "XDG_CONFIG_HOME": self._folder.name, "XDG_CACHE_HOME": self._folder.name}
         self._process = subprocess.Popen(["chromedriver", "--port=0"], stdin=subprocess.DEVNULL, stdout=subprocess.PIPE, stderr=self._log,
                                          env=environment, text=True)
+        self._session = ""
         assert self._process.stdout
         try:
             port = next(found[1] for line in self._process.stdout if (found := re.search(r"started successfully on port (\d+)", line)))
@@ -49,12 +50,13 @@ class Browser:
             self._session = f"/session/{made['sessionId']}"
             self._send("POST", f"{self._session}/timeouts", {"script": 1000 * PATIENCE, "pageLoad": 1000 * PATIENCE})
         except BaseException:
-            self._end()
+            self.close()
             raise
 
     def close(self) -> None:
         try:
-            self._send("DELETE", self._session, None)
+            if self._session:
+                self._send("DELETE", self._session, None)
         finally:
             self._end()
 

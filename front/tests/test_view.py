@@ -17,7 +17,7 @@ import unittest
 import urllib.request
 from dataclasses import replace
 from pathlib import Path
-from typing import Sequence, Tuple
+from typing import Any, Optional, Sequence, Tuple
 from unittest import mock
 
 from bezhakkom import loading, saved
@@ -386,6 +386,43 @@ class Pasts(unittest.TestCase):
             shown = hand.rested(view=WHOLE)
             viewed.check(self, image, brute.without(without, 0), shown["now"], [LENGTH])
 
+    def test_edits_that_change_nothing_are_no_step_of_undo_and_leave_redo(self) -> None:
+        with laid_out(*LOGIN) as desk:
+            hand = Hand(desk)
+            hand.ask(edits=[hand.edit("keep", name="first"), hand.edit("delete", id=9, name="one"), hand.edit("undo")])
+            before = hand.ask(view=WHOLE, ghost=True)
+            self.assertEqual((before["state"]["undo"], before["state"]["redo"]), (None, "one"))
+            event = before["now"]["events"][2]
+            for edit in (hand.edit("change", id=2), hand.edit("change", id=2, time=event[1], byte=event[3]), hand.edit("back", name="first")):
+                after = hand.ask(view=WHOLE, ghost=True, edits=[edit])
+                self.assertNotIn("problem", after)
+                for name in "state", "now", "ghost":
+                    self.assertEqual(after[name], before[name], edit)
+            # Without the backspace the password is right. Of its characters and Return none can be taken out.
+            welcome = {"until": "console 'Welcome'"}
+            small = hand.ask(edits=[hand.edit("delete", id=2), hand.edit("shrink", **welcome)])
+            self.assertEqual((small.get("problem"), small["state"]["events"]), (None, 7))
+            again = hand.ask(edits=[hand.edit("delete", id=9, name="two"), hand.edit("undo"), hand.edit("shrink", **welcome)])
+            self.assertEqual((again.get("problem"), again["state"]), (None, {**small["state"], "redo": "two"}))
+
+    def test_undo_passes_over_a_drag_that_came_back(self) -> None:
+        log = brute.log_of("login")
+        with laid_out(*LOGIN) as desk:
+            hand = Hand(desk)
+            hand.ask(edits=[hand.edit("delete", id=9), hand.edit("change", id=2, time=41_000), hand.edit("change", id=2, time=log[2].time, again=True)])
+            for do, wanted in ("undo", log), ("redo", log[:9]), ("undo", log):
+                hand.ask(edits=[hand.edit(do)])
+                self.assertEqual(desk._now.log, wanted)
+
+    def test_change_of_the_value_alone_leaves_the_step_and_the_other_way(self) -> None:
+        log = brute.log_of("login")
+        with laid_out(*LOGIN) as desk:
+            hand = Hand(desk)
+            hand.ask(edits=[hand.edit("change", id=2, byte=65)])
+            self.assertEqual(desk._now.log, brute.with_byte(log, 2, 65))
+            hand.ask(edits=[hand.edit("change", id=2, time=41_000)])
+            self.assertEqual(desk._now.log, brute.moved(brute.with_byte(log, 2, 65), 2, 41_000))
+
     def test_cancel_restores_the_log_undo_redo_and_the_other_past(self) -> None:
         image, log = brute.image("login/login.elf"), brute.log_of("login")
         with laid_out(*LOGIN) as desk:
@@ -586,6 +623,17 @@ class Sweeps(unittest.TestCase):
             self.assertEqual(reply["state"]["events"], 1)
             self.assertEqual(hand.ask(edits=[hand.edit("undo")])["state"]["events"], 10)
 
+    def test_wanted_text_may_have_blanks(self) -> None:
+        with laid_out(*LOGIN) as desk:
+            hand = Hand(desk)
+            for text in "'Welcome, operator.'", '"Welcome, operator."':
+                asked = hand.ask(sweep={"id": 2, "values": [8, 0x7A], "wanted": text})["sweep"]
+                self.assertEqual((asked["tried"], asked["outcomes"]), ([0, 0], ["it does not come true"]))
+            reply = hand.ask(edits=[hand.edit("delete", id=2), hand.edit("shrink", until="'Welcome, operator.'")])
+            self.assertNotIn("problem", reply)
+            # The password and Return are enough.
+            self.assertEqual(bytes(it.byte for it in desk._now.log), b"sesame\r")
+
 
 class Reasons(unittest.TestCase):
     def test_why(self) -> None:
@@ -637,7 +685,6 @@ class Saving(unittest.TestCase):
             files = {kind: Path(folder) / kind for kind in ("log", "session", "image", "text")}
             for kind, file in files.items():
                 file.write_bytes(bytes.fromhex(hand.ask(cursor=40_024, save={"kind": kind})["save"]["content"]))
-            self.assertFalse(hand.ask()["state"]["unsaved"])
             self.assertEqual(logs.read(files["log"].read_bytes(), "log"), wanted)
             self.assertEqual(logs.make(files["text"].read_text().splitlines(), "text"), wanted)
             with saved.running(Opening((str(files["session"]),))) as driver:
@@ -647,6 +694,30 @@ class Saving(unittest.TestCase):
                 self.assertEqual(Hand(again).ask()["state"]["cursor"], 40_024)
                 self.assertEqual(again._driver.log, wanted)
             self.assertEqual(loading.image(str(files["image"]), "image").kind, "image")
+
+    def test_edits_are_saved_when_the_page_confirms_that_the_browser_has_them(self) -> None:
+        """Not before: the reply may be lost, or the tab closed. What is edited between is not saved."""
+        with laid_out(*LOGIN) as desk:
+            hand = Hand(desk)
+            hand.ask(edits=[hand.edit("delete", id=2)])
+            for kind in ("log", "text", "session"):
+                number = hand.ask(save={"kind": kind})["save"]["saved"]
+                self.assertTrue(hand.ask()["state"]["unsaved"], kind)
+                self.assertFalse(hand.ask(saved=number)["state"]["unsaved"], kind)
+                hand.ask(edits=[hand.edit("change", id=1, time=5 + number)])
+                self.assertTrue(hand.ask(saved=number)["state"]["unsaved"], kind)
+            self.assertNotIn("saved", hand.ask(save={"kind": "image"})["save"])
+            with self.assertRaises(Problem):
+                hand.ask(saved=number + 1)
+
+    def test_no_edit_is_made_after_the_session_that_is_kept_at_the_end(self) -> None:
+        with laid_out(*LOGIN) as desk:
+            hand = Hand(desk)
+            hand.ask(edits=[hand.edit("delete", id=2)])
+            self.assertIn("\ndel 2\n", desk.unsaved_session() or "")
+            with self.assertRaisesRegex(Problem, "the server has ended: its terminal names the session"):
+                hand.ask(edits=[hand.edit("delete", id=1)])
+            self.assertEqual(len(desk._now.log), 9)
 
     def test_save_after_another_program_changed_the_session_names_it(self) -> None:
         with laid_out(*LOGIN) as desk, tempfile.TemporaryDirectory() as folder:
@@ -705,50 +776,46 @@ class Line(unittest.TestCase):
                 pass
             self.assertIn(reason, str(caught.exception))
 
-    def test_ctrl_c(self) -> None:
-        """It ends the server. Where edits are not saved it says so first, and a second one ends it, unless there was another edit."""
-        words = [sys.executable, str(ROOT / "front/bezhakkom"), "view", *LOGIN]
-        deleted = [[{"number": it, "do": "delete", "id": it, "gesture": it}] for it in (1, 2)]
-        warning = "bin/wb: there are edits that are not saved: the page saves them, and Ctrl-C again drops them\n"
-        for made in [], deleted:
-            with subprocess.Popen(words, stdin=subprocess.DEVNULL, stdout=subprocess.PIPE, stderr=subprocess.PIPE, text=True) as process:
-                assert process.stdout and process.stderr
-                address = process.stdout.readline().strip()
-                for edits in made or [[]]:
-                    request = urllib.request.Request(f"{address}ask", json.dumps({"edits": edits}).encode(),
-                                                     {"Content-Type": "application/json", "Origin": address[:address.index("/", 8)]})
-                    with urllib.request.urlopen(request, timeout=300) as reply:
-                        self.assertEqual(json.load(reply)["state"]["unsaved"], bool(edits))
-                    process.send_signal(signal.SIGINT)
-                    if edits:
-                        self.assertEqual(process.stderr.readline(), warning)
-                if made:
-                    process.send_signal(signal.SIGINT)
-                self.assertEqual((process.stderr.read(), process.wait(300)), ("", 0))
-
-    def test_sigterm_keeps_what_is_not_saved(self) -> None:
-        """As a session in a file, whose name is said. Where all is saved nothing is."""
+    def test_edits_that_are_not_saved_are_kept_however_the_server_ends(self) -> None:
+        """As a session in a file, whose name is said. Where all is saved, nothing is."""
         # `nohup` ignores it, and so does what is started below.
         self.addCleanup(signal.signal, signal.SIGHUP, signal.signal(signal.SIGHUP, signal.SIG_DFL))
+        delete = [{"number": 1, "do": "delete", "id": 2, "gesture": 1}]
+        for number, edits, reason, status in ((signal.SIGINT, delete, "ended by Ctrl-C", 0), (signal.SIGINT, [], "", 0),
+                                              (signal.SIGTERM, delete, "ended by SIGTERM", 143), (signal.SIGHUP, [], "", 129),
+                                              (None, delete, "the last page was closed", 0)):
+            with self.subTest(number=number, edits=edits):
+                self.assertEqual(self.ended(number, edits), (reason, status))
+
+    def ended(self, number: Optional[int], edits: list[dict[str, object]]) -> tuple[str, int]:
+        """Makes edits on a page of a server of its own, which ends by a signal or with its page. Returns the reason for which a session was
+        kept, which has these edits, and the status."""
         words = [sys.executable, str(ROOT / "front/bezhakkom"), "view", *LOGIN]
-        for number, edits in ((signal.SIGTERM, [{"number": 1, "do": "delete", "id": 2, "gesture": 1}]), (signal.SIGHUP, [])):
-            with subprocess.Popen(words, stdin=subprocess.DEVNULL, stdout=subprocess.PIPE, stderr=subprocess.PIPE, text=True) as process:
-                assert process.stdout and process.stderr
-                address = process.stdout.readline().strip()
-                request = urllib.request.Request(f"{address}ask", json.dumps({"edits": edits}).encode(),
+        with subprocess.Popen(words, stdin=subprocess.DEVNULL, stdout=subprocess.PIPE, stderr=subprocess.PIPE, text=True) as process:
+            assert process.stdout and process.stderr
+            address = process.stdout.readline().strip()
+
+            def post(name: str, content: object) -> Any:
+                request = urllib.request.Request(address + name, json.dumps(content).encode(),
                                                  {"Content-Type": "application/json", "Origin": address[:address.index("/", 8)]})
-                urllib.request.urlopen(request, timeout=300).close()
-                process.send_signal(number)
-                said, status = process.stderr.read(), process.wait(300)
-            self.assertEqual(status, 128 + number)
-            if edits:
-                name = said.partition(" is in ")[2].partition(",")[0]
-                self.assertEqual(said, f"bin/wb: ended by SIGTERM: what was not saved is in {name}, which `bin/wb shell` opens\n")
-                with saved.running(Opening((name,))) as driver:
-                    self.assertEqual(driver.log, brute.without(brute.log_of("login"), 2))
-                Path(name).unlink()  # else the next run of the image would offer it
+                with urllib.request.urlopen(request, timeout=300) as reply:
+                    return reply.read()
+
+            self.assertEqual(json.loads(post("ask", {"page": "one", "edits": edits}))["state"]["unsaved"], bool(edits))
+            if number is None:
+                post("left", {"page": "one"})
             else:
-                self.assertEqual(said, "")
+                process.send_signal(number)
+            said, status = process.stderr.read(), process.wait(300)
+        if not said:
+            return "", status
+        reason, _, rest = said.removeprefix("bin/wb: ").partition(": what was not saved is in ")
+        name, _, rest = rest.partition(",")
+        self.assertEqual(rest, " which `bin/wb shell` opens\n")
+        with saved.running(Opening((name,))) as driver:
+            self.assertEqual(driver.log, brute.without(brute.log_of("login"), 2))
+        Path(name).unlink()  # else the next run of the image would offer it
+        return reason, status
 
     def test_wires(self) -> None:
         needs_kinds(self)

@@ -17,7 +17,7 @@ SEED = 79
 WORDS = ("--to", str(END), *LOGIN)
 
 
-class Gestures(PageTest):
+class GestureTest(PageTest):
     def setUp(self) -> None:
         self.log_before = brute.log_of("login")
 
@@ -59,7 +59,13 @@ class Gestures(PageTest):
         x, y = self.place(event)
         self.browser.command("Input.dispatchMouseEvent", type="mouseWheel", x=x, y=y, deltaX=across, deltaY=down, modifiers=modifiers)
 
-    # The ways in which a drag ends
+    def focused(self) -> Any:
+        """The number of the focused event, or None if the timeline has the focus."""
+        return self.browser.run("const it = document.activeElement; return it.id === 'canvas' ? null : it.dataset.id")
+
+
+class Ends(GestureTest):
+    """The ways in which a gesture ends."""
 
     def test_release_outside_the_window_ends_the_drag_at_the_edge_of_the_run(self) -> None:
         with self.page(*WORDS):
@@ -198,7 +204,9 @@ class Gestures(PageTest):
                 self.browser.keys("z", held=["Control"])
                 self.assertEqual(self.log(), self.log_before)
 
-    # What is no gesture
+
+class Inputs(GestureTest):
+    """What begins a gesture, and what does not."""
 
     def test_press_that_wobbles_less_than_4_pixels_moves_nothing(self) -> None:
         with self.page(*WORDS):
@@ -274,6 +282,10 @@ class Gestures(PageTest):
             self.browser.keys("Tab")
             self.assertEqual(self.focused(), "4")
 
+
+class Selected(GestureTest):
+    """The focus and the selection after gestures."""
+
     def test_selected_events_out_of_view_move_and_go_with_the_others(self) -> None:
         with self.page(*WORDS):
             self.browser.run("const s = window.bezhakkom.s; s.selected = new Set([1, 2, 9]); s.view = {begin: 35000, end: 45000}; window.bezhakkom.ask({draw: true, live: true})")
@@ -332,7 +344,9 @@ class Gestures(PageTest):
             self.browser.keys("f")
             self.assertEqual(self.log()[10:], [Event(END, 0, 0x61), Event(END + 1_000, 0, 0x62)])
 
-    # All of it at random
+
+class AtRandom(GestureTest):
+    """All of it at random."""
 
     def test_random_gestures_leave_page_desk_and_program_with_one_log(self) -> None:
         """For 8 seconds of gestures that a seed chooses. `front/view_monkey` makes thousands."""
@@ -341,10 +355,3 @@ class Gestures(PageTest):
             monkey = Monkey(self, random.Random(SEED))
             while time.monotonic() < end:
                 monkey.play()
-
-    def focused(self) -> Any:
-        """The number of the focused event, or None if the timeline has the focus."""
-        return self.browser.run("const it = document.activeElement; return it.id === 'canvas' ? null : it.dataset.id")
-
-    def text(self, element: str) -> str:
-        return str(self.browser.run("return document.getElementById(arguments[0]).textContent", element))

@@ -20,8 +20,8 @@ from front.tests.viewed import BUTTON, DRIVER, LENGTH, LOGIN, READY, Hand, PageT
 SEED = 78
 
 
-class Page(PageTest):
-    # The hand
+class Editing(PageTest):
+    """Edits of events by the mouse and by keys."""
 
     def test_drags(self) -> None:
         """A backspace is dragged, at 16 milliseconds and without gaps. Each drag is one step of undo."""
@@ -129,6 +129,38 @@ class Page(PageTest):
             self.browser.keys("z", held=["Control"])
             self.assertEqual(self.log(), found)
 
+    def test_refused_insertion_keeps_undo_redo_the_other_past_and_the_selection(self) -> None:
+        with self.page(*LOGIN):
+            self.key_on(1, "Right")
+            self.browser.keys("z", held=["Control"])
+            before, selected = self.shown(), self.browser.run("return [...window.bezhakkom.s.selected]")
+            self.assertIsNotNone(before["state"]["redo"])
+            with mock.patch("bezhakkom.view.past.MOST_EVENTS", 10):
+                self.browser.click(*self.at(150_000, "in"), times=2)
+                self.rest()
+            self.assertEqual(self.text("problem"), "a log has at most 10 events: delete some first")
+            after = self.shown()
+            self.assertEqual((after["now"]["events"], after["state"], after["ghost"]), (before["now"]["events"], before["state"], before["ghost"]))
+            self.assertEqual(self.browser.run("return [...window.bezhakkom.s.selected]"), selected)
+            self.browser.keys("z", held=["Control", "Shift"])
+            self.check("login/login.elf", brute.moved(brute.log_of("login"), 1, 30_001), [LENGTH])
+
+    def test_character_typed_before_the_answer_to_undo_changes_the_value_alone(self) -> None:
+        """The page still shows the event where the undo takes it from."""
+        held = threading.Event()
+        log = brute.log_of("login")
+        with self.page(*LOGIN):
+            self.key_on(2, "Right")
+            self.rest()
+            answer = self.desk.answer
+            with mock.patch.object(self.desk, "answer", lambda ask: held.wait(100) and answer(ask)):
+                self.browser.keys("z", held=["Control"])
+                self.key_on(2, "f")
+                self.assertEqual(self.browser.run("return window.bezhakkom.handle(2).getAttribute('aria-valuenow')"), "40001")
+                held.set()
+                self.rest()
+            self.check("login/login.elf", brute.with_byte(log, 2, ord("f")), [LENGTH])
+
     def test_edges_of_a_wire(self) -> None:
         needs_kinds(self)
         with self.page("--to", "1000", *BUTTON):
@@ -157,7 +189,24 @@ class Page(PageTest):
             # 30 hundredths of a pixel, which is a hundredth of the run's 10,027,008 steps.
             self.assertEqual(self.log()[-1].time, 110_000 + round(30 * 10_027_008 / 100 / 100))
 
-    # What is shown
+    def test_markup_stays_text(self) -> None:
+        """What is in a log or is sent by a program makes no element."""
+        markup = "<img src=x onerror=alert(1)>"
+        log = [Event(1_000 + 700 * at, 0, ord(it)) for at, it in enumerate(markup)]
+        with self.page("--to", "60000", str(brute.ROOT / "examples/echo/boot.s")):
+            before = self.browser.run("return document.images.length")
+            self.browser.keys("Tab")
+            self.browser.run("document.getElementById('canvas').focus(); window.bezhakkom.s.cursor = 1000")
+            self.browser.keys("Enter", *markup, "Enter")
+            self.rest()
+            self.assertEqual([it.byte for it in self.log()], [it.byte for it in log])
+            self.assertIn(markup, self.browser.run("return document.querySelector('.console').textContent"))
+            self.assertEqual(self.browser.run("return document.images.length"), before)
+            self.check("echo/boot.s", self.log())
+
+
+class Showing(PageTest):
+    """What the page shows, and where it goes."""
 
     def test_bytes_of_one_step_fan_out(self) -> None:
         """The log has 18 bytes in step 5,000. Each has a handle of its own, beside the others."""
@@ -235,6 +284,63 @@ class Page(PageTest):
             self.browser.waits("/nothing/.test(document.getElementById('problem').textContent)")
             self.assertTrue(self.browser.run("return document.getElementById('why').hidden"))
 
+    def test_next_event_is_found_out_of_view(self) -> None:
+        with self.page(*LOGIN):
+            self.browser.run("window.bezhakkom.s.view = {begin: 41000, end: 42000}; window.bezhakkom.s.cursor = 41500; window.bezhakkom.ask({draw: true, live: true})")
+            self.rest()
+            for label, event in (("next", 3), ("next", 4), ("previous", 3), ("previous", 2), ("previous", 1)):
+                self.click(f"[aria-label='{label} event of line 0 receives']")
+                self.browser.waits(f"window.bezhakkom.s.selected.has({event}) && {READY}")
+                self.assertEqual(self.shown()["at"]["position"], 20_000 + 10_000 * event)
+                self.assertTrue(self.browser.run("return !!window.bezhakkom.handle(arguments[0])", event))
+
+    def test_console_shows_its_end_at_the_end_of_the_run(self) -> None:
+        log = [Event(1_000 + 300 * at, 0, byte) for at, byte in enumerate(b"x\n" * 150)]
+        ends = "const it = document.querySelector('.console'); return [it.scrollTop, it.scrollHeight - it.clientHeight]"
+        with tempfile.TemporaryDirectory() as folder:
+            Path(folder, "log").write_bytes(logs.write(log))
+            with self.page("--log", f"{folder}/log", str(brute.ROOT / "examples/echo/boot.s")):
+                for key, is_at_end in (("Home", False), ("End", True), ("Home", False), ("End", True)):
+                    self.browser.run("document.getElementById('canvas').focus()")
+                    self.browser.keys(key)
+                    self.rest()
+                    top, last = self.browser.run(ends)
+                    self.assertGreater(last, 500)
+                    self.assertEqual(abs(top - last) < 2, is_at_end, (key, top, last))
+
+    def test_labels_stand_apart(self) -> None:
+        """The main loop of the driver counts in a word, so that each sample of it has another value. A letter takes some 7 pixels."""
+        with self.page(*DRIVER[:2], "--words", "0xa000100c", DRIVER[-1]):
+            texts = ElementTree.fromstring(self.browser.later(viewed.PICTURE)).iter("{http://www.w3.org/2000/svg}text")
+            labels = [(float(it.attrib["x"]), str(it.text)) for it in texts if "store" in it.attrib["class"].split()]
+        self.assertGreater(len(labels), 5)
+        for (x, text), (following, _) in zip(labels, labels[1:]):
+            self.assertGreater(following, x + 7 * len(text))
+
+    def test_dragged_event_stays_in_a_log_that_is_thinned(self) -> None:
+        """Of 20,000 events some are shown. The one that is dragged is shown in each place, and after the drag."""
+        log = [Event(1_000 + 5 * at, at % 4, 65) for at in range(20_000)]
+        with tempfile.TemporaryDirectory() as folder:
+            Path(folder, "log").write_bytes(logs.write(log))
+            with self.page("--log", f"{folder}/log", str(brute.ROOT / "examples/echo/boot.s")):
+                shown = self.shown()["now"]
+                self.assertTrue(shown["thinned"])
+                x, y = self.place(next(it[0] for it in shown["events"] if it[1] > 30_000))
+                event = int(self.browser.run("return document.elementFromPoint(arguments[0], arguments[1]).dataset.id", x, y))  # one lies over another
+                self.browser.mouse("mousePressed", x, y, 1)
+                for by in range(5, 60, 7):
+                    self.browser.mouse("mouseMoved", x + by, y, 1)
+                    self.browser.waits("!window.bezhakkom.s.pending.size")  # what the mouse did is drawn
+                    self.assertTrue(self.browser.run("return !!window.bezhakkom.handle(arguments[0])", event), by)
+                self.browser.mouse("mouseReleased", x + by, y)
+                time = next(it[1] for it in self.shown()["now"]["events"] if it[0] == event)
+                self.assertGreater(time, 35_000)
+                self.assertIn(Event(time, event % 4, 65), self.desk._now.log)
+
+
+class OtherPasts(PageTest):
+    """What the page asks of other pasts."""
+
     def test_a_sweep(self) -> None:
         """The borders of outcomes are exact, and a click makes one so."""
         log = brute.log_of("login")
@@ -282,20 +388,42 @@ class Page(PageTest):
             self.assertEqual(bytes(it.byte for it in self.log()), b"sesame\r")
             self.check("login/login.elf", self.log(), [LENGTH])
 
-    def test_markup_stays_text(self) -> None:
-        """What is in a log or is sent by a program makes no element."""
-        markup = "<img src=x onerror=alert(1)>"
-        log = [Event(1_000 + 700 * at, 0, ord(it)) for at, it in enumerate(markup)]
-        with self.page("--to", "60000", str(brute.ROOT / "examples/echo/boot.s")):
-            before = self.browser.run("return document.images.length")
-            self.browser.keys("Tab")
-            self.browser.run("document.getElementById('canvas').focus(); window.bezhakkom.s.cursor = 1000")
-            self.browser.keys("Enter", *markup, "Enter")
-            self.rest()
-            self.assertEqual([it.byte for it in self.log()], [it.byte for it in log])
-            self.assertIn(markup, self.browser.run("return document.querySelector('.console').textContent"))
-            self.assertEqual(self.browser.run("return document.images.length"), before)
-            self.check("echo/boot.s", self.log())
+    def test_outcomes_look_the_same_in_strip_and_cards_and_differ_from_one_another(self) -> None:
+        with self.page(*LOGIN):
+            self.browser.run("window.bezhakkom.handle(2).focus()")
+            for kind in "value", "time":
+                self.click(f"#sweep-{kind}")
+                self.browser.waits(f"window.bezhakkom.s.sweep && window.bezhakkom.s.sweep.took && {READY}")
+            texts = self.browser.run("return [...document.querySelectorAll('.outcome')].map(it => it.textContent)")
+            cards = self.browser.run("""return Object.fromEntries([...document.querySelectorAll('.outcome')].map(it => {
+                const swatch = getComputedStyle(it.querySelector('.swatch'));
+                return [it.textContent[0], [swatch.backgroundColor, it.querySelector('.swatch').dataset.hatching, swatch.backgroundImage.split('repeating').length - 1]]; }))""")
+            self.assertEqual(sorted(cards), sorted(it[0] for it in texts))
+            self.assertEqual(len({str(it) for it in cards.values()}), len(cards))
+            # What the strip has where an outcome begins: its color, and beside that the paper only where there is a hatching.
+            strip = self.browser.run("""const b = window.bezhakkom, row = b.rows().find(it => it.swept), g = document.getElementById('canvas').getContext('2d');
+                const all = g.getImageData(0, 0, g.canvas.width, g.canvas.height).data;
+                return b.s.sweep.done.map(([step, outcome], at) => { const next = b.s.sweep.done[at + 1], x = Math.round(b.X(step));
+                    if (!next || b.X(next[0]) - x < 2 || at && b.s.sweep.done[at - 1][1] !== outcome) return null;
+                    const pixel = y => { const k = 4 * ((row.y + y) * g.canvas.width + x + 1); return `rgb(${all[k]}, ${all[k + 1]}, ${all[k + 2]})`; };
+                    return [String.fromCharCode(65 + outcome), [...Array(12).keys()].map(k => pixel(36 + k))]; }).filter(Boolean)""")
+            self.assertTrue(strip)
+            for letter, pixels in strip:
+                color, _, hatchings = cards[letter]
+                self.assertIn(color, pixels, letter)
+                self.assertEqual(len(set(pixels)) > 1, hatchings > 0, (letter, pixels))
+            # An outcome that was seen in the sweep of values alone is not counted.
+            count = int(self.text("said").partition(" outcome")[0].rpartition(" ")[2])
+            self.assertEqual(count, len(cards))
+
+    def test_the_pictures_of_the_page(self) -> None:
+        """They are as they are made now: `front/view_pictures` makes them anew."""
+        for name, content in viewed.pictures(self.browser).items():
+            self.assertEqual(content, (brute.ROOT / "docs" / name).read_text(), name)
+
+
+class Serving(PageTest):
+    """The page and its server: links that break, slow answers, other pages, files."""
 
     def test_a_program_that_dies_in_a_drag(self) -> None:
         log = brute.log_of("login")
@@ -328,6 +456,17 @@ class Page(PageTest):
             self.browser.until(lambda: self.posts_nothing(asked))
             self.check("login/login.elf", brute.moved(log, 2, log[2].time + 3), [LENGTH])
 
+    def test_link_comes_back_after_refused_tries(self) -> None:
+        asked = "performance.getEntriesByType('resource').filter(it => it.name.endsWith('/ask')).length"
+        with self.page(*LOGIN):
+            with mock.patch("bezhakkom.view.server._Handler._wants_link", return_value=False) as refused, \
+                    mock.patch("bezhakkom.view.server.Link.send", side_effect=ConnectionError):
+                self.key_on(2, "Right")
+                self.browser.until(lambda: refused.call_count >= 2)
+            self.browser.until(lambda: self.posts_nothing(asked))
+            self.check("login/login.elf", brute.moved(brute.log_of("login"), 2, 40_001), [LENGTH])
+            self.assertTrue(all("WebSocket" in it for it in self.browser.errors()))
+
     def posts_nothing(self, asked: str) -> bool:
         count = self.browser.run(f"return {asked}")
         self.browser.run("window.bezhakkom.ask({})")
@@ -340,81 +479,6 @@ class Page(PageTest):
             Hand(self.desk).ask(page="other", edits=[Hand(self.desk).edit("delete", id=2)])
             self.browser.run("window.dispatchEvent(new Event('focus'))")
             self.check("login/login.elf", brute.without(brute.log_of("login"), 2), [LENGTH])
-
-    def text(self, element: str) -> str:
-        return str(self.browser.run("return document.getElementById(arguments[0]).textContent", element))
-
-    def test_dragged_event_stays_in_a_log_that_is_thinned(self) -> None:
-        """Of 20,000 events some are shown. The one that is dragged is shown in each place, and after the drag."""
-        log = [Event(1_000 + 5 * at, at % 4, 65) for at in range(20_000)]
-        with tempfile.TemporaryDirectory() as folder:
-            Path(folder, "log").write_bytes(logs.write(log))
-            with self.page("--log", f"{folder}/log", str(brute.ROOT / "examples/echo/boot.s")):
-                shown = self.shown()["now"]
-                self.assertTrue(shown["thinned"])
-                x, y = self.place(next(it[0] for it in shown["events"] if it[1] > 30_000))
-                event = int(self.browser.run("return document.elementFromPoint(arguments[0], arguments[1]).dataset.id", x, y))  # one lies over another
-                self.browser.mouse("mousePressed", x, y, 1)
-                for by in range(5, 60, 7):
-                    self.browser.mouse("mouseMoved", x + by, y, 1)
-                    self.rest()
-                    self.assertTrue(self.browser.run("return !!window.bezhakkom.handle(arguments[0])", event), by)
-                self.browser.mouse("mouseReleased", x + by, y)
-                time = next(it[1] for it in self.shown()["now"]["events"] if it[0] == event)
-                self.assertGreater(time, 35_000)
-                self.assertIn(Event(time, event % 4, 65), self.desk._now.log)
-
-    def test_console_shows_its_end_at_the_end_of_the_run(self) -> None:
-        log = [Event(1_000 + 300 * at, 0, byte) for at, byte in enumerate(b"x\n" * 150)]
-        ends = "const it = document.querySelector('.console'); return [it.scrollTop, it.scrollHeight - it.clientHeight]"
-        with tempfile.TemporaryDirectory() as folder:
-            Path(folder, "log").write_bytes(logs.write(log))
-            with self.page("--log", f"{folder}/log", str(brute.ROOT / "examples/echo/boot.s")):
-                for key, is_at_end in (("Home", False), ("End", True), ("Home", False), ("End", True)):
-                    self.browser.run("document.getElementById('canvas').focus()")
-                    self.browser.keys(key)
-                    self.rest()
-                    top, last = self.browser.run(ends)
-                    self.assertGreater(last, 500)
-                    self.assertEqual(abs(top - last) < 2, is_at_end, (key, top, last))
-
-    def test_next_event_is_found_out_of_view(self) -> None:
-        with self.page(*LOGIN):
-            self.browser.run("window.bezhakkom.s.view = {begin: 41000, end: 42000}; window.bezhakkom.s.cursor = 41500; window.bezhakkom.ask({draw: true, live: true})")
-            self.rest()
-            for label, event in (("next", 3), ("next", 4), ("previous", 3), ("previous", 2), ("previous", 1)):
-                self.click(f"[aria-label='{label} event of line 0 receives']")
-                self.browser.waits(f"window.bezhakkom.s.selected.has({event}) && {READY}")
-                self.assertEqual(self.shown()["at"]["position"], 20_000 + 10_000 * event)
-                self.assertTrue(self.browser.run("return !!window.bezhakkom.handle(arguments[0])", event))
-
-    def test_outcomes_look_the_same_in_strip_and_cards_and_differ_from_one_another(self) -> None:
-        with self.page(*LOGIN):
-            self.browser.run("window.bezhakkom.handle(2).focus()")
-            for kind in "value", "time":
-                self.click(f"#sweep-{kind}")
-                self.browser.waits(f"window.bezhakkom.s.sweep && window.bezhakkom.s.sweep.took && {READY}")
-            texts = self.browser.run("return [...document.querySelectorAll('.outcome')].map(it => it.textContent)")
-            cards = self.browser.run("""return Object.fromEntries([...document.querySelectorAll('.outcome')].map(it => {
-                const swatch = getComputedStyle(it.querySelector('.swatch'));
-                return [it.textContent[0], [swatch.backgroundColor, it.querySelector('.swatch').dataset.hatching, swatch.backgroundImage.split('repeating').length - 1]]; }))""")
-            self.assertEqual(sorted(cards), sorted(it[0] for it in texts))
-            self.assertEqual(len({str(it) for it in cards.values()}), len(cards))
-            # What the strip has where an outcome begins: its color, and beside that the paper only where there is a hatching.
-            strip = self.browser.run("""const b = window.bezhakkom, row = b.rows().find(it => it.swept), g = document.getElementById('canvas').getContext('2d');
-                const all = g.getImageData(0, 0, g.canvas.width, g.canvas.height).data;
-                return b.s.sweep.done.map(([step, outcome], at) => { const next = b.s.sweep.done[at + 1], x = Math.round(b.X(step));
-                    if (!next || b.X(next[0]) - x < 2 || at && b.s.sweep.done[at - 1][1] !== outcome) return null;
-                    const pixel = y => { const k = 4 * ((row.y + y) * g.canvas.width + x + 1); return `rgb(${all[k]}, ${all[k + 1]}, ${all[k + 2]})`; };
-                    return [String.fromCharCode(65 + outcome), [...Array(12).keys()].map(k => pixel(36 + k))]; }).filter(Boolean)""")
-            self.assertTrue(strip)
-            for letter, pixels in strip:
-                color, _, hatchings = cards[letter]
-                self.assertIn(color, pixels, letter)
-                self.assertEqual(len(set(pixels)) > 1, hatchings > 0, (letter, pixels))
-            # An outcome that was seen in the sweep of values alone is not counted.
-            count = int(self.text("said").partition(" outcome")[0].rpartition(" ")[2])
-            self.assertEqual(count, len(cards))
 
     def test_busy_server_is_shown_within_a_second(self) -> None:
         held = threading.Event()
@@ -430,6 +494,24 @@ class Page(PageTest):
             self.assertEqual(self.text("busy"), "")
         self.assertLess(after, 1_000)
 
+    def test_page_names_who_has_the_edits_while_the_server_does_not_answer(self) -> None:
+        """And what they are sent to later has them once."""
+        lost = "const event = new Event('beforeunload', {cancelable: true}); window.dispatchEvent(event); return event.defaultPrevented"
+        broken = mock.Mock(side_effect=ConnectionError)
+        with self.page(*LOGIN):
+            self.assertFalse(self.browser.run(lost))
+            with mock.patch("bezhakkom.view.server._Handler._read", broken):
+                self.key_on(2, "Right")
+                self.browser.waits("/^The server does not answer/.test(document.getElementById('busy').textContent)")
+                self.assertRegex(self.text("busy"), r"^The server does not answer \(.*\)\. 1 edit is in this tab alone and will be sent again\. "
+                                                    r"If the server has ended, its terminal names the session with the other unsaved edits\.$")
+                self.key_on(1, "Delete")
+                self.browser.waits("/2 edits are in this tab alone/.test(document.getElementById('busy').textContent)")
+                self.assertTrue(self.browser.run(lost))
+            self.rest()
+            self.assertEqual((self.text("busy"), self.log()), ("", brute.without(brute.moved(brute.log_of("login"), 2, 40_001), 1)))
+            self.assertTrue(all("WebSocket" in it or "ERR_EMPTY_RESPONSE" in it for it in self.browser.errors()))
+
     def test_refusal_stays_until_the_next_input(self) -> None:
         with self.page(*LOGIN):
             for refused in ("window.bezhakkom.ask({words: [{name: 'nothing'}]})", "window.bezhakkom.ask({jump: {to: 'visit', function: 'zz'}})"):
@@ -442,36 +524,24 @@ class Page(PageTest):
             self.browser.click(*self.at(70_000, "out"))
             self.assertEqual(self.text("problem"), "")
 
-    def test_link_comes_back_after_refused_tries(self) -> None:
-        asked = "performance.getEntriesByType('resource').filter(it => it.name.endsWith('/ask')).length"
-        with self.page(*LOGIN):
-            with mock.patch("bezhakkom.view.server._Handler._wants_link", return_value=False) as refused, \
-                    mock.patch("bezhakkom.view.server.Link.send", side_effect=ConnectionError):
-                self.key_on(2, "Right")
-                self.browser.until(lambda: refused.call_count >= 2)
-            self.browser.until(lambda: self.posts_nothing(asked))
-            self.check("login/login.elf", brute.moved(brute.log_of("login"), 2, 40_001), [LENGTH])
-            self.assertTrue(all("WebSocket" in it for it in self.browser.errors()))
-
-    def test_labels_stand_apart(self) -> None:
-        """The main loop of the driver counts in a word, so that each sample of it has another value. A letter takes some 7 pixels."""
-        with self.page(*DRIVER[:2], "--words", "0xa000100c", DRIVER[-1]):
-            texts = ElementTree.fromstring(self.browser.later(viewed.PICTURE)).iter("{http://www.w3.org/2000/svg}text")
-            labels = [(float(it.attrib["x"]), str(it.text)) for it in texts if "store" in it.attrib["class"].split()]
-        self.assertGreater(len(labels), 5)
-        for (x, text), (following, _) in zip(labels, labels[1:]):
-            self.assertGreater(following, x + 7 * len(text))
-
     def test_saving(self) -> None:
         """The log is saved by its key and read back; the picture is SVG, and the page that is saved has no script."""
         with self.page(*LOGIN):
             self.key_on(2, "Delete")
             self.rest()
+            said = "The browser got {} for its downloads; if the name is taken, it adds a number. {}. The files that the page opened are unchanged by it."
             self.browser.keys("s", held=["Control"])
             self.assertEqual(logs.read(self.saved("login.log"), "login.log"), brute.without(brute.log_of("login"), 2))
+            self.assertEqual(self.text("said"), said.format("login.log", "All edits are in it"))
+            self.assertFalse(self.shown()["state"]["unsaved"])
+            self.key_on(3, "Right")
             for kind, name in (("svg", "login.svg"), ("page", "login.html"), ("session", "login.session")):
                 self.browser.run("document.getElementById('save-kind').value = arguments[0]; document.getElementById('save').click()", kind)
                 content = self.saved(name)
+                self.rest()
+                self.assertEqual(self.shown()["state"]["unsaved"], kind != "session")
+                self.assertEqual(self.text("said"), said.format(name, "All edits are in it" if kind == "session" else
+                                                                "It has no edit that can be opened again: a log or a session has them"))
                 if kind == "svg":
                     texts = [it.text for it in ElementTree.fromstring(content).iter("{http://www.w3.org/2000/svg}text")]
                     self.assertIn("line 0 receives", texts)
@@ -481,12 +551,6 @@ class Page(PageTest):
                     self.assertIn(b"Welcome, operator.", content)
                 else:
                     self.assertTrue(content.startswith(b"bezhakkom session 1\n"))
-            self.assertFalse(self.shown()["state"]["unsaved"])
-
-    def test_the_pictures_of_the_page(self) -> None:
-        """They are as they are made now: `front/view_pictures` makes them anew."""
-        for name, content in viewed.pictures(self.browser).items():
-            self.assertEqual(content, (brute.ROOT / "docs" / name).read_text(), name)
 
     def saved(self, name: str) -> bytes:
         file = Path(self.browser.downloads, name)

@@ -185,11 +185,12 @@ def _check_cursor(test: unittest.TestCase, driver: Driver, shown: dict[str, Any]
 
 # The page in a browser
 
-READY = "window.bezhakkom && window.bezhakkom.s.now && !window.bezhakkom.isBusy()"
+# The page is at rest. While it only waits for the hand, it need not wait.
+READY = "window.bezhakkom && window.bezhakkom.s.now && (window.bezhakkom.rest(), !window.bezhakkom.isBusy())"
 
 
 class PageTest(unittest.TestCase):
-    """Tests of the page in a real browser. All tests of a class share one."""
+    """Tests of the page in a real browser. All tests of a class share one, and classes run side by side: one takes less than half a minute."""
 
     browser: Browser
     desk: Desk
@@ -248,6 +249,9 @@ class PageTest(unittest.TestCase):
             if content and len(content) < 16_000:
                 plain = re.sub(r"[^\n\t\x20-\x7e]", lambda it: {8: "\\b", 27: "\\e"}.get(ord(it[0]), f"\\x{ord(it[0]):02x}"), content.replace("\r", ""))
                 self.assertEqual(shown_there[str(line)], plain)
+
+    def text(self, element: str) -> str:
+        return str(self.browser.run("return document.getElementById(arguments[0]).textContent", element))
 
     def click(self, selector: str) -> None:
         self.browser.run("document.querySelector(arguments[0]).click()", selector)

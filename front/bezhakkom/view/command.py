@@ -51,8 +51,9 @@ def main(arguments: Sequence[str]) -> int:
     line = parser().read(arguments)
     if not 0 <= line.port < 65_536:
         raise Problem("--port wants a number from 0 to 65,535")
-    with laid_out(line) as desk, rescue.kept(desk.unsaved_session, line.image):
-        serve(desk, line.port, line.open)
+    with laid_out(line) as desk, rescue.kept(desk.unsaved_session, line.image) as reason:
+        reason.text = "ended by an error"
+        reason.text = serve(desk, line.port, line.open)
     return 0
 
 
@@ -79,19 +80,15 @@ def end_of(driver: Driver, wanted: Optional[int]) -> int:
     return min(-(-wanted // SPAN) * SPAN, GREATEST_POSITION // SPAN * SPAN)
 
 
-def serve(desk: Desk, port: int, is_opened: bool) -> None:
-    """Serves the page until it is left, or Ctrl-C. Where edits are not saved it takes a second one before the next edit."""
+def serve(desk: Desk, port: int, is_opened: bool) -> str:
+    """Serves the page until it is left, or Ctrl-C. Returns which of them it was."""
     server = Server(desk, port)
-    warned: object = None  # the log that was said to be unsaved
+    reason = "the last page was closed"
 
     def press(number: int, frame: Any) -> None:
-        nonlocal warned
-        log = desk.unsaved()
-        if log is None or log == warned:
-            threading.Thread(target=server.shutdown, daemon=True).start()  # it waits for the loop that this signal is in
-            return
-        warned = log
-        loading.say("there are edits that are not saved: the page saves them, and Ctrl-C again drops them")
+        nonlocal reason
+        reason = "ended by Ctrl-C"
+        threading.Thread(target=server.shutdown, daemon=True).start()  # it waits for the loop that this signal is in
 
     before = signal.signal(signal.SIGINT, press)
     try:
@@ -102,3 +99,4 @@ def serve(desk: Desk, port: int, is_opened: bool) -> None:
     finally:
         signal.signal(signal.SIGINT, before)
         server.server_close()
+    return reason

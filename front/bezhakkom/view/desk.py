@@ -11,13 +11,13 @@ from typing import Any, Dict, List, Optional, Sequence, Set, Tuple
 
 from .. import expressions, loading, places, saved
 from .. import log as logs
+from ..commands import words_of
 from ..driver import Driver
 from ..errors import Ended, Interrupted, Problem
 from ..image import Image
 from ..limits import GREATEST_POSITION, GREATEST_TIME, LINES, SPAN
 from ..lines import Lines
 from ..log import Event, Kind, changes
-from ..replies import words_of
 from ..saved import Opened, lines_of_edit
 from ..session import Session, counted
 from ..step_lines import StepLines
@@ -42,6 +42,8 @@ REACH = 8 * SPAN  # steps that are run between two looks at the clock
 MOST_SHOWN = 1_500  # events in view that are shown one by one
 MOST_EDITS, MOST_TRIED, MOST_WORDS, MOST_KEPT, MOST_HELD = 4_096, 512, 16, 64, 4_096
 INTERRUPTED = "That was stopped."
+OVER = "the server has ended: its terminal names the session with the unsaved edits, to which no edit is added any more"
+WIRE = Kind.WIRE  # of an enumeration each look-up takes long: this one is made for each event
 AS_NOW = "as now"  # what a sweep may want in place of a condition
 WHY = "WHAT [control] [address] [to input]; WHAT is a register, an address of a word, or `sent L K`"
 MOST_STEPS = 400  # of a chain that are shown
@@ -86,13 +88,15 @@ class Desk:
         self._before: Tuple[Optional[Past], List[State]] = (None, [])  # the ghost and the steps of redo before that gesture
         self._edit: Dict[str, int] = {}  # the number of the last edit of each page
         self._saved: Tuple[Event, ...] = tuple(driver.log)
+        self._handed: List[Tuple[Event, ...]] = []  # the logs of the files that pages asked for
+        self._is_over = False
         self._sweep: Optional[Tuple[Any, Sweep]] = None
         self._sweeps = 0  # that were begun
         self._drawn_at = 0.0  # when rows were given last
-        driver.wants_stop = lambda: self._stop
+        driver.wants_stop = lambda: self._stop or self._is_over
 
     def close(self) -> None:
-        self._stop = True
+        self._is_over = True
         with self._lock:
             self._driver.close()
             if self._other:
@@ -104,8 +108,10 @@ class Desk:
         return log if log != self._saved else None
 
     def unsaved_session(self) -> Optional[str]:
-        """A session of it, where it is not saved."""
-        return None if self.unsaved() is None else self._session_text(self._cursor)
+        """Ends all edits, and returns a session of the log if it is not saved."""
+        self._is_over = True
+        with self._lock:
+            return None if self.unsaved() is None else self._session_text(self._cursor)
 
     def interrupt(self) -> None:
         """Ends what takes long."""
@@ -132,6 +138,8 @@ class Desk:
     def answer(self, ask: Fields) -> Dict[str, Any]:
         """The answer to a request. A program that died is started anew with all edits, once."""
         with self._lock:
+            if self._is_over:
+                raise Problem(OVER)
             self._stop = False
             begun = time.perf_counter()
             for asker in self._askers():
@@ -164,6 +172,8 @@ class Desk:
     def _asked(self, ask: Fields, reply: Dict[str, Any]) -> None:
         """All that a request asks after its edits."""
         self._in_step()
+        if ask.has("saved"):
+            self._saved = self._handed[ask.number("saved", 0, len(self._handed) - 1)]
         if ask.has("end"):
             self.end = min(-(-ask.number("end", SPAN) // SPAN) * SPAN, GREATEST_POSITION // SPAN * SPAN)
         if ask.has("words"):
@@ -220,7 +230,7 @@ class Desk:
     def _drawn(self, past: Past, view: View, held: Set[Any], marks: Any, text: Any, functions: Any, words: Any) -> Dict[str, Any]:
         events, whole = _in_view(past, view, held)
         hidden = held.difference(it[0] for it in events)
-        used = {(it.kind == Kind.WIRE, it.line) for it in past.log}
+        used = {(it.kind is WIRE, it.line) for it in past.log}
         return {"begin": view.begin, "end": view.end, "until": view.until, "sent": marks, "text": text, "functions": functions,
                 "visits": {name: rows.visits(past, it, view) for name, it in self._entries(functions).items()},
                 "words": words, "events": events, "thinned": len(events) < whole,
@@ -315,7 +325,7 @@ class Desk:
             self._on_kept(name, edit)
         elif name in ("add", "change", "delete"):
             identity = edit.identity()
-            # What may be refused comes before the gesture becomes a step of undo.
+            # What may be refused, or changes nothing, comes before the gesture becomes a step of undo.
             if name == "add":
                 event = edit.event()
                 self._now.check_new(identity)
@@ -323,7 +333,10 @@ class Desk:
                 event = self._now.event(identity)
                 if name == "change":
                     most = 1 if event.kind == Kind.WIRE else 255
-                    event = replace(event, time=edit.number("time", 0, GREATEST_TIME), byte=edit.number("byte", 0, most))
+                    made = replace(event, time=edit.number("time", 0, GREATEST_TIME, event.time), byte=edit.number("byte", 0, most, event.byte))
+                    if made == event:
+                        return
+                    event = made
             self._begin(edit, edit.text("name", name))
             if name == "add":
                 self._now.add(identity, event)
@@ -366,17 +379,21 @@ class Desk:
             self._ghost = past
 
     def _go(self, source: List[State], target: List[State]) -> None:
-        if not source:
-            return
-        state = source.pop()
-        target.append(self._now.state(state.made_by))
-        self._become(state)
+        """Takes back the last step of `source` that changed the log. A drag that came back to where it began did not."""
+        former, self._gesture = self._now, None
+        while source and self._now is former:
+            state = source.pop()
+            target.append(former.state(state.made_by))
+            if list(state.log) != former.log:
+                self._now = former.at(state)
+                self._stand_beside(former)
 
-    def _become(self, state: State) -> None:
-        former = self._now
-        self._gesture = None
-        self._now = former.at(state)
-        self._stand_beside(former)
+    def _replace(self, state: State, name: str) -> None:
+        """Puts another log in place of the present one, as a step of undo unless it is the same."""
+        if list(state.log) != self._now.log:
+            self._note(name)
+            self._gesture = None
+            self._now = self._now.at(state)
 
     def _on_kept(self, do: str, edit: Fields) -> None:
         """Keeps this past under a name, lets one stand beside the present one, or goes back to one."""
@@ -398,9 +415,7 @@ class Desk:
             self._shown = name
             self._ghost = self._now.at(self._kept[name])
         else:
-            self._note(f"go to {name}")
-            self._gesture = None
-            self._now = self._now.at(self._kept[name])
+            self._replace(self._kept[name], f"go to {name}")
 
     # Jumps, sweeps, and what is asked of many pasts
 
@@ -528,29 +543,30 @@ class Desk:
         self._in_step()
         self._driver.goto(self.end)
         found = shrinking.shrink(self._driver, self._condition(edit.text("until")), self.end)
-        self._note(f"shrink until {edit.text('until')}")
-        self._gesture = None
-        self._now = self._now.at(State(tuple(found.log), tuple(_same(self._now, found.log))))
+        self._replace(State(tuple(found.log), tuple(_same(self._now, found.log))), f"shrink until {edit.text('until')}")
 
     # Saving
 
     def _save(self, ask: Fields, position: int) -> Dict[str, Any]:
-        """Returns the content of a file, as digits, and the files that another program changed since the page opened them."""
+        """Returns the content of a file, as digits, and the files that another program changed since the page opened them. If all edits
+        are in the file, `saved` is the number with which a page confirms that the browser has it."""
         kind = ask.text("kind")
         driver = self._driver
         if kind == "log":
-            self._saved = tuple(self._now.log)
             content = logs.write(self._now.log)
         elif kind == "image":
             content = driver.boot().write()
         elif kind == "session":
-            self._saved = tuple(self._now.log)
             content = self._session_text(position).encode("utf-8", "surrogateescape")
         elif kind == "text":
             content = "".join(f"{it}\n" for it in logs.show(self._now.log)).encode()
         else:
             raise Problem(f"there is no file of kind `{kind}`")
-        return {"kind": kind, "content": content.hex(), "changed": self._opened.origin.seen.changed()}
+        made = {"kind": kind, "content": content.hex(), "changed": self._opened.origin.seen.changed()}
+        if kind in ("log", "session", "text"):
+            self._handed.append(tuple(self._now.log))
+            made["saved"] = len(self._handed) - 1
+        return made
 
     def _session_text(self, position: int) -> str:
         """A session: what was opened, then the edits of each gesture."""
@@ -576,9 +592,9 @@ def _in_view(past: Past, view: View, held: Set[Any]) -> Tuple[List[List[int]], i
     first, end = past.upto(view.begin - 1), past.upto(view.end)
     found = list(zip(past.ids[first:end], past.log[first:end]))
     if len(found) > MOST_SHOWN:
-        rows_used = len({(it.line, it.kind == Kind.WIRE) for _, it in found})
+        rows_used = len({(it.line, it.kind is WIRE) for _, it in found})
         apart = -(-(view.end - view.begin) * rows_used // MOST_SHOWN)
-        last = {(it.time // apart, it.line, it.kind == Kind.WIRE): identity for identity, it in found}
+        last = {(it.time // apart, it.line, it.kind is WIRE): identity for identity, it in found}
         chosen = held.union(last.values())
         found = [it for it in found if it[0] in chosen]
     return [_shown(*it) for it in found], end - first

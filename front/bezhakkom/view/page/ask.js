@@ -7,8 +7,9 @@ const MOST_EDITS = 2000;                    // of one request
 const MOST_NAME = 200;                      // characters of the name of an edit
 const MOST_HELD = 4000;                     // selected events that the page knows wherever they are
 const NOTE = 500;                           // milliseconds without an answer after which the page shows that it waits
+const PAUSE = 150;                          // milliseconds without input after which the hand rests
 const FIRST_RETRY = 1000, LAST_RETRY = 15000;  // milliseconds before the link is tried again: they double with each refusal
-let want = null, busy = false, resting = 0, failures = 0;
+let want = null, busy = false, resting = 0, retrying = 0, failures = 0;
 let numbers = 0, edits = 0, pasts = 0;
 const page = `${Math.random()}`;            // tells this page from others of the same desk: each numbers its own edits
 let unsent = [], sent = [];                 // edits that no reply has confirmed
@@ -18,7 +19,8 @@ export const timings = [];                  // of each answered hand movement, f
 export function onReply(drawn, rested) { draw = drawn; settled = rested; }
 // `handler` receives the number of each gesture of which an edit was refused.
 export const onRefused = handler => { refused = handler; };
-export const isBusy = () => busy || want !== null || unsent.length > 0 || sent.length > 0 || resting !== 0;
+export const isBusy = () => busy || want !== null || unconfirmed() > 0 || resting !== 0 || retrying !== 0;
+export const unconfirmed = () => unsent.length + sent.length;
 export const lastEdit = () => edits;
 export const lastPast = () => pasts;        // of those that edits made
 
@@ -33,7 +35,7 @@ export function edit(one, began) {
 }
 
 export function ask(part, began) {
-  clearTimeout(resting); resting = 0;
+  clearTimeout(resting); clearTimeout(retrying); resting = retrying = 0;
   want = want || {waiting: []};
   const {draw, ...rest} = part;
   // What is only asked at rest makes way for the hand.
@@ -97,6 +99,12 @@ function waits(begun) {
   }, NOTE);
 }
 
+// Says who has the edits while the server does not answer.
+function kept(count) {
+  const here = count ? `${count === 1 ? "1 edit is" : `${count} edits are`} in this tab alone and will be sent again.` : "The page asks again.";
+  return `${here} If the server has ended, its terminal names the session with the other unsaved edits.`;
+}
+
 async function pump() {
   busy = true;
   const wanted = want, begun = performance.now();
@@ -109,11 +117,11 @@ async function pump() {
     failures = 0; note("");
   } catch (error) {
     busy = false;
-    note(`The server does not answer (${error.message}). ${sent.length ? "Edits are kept and sent again." : "The page asks again."}`);
+    note(`The server does not answer (${error.message}). ${kept(unconfirmed())}`);
     // What was wanted is wanted again, after what came meanwhile.
     const newer = want;
     want = {...wanted, ...(newer || {}), waiting: [...wanted.waiting, ...(newer ? newer.waiting : [])]};
-    resting = setTimeout(() => { resting = 0; if (!busy && want) pump(); }, Math.min(5000, 200 << Math.min(failures++, 5)));
+    retrying = setTimeout(() => { retrying = 0; if (!busy && want) pump(); }, Math.min(5000, 200 << Math.min(failures++, 5)));
     return;
   } finally { clearInterval(watch); }
   const got = performance.now();
@@ -133,9 +141,14 @@ async function pump() {
   }
   for (const resolve of wanted.waiting) resolve(reply);
   if (busy || want) return;
-  if (made.view && (made.live || reply.more)) resting = setTimeout(() => { resting = 0; if (!busy) ask({draw: true, rest: true, ghost: true}); }, made.live ? 150 : 0);
-  else if (made.view && !made.rest) resting = setTimeout(() => { resting = 0; if (!busy) ask({draw: true, rest: true, ghost: true}); }, 0);
+  if (made.view && (made.live || reply.more || !made.rest)) resting = setTimeout(rest, made.live ? PAUSE : 0);
   else if (made.rest) settled();
+}
+
+// Asks for what is only asked while the hand rests.
+export function rest() {
+  if (resting && !busy) ask({draw: true, rest: true, ghost: true});
+  resting = 0;
 }
 
 function take(reply, made) {

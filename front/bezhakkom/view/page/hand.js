@@ -1,6 +1,6 @@
 // Mouse and keys: events are dragged, changed, typed, deleted and inserted; the cursor and the view move. The states of a gesture of the
 // pointer are in gestures.js; this module has the gestures themselves.
-import {$, s, FRAMING, WIRE, bytesOf, find, number, perPixel, say, shown, what} from "./state.js";
+import {$, s, FRAMING, WIRE, bytesOf, changed, find, number, perPixel, say, shown, what} from "./state.js";
 import {ask, edit, onRefused} from "./ask.js";
 import {HEAD, S, draw, handle, handlesSoon, near, rowAt, rows} from "./rows.js";
 import {panes} from "./panes.js";
@@ -13,12 +13,12 @@ const TURN = 0.01;                          // of a drag with Shift
 const NOTCH = 40;                           // pixels of the value wheel that change a value by 1: a notch is 100 or more, a trackpad sends fewer at a time
 const LINE = 40, SHEET = 800;               // pixels of a wheel that counts in lines or pages
 let gestures = Date.now(), burst = {key: "", time: 0}, lastByte = 0x41;
-let wanted = null;                          // the event that takes the focus as soon as it is there, and whether a key asked for it
+let wanted = null;                          // the event that takes the focus as soon as it is there, whether a key asked for it, and the selection before
 let isTyped = false;                        // whether the focused event takes characters: a key gave it the focus
 
 export const gesture = () => ++gestures;
 sweeps.withGestures(gesture);
-const present = id => { const it = find(id), ahead = s.pending.get(id); return it && ahead ? Object.assign([...it], {1: ahead.time, 3: ahead.byte}) : it; };
+const present = id => { const it = find(id), ahead = s.pending.get(id); return it && ahead ? changed(it, ahead) : it; };
 const inBurst = (key, time) => { if (burst.key !== key || time - burst.time > BURST) burst = {key, gesture: gesture()}; burst.time = time; return burst.gesture; };
 
 // Edits
@@ -32,10 +32,11 @@ function begin(of) {
   if (s.state && s.state.against === null && s.now) s.ghost = s.now;
 }
 
-function change(id, time, byte, of, name, began) {
+// Gives event `id` the step or the value of `part`. The other one is not sent: an undo may be under way that changes it.
+function change(id, part, of, name, began) {
   begin(of);
-  s.pending.set(id, {time, byte});
-  edit({do: "change", id, time, byte, gesture: of, name}, began);
+  s.pending.set(id, {...s.pending.get(id), ...part});
+  edit({do: "change", id, ...part, gesture: of, name}, began);
 }
 
 // Takes back what the gesture with number `of` did to events. The desk makes the log as it was before, and the gesture no step of undo.
@@ -60,11 +61,14 @@ export function add(time, line, byte, kind = 0, of = gesture(), name = "") {
   const id = ++named;
   begin(of);
   edit({do: "add", id, time: Math.max(0, time), line, byte, kind, gesture: of, name: name || `put in ${what([0, time, line, byte, kind])}`}, performance.now());
-  selectSoon(id);
+  selectSoon(id, of);
   return id;
 }
-// Selects an event, which gets the focus as soon as it has a handle.
-function selectSoon(id) { s.selected = new Set([id]); wanted = {id, isTyped: lastInput() === "key"}; }
+// Selects an event, which gets the focus as soon as it has a handle. If gesture `of` is refused, the selection is as before.
+function selectSoon(id, of) {
+  wanted = {id, isTyped: lastInput() === "key", of, before: wanted && wanted.of === of ? wanted.before : s.selected};
+  s.selected = new Set([id]);
+}
 export function focusWanted() {
   const element = wanted && handle(wanted.id);
   if (!element) return;
@@ -88,7 +92,10 @@ function tip(event, text) {
 }
 const noTip = () => { $("tip").hidden = true; };
 onIdle(() => { noTip(); handlesSoon(); });      // while a button is held, handles keep their order
-onRefused(refuse);
+onRefused(of => {
+  refuse(of);
+  if (wanted && wanted.of === of) { s.selected = wanted.before; wanted = null; }
+});
 
 const canvas = $("canvas"), events = $("events");
 const eventOf = event => { const element = event.target.closest(".event"); return element && present(+element.dataset.id); };
@@ -128,7 +135,7 @@ function dragOf(event, id) {
       if (by === last) return;
       last = by;
       const name = from.size > 1 ? `move ${from.size} events` : `move ${what(it)}`;
-      for (const [one, was] of from) change(one, was[1] + by, was[3], of, name, event.timeStamp);
+      for (const [one, was] of from) change(one, {time: was[1] + by}, of, name, event.timeStamp);
       tip(event, `step ${number(it[1] + by)} (${by >= 0 ? "+" : ""}${number(by)})`);
       handlesSoon();
     },
@@ -152,7 +159,7 @@ events.addEventListener("focusin", event => {
 // Changes the value of event `it` by `by`, as far as it goes, in the gesture with number `of`.
 function turn(it, by, of, began) {
   const most = it[4] === WIRE ? 1 : 255, byte = Math.max(0, Math.min(most, it[3] + by));
-  if (byte !== it[3]) change(it[0], it[1], byte, of, `turn ${what(it)}`, began);
+  if (byte !== it[3]) change(it[0], {byte}, of, `turn ${what(it)}`, began);
   handlesSoon();
   return byte;
 }
@@ -304,7 +311,7 @@ function typeAt(it) {
     type(`Text from step ${number(it[1])} on, in place of this event (\\r, \\b, \\x1b):`, shown(it[3]), text => {
       const bytes = bytesOf(text), of = gesture();
       if (!bytes.length) return;
-      change(it[0], it[1], bytes[0], of, `type '${text}'`);
+      change(it[0], {byte: bytes[0]}, of, `type '${text}'`);
       bytes.slice(1).forEach((byte, at) => add(it[1] + (at + 1) * GAP, it[2], byte, 0, of, `type '${text}'`));
       runUpTo(it[1] + (bytes.length - 1) * GAP);
       lastByte = bytes[bytes.length - 1];
@@ -353,7 +360,7 @@ function onEvent(it, event) {
   if (key === "ArrowLeft" || key === "ArrowRight") {
     const by = within(all.map(one => one[1]), (key === "ArrowRight" ? 1 : -1) * (event.shiftKey ? 10 * Math.max(1, Math.round(perPixel())) : 1));
     const of = inBurst(`move ${[...s.selected]}`, event.timeStamp);
-    if (by) for (const one of all) change(one[0], one[1] + by, one[3], of, all.length > 1 ? `move ${all.length} events` : `move ${what(one)}`, event.timeStamp);
+    if (by) for (const one of all) change(one[0], {time: one[1] + by}, of, all.length > 1 ? `move ${all.length} events` : `move ${what(one)}`, event.timeStamp);
     handlesSoon();
   } else if (key === "ArrowUp" || key === "ArrowDown") {
     turn(it, (key === "ArrowUp" ? 1 : -1) * (event.shiftKey ? 16 : 1), inBurst(`value ${it[0]}`, event.timeStamp), event.timeStamp);
@@ -363,7 +370,7 @@ function onEvent(it, event) {
   else if (isTyped && key.length === 1 && key.charCodeAt(0) < 256) {
     const byte = isWire ? "01".indexOf(key) : key.charCodeAt(0);
     if (!isWire) lastByte = byte;
-    if (byte >= 0) { change(it[0], it[1], byte, gesture(), `set ${what(it)} to '${key}'`, event.timeStamp); handlesSoon(); }
+    if (byte >= 0) { change(it[0], {byte}, gesture(), `set ${what(it)} to '${key}'`, event.timeStamp); handlesSoon(); }
   } else return false;
   event.preventDefault();
   return true;

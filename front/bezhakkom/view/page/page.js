@@ -1,6 +1,6 @@
 // The page: its buttons, and what is drawn after each reply.
 import {$, s, find, number, say} from "./state.js";
-import {ask, edit, isBusy, leave, onReply, stop, timings, lastEdit} from "./ask.js";
+import {ask, edit, isBusy, leave, onReply, rest, stop, timings, lastEdit, unconfirmed} from "./ask.js";
 import {X, draw, handle, onRowButton, readColors, rows, unfold} from "./rows.js";
 import {onGo, outcome, panes, table} from "./panes.js";
 import {stateNow} from "./gestures.js";
@@ -94,13 +94,13 @@ Object.assign(hand.commands, {
 
 matchMedia("(prefers-color-scheme: dark)").addEventListener("change", () => { readColors(); draw(); });
 addEventListener("resize", () => { draw(); ask({draw: true, live: true, ghost: true}); });
-addEventListener("beforeunload", event => { if (s.state && s.state.unsaved) event.preventDefault(); });
+addEventListener("beforeunload", event => { if (s.state && s.state.unsaved || unconfirmed()) event.preventDefault(); });
 addEventListener("focus", () => { if (s.now) ask({draw: true, live: true, ghost: true}); });  // another page may have edited since
 addEventListener("pagehide", leave);
 addEventListener("pageshow", event => { if (event.persisted) ask({draw: true}); });
 
 // For tests and measures.
-window.bezhakkom = {s, rows: () => rows, X, handle, timings, isBusy, picture, ask, gesture: stateNow};
+window.bezhakkom = {s, rows: () => rows, X, handle, timings, isBusy, rest, picture, ask, gesture: stateNow};
 
 (async () => {
   await ask({});

@@ -1,5 +1,5 @@
 // The rows of the run: where they stand, how they are drawn, and the handles of events on them.
-import {$, s, WIRE, FRAMING, columns, hex, measure, number, shown, shownText, what} from "./state.js";
+import {$, s, WIRE, FRAMING, changed, columns, hex, measure, number, shown, shownText, what} from "./state.js";
 import {CanvasPen, colors, hatching, shade} from "./pen.js";
 import {difference} from "./panes.js";
 import {isHeld} from "./gestures.js";
@@ -314,7 +314,7 @@ export function handles() {
   for (const row of rows) {
     if (row.kind !== "in" && row.kind !== "wire") continue;
     const mine = s.now.events.filter(it => it[2] === row.line && (it[4] === WIRE) === (row.kind === "wire"))
-      .map(it => s.pending.has(it[0]) ? Object.assign([...it], {1: s.pending.get(it[0]).time, 3: s.pending.get(it[0]).byte}) : it)
+      .map(it => s.pending.has(it[0]) ? changed(it, s.pending.get(it[0])) : it)
       .sort((a, b) => a[1] - b[1]);
     for (let at = 0; at < mine.length;) {
       let end = at + 1;

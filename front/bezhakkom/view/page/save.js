@@ -44,19 +44,23 @@ async function page() {
 const bytes = digits => Uint8Array.from(digits.match(/../g) || [], it => parseInt(it, 16));
 
 export async function save(kind) {
-  let content, changed = [];
+  let content, changed = [], confirmed = {};
   if (kind === "svg") content = await picture();
   else if (kind === "page") content = await page();
   else {
     const reply = await ask({save: {kind}});
     if (!reply.save) return;
     content = bytes(reply.save.content); changed = reply.save.changed;
+    if (reply.save.saved !== undefined) confirmed = {saved: reply.save.saved};
   }
   const [ending, type] = KINDS[kind], link = document.createElement("a");
   link.href = URL.createObjectURL(new Blob([content], {type}));
   link.download = s.state.image.replace(/\.\w+$/, "") + ending;
   link.click();
   setTimeout(() => URL.revokeObjectURL(link.href), 10000);
-  say(`Saved as ${link.download}.` + changed.map(it => ` ${it} was changed by another program since the page opened it: the saved file has nothing of that change.`).join(""));
-  ask({draw: true});
+  say(`The browser got ${link.download} for its downloads; if the name is taken, it adds a number. `
+    + ("saved" in confirmed ? "All edits are in it" : "It has no edit that can be opened again: a log or a session has them")
+    + ". The files that the page opened are unchanged by it."
+    + changed.map(it => ` ${it} was changed by another program since the page opened it: the saved file has nothing of that change.`).join(""));
+  ask({draw: true, ...confirmed});
 }

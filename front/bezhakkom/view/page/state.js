@@ -36,6 +36,9 @@ export function what(event) {
   return kind === WIRE ? `external line ${line}, level ${byte}` : `line ${line}, '${shown(byte)}' ${hex(byte, 2)}${kind === FRAMING ? " with a framing error" : ""}`;
 }
 
+// An event with another step or value.
+export const changed = (event, {time = event[1], byte = event[3]}) => Object.assign([...event], {1: time, 3: byte});
+
 // An event in view, or a selected one that is not shown.
 export const find = id => s.now && (s.now.events.find(it => it[0] === id) || s.now.held.find(it => it[0] === id));
 // The room for steps is measured once for all that is drawn: to ask for a width amid changes lays the page out anew.

@@ -98,7 +98,7 @@ export function legend() {
 export function choose(at) {
   const sweep = s.sweep, event = sweep && find(sweep.id);
   const time = sweep.kind === "step" ? at : sweep.event[1], byte = sweep.kind === "step" ? sweep.event[3] : at;
-  edit({do: "change", id: sweep.id, time, byte, gesture: gesture(), name: event ? `${what(event)}: ${sweep.kind} ${named(sweep, at)}` : "sweep"}, performance.now());
+  edit({do: "change", id: sweep.id, ...(sweep.kind === "step" ? {time} : {byte}), gesture: gesture(), name: event ? `${what(event)}: ${sweep.kind} ${named(sweep, at)}` : "sweep"}, performance.now());
   sweep.event = [sweep.event[0], time, sweep.event[2], byte, sweep.event[4]];
   sweep.isChosen = true;
   show(sweep);
