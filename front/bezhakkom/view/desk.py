@@ -562,7 +562,7 @@ class Desk:
             content = "".join(f"{it}\n" for it in logs.show(self._now.log)).encode()
         else:
             raise Problem(f"there is no file of kind `{kind}`")
-        made = {"kind": kind, "content": content.hex(), "changed": self._opened.origin.seen.changed()}
+        made: Dict[str, Any] = {"kind": kind, "content": content.hex(), "changed": self._opened.origin.seen.changed()}
         if kind in ("log", "session", "text"):
             self._handed.append(tuple(self._now.log))
             made["saved"] = len(self._handed) - 1
