@@ -512,6 +512,23 @@ class Serving(PageTest):
             self.assertEqual((self.text("busy"), self.log()), ("", brute.without(brute.moved(brute.log_of("login"), 2, 40_001), 1)))
             self.assertTrue(all("WebSocket" in it or "ERR_EMPTY_RESPONSE" in it for it in self.browser.errors()))
 
+    def test_image_that_is_rebuilt_is_named_when_the_page_has_the_focus_again(self) -> None:
+        with tempfile.TemporaryDirectory() as folder:
+            elf = Path(folder, "login.elf")
+            elf.write_bytes(Path(LOGIN[-1]).read_bytes())
+            with self.page(*LOGIN[:-1], str(elf)):
+                self.assertEqual((self.text("name"), self.text("problem")), ("login.elf", ""))
+                elf.write_bytes(elf.read_bytes() + b"\n")
+                self.browser.run("window.dispatchEvent(new Event('focus'))")
+                self.rest()
+                self.assertEqual(self.text("name"), "login.elf (as opened; changed on disk)")
+                self.assertEqual(self.text("problem"), f"{elf} has changed on disk, and this is a run of what it was: save the log, and start bin/wb view with it again.")
+                # It is said once, and the run is that of before.
+                self.browser.keys("g")
+                self.rest()
+                self.assertEqual(self.text("problem"), "")
+                self.check("login/login.elf", brute.log_of("login"), [LENGTH])
+
     def test_refusal_stays_until_the_next_input(self) -> None:
         with self.page(*LOGIN):
             for refused in ("window.bezhakkom.ask({words: [{name: 'nothing'}]})", "window.bezhakkom.ask({jump: {to: 'visit', function: 'zz'}})"):

@@ -18,6 +18,7 @@ from ..image import Image
 from ..limits import GREATEST_POSITION, GREATEST_TIME, LINES, SPAN
 from ..lines import Lines
 from ..log import Event, Kind, changes
+from ..reloading import OnDisk
 from ..saved import Opened, lines_of_edit
 from ..session import Session, counted
 from ..step_lines import StepLines
@@ -76,7 +77,8 @@ class Desk:
         self._symbols = symbols_of(driver.image)
         self._lines = Lines(driver.image.elves)
         self._sources = Sources(driver.image.elves)
-        self._session = Session(driver, self._symbols)
+        self._session = Session(driver, self._symbols, origin=opened.origin)
+        self._on_disk = OnDisk(self._session)
         self.words: List[Word] = []
         self._now = Past.of(driver.log)
         self._ghost: Optional[Past] = None  # that stands beside the present one
@@ -167,7 +169,7 @@ class Desk:
         return {"image": os.path.basename(driver.image.name), "end": self.end, "cursor": self._cursor, "words": [it.name for it in self.words],
                 "events": len(self._now.log), "undo": self._done[-1].made_by if self._done else None,
                 "redo": self._undone[-1].made_by if self._undone else None, "kept": list(self._kept), "against": self._shown,
-                "unsaved": self.unsaved() is not None}
+                "unsaved": self.unsaved() is not None, "changed": self._on_disk.changed()}
 
     def _asked(self, ask: Fields, reply: Dict[str, Any]) -> None:
         """All that a request asks after its edits."""

@@ -1,5 +1,5 @@
 // What stands beside the run: the consoles up to the cursor, the source, the instructions, the registers, and the table.
-import {$, s, find, hex, number, shown, WIRE} from "./state.js";
+import {$, s, WIRE, find, hex, number, shown, warn} from "./state.js";
 
 let go = () => {}, goStep = () => {};
 export const onGo = (handler, toStep) => { go = handler; goStep = toStep; };
@@ -108,7 +108,7 @@ function machine() {
   if (!at) return;
   write($("where"), `Step ${number(at.position)}${at.name ? `, ${at.name}` : ""}${at.delay ? " (delay slot)" : ""}`);
   const source = at.source;
-  write($("source-name"), source ? `Source, ${source.file}:${source.line}${source.text.length ? "" : " (not found)"}` : "No source");
+  write($("source-name"), source ? `Source, ${source.file}:${source.line}${source.text.length ? "" : " (not found: --sources names its folder)"}` : "No source");
   const key = source ? `${source.file} ${source.line}` : "";
   if ($("source").dataset.key !== key) {
     $("source").dataset.key = key; $("source").textContent = "";
@@ -189,7 +189,9 @@ export function panes() {
   consoles();
   machine();
   const state = s.state, name = state.image;
-  write($("name"), name);
+  write($("name"), state.changed.length ? `${name} (as opened; changed on disk)` : name);
+  const hint = state.changed.map(it => `${it} has changed on disk, and this is a run of what it was: save the log, and start bin/wb view with it again.`).join(" ");
+  if ($("name").title !== hint) { $("name").title = hint; if (hint) warn(hint); }
   const title = `${state.unsaved ? "* " : ""}${name}`;
   if (document.title !== title) document.title = title;
   const set = (id, disabled, hint) => { const it = $(id); if (it.disabled !== disabled) it.disabled = disabled; if (hint !== undefined && it.title !== hint) it.title = hint; };
