@@ -7,6 +7,7 @@ from __future__ import annotations
 import tempfile
 import unittest
 from pathlib import Path
+from typing import Sequence
 
 from front.tests import built, debugger
 
@@ -40,23 +41,29 @@ int main(void)
 }
 """
 
-CONDITIONS = (
-    # pointers, with addresses of data and code
+# pointers, with addresses of data and code
+POINTERS = (
     "node == &head", "node != &head", "&head == node", "node->next == &head", "node->next->next == node", "node == &tail && number > 0",
     "place == &global", "where == &global", "place == where", "any == 0", "any == text", "any != text", "!any", "(char *)any == &text[0]",
     "call == twice", "call == &twice", "call == once || number == 2", "call != twice", "*call == twice", "node > &head", "node < &tail",
     "node >= &head", "(unsigned)node == (unsigned)&head", "(int)node == (int)&head", "(long long)node == (long long)&head",
     "call > &twice", "node - &head == 0", "node + 1 == &head + 1", "&node->value == &head.value",
-    # registers
+)
+# registers
+REGISTERS = (
     "$pc == &visit", "$pc == visit", "$sp > (char *)0x80000000", "$sp < (char *)0x80000000", "$sp != 0", "(unsigned)$sp > 0x80000000",
     "$a0 == -1", "$a0 < 0", "$a0 >= 0", "$a0 == 0xffffffff", "(unsigned)$a0 > 5", "$r4 == -2", "$ra != 0", "$position > 500",
-    # signed and unsigned, of each width
+)
+# signed and unsigned, of each width
+INTEGERS = (
     "number == -1", "number < 0", "number > -1", "word > 0x80000000", "word == 0xc0000000", "word / 2 == 0x60000000", "(int)word < 0",
     "word > -1", "word >> 31", "number >> 1 == -1", "sign == -80", "sign < 0", "sign == (signed char)200", "(unsigned char)sign == 216",
     "byte == 200", "byte > 127", "(signed char)byte < 0", "half == -20000", "half < 0", "uhalf == 52000", "(short)uhalf < 0",
     "wide < 0", "wide == -4294967294", "wide > 4294967296", "(int)wide == 5", "uwide > 0x8000000000000000", "uwide == 0xc000000000000000",
     "(unsigned)uwide == 0", "number + word == 0x2fffffff", "number * 2 == -4", "-number == 2", "~number == 1", "number % 2 == -1",
-    # members, memory through pointers, bit fields, logic
+)
+# members, memory through pointers, bit fields, logic
+MEMBERS = (
     "node->value == -7", "node->value < 0", "node->sign == -2", "node->flags == 5", "node->bits == -3", "*place == -3", "*place < 0",
     "text[0] == 't'", "((char *)any)[1] == 'e'", "number == 1 || number == 3", "number > 0 && word > 0x80000000", "!(number - 1)",
     "number ? node == &head : call == twice", "*(int *)0 == 1", "1", "0", "1 / number > 0", "global == number - 1",
@@ -102,14 +109,43 @@ def setUpModule() -> None:
     built.needed()
 
 
-class Conditions(unittest.TestCase):
-    def test_stub_and_gdb_stop_at_the_same_visits_both_ways(self) -> None:
+class ConditionsTest(unittest.TestCase):
+    """What each kind of conditions is compared with. Each class is a job of `front/test`."""
+
+    def same_visits(self, conditions: Sequence[str], stops: str) -> None:
+        """The stub and gdb stop at the same visits, both ways: `stops` is a line of what was compared."""
         with tempfile.TemporaryDirectory() as folder:
             elf = built.elf(SOURCE, Path(folder, "types.elf"), "-O0")
             script = Path(folder, "script.py")
-            script.write_text(f"CONDITIONS = {CONDITIONS!r}\n{SCRIPT}")
+            script.write_text(f"CONDITIONS = {conditions!r}\n{SCRIPT}")
             shown = debugger.run([debugger.WB, "gdb", elf, *debugger.PLAIN, "-batch", "-x", str(script)])
         compared = [line.split(" ", 2)[1:] for line in shown.splitlines() if line.startswith("compared ")]
-        self.assertEqual(len(compared), len(CONDITIONS), shown)
+        self.assertEqual(len(compared), len(conditions), shown)
         self.assertEqual([rest for same, rest in compared if same != "True"], [])
-        self.assertTrue(any(rest.startswith("3 3 node == &head") for _, rest in compared), compared)
+        self.assertTrue(any(rest.startswith(stops) for _, rest in compared), compared)
+
+
+# The function is called six times, with -2 to 3 as number. The node is &head in every second call.
+
+class Pointers(ConditionsTest):
+    def test_stub_and_gdb_stop_at_the_same_visits_both_ways(self) -> None:
+        self.same_visits(POINTERS, "3 3 node == &head")
+
+
+class Registers(ConditionsTest):
+    def test_stub_and_gdb_stop_at_the_same_visits_both_ways(self) -> None:
+        self.same_visits(REGISTERS, "1 1 $a0 == -1")
+
+
+class Integers(ConditionsTest):
+    def test_stub_and_gdb_stop_at_the_same_visits_both_ways(self) -> None:
+        self.same_visits(INTEGERS, "2 2 number < 0")
+
+
+class Members(ConditionsTest):
+    def test_stub_and_gdb_stop_at_the_same_visits_both_ways(self) -> None:
+        self.same_visits(MEMBERS, "2 2 number == 1 || number == 3")
+
+
+if __name__ == "__main__":
+    unittest.main()
