@@ -5,7 +5,8 @@ from __future__ import annotations
 import os
 import re
 import signal
-from typing import Callable, Optional
+from contextlib import contextmanager
+from typing import Callable, Iterator, Optional
 
 import gdb
 
@@ -67,15 +68,23 @@ class CtrlC:
             signal.pthread_sigmask(signal.SIG_BLOCK, self.KEY)
         self.begin()
 
-    def release(self) -> None:
-        """Hands it to gdb again, also where it was pressed meanwhile."""
-        signal.pthread_sigmask(signal.SIG_UNBLOCK, self.KEY)
+    @contextmanager
+    def held(self) -> Iterator[None]:
+        """Keeps it from gdb within a `with`. After that gdb has it as before: at once, also if it was pressed meanwhile, unless it is held
+        by what goes on around this. A run that gdb starts is held as a whole: a Quit would leave gdb in the middle of it, without
+        the registers that the stub describes, or waiting for a stop that it has taken already."""
+        before = signal.pthread_sigmask(signal.SIG_BLOCK, ())
+        self.hold()
+        try:
+            yield
+        finally:
+            signal.pthread_sigmask(signal.SIG_SETMASK, before)
 
     def drop(self) -> None:
         """Hands it to gdb again, where it is pressed from now on."""
         while signal.sigtimedwait(self.KEY, 0):
             pass
-        self.release()
+        signal.pthread_sigmask(signal.SIG_UNBLOCK, self.KEY)
 
     def go(self) -> None:
         """A run or steps begin. Where Ctrl-C ended those before, in the same line, loop or script, that ends here too."""
@@ -86,14 +95,14 @@ class CtrlC:
 
     def stopped(self, event: object) -> None:
         """A run or steps have stopped."""
-        self.drop()
         self._has_ended = getattr(event, "stop_signal", "") == "SIGINT" and not self._is_mi
         self._is_new = self._is_new or self._is_mi
+        self.drop()
 
     def prompted(self) -> None:
         """gdb shows its prompt."""
-        self.drop()
         self._is_new, self._has_ended = True, False
+        self.drop()
 
 
 ctrl_c = CtrlC()
@@ -102,19 +111,17 @@ ctrl_c = CtrlC()
 def asked(line: str, show: Callable[[str], None] = lambda shown: None) -> str:
     """What the stub shows for a line of `monitor`. Where it refuses, that is an error. It is shown before gdb has the Ctrl-C that ended
     it: gdb shows nothing after that."""
-    ctrl_c.hold()
-    try:
-        shown = gdb.execute(f"monitor {line}", to_string=True) or ""
+    with ctrl_c.held():
+        try:
+            shown = gdb.execute(f"monitor {line}", to_string=True) or ""
+        except gdb.error as error:
+            raise gdb.GdbError(str(error)) from None
         done, refused, reason = f"\n{shown}".partition(f"\n{REFUSED}")
         if refused:
             gdb.write(f"{done[1:]}\n" if done else "")
             raise gdb.GdbError(reason.rstrip())
         show(shown)
         return shown
-    except gdb.error as error:
-        raise gdb.GdbError(str(error)) from None
-    finally:
-        ctrl_c.release()
 
 
 def as_number(word: str, of_words: bool) -> str:
@@ -239,6 +246,7 @@ Numbers may be expressions without blanks: wb writer &session.length, wb goto $p
     def __init__(self) -> None:
         super().__init__("wb", gdb.COMMAND_RUNNING)
 
+    @ctrl_c.held()
     def invoke(self, line: str, from_terminal: bool) -> None:
         line = line or "help"
         name, *words = line.split()
@@ -249,6 +257,7 @@ Numbers may be expressions without blanks: wb writer &session.length, wb goto $p
         elif name not in AS_THEY_ARE and not QUOTES.intersection(line) and not (name == "writer" and REGISTER.fullmatch(" ".join(words))):
             line = " ".join([name, *(as_word(word, name in OF_WORDS) for word in words)])
         if name in RUNS:
+            ctrl_c.go()
             asked(f"next-run {line}")
             gdb.execute("continue")
             return
@@ -399,6 +408,7 @@ class Image:
         """The file of the image, by the name that the user knows, or '' if it is no ELF."""
         return self._asked()[2]
 
+    @ctrl_c.held()
     def load(self, name: str) -> None:
         before_quit.forget()
         before = here()
@@ -501,11 +511,12 @@ class BeforeQuit(gdb.Command):
 
 def prompt(current_prompt: str) -> str:
     """The prompt, with the position where there is a run."""
-    ctrl_c.prompted()
     try:
+        ctrl_c.hold()
         now = here()
+        ctrl_c.prompted()
     except KeyboardInterrupt:  # it was meant for what came before
-        now = here()
+        return prompt(current_prompt)
     return f"({now[0]:,}) " if now else current_prompt
 
 

@@ -42,6 +42,10 @@ class Interrupts:
         found, self._reported = count not in (0, self._reported), count
         return found
 
+    def end_next(self) -> None:
+        """Lets what has ended an answer also end the run that gdb makes next for what was typed."""
+        self._reported = 0
+
     def _count(self) -> int:
         try:
             return os.stat(self._file).st_size if self._file else 0

@@ -107,9 +107,7 @@ class Stub:
                 self._tell_of_changes()
             return reply
         except Interrupted:
-            # Where the run was not made yet it can't be shown at once.
-            self._driver.goto(min(self._driver.position, self._driver.made))
-            self._tell(f"interrupted; at position {self._driver.position:,}")
+            self._end_early()
             return FAILED
         except Problem as problem:
             self._tell(str(problem))
@@ -121,6 +119,11 @@ class Stub:
         except Exception as error:  # a fault of this program must not cost the session with its edits
             self._tell(f"{Unexpected(error)}; the session goes on")
             return FAILED
+
+    def _end_early(self) -> None:
+        """Ends a run that Ctrl-C ended. Where it was not made yet it can't be shown at once."""
+        self._driver.goto(min(self._driver.position, self._driver.made))
+        self._tell(f"interrupted; at position {self._driver.position:,}")
 
     def _here(self) -> tuple[int, int]:
         return self._driver.position, len(self._driver.journal)
@@ -323,6 +326,11 @@ class Stub:
         words = [_from_digits(word).decode("latin-1") for word in rest.split(b";")[1:]]
         self._driver.goto(self._session.number(words[0]) if words else 0)
         self._killed, self._next_run = False, ""
+        try:
+            self._driver.registers()  # gdb asks for much when a run starts, and takes no answer that is refused
+        except Interrupted:
+            self._end_early()
+            self._motion.interrupts.end_next()
         return TRAP
 
     def _load_changed(self) -> None:

@@ -212,6 +212,12 @@ class Login(GdbTest):
         lines = self.batch("disconnect", "run")
         self.assertEqual([it for it in lines if "run" in it], ["Don't know how to run.  Try \"help target\"."])
 
+    def test_ctrl_c_is_kept_from_gdb_while_a_run_starts(self) -> None:
+        """A Quit within it would leave gdb without registers, or waiting for a stop that it has taken."""
+        held = "python import signal; print('held', signal.SIGINT in signal.pthread_sigmask(signal.SIG_BLOCK, []))"
+        lines = self.batch(held, "before-start", held, "wb pos", held, "starti", held)
+        self.assertEqual([line for line in lines if line.startswith("held")], ["held False", "held True", "held True", "held False"])
+
     def test_start_and_kill(self) -> None:
         lines = self.batch("run 40000", "start", POSITION, "kill", "run", POSITION)
         self.holds(lines, "Sorry, operatorsesame.", "at 112", "[Inferior 1 (Remote target) killed]", "at 110960")

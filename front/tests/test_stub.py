@@ -7,10 +7,12 @@ from __future__ import annotations
 import os
 import random
 import signal
+import tempfile
 import unittest
 import unittest.mock
+from pathlib import Path
 
-from bezhakkom import target
+from bezhakkom import interrupts, target
 from bezhakkom.commands import COMMANDS
 from bezhakkom.log import Event
 from bezhakkom.stub import ANSWERS
@@ -326,6 +328,19 @@ class Runs(StubTest):
                 wire.put(b"\x03")
                 self.stops(wire, (packet, "T02", 3))
         self.stops(wire, ("s", "T05", 4))
+
+    def test_ctrl_c_in_a_start_ends_it_and_the_run_after_it(self) -> None:
+        """The start itself is never refused: gdb would stand in the middle of it."""
+        with tempfile.NamedTemporaryFile() as pressed:
+            with unittest.mock.patch.dict(os.environ, {interrupts.VARIABLE: pressed.name}):
+                wire = self.wire(COUNTER)
+            interrupts.note(Path(pressed.name))
+            with unittest.mock.patch("bezhakkom.interrupts.SHORT", -1):
+                self.dialog(wire, ("vRun;;" + b"20000000000".hex(), "T05"))
+            position = wire.position()
+            self.assertLess(position, 20_000_000_000)
+            self.assertEqual(wire.notes, [f"interrupted; at position {position:,}"])
+            self.stops(wire, ("vCont;c", "T02", position), ("vCont;s", "T05", position + 1))
 
     def test_the_debugger_ends_a_long_search_back(self) -> None:
         wire = self.wire(COUNTER)
