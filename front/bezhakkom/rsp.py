@@ -10,14 +10,17 @@ from __future__ import annotations
 import os
 import select
 import time
+from collections import deque
 
-INTERRUPT = 0x03
+INTERRUPT = b"\x03"
+AGAIN = b"-"
 # gdb sends 0x03 only while it waits for a stop, so one that comes between two packets has crossed the report of a stop. Where that was
 # one of many steps that gdb makes for one line (`stepi 1000`), the next one follows within milliseconds, and ends at once. Where it was the
 # last of them the line is over, as the key wanted. What a person types next comes after this many seconds, and runs.
 SOON = 0.5
 PACKET_BYTES = 0x4000  # the longest payload that is taken
 READ_BYTES = 0x10000
+MOST_WAITING = 1000  # packets that are kept while the program runs
 ESCAPED = b"#$}*"
 
 
@@ -60,7 +63,10 @@ class Link:
         self.acknowledging = True
         self._source = source
         self._sink = sink
-        self._waiting = bytearray()  # what was read and not yet taken
+        # What was read and not yet taken: packets, each as it was sent between `$` and the end of its checksum, and AGAIN and INTERRUPT.
+        self._waiting: deque[bytes] = deque()
+        self._begun: bytearray | None = None  # a packet of which the rest is to come
+        self._digits = 0  # of its checksum that are to come
         self._closed = False
         self._crossed: float | None = None  # when 0x03 came between two packets
         self._last = b""  # what was sent last, in case the other side asks for it again
@@ -68,62 +74,76 @@ class Link:
     def receive(self) -> bytes | None:
         """The next packet's payload, or None where the other side has closed."""
         while True:
-            byte = self._byte()
-            if byte is None:
-                return None
-            if byte == ord("-") and self.acknowledging:
-                self._write(self._last)
-            elif byte == ord("$"):
-                raw = self._raw()
+            while not self._waiting:
+                if self._closed:
+                    return None
+                self._fill()
+            item = self._waiting.popleft()
+            if item == INTERRUPT:
+                self._crossed = time.monotonic()
+            elif item != AGAIN:
+                raw = self._checked(item)
                 if raw is not None:
                     return unescape(raw)
-            elif byte == INTERRUPT:
-                self._crossed = time.monotonic()
+            elif self.acknowledging:
+                self._write(self._last)
 
     def send(self, payload: bytes) -> None:
         self._last = frame(payload)
         self._write(self._last)
 
     def interrupted(self) -> bool:
-        """Whether the other side wants the run to end: it has sent 0x03, or closed. Packets that wait are left alone."""
+        """Whether the other side wants the run to end: it has sent 0x03, also behind packets, which are kept, or has closed, or sends
+        packets without end."""
         crossed, self._crossed = self._crossed, None
         if crossed is not None and time.monotonic() < crossed + SOON:
             return True
-        if len(self._waiting) < READ_BYTES and select.select([self._source], [], [], 0)[0]:
+        while not self._closed and len(self._waiting) < MOST_WAITING and select.select([self._source], [], [], 0)[0]:
             self._fill()
-        while self._waiting and self._waiting[0] != ord("$"):
-            if self._waiting.pop(0) == INTERRUPT:
-                return True
-        return self._closed and not self._waiting
+        if INTERRUPT in self._waiting:
+            self._waiting.remove(INTERRUPT)
+            return True
+        return self._closed or len(self._waiting) >= MOST_WAITING
 
-    def _raw(self) -> bytes | None:
-        """The payload as it was sent, or None where it has to come again or does not end."""
-        raw = bytearray()
-        while (byte := self._byte()) != ord("#"):
-            if byte is None:
-                return None
-            if byte == ord("$"):
-                raw.clear()
-            elif len(raw) <= PACKET_BYTES:
-                raw.append(byte)
-        digits = bytes((self._byte() or 0, self._byte() or 0))
+    def _checked(self, packet: bytes) -> bytes | None:
+        """The payload as it was sent, or None where it has to come again."""
+        raw, digits = packet[:-3], packet[-2:]
         too_long = len(raw) > PACKET_BYTES
         good = too_long or digits.lower() == b"%02x" % checksum(raw)
         if self.acknowledging:
             self._write(b"+" if good else b"-")
             if not good:
                 return None
-        return bytes(raw) if good and not too_long else b""
-
-    def _byte(self) -> int | None:
-        if not self._waiting:
-            self._fill()
-        return self._waiting.pop(0) if self._waiting else None
+        return raw if good and not too_long else b""
 
     def _fill(self) -> None:
-        piece = b"" if self._closed else os.read(self._source, READ_BYTES)
+        """Waits for the next piece of what the other side sends, and sorts its bytes."""
+        try:
+            piece = os.read(self._source, READ_BYTES)
+        except ConnectionError:
+            piece = b""
         self._closed = not piece
-        self._waiting += piece
+        for byte in piece:
+            self._sort(byte)
+
+    def _sort(self, byte: int) -> None:
+        packet = self._begun
+        if packet is not None and self._digits:
+            packet.append(byte)
+            self._digits -= 1
+            if not self._digits:
+                self._waiting.append(bytes(packet))
+                self._begun = None
+        elif byte == ord("$"):
+            self._begun = bytearray()
+        elif packet is None:
+            if byte in AGAIN + INTERRUPT:
+                self._waiting.append(bytes((byte,)))
+        elif byte == ord("#"):
+            packet.append(byte)
+            self._digits = 2
+        elif len(packet) <= PACKET_BYTES:
+            packet.append(byte)
 
     def _write(self, data: bytes) -> None:
         while data:

@@ -488,7 +488,9 @@ def main(arguments: Sequence[str]) -> int:
         open_session(session, found.commands)
         with rescue.kept(session.unsaved_text, line.image) as reason:
             if where is not None:
+                reason.text = "the stub has ended"
                 _listen(session, where, whole)
+                reason.text = "ended by Ctrl-C"
                 return 0
             stub = Stub(session, Link(sys.stdin.fileno(), sys.stdout.fileno()), exceptions_whole=whole)
             if line.progress:
@@ -520,9 +522,9 @@ def _listen(session: Session, where: str, exceptions_whole: bool) -> None:
             except ConnectionError:
                 pass  # as if it had left
     except KeyboardInterrupt:
-        for it in session.unsaved():
-            loading.say(f"not saved: {it}")
+        pass
 
 
 def _interrupt(number: int, frame: object) -> None:
+    signal.signal(number, signal.SIG_IGN)  # what is not saved is kept now, and another one is to change nothing
     raise KeyboardInterrupt

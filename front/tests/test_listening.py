@@ -6,6 +6,7 @@ import re
 import signal
 import socket
 import subprocess
+import tempfile
 import unittest
 
 from bezhakkom import listening, saved
@@ -21,16 +22,18 @@ IMAGE = str(ROOT / "examples/echo/boot.s")
 
 class Listening(unittest.TestCase):
     def setUp(self) -> None:
-        self.stub = subprocess.Popen([*STUB, ":0", IMAGE], stdin=subprocess.DEVNULL, stderr=subprocess.PIPE, encoding="utf-8",
-                                     start_new_session=True)
-        self.addCleanup(self.end)
+        self.begin(IMAGE)
+
+    def begin(self, image: str) -> None:
+        state = tempfile.TemporaryDirectory()
+        self.addCleanup(state.cleanup)
+        self.stub = subprocess.Popen([*STUB, ":0", image], stdin=subprocess.DEVNULL, stderr=subprocess.PIPE, encoding="utf-8",
+                                     start_new_session=True, env={**os.environ, "XDG_STATE_HOME": state.name})
+        self.addCleanup(self.stub.__exit__, None, None, None)
+        self.addCleanup(self.stub.kill)
         found = re.fullmatch(r"bin/wb: waits for a debugger at 127\.0\.0\.1:(\d+); Ctrl-C ends this\n", self.said())
         assert found
         self.address = "127.0.0.1", int(found[1])
-
-    def end(self) -> None:
-        self.stub.kill()
-        self.stub.communicate()
 
     def said(self) -> str:
         """The next line that the stub says."""
@@ -69,32 +72,35 @@ class Listening(unittest.TestCase):
         second.close()
         self.assertRegex(self.said(), "the debugger has left")
 
-    def test_ctrl_c_ends_it(self) -> None:
-        for connected in False, True:
-            with self.subTest(connected=connected):
-                if connected:
-                    connection = self.connect()
-                    self.assertEqual(self.ask(connection, "Mbfc00004,1:02"), "OK")
-                    connection.sendall(packed(b"Z0,bfc00100,4") + packed(b"c"))
-                os.killpg(self.stub.pid, signal.SIGINT)
-                rest = self.stub.communicate(timeout=PATIENCE)[1]
-                self.assertEqual((self.stub.returncode, "Traceback" in rest), (0, False), rest)
-                self.assertEqual("not saved: the image (save-image FILE)" in rest, connected)
-                if not connected:
-                    self.setUp()
+    def test_next_debugger_is_served_after_one_that_left_a_run_with_packets_behind_it(self) -> None:
+        self.begin(str(ROOT / "examples/driver/boot.s"))
+        first = self.connect()
+        first.sendall(packed(b"qRcmd," + b"idle 0".hex().encode()) + packed(b"c") + packed(b"g"))
+        first.close()
+        self.assertRegex(self.said(), "the debugger has left")
+        self.said()
+        self.assertEqual(self.ask(self.connect(), "?"), "T05")
 
-    def test_sigterm_keeps_what_is_not_saved(self) -> None:
-        connection = self.connect()
-        self.assertEqual(self.ask(connection, "Mbfc00004,1:02"), "OK")
-        connection.sendall(packed(b"Z0,bfc00100,4") + packed(b"c"))
-        os.killpg(self.stub.pid, signal.SIGTERM)
-        rest = self.stub.communicate(timeout=PATIENCE)[1]
-        found = re.fullmatch(r"bin/wb: ended by SIGTERM: what was not saved is in (\S+), which `bin/wb shell` opens\n", rest)
-        assert found, rest
-        self.addCleanup(os.unlink, found[1])
-        with saved.running(Opening((found[1],))) as driver:
-            self.assertEqual([place for place, _ in driver.patches], [0x1FC0_0004])
-            self.assertEqual(driver.shown(0x1FC0_0004, 1)[-3:-1], b"02")
+    def test_ctrl_c_without_edits_ends_it(self) -> None:
+        os.killpg(self.stub.pid, signal.SIGINT)
+        self.assertEqual((self.stub.communicate(timeout=PATIENCE)[1], self.stub.returncode), ("", 0))
+
+    def test_a_signal_keeps_what_is_not_saved(self) -> None:
+        """Each ends a run that is under way, and the stub."""
+        for number, name, status in (signal.SIGTERM, "SIGTERM", 128 + signal.SIGTERM), (signal.SIGINT, "Ctrl-C", 0):
+            with self.subTest(name):
+                connection = self.connect()
+                self.assertEqual(self.ask(connection, "Mbfc00004,1:02"), "OK")
+                connection.sendall(packed(b"Z0,bfc00100,4") + packed(b"c"))
+                os.killpg(self.stub.pid, number)
+                rest = self.stub.communicate(timeout=PATIENCE)[1]
+                self.assertEqual(self.stub.returncode, status)
+                found = re.fullmatch(rf"bin/wb: ended by {name}: what was not saved is in (\S+), which `bin/wb shell` opens\n", rest)
+                assert found, rest
+                with saved.running(Opening((found[1],))) as driver:
+                    self.assertEqual([place for place, _ in driver.patches], [0x1FC0_0004])
+                    self.assertEqual(driver.shown(0x1FC0_0004, 1)[-3:-1], b"02")
+            self.begin(IMAGE)
 
     def test_a_port_that_is_taken(self) -> None:
         where = f"127.0.0.1:{self.address[1]}"

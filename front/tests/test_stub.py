@@ -17,7 +17,7 @@ from bezhakkom.commands import COMMANDS
 from bezhakkom.log import Event
 from bezhakkom.stub import ANSWERS
 from front.tests.support import needs_erase, rom, start
-from front.tests.wire import COUNTER, ECHO, TYPED, StubTest
+from front.tests.wire import COUNTER, ECHO, TYPED, StubTest, packed
 
 GARBAGE = 4000  # packets
 PC, STATUS = 37, 32  # the numbers that gdb gives registers of a MIPS processor
@@ -312,6 +312,24 @@ class Runs(StubTest):
         position = wire.position()
         self.assertEqual(position % 65536, 0)
         self.stops(wire, ("s", "T05", position + 1))
+
+    def test_an_interrupt_behind_packets_ends_the_run_and_keeps_them(self) -> None:
+        wire = self.wire(COUNTER)
+        wire.put(packed(b"c") + packed(b"?") + packed(b"p25") + b"\x03")
+        self.assertEqual([wire.reply() for _ in range(3)], [b"T02", b"T05", b"0000c0bf"])
+        self.dialog(wire, ("s", "T05"))
+
+    def test_a_debugger_that_closes_or_sends_without_end_ends_the_run(self) -> None:
+        for packets, closes in (b"?", True), (b"c", True), (b"?", False):
+            wire = self.wire(COUNTER)
+            wire.command("idle 0")
+            with unittest.mock.patch("bezhakkom.rsp.MOST_WAITING", 3 if not closes else 1000):
+                wire.put(packed(b"c") + 3 * packed(packets))
+                if closes:
+                    wire.close()
+                    self.assertFalse(wire.serves())
+                else:
+                    self.assertEqual([wire.reply() for _ in range(4)], [b"T02", *[b"T05"] * 3])
 
     def test_ctrl_c_between_two_steps_ends_the_next_one(self) -> None:
         """Also where registers are read before it. One that came long before it, or before a run that was ended, does nothing."""
