@@ -122,16 +122,18 @@ def _is_mi(words: Sequence[str]) -> bool:
 
 
 def _symbols(image: Image, folder: Path) -> list[str]:
-    """The words that give gdb ELFs: that of the image and others with symbols, or a file with names where there is none."""
+    """The words that give gdb ELFs: that of the image and others with symbols, or a file with names where there is none. A session may name
+    any file, and gdb takes a name that begins with `-` for an option, which may run programs: so each name is an absolute path."""
     first, *others = image.elves or (None,)
     if first and first.offset:
         first, others = None, list(image.elves)
     added = [word for file in others
-             for word in ("-ex", f"add-symbol-file {shlex.quote(file.name)} -readnow -o {file.offset:#x}")]
+             for word in ("-ex", f"add-symbol-file {shlex.quote(os.path.abspath(file.name))} -readnow -o {file.offset:#x}")]
     if first:
         # Without --readnow gdb finds no lines of assembler sources.
         folders = [*(os.path.abspath(it) for it in first.sources), str(Path(first.name).resolve().parent)]
-        return ["--readnow", *(word for folder in folders for word in ("--directory", folder)), first.name, *added]
+        return ["--readnow", *(word for folder in folders for word in ("--directory", folder)), os.path.abspath(first.name),
+                *added]
     symbols = symbols_of(image)
     names = {KSEG0: "ram", RESET_PC: "reset"}
     names |= {address: name for name in symbols.names() if (address := symbols.address(name)) is not None}

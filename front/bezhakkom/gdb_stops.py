@@ -1,10 +1,12 @@
-"""Stops of the shell as gdb has them: in a session each front end finds its own, and those that both can have."""
+"""Stops of the shell as gdb has them: in a session each front end finds its own, and those that both can have. And which of a session's
+stops gdb may have without a question."""
 from __future__ import annotations
 
 import re
 from typing import Iterator, Optional
 
-from . import memory
+from . import memory, target
+from .expressions import REGISTERS
 
 MOST_WATCHED = 256  # bytes of a watch of gdb's
 
@@ -32,3 +34,18 @@ def parts(text: str) -> Optional[tuple[int, Optional[int]]]:
         return int(found[1], 16), None
     found = _WATCH.fullmatch(text)
     return (int(found[3], 16), _SIZES[found[1]] if found[1] else int(found[2])) if found else None
+
+
+# What means the same with any macros: names that gdb looks up, and conditions of numbers, registers and operators, none of which assigns.
+_PLACE = re.compile(r"\*0x[0-9a-fA-F]+|(?:[\w./][\w./+-]*:)?[A-Za-z_][\w.]*|[\w./][\w./+-]*:[0-9]+")
+_CONDITION = re.compile(r"(?:0x[0-9a-fA-F]+(?!\w)|[0-9]+(?!\w)|\$(?:%s)(?!\w)|[=!<>]=|<(?!<=)|>(?!>=)|[-+*/%%&|^~()! ])+"
+                        % "|".join((*target.NAMES, *REGISTERS)))
+
+
+def is_plain(line: str) -> bool:
+    """Returns whether gdb may make a stop of a session without a question. Other lines are text that gdb evaluates: it may use macros of the
+    session's ELF, and so do what whoever made these files wants."""
+    found = re.fullmatch(r"(?:disabled )?(t?h?break|watch) (.*?)(?: if (.*))?", line)
+    if not found or found[3] is not None and not _CONDITION.fullmatch(found[3]):
+        return False
+    return parts(f"watch {found[2]}") is not None if found[1] == "watch" else _PLACE.fullmatch(found[2]) is not None

@@ -295,24 +295,59 @@ $exception is the code of the exception that the last step took, or -1."""
             gdb.execute(f"break *{handler:#010x} if {condition}")
 
 
+class Shell(gdb.Function):
+    """Takes the place of gdb's `$_shell`, which runs programs of this system: a macro of an ELF, or a condition of a session, could call it
+    wherever gdb evaluates an expression."""
+
+    def __init__(self) -> None:
+        super().__init__("_shell")
+
+    def invoke(self, *words: object) -> None:
+        raise gdb.GdbError("`$_shell` is off, as a macro of an ELF could call it: `shell LINE` runs a program")
+
+
 class Stops:
     """Breakpoints and watches as lines, which a session keeps. A session may come from anybody, so that such a line is one of these
-    commands, and calls no function of gdb's: their names begin with `$_`, and `$_shell` runs programs."""
+    commands, and calls no function of gdb's: their names begin with `$_`. The stub says which lines are plain. The others are text that
+    gdb evaluates with the macros of the session's ELF: the user sees them, and says whether gdb is to have them."""
 
     COMMAND = re.compile(r"(disabled )?((?:break|tbreak|hbreak|thbreak|watch) .*)")
     NAMES = {gdb.BP_BREAKPOINT: "break", gdb.BP_HARDWARE_BREAKPOINT: "hbreak", gdb.BP_WATCHPOINT: "watch",
              gdb.BP_HARDWARE_WATCHPOINT: "watch"}
     FOLDERS = re.compile(r"^/.*/(?=[^/:]+:\d+$)")  # of a source, which is elsewhere where the session is opened
 
+    def __init__(self) -> None:
+        self._not_made: list[str] = []  # lines of the session, which a later save keeps
+
     def make(self) -> None:
         """Makes those of the session that was opened."""
         if not here():
             return
-        for line in asked("gdb").splitlines():
+        lines = [line.partition(" ")[::2] for line in asked("session-stops").splitlines()]
+        texts = [line for kind, line in lines if kind == "text"]
+        are_wanted = not texts or self._are_wanted(texts)
+        for kind, line in lines:
             try:
-                self._make(line)
+                if kind == "text" and not are_wanted:
+                    self._not_made.append(line)
+                else:
+                    self._make(line)
             except gdb.error as error:
-                gdb.write(f"the session's stop `{line}` can't be made: {error}\n")
+                self._not_made.append(line)
+                gdb.write(f"the session's stop `{printable(line)}` can't be made: {error}\n")
+
+    def _are_wanted(self, lines: list[str]) -> bool:
+        """Shows the lines, and asks whether they are to be made."""
+        gdb.write("".join(["gdb evaluates these stops of the session, with the macros of its ELF, as if they were typed here:\n",
+                           *(f"  {printable(line)}\n" for line in lines)]))
+        if not (os.isatty(0) and os.isatty(1)):
+            gdb.write("they are not made, because without a terminal nobody can be asked: type those that you trust\n")
+            return False
+        try:
+            answer = input("Make them? (y or n) ")
+        except (EOFError, KeyboardInterrupt):
+            answer = ""
+        return answer.strip().lower() in ("y", "yes")
 
     def _make(self, line: str) -> None:
         found = self.COMMAND.fullmatch(line)
@@ -325,6 +360,8 @@ class Stops:
     def keep(self) -> None:
         """Hands those that there are to the session that is saved, and says what it can't have."""
         asked("gdb none")
+        for line in self._not_made:
+            asked(f"gdb {line}")
         for it in gdb.breakpoints():
             line = self._line(it)
             if line:
@@ -366,6 +403,11 @@ class Stops:
 
 
 stops = Stops()
+
+
+def printable(text: str) -> str:
+    """A text of a file as a terminal may show it."""
+    return "".join(it if it.isprintable() else f"\\x{ord(it):02x}" for it in text)
 
 
 def quoted(name: str) -> str:
@@ -526,6 +568,7 @@ def hook(command: str, line: str) -> None:
 
 
 Workbench()
+Shell()
 CatchException()
 Load()
 BeforeRun()

@@ -38,6 +38,7 @@ OK, FAILED, NOT_KNOWN, GONE = b"OK", b"E01", b"", b"W00"
 CODE, CODE_IN_HARDWARE, WRITE = range(3)  # of the kinds of breakpoints and watches; the others watch reads
 
 ELF_FILE = "elf-file"  # of `monitor`: names the ELF of the present image, for front/bezhakkom/in_gdb.py
+STOPS = "session-stops"  # of `monitor`: lists the stops of the session for gdb, each after `plain` or `text`
 LEAVES = "leaves"  # of `monitor`: the user leaves the debugger, and unsaved edits with it
 NEXT_RUN = "next-run "  # of `monitor`: the next continue runs the line after it, so that it is shown and ended as a run is
 
@@ -358,6 +359,10 @@ class Stub:
             return OK
         if line == ELF_FILE:
             self._say(self._elf_file.text(self._on_disk.changed()))
+            return OK
+        if line == STOPS:
+            stops = self._session.stops_of_gdb
+            self._say("".join(f"{'plain' if gdb_stops.is_plain(it) else 'text'} {it}\n" for it in stops))
             return OK
         if not line.startswith(NEXT_RUN):
             self._say(monitor.answer(self._session, line))

@@ -23,6 +23,7 @@ from bezhakkom.symbols import symbols_of
 from front.tests import debugger
 from front.tests.scripts import shell
 from front.tests.support import ROOT
+from front.tests.terminal import Terminal
 
 LOGIN = "examples/login/login.elf"
 LINES = ("goto 90,000", "type 'ab' 700", "del 2", "move 0 19,000", "patch main+4 0x24040001", "add pos+5 1 'z'", "undo",
@@ -272,6 +273,16 @@ class Saved(unittest.TestCase):
         line = [debugger.WB, "gdb", *words, *debugger.PLAIN, "-batch", *(word for it in commands for word in ("-ex", it))]
         return debugger.run(line).splitlines()
 
+    def confirmed(self, *commands: str) -> list[str]:
+        """What gdb shows for commands on a terminal, after a `y` for the stops of the session that it evaluates."""
+        words = [word for it in (*commands, "echo <end>\\n") for word in ("-ex", it)]
+        terminal = Terminal("gdb", self.file, *debugger.PLAIN, "-iex", "set height 0", *words)
+        terminal.until(b"Make them? (y or n) ")
+        terminal.type(b"y\n")
+        shown = terminal.until(b"<end>\r\n").decode().splitlines()
+        self.assertEqual(terminal.leave(b"quit\n"), 0)
+        return shown
+
     def test_stops_of_gdb(self) -> None:
         """They stop where the same ones stop that are typed. What can't be kept is named."""
         debugger.needed()
@@ -289,7 +300,7 @@ class Saved(unittest.TestCase):
         kept = ["break login.c:48 if session.length == 3", "tbreak print", "disabled break read_line", "watch -location session.user[8]",
                 "watch session.length if session.length < 0", "hbreak *0xbfc002ec", "break send if c == 10", "break login.c:53"]
         self.assertEqual([it[4:] for it in Path(self.file).read_text().splitlines() if it.startswith("gdb ")], kept)
-        shown = self.gdb(self.file, commands=("info breakpoints", *runs))
+        shown = self.confirmed("info breakpoints", *runs)
         stops = [it for it in shown if it.startswith("at ")]
         self.assertEqual(stops, [it for it in wanted if it.startswith("at ")])
         self.assertGreater(len(set(stops)), 5)
@@ -310,8 +321,10 @@ class Saved(unittest.TestCase):
         with open(self.file, "a") as opened:
             opened.writelines(f"{it}\n" for it in lines)
         shown = self.gdb(self.file, commands=("starti", "continue"))
-        self.assertEqual(sum("can't be made: it is no breakpoint or watch that a session can have" in it for it in shown), 4, shown)
+        self.assertIn("they are not made, because without a terminal nobody can be asked: type those that you trust", shown)
         self.assertIn("Temporary breakpoint", "\n".join(shown))
+        shown = self.confirmed("starti", "continue")
+        self.assertEqual(sum("can't be made: it is no breakpoint or watch that a session can have" in it for it in shown), 4, shown)
         self.assertFalse(file.exists())
 
     def test_stops_that_both_have(self) -> None:
