@@ -302,7 +302,7 @@ class Shell(gdb.Function):
     def __init__(self) -> None:
         super().__init__("_shell")
 
-    def invoke(self, *words: object) -> None:
+    def invoke(self, *words: object) -> int:
         raise gdb.GdbError("`$_shell` is off, as a macro of an ELF could call it: `shell LINE` runs a program")
 
 
@@ -363,13 +363,13 @@ class Stops:
         for line in self._not_made:
             asked(f"gdb {line}")
         for it in gdb.breakpoints():
-            line = self._line(it)
-            if line:
-                asked(f"gdb {line}")
+            made = self._line(it)
+            if made:
+                asked(f"gdb {made}")
             else:
                 gdb.write(f"not saved: stop {it.number}: a session keeps breakpoints, and watches of stores, without `$_` in them\n")
             for name, value in ("commands", it.commands), ("count for `ignore`", it.ignore_count):
-                if line and value:
+                if made and value:
                     gdb.write(f"not saved: the {name} of stop {it.number}\n")
 
     def _line(self, stop: gdb.Breakpoint) -> Optional[str]:

@@ -1,2 +1,2 @@
-"""Fuzzers of the front ends. Each module has `run(seconds, seed)`, which returns how many cases it played and raises `AssertionError` with
-the case that failed. `front/fuzz` runs them."""
+"""Random and damaged input for the front ends. Each module but `cases` has `run(seconds, seed)`, which returns how many cases it tried, and
+raises AssertionError for the first one that fails."""
