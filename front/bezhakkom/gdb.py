@@ -70,6 +70,7 @@ def main(arguments: Sequence[str]) -> int:
     if debugger is None:
         raise Problem(f"{DEBUGGER} is not installed; on Debian: apt-get install {DEBUGGER}")
     build()
+    offered = rescue.offer(line.image)
     progress = ["--progress"] if sys.stdout.isatty() else []
     command = shlex.join([*_python(), str(PACKAGE), "stub", *progress, *arguments[:count]])
     words = [debugger, "-q", *(word for setting in SETTINGS for word in ("-iex", setting))]
@@ -79,7 +80,7 @@ def main(arguments: Sequence[str]) -> int:
         words += [*_symbols(image, Path(folder)), "-x", str(IN_GDB), "-ex", f"target extended-remote | {command}"]
         words += ["-ex", "python image.begin(); stops.make()"]
         if any(re.fullmatch("--?batch(-silent)?", word) for word in line.rest):
-            words += ["-ex", "python asked('leaves')"]  # the lines that edit are kept where they came from
+            words += ["-ex", "python before_quit.leave()"]  # the lines that edit are kept where they came from
         presses = Path(folder, "interrupts")
         environment = {**os.environ, JUMP: _jump(image, Path(folder)), interrupts.VARIABLE: str(presses)}
         if _is_mi(line.rest):
@@ -90,7 +91,7 @@ def main(arguments: Sequence[str]) -> int:
         # A Ctrl-C is gdb's, and is noted for the stub.
         signal.signal(signal.SIGINT, lambda number, frame: interrupts.note(presses))
         status = _run([*words, *arguments[count:]], environment)
-    rescue.offer(line.image)  # what the stub has kept: gdb shows nothing more of it after its own end
+    rescue.offer(line.image, "this", offered)  # what the stub has kept: gdb shows nothing more of it after its own end
     return status
 
 

@@ -530,25 +530,34 @@ class BeforeStart(gdb.Command):
 
 
 class BeforeQuit(gdb.Command):
-    """Says what was edited and is not saved, before gdb quits. A second `quit` leaves without it. After a command that may edit or save it
-    is said again."""
+    """Says what was edited and is not saved, before gdb quits. On a terminal a second `quit` leaves without it. After a command that may edit
+    or save it is said again. Without a terminal the stub keeps it."""
 
     def __init__(self) -> None:
         super().__init__("before-quit", gdb.COMMAND_OBSCURE)
         self._said = ""
+        self._leaves = False
 
     def forget(self) -> None:
         self._said = ""
+
+    def leave(self) -> None:
+        """Lets the stub keep nothing when gdb quits."""
+        self._leaves = True
+        asked("leaves")
 
     def invoke(self, line: str, from_terminal: bool) -> None:
         try:
             unsaved = asked("unsaved").replace("(save-", "(wb save-")
         except gdb.GdbError:
             return  # there is no run
-        if unsaved and unsaved != self._said and os.isatty(0):
+        if not unsaved or unsaved == self._said:
+            self.leave()
+        elif os.isatty(0):
             self._said = unsaved
             raise gdb.GdbError(f"{unsaved}`quit` again leaves without it.")
-        asked("leaves")
+        elif not self._leaves:
+            gdb.write(unsaved)
 
 
 def prompt(current_prompt: str) -> str:

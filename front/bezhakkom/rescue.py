@@ -11,7 +11,7 @@ import tempfile
 from contextlib import contextmanager, suppress
 from dataclasses import dataclass
 from pathlib import Path
-from typing import Any, Callable, Iterator, Optional
+from typing import Any, Callable, Collection, Iterator, Optional
 
 from .installed import NAME
 from .loading import say
@@ -37,10 +37,11 @@ class Reason:
 
 
 @contextmanager
-def kept(session: Text, image: str) -> Iterator[Reason]:
-    """Ends what is done within it at such a signal, and then keeps the session, as it does for another reason that is set. Names sessions of
-    the image that were kept earlier."""
-    offer(image)
+def kept(session: Text, image: str, *, is_silent: bool = False) -> Iterator[Reason]:
+    """Ends what is done within it at such a signal, and then keeps the session, as it does for another reason that is set. Names its file, and
+    sessions of the image that were kept earlier, unless `is_silent`: the process that started this one calls `offer`."""
+    if not is_silent:
+        offer(image)
     reason = Reason()
 
     def end(number: int, frame: Any) -> None:
@@ -57,14 +58,14 @@ def kept(session: Text, image: str) -> Iterator[Reason]:
     finally:
         # Not only after _Terminated: if the terminal is gone, and the program with it, another exception may have taken its place.
         if reason.text:
-            _keep(session, image, reason.text)
+            _keep(session, image, reason.text, is_silent)
         for it in taken:
             if signal.getsignal(it) is end:  # else the process ends, and another signal is to change nothing
                 signal.signal(it, signal.SIG_DFL)
 
 
-def _keep(session: Text, image: str, why: str) -> None:
-    """Keeps a session of an image, if there are unsaved edits, and names its file."""
+def _keep(session: Text, image: str, why: str, is_silent: bool) -> None:
+    """Keeps a session of an image, if there are unsaved edits, and names its file, unless `is_silent`."""
     text = session()
     if text is None:
         return
@@ -77,18 +78,24 @@ def _keep(session: Text, image: str, why: str) -> None:
         Path(name + _UNSEEN).touch()
     except OSError:
         name = _written(content, prefix, None)
-    say(f"{why}: what was not saved is in {name}, which `{NAME} shell` opens")
-    _seen(name)
+    if not is_silent:
+        say(f"{why}: what was not saved is in {name}, which `{NAME} shell` opens")
+        _seen(name)
 
 
-def offer(image: str) -> None:
-    """Names the sessions of an image that were kept and not yet shown on a terminal."""
+def offer(image: str, which: str = "an earlier", but: Collection[str] = ()) -> list[str]:
+    """Names the sessions of an image that were kept and not yet shown on a terminal, except some, and returns them."""
+    found: list[str] = []
     with suppress(OSError):
         for marker in sorted(_folder().glob(f"*-{_digest(image)}-*{_UNSEEN}")):
             name = str(marker)[:-len(_UNSEEN)]
+            if name in but:
+                continue
+            found.append(name)
             if os.path.exists(name):
-                say(f"an earlier run of {image} ended with edits that were not saved: `{NAME} shell {shlex.quote(name)}` opens them")
+                say(f"{which} run of {image} ended with edits that were not saved: `{NAME} shell {shlex.quote(name)}` opens them")
             _seen(name)
+    return found
 
 
 def _seen(name: str) -> None:

@@ -9,7 +9,7 @@ import signal
 import sys
 from typing import Callable, Optional, Sequence
 
-from . import agent, elf, gdb_stops, listening, loading, memory, monitor, places, reloading, rescue, saved, target, through
+from . import agent, elf, gdb_stops, interrupts, listening, loading, memory, monitor, places, reloading, rescue, saved, target, through
 from .arguments import Parser
 from .errors import Interrupted, Problem, Unexpected
 from .gdb_stops import MOST_WATCHED
@@ -491,7 +491,8 @@ def main(arguments: Sequence[str]) -> int:
     with saved.opened(loading.Opening.of(line, line.image)) as found, loading.running(found.opening) as driver:
         session = Session(driver, symbols_of(driver.image), origin=found.origin, saved_log=list(driver.log))
         open_session(session, found.commands)
-        with rescue.kept(session.unsaved_text, line.image) as reason:
+        is_of_gdb = interrupts.VARIABLE in os.environ  # `bin/wb gdb` has started the debugger, and outlives it
+        with rescue.kept(session.unsaved_text, line.image, is_silent=is_of_gdb) as reason:
             if where is not None:
                 reason.text = "the stub has ended"
                 _listen(session, where, whole)

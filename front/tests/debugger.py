@@ -4,6 +4,7 @@ from __future__ import annotations
 import os
 import shutil
 import subprocess
+import tempfile
 import unittest
 from pathlib import Path
 from typing import Optional, Sequence
@@ -40,8 +41,8 @@ def batch(image: str, *commands: str, log: Optional[str] = None, options: Sequen
 
 
 def run(line: Sequence[str], typed: str = "") -> str:
-    """What a command shows. One of `bin/wb` runs in a copy of this process."""
-    with mock.patch.dict(os.environ, TERM="dumb"):
+    """What a command shows. One of `bin/wb` runs in a copy of this process. Unsaved edits are kept where no other test finds them."""
+    with tempfile.TemporaryDirectory() as state, mock.patch.dict(os.environ, TERM="dumb", XDG_STATE_HOME=state):
         if line[0] == WB:
             shown = outside.run(line[1:], typed.encode("latin-1"), together=True).stdout
         else:

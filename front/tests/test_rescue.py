@@ -96,6 +96,29 @@ class Kept(unittest.TestCase):
                        stdout=subprocess.DEVNULL, env={**os.environ, "XDG_STATE_HOME": self.state})
         self.assertEqual(self.sessions(), [])
 
+    @unittest.skipUnless(shutil.which(debugger.DEBUGGER), f"{debugger.DEBUGGER} is not installed")
+    def test_gdb_without_a_terminal_names_what_is_not_saved_and_keeps_it(self) -> None:
+        for typed in b"wb del 2\n", b"wb del 2\nquit\n":
+            done = subprocess.run([debugger.WB, "gdb", *LOGIN, *debugger.PLAIN], cwd=ROOT, input=typed, stdout=subprocess.PIPE, stderr=subprocess.PIPE,
+                                  env={**os.environ, "XDG_STATE_HOME": self.state})
+            self.assertIn(b"not saved: the log (wb save-log FILE)\n", done.stdout)
+            session, = self.sessions()
+            name = f"this run of {IMAGE} ended with edits that were not saved: `bin/wb shell {session}` opens them\n"
+            self.assertEqual(done.stderr.count(str(session).encode()), 1, done.stderr)
+            self.assertIn(name.encode(), done.stderr)
+            self.check("gdb")
+            for it in Path(self.state, "bezhakkom").iterdir():
+                it.unlink()
+
+    @unittest.skipUnless(shutil.which(debugger.DEBUGGER), f"{debugger.DEBUGGER} is not installed")
+    def test_start_of_gdb_offers_once(self) -> None:
+        self.edited("shell").close()
+        terminal = Terminal("gdb", *LOGIN, *debugger.PLAIN, XDG_STATE_HOME=self.state)
+        shown = terminal.until(b"(0) ")
+        terminal.type(b"quit\n")
+        self.assertEqual(terminal.end(), 0)
+        self.assertEqual((shown + terminal._shown).count(OFFER), 1)
+
     def test_stub_whose_debugger_goes_away_keeps_the_edits(self) -> None:
         for last in b"", b"$D#44":  # a killed debugger, and one that detaches
             with subprocess.Popen([debugger.WB, "stub", *LOGIN], cwd=ROOT, stdin=subprocess.PIPE, stdout=subprocess.PIPE,
