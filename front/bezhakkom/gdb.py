@@ -77,7 +77,7 @@ def main(arguments: Sequence[str]) -> int:
     with saved.opened(loading.Opening.of(line, line.image), tell=lambda note: None) as found, tempfile.TemporaryDirectory() as folder:
         # The notes are the stub's to give.
         image = loading.booted(found.opening, tell=lambda note: None)
-        words += [*_symbols(image, Path(folder)), "-x", str(IN_GDB), "-ex", f"target extended-remote | {command}"]
+        words += [*_symbols(image, Path(folder), line.image if found.origin.is_packed else ""), "-ex", f"target extended-remote | {command}"]
         words += ["-ex", "python image.begin(); stops.make()"]
         if any(re.fullmatch("--?batch(-silent)?", word) for word in line.rest):
             words += ["-ex", "python before_quit.leave()"]  # the lines that edit are kept where they came from
@@ -122,9 +122,10 @@ def _is_mi(words: Sequence[str]) -> bool:
     return bool(re.search(r"(?:^| )--?(?:i|int\w*)[= ]mi", " ".join(words)))
 
 
-def _symbols(image: Image, folder: Path) -> list[str]:
-    """The words that give gdb ELFs: that of the image and others with symbols, or a file with names where there is none. A session may name
-    any file, and gdb takes a name that begins with `-` for an option, which may run programs: so each name is an absolute path."""
+def _symbols(image: Image, folder: Path, session: str) -> list[str]:
+    """The words that give gdb ELFs: that of the image and others with symbols, or a file with names where there is none; and those that load
+    IN_GDB. An ELF that a session has packed in is shown as its part: the file of it is one for a while. A session may name any file, and
+    gdb takes a name that begins with `-` for an option, which may run programs: so each name is an absolute path."""
     first, *others = image.elves or (None,)
     if first and first.offset:
         first, others = None, list(image.elves)
@@ -133,14 +134,18 @@ def _symbols(image: Image, folder: Path) -> list[str]:
     if first:
         # Without --readnow gdb finds no lines of assembler sources.
         folders = [*(os.path.abspath(it) for it in first.sources), str(Path(first.name).resolve().parent)]
-        return ["--readnow", *(word for folder in folders for word in ("--directory", folder)), os.path.abspath(first.name),
-                *added]
+        read = ["--readnow", *(word for folder in folders for word in ("--directory", folder))]
+        name = os.path.abspath(first.name)
+        if session and name.isprintable():
+            shown = f"{Path(name).name} in {session}"
+            return [*read, "-x", str(IN_GDB), "-ex", f"python image.read({name!r}, {shown!r})", *added]
+        return [*read, name, *added, "-x", str(IN_GDB)]
     symbols = symbols_of(image)
     names = {KSEG0: "ram", RESET_PC: "reset"}
     names |= {address: name for name in symbols.names() if (address := symbols.address(name)) is not None}
     file = folder / Path(image.name).name
     file.write_bytes(symbol_file.content((name, address) for address, name in names.items()))
-    return [str(file), *added]
+    return [str(file), *added, "-x", str(IN_GDB)]
 
 
 def _jump(image: Image, folder: Path) -> str:

@@ -422,13 +422,18 @@ class Image:
     def __init__(self) -> None:
         self._digest = ""  # of the ELF whose symbols gdb has
 
+    def read(self, file: str, shown: str) -> None:
+        """Reads the symbols of an ELF by the name that the user knows."""
+        gdb.write(f"Reading symbols from {printable(shown)}...\n")
+        gdb.execute(f"file {quoted(file)}", to_string=True)
+
     def begin(self) -> None:
         """gdb has read the symbols at its start."""
         self._digest = self._asked()[0]
 
     def follow(self) -> None:
         """Lets gdb have the symbols of the image, and names the stops that move with them."""
-        digest, file, _, _ = self._asked()
+        digest, file, name, _ = self._asked()
         if digest == self._digest:
             return
         self._digest = digest
@@ -441,6 +446,8 @@ class Image:
             flush()
             gdb.newest_frame().type()
             gdb.execute(f"file {quoted(file)}", to_string=True)
+            if os.path.exists(name):
+                gdb.execute(f"exec-file {quoted(name)}", to_string=True)  # gdb shows it, also where `file` is one for a while
             gdb.execute("maintenance flush source-cache", to_string=True)  # `file` keeps the text of sources that were edited since
             asked(f"goto {position[0] if position else 0}")
             flush()
@@ -466,8 +473,10 @@ class Image:
 
     def load_changed(self) -> None:
         """Loads the ELF if it was built again since it was loaded."""
-        _, _, name, state = self._asked()
+        _, file, name, state = self._asked()
         if state != "changed":
+            if file != name:
+                gdb.write(f"this is a run of {name} as it was before the `load` that was taken back: `load` loads it as it is on disk\n")
             return
         gdb.write(f"{name} has changed on disk: it is loaded, and the log stays\n")
         try:

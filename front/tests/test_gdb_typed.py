@@ -226,7 +226,11 @@ class Kernel(unittest.TestCase):
 
     def test_undo_of_a_load_brings_the_symbols_back(self) -> None:
         shown = self.changed("break *&loop", "print/x (long)&count", self.prepare(), "load", "print/x (long)&count", "wb undo",
-                             "print/x (long)&count", "starti 46", "print $r8", "info breakpoints")
+                             "print/x (long)&count", "starti 46", "print $r8", "info breakpoints", "info inferiors")
+        note = f"this is a run of {self.elf} as it was before the `load` that was taken back: `load` loads it as it is on disk\n"
+        self.assertEqual(shown.count(note), 1, shown)
+        self.assertNotIn("/bezhakkom-", shown, "a file that is one for a while")
+        self.assertIn(self.elf, shown.split("Executable")[1])
         addresses = re.findall(r"\$[123] = (0x\w+)", shown)
         self.assertEqual(addresses[0], addresses[2], shown)
         self.assertNotEqual(addresses[0], addresses[1], shown)

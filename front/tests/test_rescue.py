@@ -111,6 +111,15 @@ class Kept(unittest.TestCase):
                 it.unlink()
 
     @unittest.skipUnless(shutil.which(debugger.DEBUGGER), f"{debugger.DEBUGGER} is not installed")
+    def test_gdb_on_a_kept_session_names_its_files_as_the_user_knows_them(self) -> None:
+        self.edited("shell").close()
+        session, = self.sessions()
+        shown = debugger.run([debugger.WB, "gdb", str(session), *debugger.PLAIN, "-batch", "-ex", "print main"])
+        self.assertIn(f"Reading symbols from login.elf in {session}...\n", shown)
+        self.assertIn("<main>", shown)
+        self.assertNotIn("/files/", shown, "where the file stands for a while")
+
+    @unittest.skipUnless(shutil.which(debugger.DEBUGGER), f"{debugger.DEBUGGER} is not installed")
     def test_start_of_gdb_offers_once(self) -> None:
         self.edited("shell").close()
         terminal = Terminal("gdb", *LOGIN, *debugger.PLAIN, XDG_STATE_HOME=self.state)
