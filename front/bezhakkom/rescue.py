@@ -77,7 +77,7 @@ def _keep(session: Text, image: str, why: str, is_silent: bool) -> None:
         name = _written(content, prefix, str(folder))
         Path(name + _UNSEEN).touch()
     except OSError:
-        name = _written(content, prefix, None)
+        name, is_silent = _written(content, prefix, None), False  # `offer` does not find it
     if not is_silent:
         say(f"{why}: what was not saved is in {name}, which `{NAME} shell` opens")
         _seen(name)
