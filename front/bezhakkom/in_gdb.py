@@ -5,7 +5,7 @@ from __future__ import annotations
 import os
 import re
 import signal
-from contextlib import contextmanager, suppress
+from contextlib import contextmanager
 from typing import Callable, Iterator, Optional
 
 import gdb
@@ -446,8 +446,10 @@ class Image:
             flush()
             gdb.newest_frame().type()
             gdb.execute(f"file {quoted(file)}", to_string=True)
-            with suppress(gdb.error):  # what is on disk may be damaged, or gone
+            try:
                 gdb.execute(f"exec-file {quoted(name)}", to_string=True)  # gdb shows its name: `file` may be one for a while
+            except gdb.error:  # what is on disk is damaged, or gone
+                gdb.execute(f"exec-file {quoted(file)}", to_string=True)
             gdb.execute("maintenance flush source-cache", to_string=True)  # `file` keeps the text of sources that were edited since
             asked(f"goto {position[0] if position else 0}")
             flush()
