@@ -4,6 +4,7 @@ from __future__ import annotations
 
 import os
 import re
+import select
 import signal
 from contextlib import contextmanager
 from typing import Callable, Iterator, Optional
@@ -343,11 +344,7 @@ class Stops:
         if not (os.isatty(0) and os.isatty(1)):
             gdb.write("they are not made, because without a terminal nobody can be asked: type those that you trust\n")
             return False
-        try:
-            answer = input("Make them? (y or n) ")
-        except (EOFError, KeyboardInterrupt):
-            answer = ""
-        return answer.strip().lower() in ("y", "yes")
+        return answer("Make them? (y or n) ").strip().lower() in ("y", "yes")
 
     def _make(self, line: str) -> None:
         found = self.COMMAND.fullmatch(line)
@@ -403,6 +400,24 @@ class Stops:
 
 
 stops = Stops()
+
+
+def answer(question: str) -> str:
+    """Asks the user on the terminal, and returns the line that is typed, or '' at Ctrl-C, which would not end `input` in gdb."""
+    gdb.write(question)
+    gdb.flush()
+    typed = b""
+    try:
+        while not typed.endswith(b"\n"):
+            if select.select([0], [], [], 0.1)[0]:
+                key = os.read(0, 1)
+                if not key:
+                    break
+                typed += key
+    except KeyboardInterrupt:
+        typed = b""
+        gdb.write("\n")
+    return typed.decode("latin-1")
 
 
 def printable(text: str) -> str:

@@ -70,7 +70,7 @@ class Opened(InFolder):
         self.assertNotIn("keep", shown)
         self.assertRegex(shown, r"1 +breakpoint +del +y +0xbfc00000")
         self.assertIn(f"gdb {line}\n", (self.folder / "b.session").read_text())
-        for answer in b"n\n", b"y\n":
+        for answer in b"n\n", b"\x03", b"y\n":
             terminal = Terminal("gdb", str(self.folder / "a.session"), *debugger.PLAIN, "-ex", f"cd {self.folder}")
             terminal.until(b"break start if evil || 1\r\nMake them? (y or n) ")
             terminal.type(answer)
