@@ -19,6 +19,7 @@ from .errors import Problem, Unexpected
 from .installed import NAME
 from .limits import GREATEST_POSITION, LINES
 from .log import Event, Kind
+from .printable import printable
 from .saving import FORCE_WORD, Seen, save
 
 KEYS = """\
@@ -42,6 +43,7 @@ Example:
   {NAME} console examples/login/login.elf
 """
 
+LINE_END = "\r\n"
 _ESCAPE = 0x1D
 _END = b"\x1dq"  # what the end of the input is taken for
 _TICK = 0.02
@@ -69,7 +71,7 @@ def main(arguments: Sequence[str]) -> int:
     with saved.opened(loading.Opening.of(line, line.image)) as found, loading.running(found.opening) as driver:
         driver.values(found.edits())
         console = Console(driver, serial, speed)
-        with rescue.kept(lambda: saved.text_of_state(found.origin, os.getcwd(), driver) if console.is_unsaved() else None, line.image):
+        with rescue.kept(lambda: saved.text_of_state(found.origin, driver) if console.is_unsaved() else None, line.image):
             print(f"line {serial}, {speed:,} steps a second; Ctrl-] ? shows the keys")
             console.run()
     return 0
@@ -102,9 +104,7 @@ class Console:
                         self._key(key)
                     if not self._stopped:
                         self._go_on(min(now - before, 5 * _TICK))
-                except OSError:
-                    raise  # nothing can be shown any more
-                except Exception as error:
+                except Exception as error:  # what is told of it fails too if the output did
                     self._stopped = True
                     problem = error if isinstance(error, Problem) else Unexpected(error)
                     self._tell(f"{problem}; time stands, and Ctrl-] p lets it go on")
@@ -163,7 +163,7 @@ class Console:
         elif key == "q":
             self._leave()
         else:
-            self._tell(KEYS.rstrip().replace("\n", "\r\n"))
+            self._tell(KEYS.rstrip().replace("\n", LINE_END))
 
     def _go_back(self) -> None:
         """A second back, without what arrives at the line later."""
@@ -209,7 +209,7 @@ class Console:
         self._saved = list(self._driver.log)
 
     def _tell(self, message: str) -> None:
-        _write(f"\r\n[{message}]\r\n".encode())
+        _write(f"\r\n[{printable(message, LINE_END)}]\r\n".encode())
 
 
 def _write(content: bytes) -> None:

@@ -190,7 +190,7 @@ def _symbol(fields: tuple, names: bytes, file: str) -> Iterator[Symbol]:
 
 
 def _text_at(texts: bytes, at: int) -> str:
-    """The text up to a byte 0, or nothing where none is near."""
+    """The printable text up to a byte 0, or nothing where none is near."""
     end = texts.find(b"\0", at, at + _LONGEST_NAME)
     return texts[at:end].decode("utf-8", "replace") if end >= 0 else ""
 

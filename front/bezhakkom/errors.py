@@ -2,15 +2,18 @@
 from __future__ import annotations
 
 from pathlib import Path
+from typing import Sequence
 
 from .installed import NAME
+from .printable import printable
 
 
 class Problem(Exception):
-    """One sentence for the user about what went wrong, and the status with which a command ends for it."""
+    """A sentence for the user about what went wrong, perhaps with more lines of details, and the status with which a command ends for it.
+    All of it is printable, because a sentence may quote files of a stranger."""
 
-    def __init__(self, message: str, status: int = 2) -> None:
-        super().__init__(message)
+    def __init__(self, message: str, status: int = 2, details: Sequence[str] = ()) -> None:
+        super().__init__("\n".join(map(printable, (message, *details))))
         self.status = status
 
 

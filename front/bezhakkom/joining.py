@@ -9,6 +9,7 @@ from .errors import Problem
 from .image import Image, SymbolFile
 from .limits import RAM, ROM
 from .loading import Opening
+from .reading import content_of
 
 
 def image_of(opening: Opening, tell: Callable[[str], None] = loading.say) -> Image:
@@ -17,7 +18,7 @@ def image_of(opening: Opening, tell: Callable[[str], None] = loading.say) -> Ima
         raise Problem("--kind is for a single file")
     boots, entry, notes, elves = [], None, [], []
     for name in opening.files:
-        content = loading.content_of(loading.name_and_number(name)[0])
+        content = content_of(loading.name_and_number(name)[0])
         if loading.name_and_number(name)[1] is None and content.startswith(elf.ELF_MAGIC):
             read = elf.read(content, name)
             boot, more = elf.placed(read, name)
@@ -51,7 +52,7 @@ def _boot(text: str) -> Boot:
             return driver.boot()
         finally:
             driver.close()
-    content, boot = loading.content_of(name), Boot()
+    content, boot = content_of(name), Boot()
     start = elf.physical_of(address)
     if address % 4:
         raise Problem(f"{text}: {address:#010x} is no multiple of 4")

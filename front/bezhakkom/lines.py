@@ -17,6 +17,7 @@ from typing import Dict, Iterable, Iterator, List, Optional, Set, Tuple, Union
 from . import elf
 from .errors import Problem
 from .image import SymbolFile
+from .printable import printable
 
 _TABLE, _STRINGS, _LINE_STRINGS = ".debug_line", ".debug_str", ".debug_line_str"
 _VERSIONS = range(2, 6)
@@ -45,7 +46,7 @@ class Line:
     number: int
 
     def __str__(self) -> str:
-        return f"{PurePosixPath(self.file).name}:{self.number}"
+        return f"{printable(PurePosixPath(self.file).name)}:{self.number}"
 
 
 class Lines:

@@ -7,7 +7,6 @@ import sys
 from argparse import Namespace
 from contextlib import contextmanager, suppress
 from dataclasses import dataclass, fields, replace
-from pathlib import Path
 from typing import Any, Callable, Iterator, Optional, Sequence
 
 from . import board, elf
@@ -20,11 +19,10 @@ from .image import HOW_TO_LINK, KINDS, Image, SymbolFile, is_gnu_source, kind_of
 from .image import MAGIC as IMAGE_MAGIC
 from .installed import NAME
 from .limits import ROM
+from .printable import printable
 from .program import build
 from .progress import TerminalProgress
-
-# The most bytes that the program takes for an image or a log.
-MOST_BYTES = 67_108_864
+from .reading import content_of
 
 @dataclass(frozen=True)
 class Opening:
@@ -57,13 +55,17 @@ class Opening:
     def completed(self, options: Sequence[tuple[str, str]]) -> Opening:
         """This with options besides, where it does not have them."""
         given = {name for name, _ in self.options()}
-        made = {_field_of(name): value for name, value in options if name not in given and name != "--symbols"}
-        more = tuple(value for name, value in options if name not in given and name == "--symbols")
-        return replace(self, symbols=self.symbols + more, **made)
+        made: dict[str, Any] = {_field_of(name): value for name, value in options if name not in given and name not in SEVERAL}
+        for it in SEVERAL:
+            if it not in given:
+                made[_field_of(it)] = tuple(value for name, value in options if name == it)
+        return replace(self, **made)
 
 
-# The options of an Opening that a session has.
-OPTIONS = ("--kind", "--symbols", "--unit", "--byte-time", "--clock")
+# The options of an Opening that a session has, and those of them that may come several times.
+SYMBOLS, SOURCES = "--symbols", "--sources"
+SEVERAL = (SYMBOLS, SOURCES)
+OPTIONS = ("--kind", *SEVERAL, "--unit", "--byte-time", "--clock")
 
 
 def _field_of(option: str) -> str:
@@ -84,25 +86,8 @@ def add_options(parser: Parser) -> None:
 def say(message: str) -> None:
     """Writes a note for the user to standard error, or nothing where that can't be written."""
     with suppress(OSError):
-        for line in message.splitlines():
-            print(f"{NAME}: {line}", file=sys.stderr, flush=True)
-
-
-def check(name: str) -> Path:
-    """The path of a file, or a Problem where it can't be read."""
-    path = Path(name)
-    if not path.exists():
-        raise Problem(f"there is no file {name}")
-    if not path.is_file() or not os.access(path, os.R_OK):
-        raise Problem(f"{name} is no file that can be read")
-    return path
-
-
-def content_of(name: str) -> bytes:
-    path = check(name)
-    if path.stat().st_size > MOST_BYTES:
-        raise Problem(f"{name} has more than {MOST_BYTES:,} bytes")
-    return path.read_bytes()
+        for line in message.split("\n"):
+            print(f"{NAME}: {printable(line)}", file=sys.stderr, flush=True)
 
 
 def image(name: str, kind: Optional[str] = None, tell: Callable[[str], None] = say) -> Image:
@@ -132,7 +117,7 @@ def booted(opening: Opening, tell: Callable[[str], None] = say) -> Image:
 def with_sources(image: Image, folders: Sequence[str]) -> Image:
     """An image whose sources may also be in some folders."""
     for folder in folders:
-        if not Path(folder).is_dir():
+        if not os.path.isdir(folder):
             raise Problem(f"--sources {folder}: there is no such folder")
     return replace(image, elves=tuple(replace(file, sources=tuple(folders)) for file in image.elves))
 
@@ -148,7 +133,7 @@ def symbol_file(text: str) -> SymbolFile:
 def name_and_number(text: str) -> tuple[str, Optional[int]]:
     """A name of a file, and the number that stands after it and an `@`. A file may also have this in its name."""
     match = re.fullmatch(r"(.+)@(0x[0-9a-fA-F]{1,16}|[0-9][0-9,]{0,20})", text, re.DOTALL)
-    if not match or Path(text).exists():
+    if not match or os.path.exists(text):
         return text, None
     number = int(match[2].replace(",", ""), 0)
     if number >= 1 << 32:
@@ -164,7 +149,8 @@ def start(made: Image, log: Optional[str], report: Optional[TerminalProgress] = 
     try:
         return Driver.start(made, events, report=report)
     except Ended as ended:
-        raise Problem("\n".join([str(ended), *what_is_wrong(made, log, content)]), ended.status) from None
+        first, *more = str(ended).split("\n")
+        raise Problem(first, ended.status, [*more, *what_is_wrong(made, log, content)]) from None
 
 
 @contextmanager

@@ -88,7 +88,7 @@ def read(content: bytes, name: str) -> list[Event]:
 def check(events: Sequence[Event], name: str, greatest: int = GREATEST_TIME) -> None:
     """Refuses events that the program would refuse."""
     if len(events) > MOST_EVENTS:
-        raise Problem(f"{name} has {len(events):,} events; a log has at most {MOST_EVENTS:,}")
+        raise _too_many(name)
     before = 0
     for number, event in enumerate(events):
         if not before <= event.time <= greatest:
@@ -101,6 +101,10 @@ def check(events: Sequence[Event], name: str, greatest: int = GREATEST_TIME) -> 
         if event.kind == Kind.WIRE and event.byte > 1:
             raise Problem(f"{name}: event {number} gives an external line the level {event.byte}; a level is 0 or 1")
         before = event.time
+
+
+def _too_many(name: str) -> Problem:
+    return Problem(f"{name} has too many events: a log has at most {MOST_EVENTS:,}")
 
 
 def write(events: Sequence[Event]) -> bytes:
@@ -142,6 +146,8 @@ A line is `TIME LINE 'BYTES' [GAP]`: the bytes arrive at serial line LINE from s
 after the last event of the line before. In BYTES stand \\b, \\t, \\n, \\r, \\e, \\\\, \\' and \\xNN. What follows # is a
 comment."""
 
+_LONGEST_ESCAPE = 4  # characters of \xNN
+_MOST_DIGITS = 64  # zeros before a number count too
 _ESCAPES = {"b": 8, "t": 9, "n": 10, "r": 13, "e": 27, "0": 0, "\\": 92, "'": 39, '"': 34}
 _SHOWN = {8: "\\b", 9: "\\t", 10: "\\n", 13: "\\r", 27: "\\e", 92: "\\\\", 39: "\\'"}
 _TEXT_LINE = re.compile(r"(\+?)(\w+)\s+(\w+)\s+(?:'((?:[^'\\]|\\.)*)'(?:\s+(?!framing\b)(\w+))?(?:\s+(framing))?|(\w+)\s+wire)"
@@ -156,9 +162,13 @@ def quoted(content: Iterable[int]) -> str:
 def unquoted(text: str) -> bytes:
     """The bytes that a text with escapes is, without its quotes."""
     made = bytearray()
-    for plain, escape in re.findall(r"([^\\]+)|\\(x[0-9a-fA-F]{2}|.|$)", text, re.DOTALL):
+    for found in re.finditer(r"([^\\]+)|\\(x[0-9a-fA-F]{2}|.|$)", text, re.DOTALL):
+        plain, escape = found.groups()
         if plain:
-            made += plain.encode("utf-8", "surrogateescape")
+            try:
+                made += plain.encode("utf-8", "surrogateescape")
+            except UnicodeEncodeError as error:
+                raise Problem(f"{plain[error.start]!r} is no character of UTF-8. Its bytes may stand in its place, as \\xNN") from None
         elif len(escape) == 3:
             made.append(int(escape[1:], 16))
         elif escape in _ESCAPES:
@@ -205,7 +215,8 @@ def make(lines: Iterable[str], name: str) -> list[Event]:
             continue
         match = _TEXT_LINE.fullmatch(line)
         if not match:
-            raise Problem(f"{name}:{number}: {line!r} is not of the form TIME LINE 'BYTES' [GAP] [framing] or TIME LINE LEVEL wire")
+            shown = f"{line[:80]}.." if len(line) > 80 else line
+            raise Problem(f"{name}:{number}: {shown!r} is not of the form TIME LINE 'BYTES' [GAP] [framing] or TIME LINE LEVEL wire")
         time, place, gap, level = (_natural(it, f"{name}:{number}") for it in (match[2], match[3], match[5] or "0", match[7] or "0"))
         time += last if match[1] else 0
         if match[7]:
@@ -213,9 +224,13 @@ def make(lines: Iterable[str], name: str) -> list[Event]:
             last = time
             continue
         kind = Kind.FRAMING if match[6] else Kind.BYTE
+        if len(match[4]) > _LONGEST_ESCAPE * MOST_EVENTS:
+            raise _too_many(name)
         for byte in unquoted(match[4]):
             events.append(Event(time, place, byte, kind))
             last, time = time, time + gap
+        if len(events) > MOST_EVENTS:
+            raise _too_many(name)
     events.sort(key=lambda it: it.time)
     check(events, name)
     return events
@@ -223,6 +238,8 @@ def make(lines: Iterable[str], name: str) -> list[Event]:
 
 def _natural(word: str, place: str) -> int:
     try:
-        return int(word, 0)
+        if len(word) <= _MOST_DIGITS:
+            return int(word, 0)
     except ValueError:
-        raise Problem(f"{place}: {word[:40]} is no number") from None
+        pass
+    raise Problem(f"{place}: {word[:40]} is no number")

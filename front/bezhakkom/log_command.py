@@ -7,7 +7,7 @@ from typing import Sequence
 from . import log as logs
 from .arguments import Parser
 from .installed import NAME
-from .loading import content_of
+from .reading import content_of, read
 from .saving import FORCE_OPTION, save
 
 DESCRIPTION = f"""\
@@ -51,8 +51,8 @@ def main(arguments: Sequence[str]) -> int:
 
 def _events(name: str) -> list[logs.Event]:
     """The events of a file, which is a log or the text of one."""
-    content = sys.stdin.buffer.read() if name == "-" else content_of(name)
+    content = read(sys.stdin.buffer, "standard input") if name == "-" else content_of(name)
     name = "standard input" if name == "-" else name
     if not content or logs.is_log(content):
         return logs.read(content, name)
-    return logs.make(content.decode("utf-8", "surrogateescape").splitlines(), name)
+    return logs.make(content.decode("utf-8", "surrogateescape").split("\n"), name)

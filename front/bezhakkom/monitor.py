@@ -7,6 +7,7 @@ from . import shell
 from .commands import COMMANDS, STOPS, find, run, words_of
 from .errors import Ended, Interrupted, Problem
 from .installed import NAME
+from .printable import TAB, printable
 from .session import Session
 
 # Commands of gdb's own do what these do.
@@ -25,7 +26,7 @@ def answer(session: Session, line: str) -> str:
     """What a command shows, with its line ends."""
     said: list[str] = []
     reason = refusal(session, line, said.append)
-    return "".join(f"{it}\n" for it in (*said, *([REFUSED + reason] if reason else [])))
+    return "".join(f"{printable(it, TAB)}\n" for it in (*said, *([REFUSED + reason] if reason else [])))
 
 
 def refusal(session: Session, line: str, tell: Callable[[str], None], of_gdb: bool = False) -> str:
@@ -49,7 +50,7 @@ def refusal(session: Session, line: str, tell: Callable[[str], None], of_gdb: bo
 def _run(session: Session, line: str, of_gdb: bool) -> None:
     words = words_of(line)
     if words == ["help"]:
-        session.tell(shell.help_text(_OF_GDB) + _HELP.rstrip())
+        shell.tell_lines(session, shell.help_text(_OF_GDB) + _HELP)
     elif words and not line.startswith("#"):
         run(session, line if of_gdb else _of_shell(words, line))
 

@@ -16,6 +16,7 @@ from .image import Image
 from .installed import NAME
 from .loading import say
 from .progress import on_terminal
+from .reading import check, content_of
 
 DESCRIPTION = f"""\
 Boots an image and answers the commands of a script, or without one those that are typed. An IMAGE is an ELF, an image
@@ -62,11 +63,13 @@ def main(arguments: Sequence[str]) -> int:
     line = parser().read(arguments)
     opening = loading.Opening.of(line, line.image)
     image, log = loading.booted(opening), opening.log
-    log_content = loading.content_of(log) if log is not None else b""
-    script = loading.check(line.script) if line.script is not None else None
+    log_content = content_of(log) if log is not None else b""
+    script = line.script
+    if script is not None:
+        check(script)
     # The program is built first, so that no typed line waits for that.
     program.build()
-    with open(script, "rb") if script else open(0, "rb", closefd=False) as commands:
+    with open(script, "rb") if script is not None else open(0, "rb", closefd=False) as commands:
         os.read(commands.fileno(), 0)  # fails at once where nothing can be read
         if line.strict or line.echo or line.json:
             with closing(loading.start(image, log, on_terminal())) as driver:

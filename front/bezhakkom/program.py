@@ -192,7 +192,8 @@ class Program:
         self.close()
         if status < 0:
             return Ended(f"the program was ended by {signal.Signals(-status).name}", 128 - status)
-        return Ended(said or f"the program ended with status {status}", status)
+        first, *more = said.split("\n")
+        return Ended(first or f"the program ended with status {status}", status, more)
 
     def close(self) -> None:
         """Ends the program, where it has not ended."""

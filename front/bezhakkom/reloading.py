@@ -12,6 +12,7 @@ from typing import Iterator, List, Optional, Sequence, Tuple
 from . import loading
 from .initial import Boot, boot_of
 from .errors import Problem
+from .reading import content_of
 from .image import ELF_MAGIC
 from .saved import Origin
 from .session import Session
@@ -35,7 +36,7 @@ def load(session: Session, name: str) -> int:
     others = tuple(it for it in before.elves if it.name != before.name)  # those of --symbols
     if session.origin:
         constants = _options(board) if boot.constants() != board.constants() else []
-        session.origin = session.origin.loaded(name, loading.content_of(name), constants)
+        session.origin = session.origin.loaded(name, content_of(name), constants)
     folders = before.elves[0].sources if before.elves else ()
     session.take_symbols(symbols_of(loading.with_sources(replace(made, elves=made.elves + others), folders)))
     return len(changed)
@@ -69,18 +70,18 @@ class OnDisk:
         origin = self._session.origin
         if origin is None or origin.is_packed:
             return []
-        looked: list[object] = [_described(name) for name in origin.files]
+        looked: list[object] = [_described(origin.path(name)) for name in origin.files]
         if origin is not self._origin or looked != self._looked:
             self._origin, self._looked = origin, looked
-            self._changed = [name for name, content in origin.files.items() if self._differs(name, content)]
+            self._changed = [name for name, content in origin.files.items() if self._differs(origin, name, content)]
         return self._changed
 
-    def _differs(self, name: str, loaded: bytes) -> bool:
+    def _differs(self, origin: Origin, name: str, loaded: bytes) -> bool:
         try:
-            found = Path(name).read_bytes()
-        except OSError:
+            found = content_of(origin.path(name))
+        except Problem:
             return False
-        path = os.path.abspath(name)
+        path = origin.path(name)
         if found == loaded:
             self._known[path] = found
         return found != self._known.setdefault(path, loaded)
@@ -111,14 +112,14 @@ class ElfFile:
         if origin is None or not content.startswith(ELF_MAGIC):
             return ""
         if content is not self._content:
-            name = os.path.abspath(origin.image)
+            name = origin.path(origin.image)
             digest = hashlib.sha256(content).hexdigest()
             self._content, self._lines = content, (digest, self._file(name, content, digest), name)
         return "".join(f"{line}\n" for line in (*self._lines, "changed" if origin.image in changed else "same"))
 
     def _file(self, name: str, content: bytes, digest: str) -> str:
-        with suppress(OSError):
-            if Path(name).read_bytes() == content:
+        with suppress(Problem):
+            if content_of(name) == content:
                 return name
         self._folder = self._folder or tempfile.TemporaryDirectory(prefix="bezhakkom-")
         file = Path(self._folder.name, digest[:16], Path(name).name)

@@ -4,7 +4,6 @@ from __future__ import annotations
 
 import hashlib
 import os
-import shlex
 import signal
 import sys
 import tempfile
@@ -15,8 +14,11 @@ from typing import Any, Callable, Collection, Iterator, Optional
 
 from .installed import NAME
 from .loading import say
+from .reading import present_folder
+from .saving import as_argument
 
 _SIGNALS = (signal.SIGTERM, signal.SIGHUP)
+_LONGEST_NAME = 48  # characters of an image's name in that of a session, which has at most 255 bytes
 _UNSEEN = ".unseen"  # after the name of a session: it was not shown on a terminal
 
 Text = Callable[[], Optional[str]]  # of a session that is to be kept, if there are unsaved edits
@@ -42,7 +44,7 @@ def kept(session: Text, image: str, *, is_silent: bool = False) -> Iterator[Reas
     sessions of the image that were kept earlier, unless `is_silent`: the process that started this one calls `offer`."""
     if not is_silent:
         offer(image)
-    reason = Reason()
+    prefix, reason = _prefix(image), Reason()
 
     def end(number: int, frame: Any) -> None:
         reason.text = f"ended by {signal.Signals(number).name}"
@@ -58,19 +60,18 @@ def kept(session: Text, image: str, *, is_silent: bool = False) -> Iterator[Reas
     finally:
         # Not only after _Terminated: if the terminal is gone, and the program with it, another exception may have taken its place.
         if reason.text:
-            _keep(session, image, reason.text, is_silent)
+            _keep(session, prefix, reason.text, is_silent)
         for it in taken:
             if signal.getsignal(it) is end:  # else the process ends, and another signal is to change nothing
                 signal.signal(it, signal.SIG_DFL)
 
 
-def _keep(session: Text, image: str, why: str, is_silent: bool) -> None:
-    """Keeps a session of an image, if there are unsaved edits, and names its file, unless `is_silent`."""
+def _keep(session: Text, prefix: str, why: str, is_silent: bool) -> None:
+    """Keeps a session, if there are unsaved edits, and names its file, unless `is_silent`."""
     text = session()
     if text is None:
         return
     content = text.encode("utf-8", "surrogateescape")
-    prefix = f"{Path(image).name}-{_digest(image)}-"
     try:
         folder = _folder()
         folder.mkdir(parents=True, exist_ok=True)
@@ -93,7 +94,7 @@ def offer(image: str, which: str = "an earlier", but: Collection[str] = ()) -> l
                 continue
             found.append(name)
             if os.path.exists(name):
-                say(f"{which} run of {image} ended with edits that were not saved: `{NAME} shell {shlex.quote(name)}` opens them")
+                say(f"{which} run of {image} ended with edits that were not saved: `{NAME} shell {as_argument(name)}` opens them")
             _seen(name)
     return found
 
@@ -115,6 +116,12 @@ def _folder() -> Path:
     return Path(os.environ.get("XDG_STATE_HOME") or Path.home() / ".local/state") / "bezhakkom"
 
 
+def _prefix(image: str) -> str:
+    """Returns how the names of an image's sessions begin. The present folder, from which it is named, may be deleted later."""
+    return f"{Path(image).name[:_LONGEST_NAME]}-{_digest(image)}-"
+
+
 def _digest(image: str) -> str:
     """Returns a short name of an image's absolute path, for names of files."""
-    return hashlib.sha256(os.path.abspath(image).encode("utf-8", "surrogateescape")).hexdigest()[:12]
+    path = os.path.abspath(os.path.join(present_folder(), image))
+    return hashlib.sha256(path.encode("utf-8", "surrogateescape")).hexdigest()[:12]

@@ -3,15 +3,15 @@ again. The files that it names may be packed in after these."""
 from __future__ import annotations
 
 import base64
-import binascii
 import hashlib
 import os
+import re
 import tempfile
 import zlib
 from contextlib import contextmanager
 from dataclasses import dataclass, field, replace
 from pathlib import Path
-from typing import Callable, Iterator, Optional, Sequence
+from typing import Callable, Dict, Iterable, Iterator, Mapping, Optional, Sequence
 
 from . import loading
 from . import log as logs
@@ -21,8 +21,10 @@ from .image import SESSION_MAGIC
 from .installed import NAME
 from .loading import Opening
 from .log import ADDS, Event, Kind, quoted
+from .printable import printable
 from .progress import TerminalProgress
 from .protocol import LOG_EDITS
+from .reading import MOST_BYTES, beginning_of, content_of, present_folder
 from .replies import number_of
 from .saving import Form, Seen
 
@@ -30,35 +32,45 @@ BEGINNING = "bezhakkom session 1"
 FORM = Form("session", (SESSION_MAGIC,))
 _CONTENTS = "contents"  # the line before the files that are packed in
 _WIDTH = 120
+_MOST_PACKED = 4 * MOST_BYTES  # of all packed files together
+_ESCAPED = "escaped names"  # a line of the head: values of options and names of files have these escapes
+_ESCAPES = {"\n": "\\n", "\r": "\\r", "\\": "\\\\"}
+_UNESCAPED = {escape: text for text, escape in _ESCAPES.items()}
+_LINE_END, _LINE_END_OR_ESCAPE = re.compile(r"[\n\r]"), re.compile(r"[\n\r\\]")
 _LINES = (*LOG_EDITS, "arrive", "wb", "goto", "break", "watch", "catch", "gdb", "idle", "limit")
 
 
 @dataclass(frozen=True)
 class Origin:
     """What a run was opened with: the name of its image, options with their values, and the files that these name. `seen` has all
-    files that were read, also the log and the session."""
+    files that were read, also the log and the session. `folder` was the present one, which may be deleted later."""
 
     image: str
     options: list[tuple[str, str]]
     files: dict[str, bytes]
     is_packed: bool = False  # the files came with the session
     seen: Seen = field(default_factory=Seen, compare=False)
+    folder: str = field(default_factory=present_folder, compare=False)
+
+    def path(self, name: str) -> str:
+        """Returns the absolute path of a name that was given when the present folder was there."""
+        return os.path.abspath(os.path.join(self.folder, name))
 
     @classmethod
     def of(cls, opening: Opening) -> Origin:
         image = opening.files[0]
         names = [image, *(loading.name_and_number(it)[0] for it in opening.symbols)]
-        origin = cls(image, opening.options(), {name: loading.content_of(name) for name in names})
+        origin = cls(image, opening.options(), {name: content_of(name) for name in names})
         for name, content in origin.files.items():
             origin.seen.note(name, content)
         if opening.log is not None:
-            origin.seen.note(opening.log, loading.content_of(opening.log))
+            origin.seen.note(opening.log, content_of(opening.log))
         return origin
 
     def loaded(self, name: str, content: bytes, constants: Sequence[tuple[str, str]] = ()) -> Origin:
         """The same with another image in place of the first one, which `load` took, and with options for the constants of the board."""
         others = {file: content for file, content in self.files.items() if file not in (self.image, name)}
-        kept = [(option, value) for option, value in self.options if option == "--symbols"]
+        kept = [(option, value) for option, value in self.options if option in loading.SEVERAL]
         self.seen.note(name, content)
         return replace(self, image=name, options=[*constants, *kept], files={name: content, **others})
 
@@ -87,39 +99,60 @@ def _made(line: str) -> list[str]:
 
 # Writing
 
-def text_of(origin: Origin, folder: str, events: Sequence[Event], commands: Sequence[str], is_whole: bool) -> str:
-    """The text of a session in a folder: the log that it began with, and the lines of the shell that make the rest."""
+def text_of(origin: Origin, folder: Optional[str], events: Sequence[Event], commands: Sequence[str], is_whole: bool) -> str:
+    """The text of a session: the log that it began with, and the lines of the shell that make the rest. Files are named from a folder, or
+    by absolute paths if there is none, or are packed in."""
     is_whole = is_whole or origin.is_packed
 
-    def named(value: str) -> str:
-        """A value of an option, or the image, as it is named from the folder."""
-        for name in sorted(origin.files, key=len, reverse=True):
-            if value == name or value.startswith(f"{name}@"):
-                return (_packed_name(origin, name) if is_whole else os.path.relpath(name, folder)) + value[len(name):]
-        return value
+    def placed(name: str) -> str:
+        path = origin.path(name)
+        return path if folder is None else os.path.relpath(path, origin.path(folder))
+
+    names = _packed_names(origin.files) if is_whole else {name: placed(name) for name in origin.files}
+    options = [(name, _renamed(value, names) if name == loading.SYMBOLS else placed(value) if name == loading.SOURCES else value)
+               for name, value in origin.options]
+    is_escaped = any(_LINE_END.search(it) for it in (*names.values(), *(value for _, value in options)))
+
+    def written(name: str) -> str:
+        return _LINE_END_OR_ESCAPE.sub(lambda it: _ESCAPES[it[0]], name) if is_escaped else name
 
     head = [BEGINNING, f"# {NAME} shell FILE opens it. What is below the first empty line are lines of the shell."]
-    head += [f"image {named(origin.image)}", *(f"option {name} {named(value)}" for name, value in origin.options)]
-    head += [f"sha256 {hashlib.sha256(content).hexdigest()} {named(name)}" for name, content in origin.files.items()]
+    head += [_ESCAPED] * is_escaped
+    head += [f"image {written(names[origin.image])}", *(f"option {name} {written(value)}" for name, value in options)]
+    head += [f"sha256 {hashlib.sha256(content).hexdigest()} {written(names[name])}" for name, content in origin.files.items()]
     head += [f"log {line}" for line in logs.show(events)]
-    if any("\n" in line for line in head):
-        raise Problem("a session can't name a file with a line end in its name")
     packed = [_CONTENTS, *(line for name, content in origin.files.items()
-                           for line in (f"file {named(name)}", *_digits(content)))] if is_whole else []
+                           for line in (f"file {written(names[name])}", *_digits(content)))] if is_whole else []
     return "".join(f"{line}\n" for line in [*head, "", *commands, *packed])
 
 
-def text_of_state(origin: Origin, folder: str, driver: Driver) -> str:
+def text_of_state(origin: Origin, driver: Driver) -> str:
     """The text of a session of the present log, image and position, for a front end without lines of the shell."""
     patches = [f"wb patch {place:#010x} {word:#010x}" for place, word in driver.patches]
-    return text_of(origin, folder, driver.log, [*patches, f"goto {driver.position:,}"], True)
+    return text_of(origin, None, driver.log, [*patches, f"goto {driver.position:,}"], True)
 
 
-def _packed_name(origin: Origin, name: str) -> str:
-    """The name of a file that is packed in: its last part, after its number where two have the same."""
-    last = Path(name).name
-    same = [it for it in origin.files if Path(it).name == last]
-    return last if len(same) == 1 else f"{same.index(name)}-{last}"
+def _packed_names(files: Iterable[str]) -> Dict[str, str]:
+    """The names of files that are packed in: the last part of each, after a number if another file has that name."""
+    found: Dict[str, str] = {}
+    for file in files:
+        last = name = os.path.basename(file)
+        number = 0
+        while name in found.values():
+            number += 1
+            name = f"{number}-{last}"
+        found[file] = name
+    return found
+
+
+def _renamed(value: str, names: Mapping[str, str]) -> str:
+    """A value of an option, or an image, with another name of the file that it names: of FILE or FILE@N."""
+    if value in names:
+        return names[value]
+    for name in sorted(names, key=len, reverse=True):
+        if value.startswith(f"{name}@"):
+            return names[name] + value[len(name):]
+    return value
 
 
 def _digits(content: bytes) -> list[str]:
@@ -130,9 +163,7 @@ def _digits(content: bytes) -> list[str]:
 def lines_of_edit(shown: str, made: Sequence[str]) -> list[str]:
     """The lines that make an edit again: what was typed as a comment, and commands that do not depend on the position."""
     text = _typed([_added(command) for command in made])
-    if text:
-        return [f"# {shown}", f"arrive {text}"]
-    return [f"# {shown}", *map(_again, made)]
+    return [f"# {printable(shown)}", *([f"arrive {text}"] if text else map(_again, made))]
 
 
 def _typed(events: Sequence[Optional[Event]]) -> str:
@@ -166,11 +197,7 @@ def _added(command: str) -> Optional[Event]:
 
 def is_session(name: str) -> bool:
     """Whether there is a file of a name that begins as a session does."""
-    try:
-        with open(name, "rb") as file:
-            return file.read(len(FORM.beginnings[0])) == FORM.beginnings[0]
-    except (OSError, ValueError):
-        return False
+    return beginning_of(name, len(SESSION_MAGIC)) == SESSION_MAGIC
 
 
 @contextmanager
@@ -208,25 +235,28 @@ class _Reader:
         self._sums: dict[str, str] = {}
         self._log: list[str] = []
         self._commands: list[str] = []
-        self._packed: dict[str, str] = {}
+        self._packed: dict[str, list[str]] = {}
+        self._left = _MOST_PACKED
+        self._is_escaped = False
 
     def opened(self, opening: Opening) -> Opened:
-        content = loading.content_of(self._name)
+        content = content_of(self._name)
         self._read(content.decode("utf-8", "surrogateescape"))
         files = {name: self._file(name) for name in self._sums}
-        options = [(name, self._placed(value, files)) for name, value in self._options]
+        options = [(name, it) for name, value in self._options for it in self._placed(name, value, files)]
         log = self._folder / "log"
         log.write_bytes(logs.write(logs.make(self._log, self._name)))
-        boots = replace(opening.completed(options), files=(self._placed(self._image, files),), log=str(log))
+        boots = replace(opening.completed(options), files=(files.get(self._image) or self._beside(self._image),), log=str(log))
         origin = Origin.of(boots)
         origin.seen.note(self._name, content)
         return Opened(boots, replace(origin, is_packed=bool(self._packed)), self._commands)
 
     def _read(self, text: str) -> None:
-        count = len(text.splitlines())
-        if not text.endswith("\n"):
-            raise Problem(f"{self._name} is cut within line {count}, its last one, which has no line end")
-        lines = enumerate(text.splitlines(), 1)
+        *whole, rest = text.split("\n")
+        count = len(whole)
+        if rest:
+            raise Problem(f"{self._name} is cut within line {count + 1}, its last one, which has no line end")
+        lines = enumerate((line.removesuffix("\r") for line in whole), 1)
         if next(lines)[1] != BEGINNING:
             raise Problem(f"{self._name} is a session of a later version: this one reads `{BEGINNING}`")
         for self._number, line in lines:
@@ -245,20 +275,22 @@ class _Reader:
         last = ""
         for _, line in lines:
             if line.startswith("file "):
-                last = line[len("file "):]
-                self._packed[last] = ""
+                last = self._unescaped(line[len("file "):])
+                self._packed[last] = []
             elif last:
-                self._packed[last] += line
+                self._packed[last].append(line)
 
     def _head(self, name: str, rest: str) -> None:
-        if name == "image":
-            self._image = rest
+        if f"{name} {rest}" == _ESCAPED:
+            self._is_escaped = True
+        elif name == "image":
+            self._image = self._unescaped(rest)
         elif name == "option" and rest.partition(" ")[0] in loading.OPTIONS:
             option, _, value = rest.partition(" ")
-            self._options.append((option, value))
+            self._options.append((option, self._unescaped(value)))
         elif name == "sha256":
             digits, _, file = rest.partition(" ")
-            self._sums[file] = digits
+            self._sums[self._unescaped(file)] = digits
         elif name == "log":
             self._log.append(rest)
         else:
@@ -272,24 +304,55 @@ class _Reader:
             raise Problem(f"{self._name}:{self._number}: `{name}` is no line of a session, which has {', '.join(_LINES)} alone")
         self._commands.append(line)
 
+    def _unescaped(self, name: str) -> str:
+        return re.sub(r"\\[nr\\]", lambda it: _UNESCAPED[it[0]], name) if self._is_escaped else name
+
     def _file(self, name: str) -> str:
         """Where a file stands that the session names. One that is not as it was is said to be so."""
-        if name in self._packed:
-            path = self._folder / "files" / Path(name).name
-            path.parent.mkdir(exist_ok=True)
-            try:
-                path.write_bytes(zlib.decompress(base64.b64decode(self._packed[name], validate=True)))
-            except (binascii.Error, zlib.error):
-                raise Problem(f"{self._name}: the content of {name} is damaged") from None
-        else:
-            path = Path(self._name).parent / name
-        if hashlib.sha256(loading.content_of(str(path))).hexdigest() != self._sums[name]:
+        path = self._unpacked(name) if name in self._packed else self._beside(name)
+        if hashlib.sha256(content_of(path)).hexdigest() != self._sums[name]:
             self._tell(f"{path} is not as it was when {self._name} was saved: what it shows may differ")
+        return path
+
+    def _beside(self, name: str) -> str:
+        """The absolute path of what is named from the session's folder."""
+        return os.path.abspath(os.path.join(os.path.dirname(self._name), name))
+
+    def _unpacked(self, name: str) -> str:
+        """Writes a packed file to a folder of its own, so that two with one name don't meet."""
+        content = self._content(name)
+        folder = Path(tempfile.mkdtemp(dir=self._folder))
+        try:
+            path = folder / (os.path.basename(name) or "file")
+            path.write_bytes(content)
+        except (OSError, ValueError):
+            raise Problem(f"{self._name}: {name} can't be the name of a file") from None
         return str(path)
 
-    def _placed(self, value: str, files: dict[str, str]) -> str:
-        """A value of an option, or the image, with the place of the file that it names."""
-        for name, place in files.items():
-            if value == name or value.startswith(f"{name}@"):
-                return place + value[len(name):]
-        return value
+    def _content(self, name: str) -> bytes:
+        """Inflates a packed file, up to the limit."""
+        inflater, most = zlib.decompressobj(), min(self._left, MOST_BYTES)
+        try:
+            content = inflater.decompress(base64.b64decode("".join(self._packed[name]), validate=True), most + 1)
+        except (ValueError, zlib.error):
+            raise Problem(f"{self._name}: the content of {name} is damaged") from None
+        self._left -= len(content)
+        if len(content) > most:
+            raise Problem(f"{self._name}: {name} has more than {most:,} bytes")
+        if not inflater.eof:
+            raise Problem(f"{self._name}: the content of {name} is damaged")
+        return content
+
+    def _placed(self, name: str, value: str, files: dict[str, str]) -> Iterator[str]:
+        """The value of an option, with the place of what it names. A folder with sources may be missing: a session may come from another
+        machine."""
+        place = self._beside(value)
+        if name == loading.SYMBOLS:
+            renamed = _renamed(value, files)
+            yield place if renamed == value else renamed
+        elif name != loading.SOURCES:
+            yield value
+        elif os.path.isdir(place):
+            yield place
+        else:
+            self._tell(f"{self._name} has sources in {place}, where no folder is: they are not looked for there")

@@ -1,10 +1,11 @@
-"""Files are written whole or not at all. A file of another kind, or one that somebody else changed meanwhile, is overwritten only if
-that is forced."""
+"""Files are written whole or not at all. A file of another kind, one that is write-protected, or one that somebody else changed meanwhile,
+is overwritten only if that is forced."""
 from __future__ import annotations
 
 import fcntl
 import hashlib
 import os
+import shlex
 import tempfile
 import time
 from contextlib import contextmanager, suppress
@@ -17,6 +18,11 @@ from .errors import Problem
 # How a user says that such a file is overwritten: on an argument line, and in the shell and gdb.
 FORCE_OPTION = "--force"
 FORCE_WORD = "force"
+
+
+_HALF = ".bezhakkom-save-"  # begins the name of a file that is not yet written whole
+_OLD = 3600  # seconds after which no save still writes it
+_WRITABLE = 0o222  # of a mode. The system lets root write all files.
 
 
 @dataclass(frozen=True)
@@ -56,27 +62,32 @@ class Seen:
 def save(name: str, content: bytes, form: Form, force: bool = False, how: str = FORCE_OPTION, seen: Optional[Seen] = None) -> None:
     """Writes a file in place of one of its form that nobody else changed, as far as `seen` tells. If that fails, the former content stays.
     `how` names what would set `force`."""
-    # A link stays a link, and what is no file (a device, a pipe) is written as it is.
-    path = Path(os.path.realpath(name))
     try:
+        # A link stays a link, and what is no file (a device, a pipe) is written as it is.
+        path = Path(os.path.realpath(name))
         if path.exists() and not path.is_file():
             path.write_bytes(content)
             return
         with _alone_in(path.parent):
             if path.exists() and not force:
                 _check(path, name, content, form, how, seen)
+            _remove_halves(path.parent)
             _replace(path, content)
         if seen:
             seen.note(str(path), content)
     except OSError as error:
         raise Problem(f"{name} can't be written: {error.strerror}") from None
+    except ValueError:
+        raise Problem(f"{name} can't be the name of a file") from None
 
 
 def _check(path: Path, name: str, content: bytes, form: Form, how: str, seen: Optional[Seen]) -> None:
-    """Refuses to overwrite a file of another form, or one that somebody else changed."""
+    """Refuses to overwrite a file of another form, one that is write-protected, or one that somebody else changed."""
     if not _may_go(path, content, form):
         what = f" and is no {form.name}" if form.beginnings else f" already; it can't be seen whether it is a {form.name}"
         raise Problem(f"{name} is there{what}. `{how}` overwrites it")
+    if not path.stat().st_mode & _WRITABLE or not os.access(path, os.W_OK):
+        raise Problem(f"{name} is write-protected. Save under another name to keep it; `{how}` overwrites it")
     size = path.stat().st_size
     is_nothing_lost = not size or size == len(content) and path.read_bytes() == content
     change = seen.change(path) if seen and not is_nothing_lost else ""
@@ -103,11 +114,25 @@ def name_of(word: str) -> str:
     return os.path.expanduser(word)
 
 
+def as_argument(name: str) -> str:
+    """Returns a name of a file as a word of a command line. One that begins with `-` would be an option."""
+    return shlex.quote(f"./{name}" if name.startswith("-") else name)
+
+
 def is_forced(words: Sequence[str]) -> bool:
     """Whether `force` stands after the name of a file. Nothing else may stand there."""
     if list(words) not in ([], [FORCE_WORD]):
         raise Problem(f"after the name of a file may stand `{FORCE_WORD}` alone; a name with blanks stands between quotes")
     return bool(words)
+
+
+def _remove_halves(folder: Path) -> None:
+    """Removes what saves left in a folder that were killed before they ended."""
+    with suppress(OSError), os.scandir(folder) as entries:
+        for it in entries:
+            if it.name.startswith(_HALF) and it.is_file(follow_symlinks=False) and it.stat().st_mtime < time.time() - _OLD:
+                with suppress(OSError):
+                    os.unlink(it.path)
 
 
 def _may_go(path: Path, content: bytes, form: Form) -> bool:
@@ -122,7 +147,7 @@ def _may_go(path: Path, content: bytes, form: Form) -> bool:
 
 def _replace(path: Path, content: bytes) -> None:
     mode = path.stat().st_mode & 0o7777 if path.exists() else 0o666 & ~_umask()
-    descriptor, temporary = tempfile.mkstemp(prefix=f".{path.name}.", dir=path.parent)
+    descriptor, temporary = tempfile.mkstemp(prefix=_HALF, dir=path.parent)
     try:
         with open(descriptor, "wb") as file:
             file.write(content)

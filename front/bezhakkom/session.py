@@ -1,7 +1,6 @@
 """What the shell knows while it runs: the driver, symbols, stops and edits; and how steps and addresses are shown to people."""
 from __future__ import annotations
 
-import os
 from contextlib import contextmanager
 from dataclasses import dataclass, field, replace
 from typing import Callable, Iterator, Optional
@@ -13,6 +12,7 @@ from .exceptions import Catch
 from .idle import IDLE_STEPS
 from .lines import Line
 from .log import Event
+from .printable import show
 from .saved import Origin, lines_of_edit
 from .saving import Seen
 from .symbols import Symbols
@@ -62,7 +62,7 @@ class Session:
 
     driver: Driver
     symbols: Symbols
-    tell: Callable[[str], None] = print
+    tell: Callable[[str], None] = show
     marks: list[Mark] = field(default_factory=list)
     stops_of_gdb: list[str] = field(default_factory=list)  # kept for a session that gdb opens, as gdb's lines
     edits: list[Edit] = field(default_factory=list)
@@ -271,15 +271,15 @@ class Session:
         settings = (("idle", self.idle, IDLE_STEPS), ("limit", self.limit, 0))
         return lines + [f"{name} {value:,}" for name, value, usual in settings if value != usual]
 
-    def text(self, folder: str, is_whole: bool) -> str:
-        """A file of the session in a folder, with the image packed in or not."""
+    def text(self, folder: Optional[str], is_whole: bool) -> str:
+        """A file of the session, with the image packed in, or named from a folder."""
         if self.origin is None:
             raise Problem("a session is saved by what has opened an image")
         return saved.text_of(self.origin, folder, self.edits[0].log if self.edits else self.driver.log, self.made_again(), is_whole)
 
     def unsaved_text(self) -> Optional[str]:
         """A file of the session with its files packed in, if there are unsaved edits."""
-        return self.text(os.getcwd(), True) if self.unsaved() else None
+        return self.text(None, True) if self.unsaved() else None
 
     def _stop_again(self, address: int, size: Optional[int]) -> str:
         return f"break {self._named(address)}" if size is None else f"watch {self._named(address)} {size}"

@@ -2,6 +2,7 @@
 from __future__ import annotations
 
 import atexit
+import glob
 import os
 import sys
 from contextlib import nullcontext
@@ -15,7 +16,9 @@ from .commands import COMMANDS, GROUPS, SHELL, SHORT, command, find, is_repeated
 from .errors import Ended, Interrupted, Problem, Refused, Unexpected
 from .expressions import shortened
 from .installed import NAME
+from .printable import show
 from .progress import on_terminal
+from .reading import check
 from .session import Session
 from .symbols import symbols_of
 from .whatif import commands as whatif_commands  # noqa: F401
@@ -41,7 +44,10 @@ def parser() -> Parser:
 
 def main(arguments: Sequence[str]) -> int:
     line = parser().read(arguments)
-    script = open(loading.check(line.script), encoding="utf-8", errors="surrogateescape") if line.script is not None else None
+    script = None
+    if line.script is not None:
+        check(line.script)
+        script = open(line.script, encoding="utf-8", errors="surrogateescape")
     opening = loading.Opening.of(line, line.image)
     with script or nullcontext(), saved.opened(opening) as found, loading.running(found.opening, on_terminal()) as driver:
         session = Session(driver, symbols_of(driver.image), origin=found.origin)
@@ -69,7 +75,8 @@ class Shell:
             is_done = self.do(line.strip())
             session.tell = tell
             if not is_done:
-                tell("\n".join([f"the session's line `{line}` fails:", *said]))
+                for shown in (f"the session's line `{line}` fails:", *said):
+                    tell(shown)
         session.saved_log, session.saved_patches = list(session.driver.log), list(session.driver.patches)
 
     def run(self, script: Optional[TextIO], echo: bool = False, strict: bool = False) -> int:
@@ -82,7 +89,8 @@ class Shell:
         for number, line in enumerate(self._typed() if is_typed else source or (), 1):
             line = line.strip()
             if echo and line:
-                print(f"> {line}", flush=True)
+                show(f"> {line}")
+                sys.stdout.flush()
             is_done = self.do(line)
             sys.stdout.flush()
             if strict and not is_done:
@@ -127,10 +135,8 @@ class Shell:
             # Where the run was not made yet it can't be shown at once.
             session.driver.goto(min(session.driver.position, session.driver.made))
             session.tell(f"interrupted; at step {session.driver.position:,}")
-        except OSError:
-            raise  # nothing can be shown any more
         except Exception as error:
-            session.tell(str(Unexpected(error)))
+            session.tell(str(Unexpected(error)))  # fails too if the output did
         return False
 
     def _run(self, line: str) -> None:
@@ -155,9 +161,9 @@ class Shell:
 @command("help [NAME]", "shows all commands, or more of one, or `help numbers`", SHELL)
 def help_(session: Session, words: list[str]) -> None:
     if not words:
-        session.tell(help_text().rstrip())
+        tell_lines(session, help_text())
     elif words[0] == "numbers":
-        session.tell(expressions.HELP)
+        tell_lines(session, expressions.HELP)
     else:
         found = find(words[0])
         short = [it for it, name in SHORT.items() if name == found.name]
@@ -170,6 +176,12 @@ def help_(session: Session, words: list[str]) -> None:
 @command("quit", "leaves; what is not saved is told first", SHELL)
 def quit_(session: Session, words: list[str]) -> None:
     raise AssertionError("the shell leaves by itself")
+
+
+def tell_lines(session: Session, text: str) -> None:
+    """Shows a text of several lines."""
+    for line in text.rstrip().split("\n"):
+        session.tell(line)
 
 
 def help_text(left_out: Container[str] = ()) -> str:
@@ -234,5 +246,6 @@ class _Completer:
         if not words or words == ["help"]:
             return [it for it in COMMANDS if it.startswith(text)]
         if words[0].startswith("save"):
-            return sorted(str(it) + ("/" if it.is_dir() else "") for it in Path(text).parent.glob(Path(text).name + "*"))
+            found = Path(text).parent.glob(glob.escape(Path(text).name) + "*")
+            return sorted(str(it) + ("/" if it.is_dir() else "") for it in found if str(it).isprintable())
         return sorted(it for it in {*self._session.symbols.names(), *expressions.names()} if text and it.startswith(text))

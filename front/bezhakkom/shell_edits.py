@@ -3,7 +3,6 @@ from __future__ import annotations
 
 import os
 import re
-import shlex
 
 from . import log as logs
 from . import reloading, saved
@@ -17,7 +16,8 @@ from .installed import NAME
 from .limits import GREATEST_POSITION
 from .log import Kind, unquoted
 from .replies import refusal_of
-from .saving import FORCE_WORD, is_forced, name_of, save
+from .reading import MOST_BYTES
+from .saving import FORCE_WORD, as_argument, is_forced, name_of, save
 from .session import Paused, Session, counted
 
 _TEXT = re.compile(r"""'(?:[^'\\]|\\.)+'|"(?:[^"\\]|\\.)+\"""")
@@ -187,11 +187,14 @@ def save_(session: Session, words: list[str]) -> None:
     word, *rest = words
     name = name_of(word)
     is_whole = "whole" in rest[:1]
-    text = session.text(os.path.dirname(os.path.abspath(name)), is_whole)
+    content = session.text(os.path.dirname(name), is_whole).encode("utf-8", "surrogateescape")
+    if len(content) > MOST_BYTES:
+        raise Problem(f"a session of {len(content):,} bytes could not be opened: it has at most {MOST_BYTES:,}"
+                      + (". Without `whole` it names its files" if is_whole else ""))
     how = " ".join(["save", word, *rest[:is_whole], FORCE_WORD])
-    save(name, text.encode("utf-8", "surrogateescape"), saved.FORM, is_forced(rest[is_whole:]), how, session.seen)
+    save(name, content, saved.FORM, is_forced(rest[is_whole:]), how, session.seen)
     session.saved_log, session.saved_patches = list(session.driver.log), list(session.driver.patches)
-    session.tell(f"the session is saved in {name}; `{NAME} shell {shlex.quote(name)}` opens it")
+    session.tell(f"the session is saved in {name}; `{NAME} shell {as_argument(name)}` opens it")
 
 
 @command("gdb [STOP] ..", "keeps a stop of gdb's for a session that gdb opens, or shows those that are kept; `gdb none` drops them", FILES)
@@ -199,7 +202,7 @@ def gdb(session: Session, words: list[str]) -> None:
     if words == ["none"]:
         session.stops_of_gdb.clear()
     elif words:
-        session.stops_of_gdb.append(" ".join(words))
+        session.stops_of_gdb.append(re.sub(r"[\r\n]", " ", " ".join(words)))  # one line of a session
     else:
         for it in session.stops_of_gdb:
             session.tell(it)

@@ -1,11 +1,15 @@
 """Sources as text, where they are found: beside an ELF, where they were compiled, or in folders that the user names."""
 from __future__ import annotations
 
+import re
+from contextlib import suppress
 from pathlib import Path, PurePosixPath
 from typing import Dict, Iterable, Iterator, List
 
+from .errors import Problem
 from .image import SymbolFile
 from .lines import Line
+from .reading import content_of
 
 _MOST_BYTES = 1 << 22
 
@@ -25,11 +29,8 @@ class Sources:
 
     def _read(self, name: str) -> List[str]:
         for path in self._places(name):
-            try:
-                if path.is_file() and path.stat().st_size <= _MOST_BYTES:
-                    return path.read_text("utf-8", "replace").splitlines()
-            except (OSError, ValueError):
-                pass
+            with suppress(Problem):
+                return re.split("\r?\n", content_of(str(path), _MOST_BYTES).decode("utf-8", "replace").removesuffix("\n"))
         return []
 
     def _places(self, name: str) -> Iterator[Path]:

@@ -115,8 +115,8 @@ class Stub:
             return FAILED
         except Malformed:
             return FAILED
-        except OSError:
-            raise
+        except ConnectionError:
+            raise  # the debugger is gone
         except Exception as error:  # a fault of this program must not cost the session with its edits
             self._tell(f"{Unexpected(error)}; the session goes on")
             return FAILED

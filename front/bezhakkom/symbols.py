@@ -15,6 +15,7 @@ from .errors import Problem
 from .image import Image
 from .limits import ROM
 from .lines import Lines
+from .printable import printable
 from .sources import Sources
 
 _BRANCHES = frozenset("beq bne bltz bgez bltzal bgezal blez bgtz".split())
@@ -70,7 +71,7 @@ class Symbols:
     def _file(self, symbol: Symbol) -> str:
         """The name of the source that a symbol is of, without its folder, or the empty text."""
         line = self.lines.at(symbol.address) if symbol.kind == "func" and not symbol.file else None
-        return PurePosixPath(symbol.file or (line.file if line else "")).name
+        return printable(PurePosixPath(symbol.file or (line.file if line else "")).name)
 
     def address(self, name: str) -> Optional[int]:
         """The address of a name, or None. Of a name that has several, it is that of the first one: `found` returns all."""

@@ -9,7 +9,7 @@ from collections import Counter
 from dataclasses import dataclass, replace
 from typing import Any, Dict, List, Optional, Sequence, Set, Tuple
 
-from .. import expressions, loading, places, saved
+from .. import expressions, places, saved
 from .. import log as logs
 from ..commands import words_of
 from ..driver import Driver
@@ -18,6 +18,7 @@ from ..image import Image
 from ..limits import GREATEST_POSITION, GREATEST_TIME, LINES, SPAN
 from ..lines import Lines
 from ..log import Event, Kind, changes
+from ..reading import content_of
 from ..reloading import OnDisk
 from ..saved import Opened, lines_of_edit
 from ..session import Session, counted
@@ -67,7 +68,7 @@ class Desk:
         self._driver = driver
         self._opened = opened
         name = opened.opening.log
-        self._log_at_first = logs.read(loading.content_of(name), name) if name else []  # before the edits of a session
+        self._log_at_first = logs.read(content_of(name), name) if name else []  # before the edits of a session
         self.end = end
         self._cursor = driver.position or end  # where the page begins
         self._lock = threading.Lock()
@@ -579,7 +580,7 @@ class Desk:
             made = changes(before.log, after.log)
             lines += lines_of_edit(before.made_by, made) if made else []
         lines.append(f"goto {position:,}")
-        return saved.text_of(opened.origin, os.getcwd(), self._log_at_first, lines, True)
+        return saved.text_of(opened.origin, None, self._log_at_first, lines, True)
 
 
 def _give(driver: Driver, past: Past) -> None:

@@ -6,10 +6,11 @@ import os
 from typing import Iterable, List, Optional
 
 from .. import log as logs
-from .. import loading, saved
+from .. import saved
 from ..commands import BEFORE, WHAT_IF, command
 from ..errors import Problem
 from ..log import Event, changes
+from ..reading import content_of
 from ..saving import FORCE_WORD, name_of, save
 from ..session import Session
 from . import compare as comparing
@@ -147,7 +148,7 @@ def compare(session: Session, words: list[str]) -> None:
 
 
 def _log(session: Session, name: str) -> List[Event]:
-    return session.logs[name] if name in session.logs else logs.read(loading.content_of(name_of(name)), name)
+    return session.logs[name] if name in session.logs else logs.read(content_of(name_of(name)), name)
 
 
 _WHEN = "when ADDRESS OP VALUE [at N] [--json]"
@@ -204,9 +205,8 @@ def fuzz(session: Session, words: list[str]) -> None:
     saved_in: Optional[str] = None
     why: Optional[Problem] = None
     if found.shrunk:
-        folder = os.path.dirname(os.path.abspath(file))
         patches = [f"wb patch {address:#010x} {word:#010x}" for address, word in session.driver.patches]
-        content = saved.text_of(session.origin, folder, found.shrunk.log, [*patches, f"goto {found.shrunk.position:,}"], False)
+        content = saved.text_of(session.origin, os.path.dirname(file), found.shrunk.log, [*patches, f"goto {found.shrunk.position:,}"], False)
         try:
             save(file, content.encode("utf-8", "surrogateescape"), saved.FORM, is_forced, f"fuzz .. save {file} {FORCE_WORD}", session.seen)
             saved_in = file
