@@ -1,7 +1,12 @@
-"""ELF files for this machine: 32-bit little-endian MIPS. Their segments become an image, their symbols names of addresses."""
+"""ELF files for this machine: 32-bit little-endian MIPS. Their segments become an image, their symbols names of addresses.
+
+Time and memory are proportional to the size of the file, whatever its tables claim. So segments and names, which may share bytes, are
+read in place, and a name that many symbols share is read once.
+"""
 from __future__ import annotations
 
 import struct
+from bisect import bisect_left
 from dataclasses import dataclass, replace
 from typing import Iterator, Literal, NamedTuple, Sequence
 
@@ -9,6 +14,7 @@ from .initial import Boot
 from .errors import Problem
 from .image import ELF_MAGIC, Image, SymbolFile
 from .limits import RAM, RESET_PC, ROM
+from .printable import printable
 
 _MIPS = 8
 _MACHINES = {3: "x86", 20: "PowerPC", 40: "ARM", 62: "x86-64", 183: "AArch64", 243: "RISC-V", 258: "LoongArch"}
@@ -21,7 +27,7 @@ _NOTES = {7, 0x7000_0006, 0x7000_002A}  # notes, .reginfo, .MIPS.abiflags
 _UNDEFINED, _ABSOLUTE = 0, 0xFFF1
 _KINDS = {0: "other", 1: "object", 2: "func"}
 _FILE = 4
-_LONGEST_NAME = 1 << 16
+_LONGEST_NAME = 4096
 
 _HEADER = struct.Struct("<HHIIIIIHHHHHH")
 _PROGRAM_HEADER = struct.Struct("<8I")
@@ -35,7 +41,7 @@ class Segment:
 
     virtual: int
     physical: int
-    content: bytes
+    content: memoryview
     size: int
 
 
@@ -97,16 +103,18 @@ class _Reader:
         self.content = content
         self.name = name
         self.kinds = kinds
+        self._names: dict[int, str] = {}  # that were read, by their places
+        self._left = len(content)  # so many bytes of names may still be read
 
     def sections(self, names: Sequence[str]) -> dict[str, bytes]:
         *_, at, _, _, _, _, size, count, of_names = self._unpack(_HEADER, 16, "its header")
         headers = [_Section(*self._unpack(_SECTION_HEADER, at + it * size, f"section header {it}")) for it in range(count)]
         if of_names >= count:
             return {}
-        texts = self._bytes(headers[of_names].offset, headers[of_names].size, "its names")
-        found = {_text_at(texts, it.name): it for it in headers}
-        return {name: self._bytes(found[name].offset, found[name].size, name) for name in names
-                if name in found and not found[name].flags & _COMPRESSED}
+        texts = self._view(headers[of_names].offset, headers[of_names].size, "its names")
+        titles = {name: name.encode() + b"\0" for name in names}
+        found = {name: it for it in headers for name, title in titles.items() if texts[it.name:it.name + len(title)] == title}
+        return {name: bytes(self._view(it.offset, it.size, name)) for name, it in found.items() if not it.flags & _COMPRESSED}
 
     def read(self) -> Elf:
         self._check_machine()
@@ -118,14 +126,15 @@ class _Reader:
             raise self._problem("has headers that are too small")
         headers = [_Section(*self._unpack(_SECTION_HEADER, sections + it * section_size, f"section header {it}"))
                    for it in range(section_count)]
-        segments = [it for it in self._segments(programs, program_size, program_count) if not _is_note(it, headers)]
+        notes = _Notes(headers)
+        segments = [it for it in self._segments(programs, program_size, program_count) if not notes.are_all_of(it)]
         return Elf(entry, flags >> 28, segments, list(self._symbols(headers)))
 
     def _check_machine(self) -> None:
         if not self.content.startswith(ELF_MAGIC) or len(self.content) < 16:
             raise self._problem("is no ELF")
         order: Literal["little", "big"] = "big" if self.content[5] == 2 else "little"
-        machine = int.from_bytes(self._bytes(18, 2, "its header"), order)
+        machine = int.from_bytes(self._view(18, 2, "its header"), order)
         if machine != _MIPS:
             known = f" ({_MACHINES[machine]})" if machine in _MACHINES else ""
             raise self._problem(f"is for machine {machine} of ELF's list{known}, not for MIPS ({_MIPS}): "
@@ -142,7 +151,7 @@ class _Reader:
             if kind == _LOAD and in_memory:
                 if in_file > in_memory:
                     raise self._problem(f"has a segment {number} that is larger in the file than in memory")
-                yield Segment(virtual, physical, self._bytes(offset, in_file, f"segment {number}"), in_memory)
+                yield Segment(virtual, physical, self._view(offset, in_file, f"segment {number}"), in_memory)
 
     def _symbols(self, headers: list[_Section]) -> Iterator[Symbol]:
         tables = [header for header in headers if header.type == _SYMBOL_TABLE]
@@ -151,48 +160,65 @@ class _Reader:
         for header in tables:
             if header.link >= len(headers) or header.entry_size < _SYMBOL.size:
                 raise self._problem("has a symbol table without its strings")
+            table = self._view(header.offset, header.size, "its symbols")
             strings = headers[header.link]
-            table = self._bytes(header.offset, header.size, "its symbols")
-            names = self._bytes(strings.offset, strings.size, "its names")
+            self._view(strings.offset, strings.size, "its names")
             file = ""  # of the local symbols that follow
             for place in range(0, len(table) - header.entry_size + 1, header.entry_size):
                 fields = _SYMBOL.unpack_from(table, place)
+                name = self._name(strings, fields[0])
                 if fields[3] & 15 == _FILE:
-                    file = _text_at(names, fields[0])
+                    file = name
                 else:
-                    yield from _symbol(fields, names, file)
+                    yield from _symbol(fields, name, file)
+
+    def _name(self, strings: _Section, at: int) -> str:
+        """The printable text at a place of a section, up to a byte 0, or nothing if none is near. All of them together have at most as many
+        bytes as the file."""
+        place = strings.offset + at
+        if at >= strings.size or place in self._names:
+            return self._names.get(place, "") if at < strings.size else ""
+        end = self.content.find(b"\0", place, min(place + _LONGEST_NAME, strings.offset + strings.size))
+        self._left -= max(end - place, 0)
+        if self._left < 0:
+            raise self._problem("has names that lie within each other")
+        name = printable(self.content[place:end].decode("utf-8", "replace")) if end >= 0 else ""
+        self._names[place] = name
+        return name
 
     def _unpack(self, layout: struct.Struct, at: int, what: str) -> tuple:
-        return layout.unpack(self._bytes(at, layout.size, what))
+        return layout.unpack(self._view(at, layout.size, what))
 
-    def _bytes(self, at: int, size: int, what: str) -> bytes:
+    def _view(self, at: int, size: int, what: str) -> memoryview:
+        """Bytes of the file, which are not copied."""
         if at + size > len(self.content):
             raise self._problem(f"ends before the end of {what}")
-        return self.content[at:at + size]
+        return memoryview(self.content)[at:at + size]
 
     def _problem(self, what: str) -> Problem:
         return Problem(f"{self.name} {what}", 1)
 
 
-def _is_note(segment: Segment, sections: list[_Section]) -> bool:
-    """Whether a segment holds only notes of the tools, and nothing of the program. Linkers put it at 0x00400000."""
-    types = [it.type for it in sections
-             if it.flags & _ALLOCATED and segment.virtual <= it.address < segment.virtual + segment.size]
-    return bool(types) and _NOTES.issuperset(types)
+class _Notes:
+    """Where the sections of a file are that hold notes of the tools, and where the others are."""
+
+    def __init__(self, sections: list[_Section]) -> None:
+        allocated = [it for it in sections if it.flags & _ALLOCATED]
+        self._notes = sorted(it.address for it in allocated if it.type in _NOTES)
+        self._others = sorted(it.address for it in allocated if it.type not in _NOTES)
+
+    def are_all_of(self, segment: Segment) -> bool:
+        """Whether a segment holds only notes, and nothing of the program. Linkers put it at 0x00400000."""
+        notes, others = (bisect_left(starts, segment.virtual + segment.size) - bisect_left(starts, segment.virtual)
+                         for starts in (self._notes, self._others))
+        return notes > 0 and not others
 
 
-def _symbol(fields: tuple, names: bytes, file: str) -> Iterator[Symbol]:
+def _symbol(fields: tuple, name: str, file: str) -> Iterator[Symbol]:
     """The symbol of an entry of the table, if it is a name of an address that people use."""
-    name_at, address, size, info, _, section = fields
-    name = _text_at(names, name_at)
+    _, address, size, info, _, section = fields
     if name and name[0] not in ".$" and info & 15 in _KINDS and section not in (_UNDEFINED, _ABSOLUTE):
         yield Symbol(name, address, size, _KINDS[info & 15], "" if info >> 4 else file)
-
-
-def _text_at(texts: bytes, at: int) -> str:
-    """The printable text up to a byte 0, or nothing where none is near."""
-    end = texts.find(b"\0", at, at + _LONGEST_NAME)
-    return texts[at:end].decode("utf-8", "replace") if end >= 0 else ""
 
 
 # What an ELF becomes
@@ -210,10 +236,11 @@ def placed(elf: Elf, name: str) -> tuple[Boot, list[str]]:
     boot, notes = Boot(), []
     for address, run in _runs(elf, name):
         boot.put(address, run)
-    for segment in elf.segments:
-        if segment.virtual == segment.physical < _MAPPED_END:
-            notes.append(f"{name} has a segment at {segment.virtual:#010x}: it is put at that physical address; "
-                         "at the virtual one nothing is mapped at reset")
+    mapped = [it for it in elf.segments if it.virtual == it.physical < _MAPPED_END]
+    if mapped:
+        more = f", and {len(mapped) - 1:,} more" if len(mapped) > 1 else ""
+        notes.append(f"{name} has a segment at {mapped[0].virtual:#010x}{more}: it is put at that physical address; "
+                     "at the virtual one nothing is mapped at reset")
     if elf.architecture:
         notes.append(f"{name} was compiled for a later MIPS, whose instructions the R3000 may lack: compile it with -march=r3000")
     return boot, notes
@@ -237,9 +264,10 @@ def _runs(elf: Elf, name: str) -> list[tuple[int, bytes]]:
         if start < end:
             raise Problem(f"{name} has two segments at {segment.physical:#010x}", 1)
         if runs and start // 4 <= (end - 1) // 4:
-            runs[-1][1].extend(bytes(start - end) + segment.content)
+            runs[-1][1].extend(bytes(start - end))
+            runs[-1][1].extend(segment.content)
         else:
-            runs.append((start & ~3, bytearray(bytes(start & 3) + segment.content)))
+            runs.append((start & ~3, bytearray(start & 3) + segment.content))
         end = start + len(segment.content)
     return [(start, bytes(run) + bytes(-len(run) % 4)) for start, run in runs]
 

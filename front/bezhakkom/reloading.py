@@ -24,6 +24,8 @@ def load(session: Session, name: str) -> int:
     made = loading.image(name, tell=lambda note: None)
     if made.kind != "image":
         raise Problem(f"{name} is of kind {made.kind}: an ELF or an image of this project's format can be loaded")
+    if not made.elves:
+        loading.start(made, None).close()  # a Problem if the file is damaged
     boot, board = boot_of(made, lambda places: []), session.driver.boot()
     if not made.elves and boot.constants() != board.constants():
         session.tell(f"the byte time, the unit and the clock stay as they are; {name} says others, which it has where it is opened")

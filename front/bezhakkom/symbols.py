@@ -4,8 +4,8 @@ from __future__ import annotations
 
 import re
 from bisect import bisect_right
+from collections import Counter
 from dataclasses import replace
-from pathlib import PurePosixPath
 from typing import Iterable, Iterator, List, Optional, Tuple
 
 from . import elf
@@ -26,7 +26,11 @@ _TARGET = re.compile(r"0x[0-9a-f]{8}$")
 _ORDER = {"func": 0, "object": 1, "other": 2}
 
 # Labels that compilers and linkers make. They are names only where nothing else is near.
+_LONGEST_MADE = 256
 _MADE = re.compile(r"\.?L\w*\d|_f(?:text|data|bss)$|_(?:etext|edata|end|gp)$|__bss_start$|_[A-Z]+_START_$")
+
+
+_LONGEST_APART = 1024  # characters of a name with its file
 
 
 class Symbols:
@@ -64,14 +68,16 @@ class Symbols:
         found: List[Tuple[str, Symbol]] = []
         for name, places in by_name.items():
             files = [self._file(symbol) if len(places) > 1 else "" for symbol in places.values()]
+            counts = Counter(files)
             for symbol, file in zip(places.values(), files):
-                found.append((name, replace(symbol, name=f"{file}:{name}") if file and files.count(file) == 1 else symbol))
+                is_apart = file and counts[file] == 1 and len(file) + len(name) <= _LONGEST_APART
+                found.append((name, replace(symbol, name=f"{file}:{name}") if is_apart else symbol))
         return iter(sorted(found, key=lambda it: _rank(it[1])))
 
     def _file(self, symbol: Symbol) -> str:
         """The name of the source that a symbol is of, without its folder, or the empty text."""
         line = self.lines.at(symbol.address) if symbol.kind == "func" and not symbol.file else None
-        return printable(PurePosixPath(symbol.file or (line.file if line else "")).name)
+        return printable((symbol.file or (line.file if line else "")).rpartition("/")[2])
 
     def address(self, name: str) -> Optional[int]:
         """The address of a name, or None. Of a name that has several, it is that of the first one: `found` returns all."""
@@ -167,7 +173,7 @@ class Symbols:
 
 
 def _is_made(symbol: Symbol) -> bool:
-    return symbol.kind == "other" and bool(_MADE.match(symbol.name))
+    return symbol.kind == "other" and len(symbol.name) <= _LONGEST_MADE and bool(_MADE.match(symbol.name))
 
 
 def _rank(symbol: Symbol) -> Tuple[int, bool, bool, str]:
