@@ -374,6 +374,7 @@ class Machine:
     @_alone
     def exceptions(self, kind: str = "") -> list[int]:
         """The steps before this position that took an exception, of a kind as the shell's `catch exception` names it, or of any."""
+        kind = kind if kind == "" else checked.text("kind", kind)
         conditions = {handler: [it] for handler, it in Catch(kind).conditions().items()}
         return [it - 1 for it in all_hits(self.driver, list(conditions), conditions, 0, self.position)]
 
