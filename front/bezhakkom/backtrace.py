@@ -7,10 +7,12 @@ from typing import Iterator, Optional, Tuple
 
 from . import search
 from .driver import Driver
+from .instruction import RETURN
 from .limits import RETURN_ADDRESS, STACK_POINTER
 from .replies import Registers
 from .states import registers_at
 from .symbols import Symbols
+from .tracing import Traced
 
 _MOST_ENTRIES = 256  # of a function, that are looked at for one frame
 _LARGEST = 1 << 20  # bytes of the stack that one function has
@@ -19,12 +21,14 @@ _LARGEST = 1 << 20  # bytes of the stack that one function has
 @dataclass(frozen=True)
 class Frame:
     """A function that has not returned: the position and the PC of its instruction that called the frame before it, or at which the run is;
-    and the code of the exception that was taken there, if it was no call. `is_last` if how the function was entered is not known."""
+    and the code of the exception that was taken there, if it was no call. `is_last` if how the function was entered is not known, or if no
+    function called it: it was `begun` by an rfe that returned to no interrupted instruction, as a task is."""
 
     position: int
     pc: int
     exception: Optional[int] = None
     is_last: bool = False
+    begun: Optional[Traced] = None
 
 
 def frames(driver: Driver, symbols: Symbols) -> Iterator[Frame]:
@@ -35,11 +39,15 @@ def frames(driver: Driver, symbols: Symbols) -> Iterator[Frame]:
     exception: Optional[int] = None
     while True:
         entry = _entry(driver, symbols, pc, position, stack)
-        yield Frame(position, pc, exception, entry is None)
         if entry is None or entry[0] < 1:
+            yield Frame(position, pc, exception, entry is None)
             return
         begun, state = entry
         last, = driver.traced(begun - 1, begun)
+        if _is_return(last):
+            yield Frame(position, pc, exception, True, last)
+            return
+        yield Frame(position, pc, exception)
         exception, position = last.exception, begun - 1
         if exception is None and begun > 1:
             position = begun - 2  # of the call or the jump, before its delay slot
@@ -66,12 +74,32 @@ def _entry(driver: Driver, symbols: Symbols, pc: int, position: int, stack: int)
         if called is not None:  # `found` is a turn of a loop at the begin of the function
             found = called
             state, before = registers_at(driver, [found, found - 2])
+        interrupted = _interrupted(driver, state, found, begin)
+        if interrupted is not None:  # at its first instruction, to which an rfe returned
+            found = interrupted
+            continue
         is_call = found < 2 or before.pc + 8 & 0xFFFF_FFFF == state.general[RETURN_ADDRESS]
         is_of_stack = 0 <= state.general[STACK_POINTER] - stack <= _LARGEST
         if found < 2 or is_of_stack and (is_call or not begin <= before.pc < end) and not _has_returned(driver, state, found, position):
             return found, state
         at, found = found, None
     return None
+
+
+def _is_return(step: Traced) -> bool:
+    """Whether a step returns from an exception."""
+    return step.word == RETURN and step.exception is None
+
+
+def _interrupted(driver: Driver, state: Registers, position: int, begin: int) -> Optional[int]:
+    """The position at which an exception was taken at the begin of a function, if one returned from it at another position."""
+    if position < 2 or not _is_return(*driver.traced(position - 1, position)):
+        return None
+    driver.goto(position)
+    before = search.last_visit(driver, [begin], 0)
+    if before is None or next(driver.traced(before, before + 1)).exception is None:
+        return None
+    return before if registers_at(driver, [before])[0].general[STACK_POINTER] == state.general[STACK_POINTER] else None
 
 
 def _called(driver: Driver, state: Registers, position: int, begin: int) -> Optional[int]:

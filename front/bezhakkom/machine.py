@@ -20,7 +20,7 @@ from threading import RLock
 from typing import Any, Callable, Iterable, Iterator, Mapping, Optional, Sequence, TypeVar, Union, cast, overload
 from weakref import finalize
 
-from . import arriving, checked, expecting, joining, loading, memory, places, saved, travel
+from . import arriving, checked, expecting, expressions, joining, loading, memory, places, saved, travel
 from . import log as logs
 from .checked import Path, Place, Results, Text
 from .commands import words_of
@@ -56,6 +56,7 @@ from .whatif.why import Why
 from .whatif.words import Words
 
 _LONGEST_TEXT = 4096  # bytes of a text in memory
+_MOST_TRACED = 100_000  # steps, which take some 100 MB
 
 
 Call = TypeVar("Call", bound=Callable[..., Any])
@@ -231,7 +232,7 @@ class Machine:
         """Goes on to the first position that is wanted, and gives it:
 
         - console: right after the serial line has sent the text, all of it from here on;
-        - pc: above this one, where the instruction at that place comes next;
+        - pc: above this one, where the instruction at that place comes next, or at the nearest of several places with one name;
         - word: from this one on, where the word at that place has a value, or one for which a function holds, or, without a value,
           right after it has changed;
         - position: that one.
@@ -251,7 +252,7 @@ class Machine:
             if console is not None:
                 self._until_sent(checked.whole("line", line), checked.content("console", console), end)
             elif pc is not None:
-                self._until_pc(self.address(pc), end)
+                self._until_pc(self._addresses("pc", pc), end)
             elif word is not None:
                 self._until_word(word, value, end)
             elif position is not None:
@@ -267,11 +268,11 @@ class Machine:
         if silence:
             raise NotReached(silence.sentence(line, text))
 
-    def _until_pc(self, address: int, end: int) -> None:
+    def _until_pc(self, addresses: Sequence[int], end: int) -> None:
         here = self.position
-        stop = travel.forward(self.driver, Stops({address}, end=end, idle=self.session.idle), lambda: False)
+        stop = travel.forward(self.driver, Stops(set(addresses), end=end, idle=self.session.idle), lambda: False)
         if stop.reason is not Reason.BREAKPOINT:
-            raise NotReached(f"the run does not come to {self.session.address(address)}: {_why(stop, here)}")
+            raise NotReached(f"the run does not come to {' or '.join(map(self.session.address, addresses))}: {_why(stop, here)}")
 
     def _until_word(self, place: Place, value: Union[int, Callable[[int], bool], None], end: int) -> None:
         here, driver = self.position, self.driver
@@ -312,6 +313,14 @@ class Machine:
         address = place if isinstance(place, int) else self.value(place)
         places.check(address)
         return address
+
+    def _addresses(self, name: str, place: Place) -> list[int]:
+        """The virtual addresses of code that an argument names."""
+        place = checked.place(name, place)
+        found = [place] if isinstance(place, int) else expressions.places_of(place, self.driver, self.session.symbols)[0]
+        for address in found:
+            places.check(address)
+        return found
 
     def _word_at(self, name: str, place: Place) -> tuple[int, int]:
         """The virtual and the physical address of the word that an argument names."""
@@ -361,15 +370,17 @@ class Machine:
 
     @_alone
     def trace(self, steps: int = 1) -> list[Traced]:
-        """What the next steps do. The position stays."""
-        if checked.whole("steps", steps) < 0 or self.position + steps > GREATEST_POSITION:
+        """What the next steps do, at most 100,000 of them. The position stays."""
+        checked.whole("steps", steps, 0, _MOST_TRACED)
+        if self.position + steps > GREATEST_POSITION:
             raise Problem(f"{steps:,} steps can't be followed: a position is 0 to {GREATEST_POSITION:,}")
         return list(self.driver.traced(self.position, self.position + steps))
 
     @_alone
     def hits(self, place: Place) -> list[int]:
-        """All positions up to this one at which the instruction at a place comes next."""
-        return list(all_hits(self.driver, [self.address(place)], {}, 0, self.position))
+        """All positions up to this one at which the instruction at a place comes next. A name of several places, such as a static function of
+        two sources, means all of them, as `break` of the shell does; `a.c:NAME` is one."""
+        return list(all_hits(self.driver, self._addresses("place", place), {}, 0, self.position))
 
     @_alone
     def exceptions(self, kind: str = "") -> list[int]:

@@ -50,5 +50,9 @@ def backtrace(session: Session, words: list[str]) -> None:
         session.tell(f"#{number:<2} {session.code(frame.pc)}" + (f", in step {frame.position:,}{taken}" if number else ""))
     if len(found) > most:
         session.tell(f"there are more: `backtrace C` shows at most {counted(most, 'call')} where C is {most:,}")
+    elif found[-1].begun:
+        begun, function = found[-1].begun, session.symbols.at(found[-1].pc)
+        name = function[0].name if function else f"{found[-1].pc:#010x}"
+        session.tell(f"no function called {name}: an exception handler began it, by the rfe of step {begun.step:,}, {session.code(begun.pc)}")
     elif found[-1].is_last:
         session.tell(f"how {session.place(found[-1].pc)} was entered is not found")

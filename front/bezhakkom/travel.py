@@ -95,6 +95,8 @@ class Stop:
             return f"from step {self.position:,} on the program {self.reason.value}{turn}"
         if self.reason is Reason.IDLE:
             return f"the run pauses: nothing was sent in the last {self.steps:,} steps, and the log has no more events"
+        if self.reason is Reason.LIMIT:
+            return f"reached step {self.position:,}"
         return f"that is {self.reason.value}"
 
 

@@ -10,6 +10,7 @@ import unittest
 from pathlib import Path
 from typing import List, Sequence
 
+import bezhakkom
 from bezhakkom import loading
 from bezhakkom.errors import Problem
 from bezhakkom.symbols import symbols_of
@@ -139,6 +140,18 @@ class Several(InFolder):
         self.assertRegex(hits[0], r"^visits of one\.c:helper \(one\.c:8\) and two\.c:helper \(two\.c:5\), up to step \d+: 1$")
 
 
+    def test_library_takes_all_places_of_a_name_as_break_does(self) -> None:
+        with bezhakkom.boot(self.elf) as machine:
+            machine.goto(2_000)
+            one, two = machine.hits("one.c:helper"), machine.hits("two.c:helper")
+            self.assertEqual(machine.hits("helper"), sorted(one + two))
+            self.assertGreater(min(len(one), len(two)), 3)
+            machine.goto(0)
+            self.assertEqual([machine.until(pc="helper") for _ in range(4)], sorted(one + two)[:4])
+            with self.assertRaisesRegex(Problem, "has 2 locations: .*Name the one that is meant"):
+                machine.writer("helper")
+
+
 class Words(InFolder):
     """The program has a variable `last`, which is a word of the shell too."""
 
@@ -233,6 +246,28 @@ class Interrupted(unittest.TestCase):
             "#0  interrupt (loader.c)", "#1  exception (start.S), in step 20,025", "#2  receive (loader.c), in step 20,000, where exception int was taken",
             "#3  read_line (loader.c), in step 1,803", "#4  main (loader.c), in step 1,796"])
         self.assertEqual(most, [*shown[:2], "there are more: `backtrace C` shows at most 2 calls where C is 2"])
+
+
+TASK = """\
+volatile int count;
+__attribute__((noinline)) void work(void) { count++; }
+void task(void) { work(); for (;;) count++; }
+int main(void)
+{
+    asm volatile (".set noreorder\\n la $26, task\\n jr $26\\n rfe\\n .set reorder");
+    return 0;
+}
+"""
+
+
+class Tasks(InFolder):
+    def test_backtrace_of_a_task_that_an_exception_return_began_ends_there(self) -> None:
+        (self.folder / "t.c").write_text(TASK)
+        subprocess.run([COMPILER, *OPTIONS, "-T", str(SCRIPT), "-o", "t.elf", str(START), "t.c"], cwd=self.folder, check=True)
+        *_, shown = answers(str(self.folder / "t.elf"), "visit work", "backtrace")
+        self.assertEqual([re.sub(r"\+0x[0-9a-f]+|, in step \d+$", "", it) for it in shown[:2]], ["#0  work (t.c:2)", "#1  task (t.c:3)"])
+        self.assertRegex(shown[2], r"^no function called task: an exception handler began it, by the rfe of step \d+, main\+0x\w+ \(t\.c:6\)$")
+        self.assertEqual(len(shown), 3)
 
 
 class Builds(InFolder):

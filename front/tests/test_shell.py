@@ -79,6 +79,13 @@ class Echo(unittest.TestCase):
         self.assertEqual(talk("c", "c")[1::2], ["step 81, loop+0x18: sw r0, 260(r8)", "step 213, loop+0x18: sw r0, 260(r8)"])
         self.assertRegex(talk("c")[0], "waits for a byte, and the log has no more")
 
+    def test_text_without_quotes_is_shown_with_them(self) -> None:
+        for line, meant in (("type hello", 'type "hello"'), ("type 1 hello you", 'type 1 "hello you"'), ("expect password:", 'expect "password:"'),
+                            ("assert-console 0 x", 'assert-console 0 "x"')):
+            self.assertEqual(self.talk(line), [f"a text stands between quotes: {meant}"])
+        self.assertRegex(self.talk("type 0 5")[0], "^usage: type .*; the text stands between quotes")
+        self.assertEqual(self.talk.driver.log, self.talk.session.saved_log)
+
     def test_the_past(self) -> None:
         talk = self.talk
         self.assertEqual(talk("goto 256", "writer 0xa0000104")[1], "step 213, loop+0x18, 43 steps ago: sw r0, 260(r8)")
@@ -151,9 +158,9 @@ class Echo(unittest.TestCase):
     def test_going_on_up_to_a_position(self) -> None:
         """The second byte arrives in step 200, and its turn is at the breakpoint in step 213."""
         talk = self.talk
-        self.assertEqual(talk("continue 100"), ["that is the position to which it was to go", "step 100, loop+0xc: sll r7, r6, 16"])
+        self.assertEqual(talk("continue 100"), ["reached step 100", "step 100, loop+0xc: sll r7, r6, 16"])
         self.assertEqual(talk("break loop+0x18", "until last+5")[1:],
-                         ["that is the position to which it was to go", "step 205, next: j 0xbfc01000 <loop>"])
+                         ["reached step 205", "step 205, next: j 0xbfc01000 <loop>"])
         self.assertEqual(talk("until last+1,000")[-1], "step 213, loop+0x18: sw r0, 260(r8)")
         self.assertRegex(talk("until 213")[0], "position 213 is not ahead: this is 213")
         self.assertRegex(talk("continue 0")[0], "not ahead")
