@@ -25,6 +25,7 @@ _TERM = re.compile(r"[\w./]*\.\w+:[0-9]+|0x[0-9a-fA-F]+|[0-9]{1,3}(?:,[0-9]{3})+
 _OPENED = re.compile(r"(byte|half|)\[")
 _PART = re.compile(r"[&*]*([A-Za-z_]\w*)(?:\.|->|\[)[\w.\[\]>-]*")
 _LINE = re.compile(r"([\w./+-]*[A-Za-z_][\w./+-]*):([0-9]{1,9})")
+_IDENTIFIER = re.compile(r"[A-Za-z_]\w*")
 _SIZES = {"byte": 1, "half": 2, "": 4}
 _DEEPEST = 16  # brackets within each other
 _SHOWN = 8  # locations of one name that a refusal lists
@@ -98,7 +99,12 @@ def places_of(text: str, driver: Driver, symbols: Symbols) -> Tuple[List[int], b
     line = _LINE.fullmatch(text)
     if line and not text.startswith(places.PHYSICAL):
         return symbols.addresses_of_line(line[1], int(line[2])), True
-    several = symbols.found(text.lstrip("&"))
+    name = text.lstrip("&")
+    if _IDENTIFIER.fullmatch(name) and not _is_own(text, symbols):
+        addresses = {it.address for it in symbols.found(name)} | set(symbols.inlined.named(name))
+        if len(addresses) > 1 or addresses and not symbols.found(name):
+            return sorted(addresses), True
+    several = symbols.found(name)
     if len(several) > 1 and not _is_own(text, symbols):
         return [it.address for it in several], True
     total = read(text, driver, symbols)
@@ -271,8 +277,14 @@ class _Reader:
         self._has_state = True
         register = _register(term if term in _NUMBERS else name, self._driver)
         if register is None:
-            raise Problem(f"there is no register {shortened(name)}" if term[0] == "$" else
-                          f"there is no symbol and no register {shortened(name)}")
+            if term[0] == "$":
+                raise Problem(f"there is no register {shortened(name)}")
+            copies = self._symbols.inlined.named(name)
+            if copies:
+                listed = ", ".join(map(self._symbols.code, copies[:_SHOWN])) + (" and more" if len(copies) > _SHOWN else "")
+                raise Problem(f"{shortened(name)} has no address of its own: the compiler inlined it, at {listed}. `break {shortened(name)}` stops "
+                              "at each copy")
+            raise Problem(f"there is no symbol and no register {shortened(name)}")
         return register
 
     def _line(self, file: str, number: str) -> int:

@@ -116,8 +116,7 @@ class Session:
 
     def code(self, address: int) -> str:
         """`main+0x78 (login.c:44)`, as far as that is known."""
-        line = self.symbols.line(address)
-        return self.place(address) + (f" ({line})" if line else "")
+        return self.symbols.code(address)
 
     def value(self, value: int, is_code: bool = False) -> str:
         """`0xbfc00078 <main+0x78>`, with its source line if it is known to be an address of code, or if it points to a function."""
@@ -195,7 +194,9 @@ class Session:
         for address in addresses:
             places.check_code(address)
         if len(addresses) > 1:
-            listed = ", ".join(self.symbols.line(address) or f"{address:#010x}" for address in addresses)
+            lines = [self.symbols.line(address) for address in addresses]
+            is_apart = all(lines) and len(set(lines)) == len(lines)
+            listed = ", ".join(lines if is_apart else map(self.code, addresses))
             self.tell(f"{text} has {len(addresses):,} locations: {listed}")
         return [self.put(Mark(0, self._breakpoint(address), address, place=text if is_named else "", which=which))
                 for which, address in enumerate(addresses)]

@@ -13,6 +13,7 @@ from .initial import Source
 from .elf import Symbol
 from .errors import Problem
 from .image import Image
+from .inlined import Inlined
 from .limits import ROM
 from .lines import Lines
 from .printable import printable
@@ -36,8 +37,9 @@ _LONGEST_APART = 1024  # characters of a name with its file
 class Symbols:
     """The symbols of a program."""
 
-    def __init__(self, symbols: Iterable[Symbol] = (), lines: Lines = Lines(), sources: Sources = Sources()) -> None:
+    def __init__(self, symbols: Iterable[Symbol] = (), lines: Lines = Lines(), sources: Sources = Sources(), inlined: Inlined = Inlined()) -> None:
         self.lines = lines
+        self.inlined = inlined
         self.sources = sources
         self._by_name: dict[str, List[Symbol]] = {}
         at: dict[int, Symbol] = {}
@@ -132,17 +134,23 @@ class Symbols:
         found = self.lines.at(address)
         return str(found) if found else ""
 
+    def code(self, address: int) -> str:
+        """`main+0x78 (login.c:44)`, as far as that is known."""
+        line = self.line(address)
+        return (self.name(address) or f"{address:#010x}") + (f" ({line})" if line else "")
+
     def addresses_of_line(self, file: str, number: int) -> List[int]:
-        """The addresses at which a line of a source begins, one in each function, or the first line after it that has code."""
+        """The addresses at which a line of a source begins, one in each function and each inlined copy of one, or the first line after it that
+        has code."""
         found = self.lines.addresses(file, number)
         if found is None:
             raise Problem(f"no source {file} is among the line tables of the image: compile it with -g, or give the ELF that has them by --symbols")
         if not found:
             raise Problem(f"{file} has no code in line {number:,} or after it")
-        first: dict[int, int] = {}  # by the begins of functions
-        for address in found:
+        first: dict[tuple[int, Optional[int]], int] = {}  # by the begins of functions and copies
+        for address, copy in zip(found, self.inlined.around(found)):
             named = self.at(address)
-            first.setdefault(address - named[1] if named else address, address)
+            first.setdefault((address - named[1] if named else address, copy), address)
         return sorted(first.values())
 
     def function(self, address: int) -> Optional[Tuple[int, int]]:
@@ -189,7 +197,7 @@ def symbols_of(image: Image) -> Symbols:
     found = [symbol for file in image.elves for symbol in elf.symbols(file)]
     if image.kind == "source":
         found += (Symbol(name, _virtual(place), 0, "other") for name, place in Source(image.content).labels.items())
-    return Symbols(found, Lines(image.elves), Sources(image.elves))
+    return Symbols(found, Lines(image.elves), Sources(image.elves), Inlined(image.elves))
 
 
 def _virtual(place: int) -> int:

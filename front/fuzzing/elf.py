@@ -41,7 +41,9 @@ def _read(content: bytes) -> None:
             check_shown(symbols.line(symbols.address(name) or 0))
         for place in range(SHOWN):
             check_shown(symbols.line(0xBFC0_0000 + 64 * place))
-        for file in "login.c", "a/b.c":
+        for name in "receive", "main":
+            symbols.inlined.named(name)
+        for file in "login.c", "loader.c", "a/b.c":
             try:
                 symbols.addresses_of_line(file, 44)
             except Problem as problem:

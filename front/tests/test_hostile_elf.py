@@ -16,6 +16,7 @@ from front.tests.test_lines import END, begin, part
 MEGABYTE = 1 << 20
 SIZE = int(os.environ.get("WB_ELF_BYTES", MEGABYTE // 8))  # bytes, about, of each file
 SECONDS, MEGABYTES = 2 * SIZE / MEGABYTE, 200 * SIZE / MEGABYTE
+BUSY = 3  # times as long as on an idle machine, where other processes share the processor
 
 
 Section = tuple[int, int, bytes, int, int]  # type, address, content, link, size of an entry
@@ -87,6 +88,14 @@ def without_range() -> bytes:
     return lines(bytes(whole))
 
 
+def entries(info: bytes, abbreviations: bytes) -> bytes:
+    return elf_of({".debug_info": (1, 0, info, 0, 0), ".debug_abbrev": (1, 0, abbreviations, 0, 0), ".debug_str": (1, 0, b"n\0", 0, 0)}, [ROM])
+
+
+def unit(abbreviations: int, content: bytes) -> bytes:
+    return struct.pack("<IHBBI", len(content) + 8, 5, 1, 4, abbreviations) + content
+
+
 def opened(program: bytes) -> bytes:
     return lines(part(4, begin(0xBFC00000) + program + END))
 
@@ -98,6 +107,12 @@ def extended(content: bytes) -> bytes:
 NAME = b"n" * 4000 + b"\0"
 MANY = SIZE // 16
 HOSTILE: Dict[str, Callable[[], bytes]] = {
+    "entries of attributes without bytes": lambda: entries(unit(0, b"\x01" * (SIZE // 2) + b"n\0"), b"\x01\x11\x00" + b"\x3f\x19" * (SIZE // 4) + b"\0\0\0"),
+    "units whose abbreviations overlap": lambda: entries(b"".join(unit(3 * it, b"\x01n\0") for it in range(SIZE // 30)), b"\x01\x11\x00" * (SIZE // 6)),
+    "copies that share ranges": lambda: elf_of({
+        ".debug_info": (1, 0, unit(0, b"\x01" + struct.pack("<II", 0xBFC00000, 64) + b"\x02n\0" + (b"\x03" + struct.pack("<II", 21, 12)) * (SIZE // 18)), 0, 0),
+        ".debug_abbrev": (1, 0, b"\x01\x11\x01\x11\x01\x12\x06\0\0\x02\x2e\0\x03\x08\0\0\x03\x1d\0\x31\x13\x55\x17\0\0\0", 0, 0),
+        ".debug_rnglists": (1, 0, bytes(12) + b"\x07\0\0\xc0\xbf\x10" * (SIZE // 12) + b"\0", 0, 0)}, [ROM]),
     "files without parts": without_form,
     "a range of lines that is 0": without_range,
     "an advance without an end": lambda: opened(b"\x02" + b"\xff" * SIZE),
@@ -135,6 +150,7 @@ def read(content: bytes) -> str:
         image, notes = elf.image_of(content, "x.elf")
         symbols = symbols_of(image)
         symbols.names(), symbols.name(0xBFC00004), symbols.line(0xBFC00000), symbols.line(0x80000800)
+        symbols.inlined.named("n"), symbols.inlined.around([0xBFC00000, 0xBFC00010])
         for file in "one.c", "a/b/x.c":
             symbols.lines.addresses(file, 1)
     except Problem as problem:
@@ -173,7 +189,9 @@ class Hostile(unittest.TestCase):
                 if "WB_ELF_BYTES" in os.environ:
                     print(f"{seconds:5.2f} s {megabytes:4.0f} MB {len(content):9,} bytes  {name}: {told[:150]}", flush=True)
                 self.assertLess(len(content), 1.2 * SIZE + 1000)
-                self.assertLessEqual((told.count("\n"), seconds > SECONDS, megabytes > MEGABYTES), (1, False, False), (told[:300], seconds, megabytes))
+                self.assertLess(told.count("\n"), 2)
+                self.assertLess(seconds, BUSY * SECONDS)
+                self.assertLess(megabytes, MEGABYTES)
 
 
 if __name__ == "__main__":

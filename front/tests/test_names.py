@@ -248,6 +248,51 @@ class Interrupted(unittest.TestCase):
         self.assertEqual(most, [*shown[:2], "there are more: `backtrace C` shows at most 2 calls where C is 2"])
 
 
+INLINED = """\
+volatile int count, total;
+static inline __attribute__((always_inline)) int twice(int x)
+{
+    count += x;
+    return count * 2;
+}
+__attribute__((noinline)) int other(int x)
+{
+    return twice(x + 1);
+}
+int main(void)
+{
+    for (;;) {
+        total = twice(3);
+        total += other(total);
+        total += twice(5) + total;
+    }
+}
+"""
+
+
+class Inlined(InFolder):
+    def test_break_on_an_inlined_function_and_on_its_line_stops_at_each_copy(self) -> None:
+        debugger.needed()
+        (self.folder / "i.c").write_text(INLINED)
+        elf = str(self.folder / "i.elf")
+        for options in (), ("-gdwarf-4",), ("-O1",):
+            subprocess.run([COMPILER, *OPTIONS, *options, "-T", str(SCRIPT), "-o", elf, str(START), "i.c"], cwd=self.folder, check=True)
+            asked = "python print('@', *(hex(it.pc & 0xffffffff) for it in gdb.decode_line('i.c:4')[1]))"
+            text = debugger.run([debugger.DEBUGGER, *debugger.PLAIN, "-batch", "-ex", asked, elf])
+            line = sorted(int(word, 16) for word in text.split("@")[1].split())
+            symbols = symbols_of(loading.image(elf))
+            self.assertEqual((len(line), symbols.addresses_of_line("i.c", 4)), (3, line))
+            # gdb up to version 14 has the least address of a copy, where DWARF names another one by which it is entered.
+            shown = subprocess.run([READELF, "-W", "--debug-dump=info", elf], capture_output=True, text=True, check=True).stdout
+            entries = re.findall(r"DW_AT_entry_pc\s*: (?:\(addr\) )?(\w+)", shown)
+            self.assertEqual(symbols.inlined.named("twice"), sorted(int(it, 16) for it in entries))
+        copies, refused, visited = answers(elf, "break twice", "print twice", "visit twice")
+        self.assertEqual(copies[0], "twice has 3 locations: " + ", ".join(symbols.code(it) for it in symbols.inlined.named("twice")))
+        self.assertEqual(len(copies), 4)
+        self.assertRegex(refused[0], r"^twice has no address of its own: the compiler inlined it, at other\S* \(i\.c:4\), .*`break twice` stops at each copy$")
+        self.assertRegex(visited[0], r"^step [\d,]+, main\S* \(i\.c:4\): ")
+
+
 TASK = """\
 volatile int count;
 __attribute__((noinline)) void work(void) { count++; }
