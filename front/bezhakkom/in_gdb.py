@@ -504,7 +504,7 @@ class Image:
     def _asked(self) -> list[str]:
         """What the stub says of the ELF: a digest, a file, the user's name for it, and whether that has changed on disk."""
         try:
-            return (asked("elf-file").splitlines() + [""] * 4)[:4] if here() else [""] * 4
+            return (asked("elf-file").split("\n") + [""] * 4)[:4] if here() else [""] * 4
         except gdb.GdbError:
             return [""] * 4
 

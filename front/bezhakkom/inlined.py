@@ -19,6 +19,7 @@ from .printable import printable
 
 _INFO, _ABBREVIATIONS, _STRINGS, _RANGES, _RANGE_LISTS = ".debug_info", ".debug_abbrev", ".debug_str", ".debug_ranges", ".debug_rnglists"
 _MOST_VALUES = 1_000_000  # that are read of one ELF, which takes about a second
+_RANGE = 4  # values that take as long as a range
 _MOST_STRINGS = 64  # places of .debug_str that end with a name
 _LONGEST_NAME = 4096
 
@@ -216,7 +217,7 @@ class _Table:
 
     def _old_ranges(self, at: int, base: int) -> Iterator[Tuple[int, int]]:
         while True:
-            self._count()
+            self._count(_RANGE)
             begin, end = struct.unpack_from("<II", self._sections.get(_RANGES, b""), at)
             at += 8
             if begin == 0xFFFF_FFFF:
@@ -229,7 +230,7 @@ class _Table:
     def _range_list(self, at: int, base: int) -> Iterator[Tuple[int, int]]:
         reader = _Reader(self._sections.get(_RANGE_LISTS, b""), at)
         while True:
-            self._count()
+            self._count(_RANGE)
             kind = reader.fixed(1)
             if kind == 4:
                 yield base + reader.long(), base + reader.long()

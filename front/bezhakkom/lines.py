@@ -16,6 +16,7 @@ from array import array
 from bisect import bisect_right
 from contextlib import suppress
 from dataclasses import dataclass
+from itertools import compress, count
 from pathlib import PurePosixPath
 from typing import Dict, Iterable, Iterator, List, Optional, Sequence, Set, Tuple, Union, cast
 
@@ -188,16 +189,13 @@ class _Sequence:
     def _order(self) -> None:
         """Leaves one row at each address, in their order."""
         addresses, statements = self._rows.addresses, self._rows.statements
-        of_address: Dict[int, int] = {}
-        for place, address in enumerate(addresses):
-            before = of_address.setdefault(address, place)
-            if statements[place] or not statements[before]:
-                of_address[address] = place
+        of_address = dict(zip(addresses, count()))
+        of_address.update(compress(zip(addresses, count()), statements))
         self._addresses = array("I", sorted(of_address))
         self._places = array("I", map(of_address.__getitem__, self._addresses))
 
     def __bool__(self) -> bool:
-        return any(address < self._end for address in self._addresses)
+        return bool(self._addresses) and self._addresses[0] < self._end
 
     def at(self, address: int) -> Optional[_Numbers]:
         place = bisect_right(self._addresses, address) - 1
@@ -398,15 +396,15 @@ class _Program:
 
     def sequences(self) -> Iterator[_Rows]:
         """Sequences that have an end."""
-        content, end = self._content, len(self._content)
+        content, at, end = self._content, self._at, len(self._content)
         first = self._first_special
         steps = [(code - first) // self._line_range * self._unit for code in range(256)]
         more = [self._line_base + (code - first) % self._line_range for code in range(256)]
         rows = _Rows()
         address, file, line, is_statement = 0, 1, 1, self._is_statement
-        while self._at < end:
-            code = content[self._at]
-            self._at += 1
+        while at < end:
+            code = content[at]
+            at += 1
             if code >= first or code == _COPY:
                 if code >= first:
                     address, line = address + steps[code], line + more[code]
@@ -414,7 +412,9 @@ class _Program:
                 rows.files.append(file)
                 rows.lines.append(line if 0 < line <= _GREATEST else 0)
                 rows.statements.append(is_statement)
-            elif not code:
+                continue
+            self._at = at
+            if not code:
                 size = self._long()
                 following, code = self._at + size, self._number(1)
                 if code == _END:
@@ -444,6 +444,7 @@ class _Program:
             else:
                 for _ in range(self._arguments[code]):
                     self._long()
+            at = self._at
 
 
 def _joined(folder: str, name: str) -> str:
