@@ -25,7 +25,7 @@ class Fuzzing(unittest.TestCase):
 
     def test_case_that_fails_is_kept_as_a_file(self) -> None:
         with tempfile.TemporaryDirectory() as folder, mock.patch.object(tempfile, "tempdir", folder):
-            with self.assertRaisesRegex(AssertionError, f"x: case 3 of seed 7, which is kept in {folder}/.*ZeroDivisionError") as caught:
+            with self.assertRaisesRegex(AssertionError, f"(?s)x: case 3 of seed 7, which is kept in {folder}/.*ZeroDivisionError") as caught:
                 cases.tried("x", 3, 7, lambda: b"content", lambda: 1 // 0)
             name = str(caught.exception).partition("kept in ")[2].partition(":")[0]
             with open(name, "rb") as file:
