@@ -423,6 +423,15 @@ class Limits(InFolder):
         with mock.patch.object(log, "MOST_EVENTS", 1000), self.assertRaisesRegex(Problem, "at most 1,000"):
             log.make(iter(["0 0 'aaaaaaaaaa'"] * 101 + ["not reached"]), "x")
 
+    def test_image_with_more_runs_than_it_has_bytes_is_refused_by_load(self) -> None:
+        name = self.put("i.img", b"R3KIMG1\n" + (16).to_bytes(4, "little") + (1).to_bytes(4, "little") + bytes([0, 0, 0, 0, 0, 0, 1, 1, 1, 0, 0x20, 6]) + b"\xff" * 4)
+        talk = self.opened(LOGIN, log=True)
+        self.do(talk, "del 2")
+        begun = time.process_time()
+        self.assertRegex(self.do(talk, f"load {name}")[0], "^r3kwb: error 9 BadImage ")
+        self.assertLess(time.process_time() - begun, 5)
+        self.assertEqual(len(self.session.driver.log), 9)
+
     def test_pipe_or_device_as_an_image_is_refused_by_every_front_end(self) -> None:
         os.mkfifo(self.folder / "pipe")
         for name in str(self.folder / "pipe"), "/dev/zero", str(self.folder):
