@@ -56,6 +56,8 @@ class CtrlC:
         self._is_new = True  # nothing ran since the prompt
         self._has_ended = False  # Ctrl-C has ended a run since the prompt
         self._is_mi = bool(os.environ.get("BEZHAKKOM_MI"))  # gdb has no prompt, and each line is one command
+        if self._is_mi and self._file:
+            signal.pthread_sigmask(signal.SIG_BLOCK, self.KEY)
 
     def begin(self) -> None:
         """Something runs. What was pressed before it was typed is forgotten."""
@@ -82,10 +84,12 @@ class CtrlC:
             signal.pthread_sigmask(signal.SIG_SETMASK, before)
 
     def drop(self) -> None:
-        """Hands it to gdb again, where it is pressed from now on."""
+        """Hands it to gdb again, if it is pressed from now on. Under MI gdb never has it: a Quit in the middle of a stop's record would leave
+        an editor without that record. Nothing that gdb does there waits for it."""
         while signal.sigtimedwait(self.KEY, 0):
             pass
-        signal.pthread_sigmask(signal.SIG_UNBLOCK, self.KEY)
+        if not (self._is_mi and self._file):
+            signal.pthread_sigmask(signal.SIG_UNBLOCK, self.KEY)
 
     def go(self) -> None:
         """A run or steps begin. Where Ctrl-C ended those before, in the same line, loop or script, that ends here too."""

@@ -5,7 +5,9 @@ import os
 import shutil
 import subprocess
 import tempfile
+import time
 import unittest
+from contextlib import suppress
 from pathlib import Path
 from typing import Optional, Sequence
 from unittest import mock
@@ -49,3 +51,31 @@ def run(line: Sequence[str], typed: str = "") -> str:
             shown = subprocess.run(line, cwd=ROOT, input=typed.encode("latin-1"), timeout=TIMEOUT, stdout=subprocess.PIPE,
                                    stderr=subprocess.STDOUT).stdout
     return shown.decode("latin-1")
+
+
+def started_below(process: int, name: str) -> int:
+    """Waits for a program that a process started, itself or by others, and returns its number."""
+    end = time.monotonic() + TIMEOUT
+    while time.monotonic() < end:
+        parents: dict[int, int] = {}
+        named: list[int] = []
+        for at in Path("/proc").glob("[0-9]*"):
+            with suppress(OSError, ValueError):
+                before, _, after = (at / "stat").read_text().rpartition(")")
+                parents[int(at.name)] = int(after.split()[1])
+                if before.partition("(")[2] == name:
+                    named.append(int(at.name))
+        for number in named:
+            above = number
+            while above in parents and above != process:
+                above = parents[above]
+            if above == process:
+                return number
+        time.sleep(0.02)
+    raise AssertionError(f"{process} started no {name}")
+
+
+def processor_time(process: int) -> int:
+    """Returns how long a process has computed, in ticks of the system's clock."""
+    fields = Path(f"/proc/{process}/stat").read_text().rpartition(")")[2].split()
+    return int(fields[11]) + int(fields[12])

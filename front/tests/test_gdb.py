@@ -355,12 +355,19 @@ class MachineInterface(unittest.TestCase):
                 return text
         raise AssertionError(f"gdb has ended without {beginnings}")
 
+    def until_the_program_computes(self) -> None:
+        """gdb reports that the target runs before it asks the stub for the run."""
+        program = debugger.started_below(self.process.pid, "r3kwb")
+        before = debugger.processor_time(program)
+        while debugger.processor_time(program) == before:
+            time.sleep(0.02)
+
     def test_step_after_an_interrupted_run_is_made(self) -> None:
         self.until("*stopped")
         for _ in range(2):
             self.send("-exec-continue")
             self.until("*running")
-            time.sleep(0.3)
+            self.until_the_program_computes()
             os.killpg(self.process.pid, signal.SIGINT)
             self.assertIn('signal-name="SIGINT"', self.until("*stopped"))
             self.send("-exec-step-instruction")
