@@ -1,4 +1,5 @@
 pub mod Count
+pub mod Countdown
 pub mod Flags
 pub mod Passed
 pub mod Second

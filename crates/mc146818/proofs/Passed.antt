@@ -26,14 +26,14 @@ le_or_lt : (a n : ℕ) → (a ≤ n) ⊎ (n < a)
 le_or_lt a n = grind arith
 
 -- what is left of a count that goes on within its period
-rest_of : (count more period : ℕ) → count % period + more < period → (count + more) % period ≡ count % period + more
+pub rest_of : (count more period : ℕ) → count % period + more < period → (count + more) % period ≡ count % period + more
 rest_of count more period within =
     let parts : count + more ≡ period * (count / period) + (count % period + more) = omega (arith, div-add-mod count period) in
     ap (λ (n : ℕ). n % period) parts
     ∙ (mul-add-mod_self_left period (count / period) (count % period + more) ∙ mod-eq_of_lt within)
 
 -- and of one that comes to its end
-rest_at_end : (count more period : ℕ) → 0 < period → count % period + more ≡ period → (count + more) % period ≡ 0
+pub rest_at_end : (count more period : ℕ) → 0 < period → count % period + more ≡ period → (count + more) % period ≡ 0
 rest_at_end count more period above ends =
     let parts : count + more ≡ period * (count / period + 1) + 0 =
     omega (arith, div-add-mod count period, ends) in
@@ -164,14 +164,14 @@ second_ends clock n ends same =
     absurd (omega (arith, stands))
 
 -- a period has ticks
-abbrev HasTicks : Option ℕ → Type 0
+abbrev pub HasTicks : Option ℕ → Type 0
 HasTicks None = Unit {0}
 HasTicks (Some period) = 0 < period
 
 product_above : (a b : ℕ) → 1 ≤ a → 1 ≤ b → 0 < a * b
 product_above a b ha hb = grind arith
 
-period_above : (unit rate : ℕ) → 1 ≤ unit → HasTicks (period_of unit rate)
+pub period_above : (unit rate : ℕ) → 1 ≤ unit → HasTicks (period_of unit rate)
 period_above unit rate above =
     either (nat_eq rate 0) None _ tt
     (either (nat_eq rate 1) (Some (32 * unit)) _ (omega arith)
