@@ -1,3 +1,4 @@
+mod Destinations
 mod Fetched
 mod Untouched
 mod Zero

@@ -34,6 +34,7 @@ pub mod Step
 pub mod Reports
 pub mod Run
 pub mod Traced
+pub mod Jumps
 pub mod Known
 pub mod Quiet
 pub mod Locality

@@ -1,15 +1,16 @@
 //! Laws of the run: nothing runs here.
 
-ghost use Rattle.std.specs.Prelude.{◌≡◌, ℕ, ◌+◌, ◌/◌, [], ◌++◌, All, Bool, IfSome, IsTrue, List, None, length};
+ghost use Rattle.std.specs.Prelude.{◌≡◌, ℕ, ◌+◌, ◌/◌, [], ◌++◌, All, Bool, IfSome, IsTrue, List, None, length, slice_index};
 ghost use Rattle.input_log.specs.Event.{LogEvent};
 ghost use Rattle.input_log.specs.Log.{window_of};
 ghost use Rattle.r3k_word.specs.declared.layout.TheConstants.{PAGE_BYTES};
 ghost use Rattle.r3k_machine.specs.declared.step.Done.{Done};
 ghost use Rattle.r3k_machine.specs.declared.target.Target.{Target};
 ghost use Rattle.r3k_machine.specs.Core.{Core};
-ghost use Rattle.r3k_machine.specs.State.{State};
-ghost use Rattle.r3k_machine.specs.Run.{run, trace, console_of, senders_of, last_writer, later};
+ghost use Rattle.r3k_machine.specs.State.{State, landed, register};
+ghost use Rattle.r3k_machine.specs.Run.{run, trace, console_of, senders_of, is_written, last_writer, later};
 ghost use Rattle.r3k_machine.specs.Step.{next, outcome_of_instruction, outcome_of_step, ticked, report, with_fall};
+ghost use Rattle.r3k_machine.specs.Traced.{DidNothing, hi_lo_of, traced, write_of};
 ghost use Rattle.r3k_machine.specs.Quiet.{IsCodePage, IsQuick, IsQuietFor, LeadsOn, LeavesRest, elapsed, outcome_elapsed, state_elapsed};
 ghost use Rattle.r3k_machine.specs.Reports.{IsPage};
 ghost use Rattle.r3k_machine.specs.Locality.{IsApart, IsWithPages, is_touched, touches};
@@ -35,6 +36,31 @@ pub fn run_laws()
         run pages (window_of time (time + n) log) time s n ≡ run pages log time s n }
     ensures own_times_of_trace { (pages : ℕ) (log : List LogEvent) (time : ℕ) (s : State) (n : ℕ) →
         trace pages (window_of time (time + n) log) time s n ≡ trace pages log time s n }
+{}
+
+/// A step leaves each register that its report does not name as the pending load left it, and likewise HI and LO. The load slot holds
+/// at most a register that the report names.
+pub fn destination_laws()
+    ensures registers { (pages : ℕ) (events : List LogEvent) (s : State) (number : ℕ) → ¬ (number ≡ (report pages events s).wrote) →
+        register (next pages events s).core number ≡ slice_index (landed s.core.registers s.core.load) number }
+    ensures hi { (pages : ℕ) (events : List LogEvent) (s : State) → ¬ IsTrue (is_written 32 (report pages events s).wrote) →
+        (next pages events s).core.hi ≡ s.core.hi }
+    ensures lo { (pages : ℕ) (events : List LogEvent) (s : State) → ¬ IsTrue (is_written 33 (report pages events s).wrote) →
+        (next pages events s).core.lo ≡ s.core.lo }
+    ensures slot { (pages : ℕ) (events : List LogEvent) (s : State) →
+        IfSome (next pages events s).core.load (λ load. load.register ≡ (report pages events s).wrote) }
+{}
+
+/// The trace of a step has the step's own report. It has exactly the registers that the report names, with the values that the state
+/// after the step holds. A step with an exception writes, loads, stores and sends nothing.
+pub fn trace_laws()
+    ensures report { (pages : ℕ) (events : List LogEvent) (s : State) → (traced pages events s).done ≡ report pages events s }
+    ensures write { (pages : ℕ) (events : List LogEvent) (s : State) →
+        (traced pages events s).write ≡ write_of (report pages events s).wrote (next pages events s).core }
+    ensures hi_lo { (pages : ℕ) (events : List LogEvent) (s : State) →
+        (traced pages events s).hi_lo ≡ hi_lo_of (report pages events s).wrote (next pages events s).core }
+    ensures exception { (pages : ℕ) (events : List LogEvent) (s : State) →
+        IfSome (traced pages events s).exception (λ code. DidNothing (traced pages events s)) }
 {}
 
 /// In a quiet step a tick is all that comes before the instruction. An instruction that is quick then does the same before the ticks
