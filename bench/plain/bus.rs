@@ -63,6 +63,11 @@ impl Bus {
         self.serial.shown() + &self.clock.shown() + &format!("board csr {csr:#010x} interrupt {interrupt}\n")
     }
 
+    /// Whether a device is at a physical address.
+    pub fn has(physical: u32) -> bool {
+        matches!(physical, SERIAL..=SERIAL_LAST | CLOCK..=CLOCK_LAST | BOARD..=BOARD_LAST)
+    }
+
     /// Reads the aligned word of a physical address, if a device is there.
     pub fn load(&mut self, physical: u32) -> Option<u32> {
         let offset = physical & 0xFC;

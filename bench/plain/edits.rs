@@ -349,12 +349,14 @@ impl Script {
         let line =
             if used.is_empty() || self.random.one_in(6) { self.random.below(4) } else { self.random.pick(&used) };
         let sent = seen.sent[line as usize];
-        let question = match self.random.below(14) {
+        let question = match self.random.below(16) {
             0..=3 => format!("writer {address:#x}"),
             4 => format!("mem {address:#x} {}", 1 + self.random.below(4)),
             5 => format!("find {line} {}", self.random.below(sent + 2)),
             6 => format!("console {line} {} 256", self.random.below(sent + 1)),
             7 => format!("trace {}", 1 + self.random.below(64)),
+            14 => format!("jumps 0 {}", 1 + self.random.below(8)),
+            15 => format!("jumps 1 {}", 1 + self.random.below(64)),
             8 => format!("stores {address:#x} {}", 1 + self.random.below(32)),
             9 => format!("finds {line} {} {}", self.random.below(sent + 2), 1 + self.random.below(64)),
             10 => format!("regwriter {}", self.random.below(34)),

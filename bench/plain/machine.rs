@@ -232,8 +232,13 @@ impl Machine {
         self.physical(address, 0, false)
     }
 
-    fn is_isolated(&self, physical: Physical) -> bool {
+    pub fn is_isolated(&self, physical: Physical) -> bool {
         physical.cacheable && self.control.status & ISOLATED != 0
+    }
+
+    /// Whether RAM or a device takes a store.
+    pub fn takes_store(&self, physical: u32) -> bool {
+        (physical / 4) < self.parts.ram_words() as u32 || Bus::has(physical)
     }
 
     fn is_second(&self) -> bool {

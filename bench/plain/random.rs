@@ -416,6 +416,7 @@ pub fn script(seed: u64, commands: &[&str]) -> String {
                 "regwriter" => random.below(34).to_string(),
                 "pcs" => format!("{} {}", 1 + random.below(100), 1 + random.below(64)),
                 "trace" => (1 + random.below(64)).to_string(),
+                "jumps" => format!("{} {}", random.below(2), 1 + random.below(64)),
                 "log" => "0 32".into(),
                 _ => String::new(),
             };

@@ -51,6 +51,7 @@ pub enum Command {
     Pcs { distance: u64, count: u64 },
     Devices,
     Trace(u64),
+    Jumps { local: bool, count: usize },
     Log { from: u64, count: usize },
     Add(Event),
     Del(u64),
@@ -66,7 +67,7 @@ const ANY: u64 = u64::MAX;
 const WORD: u64 = 0xFFFF_FFFF;
 
 /// The name of each command, with the least and the greatest of each of its numbers.
-const COMMANDS: [(&str, &[(u64, u64)]); 31] = [
+const COMMANDS: [(&str, &[(u64, u64)]); 32] = [
     ("pos", &[]),
     ("goto", &[(0, ANY)]),
     ("step", &[(0, ANY)]),
@@ -88,6 +89,7 @@ const COMMANDS: [(&str, &[(u64, u64)]); 31] = [
     ("pcs", &[(1, ANY), (1, 64)]),
     ("devices", &[]),
     ("trace", &[(1, 64)]),
+    ("jumps", &[(0, 1), (1, 64)]),
     ("log", &[(0, ANY), (1, 32)]),
     ("add", &[(0, GREATEST - 1), (0, 3), (0, 255)]),
     ("ferr", &[(0, GREATEST - 1), (0, 3), (0, 255)]),
@@ -144,6 +146,7 @@ fn command(name: &str, n: &[u64]) -> Command {
         "pcs" => Command::Pcs { distance: n[0], count: n[1] },
         "devices" => Command::Devices,
         "trace" => Command::Trace(n[0]),
+        "jumps" => Command::Jumps { local: n[0] == 1, count: n[1] as usize },
         "log" => Command::Log { from: n[0], count: n[1] as usize },
         "add" => added(Kind::Byte, n),
         "ferr" => added(Kind::Framing, n),

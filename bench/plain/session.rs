@@ -144,6 +144,7 @@ impl Session {
             Command::Pcs { distance, count } => self.pcs(distance, count)?,
             Command::Devices => self.machine().devices(),
             Command::Trace(count) => self.trace(count)?,
+            Command::Jumps { local, count } => self.jumps(local, count),
             Command::Log { from, count } => self.events(from, count),
             _ => unreachable!("no query: {command:?}"),
         })
@@ -220,6 +221,22 @@ impl Session {
             machine.traced(time, &now)
         };
         Ok((self.position..self.position + count).map(line).collect())
+    }
+
+    /// The next steps that transfer control, and the position from which to ask for later ones.
+    fn jumps(&self, local: bool, count: usize) -> String {
+        let last = (self.position + 1_048_576).min(GREATEST);
+        if self.position == last {
+            return format!("jumps 0 {last}\n");
+        }
+        let mut machine = self.machine();
+        let (mut next, mut lines) = (self.position, Vec::new());
+        while next < last && lines.len() < count {
+            let now: Vec<Event> = self.log.events.iter().filter(|event| event.time == next).copied().collect();
+            lines.extend(machine.jump(next, &now, local));
+            next += 1;
+        }
+        format!("jumps {} {next}\n{}", lines.len(), lines.concat())
     }
 
     /// How many events the log has.

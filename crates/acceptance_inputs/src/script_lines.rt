@@ -65,6 +65,9 @@ stores 0; stores 0 33 1; finds 4 0; finds 4 0 1 1; regwriter; regwriter 34 1; re
 trace 1 = Ok Some Trace 1 / trace 0x40 = Ok Some Trace 64
 trace 0; trace 65 = Err Range
 trace; trace 65 1; trace x = Err Syntax
+jumps 0 1 = Ok Some Jumps kind 0 count 1 / jumps 0x1 64 = Ok Some Jumps kind 1 count 64
+jumps 2 1; jumps 0 0; jumps 1 65 = Err Range
+jumps; jumps 2; jumps 0 1 1; jumps 2 x = Err Syntax
 add 70 0 0x41 = Ok Some Add time 70 line 0 byte 0x41 / add 0xfffffffffe 3 255 = Ok Some Add time 1099511627774 line 3 byte 255
 del 1 = Ok Some Del 1 / del 18446744073709551615 = Ok Some Del 18446744073709551615
 set 2 0x41 = Ok Some Set event 2 byte 0x41 / set 18446744073709551615 0xff = Ok Some Set event 18446744073709551615 byte 255

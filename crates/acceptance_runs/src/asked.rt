@@ -104,6 +104,10 @@ impl<const PAGES: u32, const SPAN: u32> Asked<PAGES, SPAN> {
                 let steps = self.timeline.follow(*position, *count);
                 answered(alloc, steps.map(|steps| steps.len()))
             }
+            ("jumps", [position, local, count]) => {
+                let found = self.timeline.jumps(*position, *local == 1, *count);
+                answered(alloc, found.map(|found| found.next))
+            }
             _ => self.edit(alloc, name, numbers),
         }
     }

@@ -48,6 +48,7 @@ use std::test::Fail;
 ///     word P A = W, pc P = A          a word, and the PC
 ///     next P A N = Q                  where the PC is at an address next, in N steps at most
 ///     trace P N = C                   how many steps are followed from a position on, where N are asked for
+///     jumps P K N = Q                 the position from which to ask on after N jumps from a position on: local ones too, if K is 1
 ///     sender P L I = S, console P = N B ..    the step that sent a byte; how many bytes line 0 sent before a position, and the first 8
 ///     add T B, ferr T B, wire T L V, burst N T B      events arrive, the first two and N bytes at once on line 0
 ///     del I, set I B, erase T U, patch A W, events = N        edits; how many events there are

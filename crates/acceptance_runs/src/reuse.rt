@@ -32,6 +32,9 @@ $ followed steps
 --
 writer 256 0x100 = Step 253, costs = 256, trace 130 3 = 3, costs-at-most 5 = true, trace 130 0 = Range, trace 130 65 = Range
 trace 1099511627775 1 = TooFar, costs = 0
+# The branch of a turn is its step 4, and the jump back its step 9. No step after the last jump is run, and none at the last position.
+jumps 130 1 3 = 146, costs-at-most 18 = true, jumps 130 1 0 = Range, jumps 130 1 65 = Range, costs = 0
+jumps 1099511627775 1 3 = 1099511627775, jumps 1099511627776 1 3 = TooFar, costs = 0
 
 $ two edits
 # Two bytes cost two spans, and one deleted its own.

@@ -9,6 +9,7 @@ mod Entries
 mod Held
 mod Indexed
 mod Joined
+mod Jumping
 mod Known
 mod Lacking
 pub mod Near

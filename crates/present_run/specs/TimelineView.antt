@@ -1,7 +1,8 @@
 -- What a timeline holds, and what its queries and edits do with that (own).
-use Rattle.std.specs.Prelude.{◌≡◌, ◌⊎◌, ℕ, ◌+◌, ◌/◌, ◌%◌, List, [], ◌∷◌, take, Contains, Result, Ok, Err, IfOk, OnErr, nat_eq}
+use Rattle.std.specs.Prelude.{◌≡◌, ◌⊎◌, ℕ, ◌+◌, ◌/◌, ◌%◌, ◌<◌, ◌≤◌, List, [], ◌∷◌, take, Contains, Result, Ok, Err, IfOk, OnErr, nat_eq}
 use Rattle.std.specs.Set.{remove_key}
 use Rattle.input_log.specs.Event.{LogEvent}
+use Rattle.input_log.specs.Limits.{max_position}
 use Rattle.r3k_image.specs.Boot.{Boot}
 use Rattle.span_fact.specs.Span.{Span}
 use Rattle.refusal.specs.declared.fault.Fault.{Fault}
@@ -32,6 +33,11 @@ abbrev pub Asks : {A : Type 0} → (pages span position beyond : ℕ) → (old n
 Asks pages span position beyond old new (Ok answer) =
     Spends pages span (position / span) (position % span + beyond) (holding old) (holding new) × Reaches pages span (position / span) (holding old) (holding new)
 Asks pages span position beyond old new (Err fault) = AsksFault pages span position beyond old new fault
+
+-- What a query of the steps from a position on does. At the last position no step is left, so that nothing is run.
+abbrev pub AsksOn : {A : Type 0} → (pages span position beyond : ℕ) → (old new : TimelineView) → Result A Fault → Type 0
+AsksOn pages span position beyond old new result =
+    (position < max_position → Asks pages span position beyond old new result) × (max_position ≤ position → new ≡ old)
 
 -- What a query of the state at a position does with the kept states. Where one is kept at the position, no step is run, and it
 -- becomes the first. Elsewhere the state comes to be kept, at most 8 with it, unless a span starts at the position or memory for it

@@ -8,6 +8,7 @@ mod frontier;
 mod going;
 mod index;
 mod inputs;
+mod jumps;
 mod laws;
 mod machine;
 mod present;
@@ -18,6 +19,7 @@ mod runs;
 mod sent;
 mod state_queries;
 
+pub use jumps::Jumps;
 pub use laws::lacking_laws;
 pub use present::Present;
 pub use sent::Shown;

@@ -5,16 +5,19 @@ ghost use Rattle.input_log.specs.Event.{LogEvent};
 ghost use Rattle.input_log.specs.Limits.{max_position};
 ghost use Rattle.r3k_image.specs.Boot.{Boot};
 ghost use Rattle.r3k_machine.specs.Run.{next_visit, state_at};
+ghost use Rattle.r3k_machine.specs.Jumps.{jumps_from};
 ghost use Rattle.r3k_machine.specs.Traced.{traced_at, traces_at};
 ghost use Rattle.r3k_live.specs.Living.{counted};
 ghost use Rattle.r3k_live.specs.Recording.{Records};
+ghost use Rattle.present_run.specs.Jumps.{jumping_of};
 ghost use Rattle.present_run.specs.Reuse.{span_of};
 ghost use Rattle.present_run.specs.Runs.{IsRunning, steps_between};
 
 use crate::inputs::Inputs;
+use crate::jumps::Jumps;
 use arrayvec::ArrayVec;
 use r3k_live::{Boundary, Live, Recorder};
-use r3k_machine::Traced;
+use r3k_machine::{Jump, Traced};
 use span_fact::Fact;
 use std::alloc::{AllocError, Global};
 use std::rc::Rc;
@@ -186,6 +189,39 @@ impl<const PAGES: u32, const SPAN: u32> Machine<PAGES, SPAN> {
             steps.push(self.follow_one(inputs, position + made));
         }
         steps
+    }
+
+    /// Makes the steps from a position on, where the machine stands, until `count` of them are jumps, or up to a last position. Returns the
+    /// jumps and the position that was reached.
+    pub(crate) fn jumps(
+        &mut self,
+        inputs: &Inputs,
+        position: u64,
+        local: bool,
+        count: u64,
+        last: u64,
+    ) -> Jumps
+        requires of { IsRunning {pages = PAGES} {span = SPAN} inputs.now.image inputs.now.log self.old }
+        requires stands { self.old.at ≡ Some position }
+        requires few { count ≤ 64 }
+        requires before { position ≤ last }
+        requires near { last ≤ max_position }
+        ensures of { IsRunning {pages = PAGES} {span = SPAN} inputs.now.image inputs.now.log self.new }
+        ensures jumps { jumping_of result ≡ jumps_from PAGES inputs.now.image inputs.now.log local position count (last - position) }
+        ensures within { (position ≤ result.next) × (result.next ≤ last) }
+        ensures count { self.new.live.steps ≤ self.old.live.steps + (result.next - position) }
+        ensures least { self.old.live.steps ≤ self.new.live.steps }
+    {
+        let mut jumps = ArrayVec::new();
+        let mut next = position;
+        while next < last && (jumps.len() as u64) < count {
+            let traced = self.follow_one(inputs, next);
+            if let Some(jump) = Jump::of(local, next, &traced) {
+                jumps.push(jump);
+            }
+            next += 1;
+        }
+        Jumps { jumps, next }
     }
 
     /// Runs a span, whose start is given, and gives its record.

@@ -1,11 +1,12 @@
 -- The plain answers of queries on a history (own). A query refuses in a fixed order: a number out of its range, an address of
 -- no word, a position that is too far.
-use Rattle.std.specs.Prelude.{ℕ, ◌+◌, ◌%◌, ◌==◌, ◌&&◌, List, slice_get, slice_index, Option, Some, None, Result, Ok, Err, if◌then◌else◌, nat_le}
+use Rattle.std.specs.Prelude.{ℕ, ◌+◌, ◌-◌, ◌%◌, Bool, min, ◌==◌, ◌&&◌, List, slice_get, slice_index, Option, Some, None, Result, Ok, Err, if◌then◌else◌, nat_le}
 use Rattle.std.specs.Option.{ok_or}
 use Rattle.std.specs.FinMap as map
 use Rattle.r3k_machine.specs.Core.{Core}
 use Rattle.r3k_machine.specs.declared.target.Target.TheVariants.{Memory, Register}
 use Rattle.r3k_machine.specs.Run.{console_of, last_writer, next_visit, senders_of, state_at, trace_at}
+use Rattle.r3k_machine.specs.Jumps.{Jumping, jumps_from}
 use Rattle.r3k_machine.specs.Traced.{traces_at}
 use Rattle.r3k_machine.specs.declared.traced.Traced.{Traced}
 use Rattle.r3k_word.specs.Layout.{place_of_word}
@@ -76,9 +77,16 @@ abbrev pub followed : ℕ → History → (position count : ℕ) → Result (Lis
 followed pages h position count =
     if nat_le 1 count && nat_le count 64 then up_to_max (position + count) (Ok (traces_at pages h.image h.log position count)) else Err Range
 
--- the most steps that a search for a PC goes
+-- the most steps that a search for a PC or for jumps goes
 abbrev pub max_visit : ℕ
 max_visit = 1048576
+
+-- The next steps from a position on that transfer control, at most `count` of those within the next `max_visit` steps.
+abbrev pub jumps_at : ℕ → History → (position : ℕ) → (local : Bool) → (count : ℕ) → Result Jumping Fault
+jumps_at pages h position local count =
+    if nat_le 1 count && nat_le count 64
+    then up_to_max position (Ok (jumps_from pages h.image h.log local position count (min max_visit (max_position - position))))
+    else Err Range
 
 -- the next position at which the PC holds an address, at most `limit` steps after a position
 abbrev pub next_pc : ℕ → History → (position address limit : ℕ) → Result ℕ Fault

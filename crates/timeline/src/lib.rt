@@ -7,6 +7,6 @@ mod timeline;
 mod writer;
 
 pub use input_log::MAX_POSITION;
-pub use present_run::lacking_laws;
+pub use present_run::{Jumps, lacking_laws};
 pub use timeline::Timeline;
 pub use writer::Writer;

@@ -10,22 +10,24 @@
 ghost use Rattle.std.specs.Prelude.{◌≡◌, ◌≤◌, IfOk, MatchResult, Ok};
 ghost use Rattle.refusal.specs.Given.{Gives, GivesFault};
 ghost use Rattle.input_log.specs.Limits.{max_position};
-ghost use Rattle.timeline.specs.Query.{console_at, core_at, followed, next_pc, register_writer_at, sent_at, word_at, writer_at, writer_of};
-ghost use Rattle.present_run.specs.TimelineView.{Asks, KeepsState};
+ghost use Rattle.timeline.specs.Query.{console_at, core_at, followed, jumps_at, next_pc, register_writer_at, sent_at, word_at, writer_at, writer_of};
+ghost use Rattle.present_run.specs.Jumps.{jumping_of, steps_followed};
+ghost use Rattle.present_run.specs.TimelineView.{Asks, AsksOn, KeepsState};
 
 use crate::timeline::Timeline;
 use crate::writer::Writer;
 use arrayvec::ArrayVec;
 use dz_serial::SerialLine;
 use input_log::MAX_POSITION;
+use present_run::Jumps;
 use r3k_machine::{Core, Target, Traced};
 use r3k_word::layout::place_of;
 use refusal::Fault;
 
-// The most steps that a search for a PC goes.
+// The most steps that a search for a PC or for jumps goes.
 const MAX_VISIT: u64 = 1_048_576;
 
-// The most steps that are followed at once.
+// The most steps that are followed, or jumps that are returned, at once.
 const MAX_FOLLOWED: u64 = 64;
 
 impl<const PAGES: u32, const SPAN: u32> Timeline<PAGES, SPAN> {
@@ -188,6 +190,30 @@ impl<const PAGES: u32, const SPAN: u32> Timeline<PAGES, SPAN> {
             return Err(Fault::TooFar);
         }
         Ok(self.present.follow(position, count)?)
+    }
+
+    /// Returns the next steps from a position on that transfer control, at most `count` of those within the next 1,048,576 steps, and the
+    /// position from which to ask for later ones. Jumps within a function are returned only if `local` is set. `Range` for a count that
+    /// is not 1 to 64.
+    pub fn jumps(&mut self, position: u64, local: bool, count: u64) -> Result<Jumps, Fault>
+        ensures jumps { MatchResult result
+            (λ found. jumps_at PAGES self.old.history position local count ≡ Ok (jumping_of found))
+            (GivesFault (jumps_at PAGES self.old.history position local count)) }
+        ensures asks { AsksOn PAGES SPAN position (steps_followed position result) self.old self.new result }
+        ensures recent_states { self.new.recent_states ≡ self.old.recent_states }
+        ensures same { self.new.history ≡ self.old.history }
+    {
+        if count == 0 || count > MAX_FOLLOWED {
+            return Err(Fault::Range);
+        }
+        if position > MAX_POSITION {
+            return Err(Fault::TooFar);
+        }
+        if position == MAX_POSITION {
+            return Ok(Jumps::none_after(position));
+        }
+        let last = position + MAX_VISIT.min(MAX_POSITION - position);
+        Ok(self.present.jumps(position, local, count, last)?)
     }
 }
 

@@ -1,12 +1,12 @@
 -- What a command costs (own): the steps that it may run, and what is kept after it.
 use Rattle.std.specs.Prelude.{◌≡◌, ◌⊎◌, ℕ, ◌+◌, ◌-◌, ◌*◌, ◌%◌, List, [], ◌∷◌, take, Contains, Result, Ok, Err, nat_eq}
 use Rattle.std.specs.Set.{remove_key}
-use Rattle.timeline.specs.TimelineView.{Asks, TimelineView, KeepsState}
+use Rattle.timeline.specs.TimelineView.{Asks, AsksOn, TimelineView, KeepsState}
 use Rattle.refusal.specs.declared.fault.Fault.{Fault}
 use Rattle.wb_text.specs.declared.command.Command.{Command}
-use Rattle.wb_text.specs.declared.command.Command.TheVariants.{Pos, Goto, Step, Back, Visit, Regs, Reg, Cp0, Tlb, Where, Mem, Dis, Console, Find, Writer, Stores, Finds, RegisterWriter, Pcs, Devices, Trace, Log, Add, Ferr, Wire, Del, Set, Move, Erase, Patch, Quit}
+use Rattle.wb_text.specs.declared.command.Command.TheVariants.{Pos, Goto, Step, Back, Visit, Regs, Reg, Cp0, Tlb, Where, Mem, Dis, Console, Find, Writer, Stores, Finds, RegisterWriter, Pcs, Devices, Trace, Jumps, Log, Add, Ferr, Wire, Del, Set, Move, Erase, Patch, Quit}
 use Rattle.wb_text.specs.declared.reply.Reply.{Reply}
-use Rattle.wb_text.specs.declared.reply.Reply.TheVariants.{Fault as Refused}
+use Rattle.wb_text.specs.declared.reply.Reply.TheVariants.{Fault as Refused, Jumps as JumpsReply}
 use Rattle.wb_session.specs.Lists.{states_after, states_apart, stores_at}
 use Rattle.wb_session.specs.Session.{Held}
 
@@ -34,6 +34,11 @@ pub record AsksState (pages span : ℕ) (old new : Held) (reply : Reply) : Type 
 -- where those after the first cost at most as many steps together.
 pub record AsksSteps (pages span beyond : ℕ) (old new : Held) (reply : Reply) : Type 0 where
   pub asks : Asks pages span old.position beyond old.timeline new.timeline (outcome_of reply)
+  pub recent_states : new.timeline.recent_states ≡ old.timeline.recent_states
+
+-- one query of the steps from the position on, at most `beyond` of them
+pub record AsksStepsOn (pages span beyond : ℕ) (old new : Held) (reply : Reply) : Type 0 where
+  pub asks : AsksOn pages span old.position beyond old.timeline new.timeline (outcome_of reply)
   pub recent_states : new.timeline.recent_states ≡ old.timeline.recent_states
 
 -- Several queries of the state at a position leave the kept states as one does. Where one of them is refused, those before it may
@@ -71,6 +76,11 @@ pub record AsksStates (pages span position more : ℕ) (positions : List ℕ) (o
   pub asks : Asks pages span position (more * span) old.timeline new.timeline (outcome_of reply)
   pub leaves : LeavesBy span positions old.timeline.recent_states new.timeline.recent_states (outcome_of reply)
 
+-- the steps that were followed to find jumps
+abbrev pub steps_to_jumps : (position : ℕ) → Reply → ℕ
+steps_to_jumps position (JumpsReply next jumps) = next - position
+steps_to_jumps position reply = 0
+
 -- what each command costs, on a machine with `pages` pages of RAM whose runs are kept in spans of `span` steps
 abbrev pub Costs : (pages span : ℕ) → Command → (old new : Held) → Reply → Type 0
 Costs pages span Pos old new reply = AsksNothing old new
@@ -96,6 +106,7 @@ Costs pages span (Pcs distance count) old new reply =
     AsksStates pages span (old.position + (count - 1) * distance) (count - 1) (states_apart old.position distance count) old new reply
 Costs pages span Devices old new reply = AsksState pages span old new reply
 Costs pages span (Trace count) old new reply = AsksSteps pages span count old new reply
+Costs pages span (Jumps kind count) old new reply = AsksStepsOn pages span (steps_to_jumps old.position reply) old new reply
 Costs pages span (Log from count) old new reply = AsksNothing old new
 Costs pages span (Add time line byte) old new reply = Edits old new reply
 Costs pages span (Ferr time line byte) old new reply = Edits old new reply

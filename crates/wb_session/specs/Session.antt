@@ -1,5 +1,5 @@
 -- A session (own): an image, a log and a position, and the answer to each command.
-use Rattle.std.specs.Prelude.{◌≡◌, ◌⊎◌, ℕ, ◌+◌, ◌-◌, ◌≤◌, Bool, true, false, List, [], length, map, Option, Some, None, Result, Ok, Err, if◌then◌else◌, nat_le, slice_index, slice_index_or}
+use Rattle.std.specs.Prelude.{◌≡◌, ◌⊎◌, ℕ, ◌+◌, ◌-◌, ◌≤◌, Bool, true, false, List, [], length, map, Option, Some, None, Result, Ok, Err, ◌==◌, if◌then◌else◌, nat_le, slice_index, slice_index_or}
 use Rattle.cop0.specs.Registers.{Registers as ControlState, register_of}
 use Rattle.input_log.specs.declared.edit.Edit.{Edit}
 use Rattle.input_log.specs.declared.edit.Edit.TheVariants as edit
@@ -21,14 +21,15 @@ use Rattle.timeline.specs.Console.{part_of}
 use Rattle.input_log.specs.Limits.{max_position}
 use Rattle.timeline.specs.History.{History}
 use Rattle.timeline.specs.TimelineView.{TimelineView}
-use Rattle.timeline.specs.Query.{console_at, core_at, followed, next_pc, register_writer_at, sent_at, writer_at}
+use Rattle.timeline.specs.Query.{console_at, core_at, followed, jumps_at, next_pc, register_writer_at, sent_at, writer_at}
 use Rattle.timeline.specs.Sizes.{AreSizes}
 use Rattle.timeline.specs.declared.writer.Writer.{Writer as LastWriter}
 use Rattle.timeline.specs.declared.writer.Writer.TheVariants as last
 use Rattle.wb_options.specs.declared.fault.RunFault.{RunFault}
 use Rattle.wb_options.specs.declared.fault.RunFault.TheVariants.{Memory as OutOfMemory, BadImage}
 use Rattle.wb_text.specs.declared.command.Command.{Command}
-use Rattle.wb_text.specs.declared.command.Command.TheVariants.{Pos, Goto, Step, Back, Visit, Regs, Reg, Cp0, Tlb, Where as WhereIs, Mem, Dis, Console, Find, Writer as WriterOf, Stores, Finds, RegisterWriter, Pcs, Devices, Trace, Log, Add, Ferr, Wire, Del, Set, Move, Erase, Patch, Quit}
+use Rattle.wb_text.specs.declared.command.Command.TheVariants.{Pos, Goto, Step, Back, Visit, Regs, Reg, Cp0, Tlb, Where as WhereIs, Mem, Dis, Console, Find, Writer as WriterOf, Stores, Finds, RegisterWriter, Pcs, Devices, Trace, Jumps, Log, Add, Ferr, Wire, Del, Set, Move, Erase, Patch, Quit}
+use Rattle.r3k_machine.specs.Jumps.{Jumping}
 use Rattle.r3k_machine.specs.declared.traced.Traced.{Traced}
 use Rattle.refusal.specs.declared.fault.Fault.{Fault}
 use Rattle.refusal.specs.declared.fault.Fault.TheVariants.{Memory, NotFound, TooFar}
@@ -41,7 +42,7 @@ use Rattle.wb_text.specs.declared.reply.Writer.TheVariants as writer
 use Rattle.wb_text.specs.declared.reply.Where.{Where}
 use Rattle.wb_text.specs.declared.reply.Where.TheVariants.{Cached, Uncached, AddressError, Refill, Miss}
 use Rattle.wb_text.specs.declared.reply.Reply.{Reply}
-use Rattle.wb_text.specs.declared.reply.Reply.TheVariants.{Position, Registers, Register, Control, Entry as EntryReply, Where as Place, Memory as MemoryReply, Instructions, Console as ConsoleReply, Found, Writer as WriterReply, Stores as StoresReply, Finds as FindsReply, RegisterWriter as RegisterWriterReply, Pcs as PcsReply, Devices as DevicesReply, Trace as TraceReply, Log as LogReply, Event, Left, Patched, Nothing, Fault as Refused}
+use Rattle.wb_text.specs.declared.reply.Reply.TheVariants.{Position, Registers, Register, Control, Entry as EntryReply, Where as Place, Memory as MemoryReply, Instructions, Console as ConsoleReply, Found, Writer as WriterReply, Stores as StoresReply, Finds as FindsReply, RegisterWriter as RegisterWriterReply, Pcs as PcsReply, Devices as DevicesReply, Trace as TraceReply, Jumps as JumpsReply, Log as LogReply, Event, Left, Patched, Nothing, Fault as Refused}
 use Rattle.wb_text.specs.declared.lists.Timed.{Timed}
 use Rattle.wb_session.specs.Memory.{places_of}
 use Rattle.wb_session.specs.Lists.{pcs_at, senders_at, stores_at}
@@ -193,6 +194,10 @@ pcs_shown pcs = PcsReply (record { items = pcs })
 abbrev pub trace_shown : (position : ℕ) → List Traced → Reply
 trace_shown position steps = TraceReply position (record { items = steps })
 
+-- what `jumps` shows
+abbrev pub jumps_shown : Jumping → Reply
+jumps_shown found = JumpsReply found.next (record { items = found.jumps })
+
 -- The answers that show what a query gives, make a move, edit the log, and patch the image. A refusal keeps the session.
 abbrev pub shows : {A : Type 0} → Triple → (A → Reply) → Result A Fault → Answer
 shows s show (Ok answered) = answer s (show answered)
@@ -246,6 +251,7 @@ plain pages s (RegisterWriter register) =
 plain pages s (Pcs distance count) = shows s pcs_shown (pcs_at pages (history_of s) s.position distance count)
 plain pages s Devices = of_core pages s (λ core. DevicesReply (devices_shown core.bus))
 plain pages s (Trace count) = shows s (trace_shown s.position) (followed pages (history_of s) s.position count)
+plain pages s (Jumps kind count) = shows s jumps_shown (jumps_at pages (history_of s) s.position (kind == 1) count)
 plain pages s (Log from count) = answer s (log_shown from count s.log)
 plain pages s (Add time line byte) = edits s (edit.Add time Byte line byte)
 plain pages s (Ferr time line byte) = edits s (edit.Add time Framing line byte)
@@ -280,6 +286,7 @@ takes_memory (RegisterWriter register) = true
 takes_memory (Pcs distance count) = true
 takes_memory Devices = true
 takes_memory (Trace count) = true
+takes_memory (Jumps kind count) = true
 takes_memory (Log from count) = false
 takes_memory (Add time line byte) = true
 takes_memory (Ferr time line byte) = true

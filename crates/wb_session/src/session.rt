@@ -19,8 +19,8 @@ use std::marker::Model;
 use timeline::{MAX_POSITION, Timeline};
 use wb_options::RunFault;
 use wb_text::{
-    Address, ByteCount, Command, Distance, EntryNumber, EventCount, FindCount, LineNumber,
-    PositionCount, RegisterNumber, Reply, StepCount, StoreCount, TraceCount, WordValue,
+    Address, ByteCount, Command, Distance, EntryNumber, EventCount, FindCount, JumpCount, JumpKind,
+    LineNumber, PositionCount, RegisterNumber, Reply, StepCount, StoreCount, TraceCount, WordValue,
     WrittenNumber,
 };
 
@@ -103,6 +103,7 @@ impl<const PAGES: u32, const SPAN: u32> Session<PAGES, SPAN> {
             Command::Pcs { distance, count } => self.pcs(distance, count),
             Command::Devices => self.devices(),
             Command::Trace(count) => self.trace(count),
+            Command::Jumps { kind, count } => self.jumps(kind, count),
             Command::Log { from, count } => self.events(from, count),
             Command::Add { time, line, byte } => self.edit(Edit::Add {
                 time: time.get(),
@@ -357,6 +358,23 @@ impl<const PAGES: u32, const SPAN: u32> Session<PAGES, SPAN> {
             Ok(steps) => Reply::Trace {
                 first: self.position,
                 steps,
+            },
+            Err(fault) => Reply::Fault(fault),
+        }
+    }
+
+    // Shows the next steps that transfer control.
+    fn jumps(&mut self, kind: JumpKind, count: JumpCount) -> Reply
+        ensures answers { Answers PAGES (triple_of self.old) (command.Jumps kind count) (triple_of self.new) result }
+        ensures costs { Costs PAGES SPAN (command.Jumps kind count) self.old self.new result }
+    {
+        match self
+            .timeline
+            .jumps(self.position, kind.get() == 1, count.get())
+        {
+            Ok(found) => Reply::Jumps {
+                next: found.next,
+                jumps: found.jumps,
             },
             Err(fault) => Reply::Fault(fault),
         }

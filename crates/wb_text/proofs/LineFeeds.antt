@@ -3,13 +3,14 @@ use Rattle.std.proofs.Common.{ℕ, zero, suc, ◌+◌, ◌*◌, ◌%◌, ◌^◌
 use Rattle.std.specs.Prelude.{flat_map}
 use Rattle.std.specs.Fmt.{decimal}
 use Rattle.wb_text.specs.Text.{line, numbered, value_text}
+use Rattle.wb_text.specs.Jumps.{jump_text}
 use Rattle.wb_text.specs.Trace.{step_text}
 use Rattle.wb_text.specs.Lists.{sender_text, timed_text}
 use Rattle.wb_text.specs.Devices.{board_text, clock_text, devices_text, line_text, serial_text, silo_text}
 use Rattle.wb_text.specs.declared.devices.Devices.{Devices as AllDevices}
 use Rattle.wb_text.specs.Reply.{EndsWithLineFeed, HasText, text_of, state_text, row_text, rows_text, refusal_text, register_writer_text, control_text, entry_text, where_text, memory_text, words_text, console_text, writer_text, event_text}
 use Rattle.wb_text.specs.declared.reply.Reply.{Reply}
-use Rattle.wb_text.specs.declared.reply.Reply.TheVariants.{Position, Registers, Register, Control, Entry, Where, Memory, Instructions, Console, Found, Writer, Stores, Finds, RegisterWriter, Pcs, Devices, Trace, Log, Event, Left, Patched, Nothing, Fault}
+use Rattle.wb_text.specs.declared.reply.Reply.TheVariants.{Position, Registers, Register, Control, Entry, Where, Memory, Instructions, Console, Found, Writer, Stores, Finds, RegisterWriter, Pcs, Devices, Trace, Jumps, Log, Event, Left, Patched, Nothing, Fault}
 use Rattle.wb_text.proofs.Rows.{rows_text-more}
 
 -- a text before a line changes nothing at its end
@@ -71,6 +72,8 @@ ends_with_line_feed (RegisterWriter step) some = (register_writer_text step, ref
 ends_with_line_feed (Pcs pcs) some = lines_end timed_text (codes "pcs " ++ decimal (length pcs.items)) pcs.items
 ends_with_line_feed (Devices d) some = devices_end d
 ends_with_line_feed (Trace first steps) some = some_end step_text first steps.items some
+ends_with_line_feed (Jumps next jumps) some =
+    lines_end jump_text (codes "jumps " ++ decimal (length jumps.items) ++ codes " " ++ decimal next) jumps.items
 ends_with_line_feed (Log total first events) some = numbered_end event_text (codes "log " ++ decimal total) first events.items
 ends_with_line_feed (Event number) some = (codes "event " ++ decimal number, refl)
 ends_with_line_feed (Left total) some = (codes "log " ++ decimal total, refl)

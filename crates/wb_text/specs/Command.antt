@@ -6,7 +6,7 @@ use Rattle.input_log.specs.Limits.{max_time}
 use Rattle.wb_text.specs.Number.{number_of, number_within}
 use Rattle.wb_text.specs.Words.{words_of, begins_comment}
 use Rattle.wb_text.specs.declared.command.Command.{Command}
-use Rattle.wb_text.specs.declared.command.Command.TheVariants.{Pos, Goto, Step, Back, Visit, Regs, Reg, Cp0, Tlb, Where, Mem, Dis, Console, Find, Writer, Stores, Finds, RegisterWriter, Pcs, Devices, Trace, Log, Add, Ferr, Wire, Del, Set, Move, Erase, Patch, Quit}
+use Rattle.wb_text.specs.declared.command.Command.TheVariants.{Pos, Goto, Step, Back, Visit, Regs, Reg, Cp0, Tlb, Where, Mem, Dis, Console, Find, Writer, Stores, Finds, RegisterWriter, Pcs, Devices, Trace, Jumps, Log, Add, Ferr, Wire, Del, Set, Move, Erase, Patch, Quit}
 use Rattle.refusal.specs.declared.fault.Fault.{Fault}
 use Rattle.refusal.specs.declared.fault.Fault.TheVariants.{Syntax}
 
@@ -96,6 +96,13 @@ distance = (1, 2 ^ 64 - 1)
 abbrev pub trace_count : ℕ × ℕ
 trace_count = (1, 64)
 
+-- which jumps are asked for, and how many
+abbrev pub jump_kind : ℕ × ℕ
+jump_kind = (0, 1)
+
+abbrev pub jump_count : ℕ × ℕ
+jump_count = (1, 64)
+
 abbrev pub step_count : ℕ × ℕ
 step_count = (1, 2 ^ 20)
 
@@ -160,6 +167,7 @@ run_queries =
     ∷ one (codes "regwriter") written_number RegisterWriter
     ∷ two (codes "pcs") distance position_count Pcs
     ∷ one (codes "trace") trace_count Trace
+    ∷ two (codes "jumps") jump_kind jump_count Jumps
     ∷ []
 
 abbrev pub edits : List Form

@@ -6,4 +6,5 @@ pub mod Text
 pub mod Lists
 pub mod Devices
 pub mod Trace
+pub mod Jumps
 pub mod Reply

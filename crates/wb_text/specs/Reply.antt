@@ -6,6 +6,7 @@ use Rattle.input_log.specs.declared.event.Kind.{Kind}
 use Rattle.input_log.specs.declared.event.Kind.TheVariants.{Byte, Framing, Wire}
 use Rattle.input_log.specs.Event.{LogEvent}
 use Rattle.wb_text.specs.Text.{byte_text, flag_text, line, numbered, register_text, value_text, word_text}
+use Rattle.wb_text.specs.Jumps.{jumps_text}
 use Rattle.wb_text.specs.Trace.{step_text}
 use Rattle.wb_text.specs.Lists.{finds_text, timed_list_text}
 use Rattle.wb_text.specs.Devices.{devices_text}
@@ -20,7 +21,7 @@ use Rattle.wb_text.specs.declared.reply.Where.TheVariants.{Cached, Uncached, Add
 use Rattle.wb_text.specs.declared.reply.Writer.{Writer}
 use Rattle.wb_text.specs.declared.reply.Writer.TheVariants.{Step, Image, Never}
 use Rattle.wb_text.specs.declared.reply.Reply.{Reply}
-use Rattle.wb_text.specs.declared.reply.Reply.TheVariants.{Position, Registers, Register, Control, Entry, Where as Place, Memory, Instructions, Console, Found, Writer as Wrote, Stores, Finds, RegisterWriter, Pcs, Devices, Trace, Log, Event, Left, Patched, Nothing, Fault as Refused}
+use Rattle.wb_text.specs.declared.reply.Reply.TheVariants.{Position, Registers, Register, Control, Entry, Where as Place, Memory, Instructions, Console, Found, Writer as Wrote, Stores, Finds, RegisterWriter, Pcs, Devices, Trace, Jumps, Log, Event, Left, Patched, Nothing, Fault as Refused}
 
 -- a refusal by its number and name
 abbrev pub refusal_text : Fault → List ℕ
@@ -150,6 +151,7 @@ text_of (RegisterWriter step) = line (register_writer_text step)
 text_of (Pcs pcs) = timed_list_text (codes "pcs ") pcs.items
 text_of (Devices d) = devices_text d
 text_of (Trace first steps) = numbered step_text first steps.items
+text_of (Jumps next jumps) = jumps_text next jumps.items
 text_of (Log total first events) = log_text total first events.items
 text_of (Event number) = line (codes "event " ++ decimal number)
 text_of (Left total) = line (codes "log " ++ decimal total)

@@ -51,6 +51,12 @@ pub type EventCount = Bounded<1, 32>;
 /// How many steps are followed.
 pub type TraceCount = Bounded<1, 64>;
 
+/// Which jumps are asked for: 0 for calls, returns and exceptions, 1 for all.
+pub type JumpKind = Bounded<0, 1>;
+
+/// How many jumps a reply shows at most.
+pub type JumpCount = Bounded<1, 64>;
+
 /// How many stores a reply shows at most.
 pub type StoreCount = Bounded<1, 32>;
 

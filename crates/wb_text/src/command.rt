@@ -7,8 +7,8 @@ ghost use Rattle.wb_text.specs.Command.{command_of, command_of_words, command_na
 
 use crate::bounded::{
     Address, AnyNumber, Bounded, ByteCount, ByteValue, Distance, EntryNumber, EventCount,
-    EventTime, FindCount, Level, LineNumber, PositionCount, RegisterNumber, StepCount, StoreCount,
-    TraceCount, WireNumber, WordCount, WordValue, WrittenNumber,
+    EventTime, FindCount, JumpCount, JumpKind, Level, LineNumber, PositionCount, RegisterNumber,
+    StepCount, StoreCount, TraceCount, WireNumber, WordCount, WordValue, WrittenNumber,
 };
 use crate::number::number;
 use crate::words::first_word;
@@ -86,6 +86,11 @@ pub enum Command {
     Devices,
     /// Shows what this many steps from the position on do.
     Trace(TraceCount),
+    /// Shows the next steps that transfer control: calls, returns and exceptions, or all.
+    Jumps {
+        kind: JumpKind,
+        count: JumpCount,
+    },
     /// Shows events of the log, from one on.
     Log {
         from: u64,
@@ -246,6 +251,7 @@ fn run_query_by_name(name: &[u8], rest: &[u8]) -> Result<Command, Fault>
         b"regwriter" (number: WrittenNumber) => Command::RegisterWriter(number),
         b"pcs" (distance: Distance, count: PositionCount) => Command::Pcs { distance, count },
         b"trace" (count: TraceCount) => Command::Trace(count),
+        b"jumps" (kind: JumpKind, count: JumpCount) => Command::Jumps { kind, count },
         else edit_by_name(name, rest)
     }
 }

@@ -4,6 +4,7 @@
 pub mod bounded;
 pub mod command;
 pub mod devices;
+mod jumps;
 pub mod lists;
 pub mod memory;
 mod number;
@@ -14,8 +15,8 @@ mod words;
 
 pub use bounded::{
     Address, Bounded, ByteCount, ByteValue, Distance, EntryNumber, EventCount, EventTime,
-    FindCount, Level, LineNumber, PositionCount, RegisterNumber, StepCount, StoreCount, TraceCount,
-    WireNumber, WordCount, WordValue, WrittenNumber,
+    FindCount, JumpCount, JumpKind, Level, LineNumber, PositionCount, RegisterNumber, StepCount,
+    StoreCount, TraceCount, WireNumber, WordCount, WordValue, WrittenNumber,
 };
 pub use command::{Command, parse_line};
 pub use devices::Devices;

@@ -9,6 +9,7 @@ ghost use Rattle.wb_text.specs.Reply.{bytes_text, console_text, register_writer_
 
 use crate::bounded::{EntryNumber, LineNumber, RegisterNumber};
 use crate::devices::{Devices, push_devices};
+use crate::jumps::push_jumps;
 use crate::lists::{Timed, push_finds, push_timed};
 use crate::memory::Words;
 use crate::text::{
@@ -18,7 +19,7 @@ use crate::text::{
 use crate::trace::push_steps;
 use arrayvec::ArrayVec;
 use input_log::{Event, Kind};
-use r3k_machine::Traced;
+use r3k_machine::{Jump, Traced};
 use refusal::Fault;
 
 /// A load that has not landed: its register and the value.
@@ -137,6 +138,11 @@ pub enum Reply {
         first: u64,
         steps: ArrayVec<Traced, 64>,
     },
+    /// The steps that transferred control, and the position from which to ask on, of `jumps`.
+    Jumps {
+        next: u64,
+        jumps: ArrayVec<Jump, 64>,
+    },
     /// How many events the log has, and some of them, of which `first` is the first one's number,
     /// of `log`.
     Log {
@@ -187,6 +193,7 @@ pub fn reply_text(reply: &Reply) -> Text
         Reply::Pcs(pcs) => push_timed(&mut text, b"pcs ", pcs),
         Reply::Devices(devices) => push_devices(&mut text, devices),
         Reply::Trace { first, steps } => push_steps(&mut text, *first, steps),
+        Reply::Jumps { next, jumps } => push_jumps(&mut text, *next, jumps),
         Reply::Log {
             total,
             first,

@@ -1,14 +1,14 @@
-//! The text of steps that were followed.
+//! The text of the traces of steps.
 
 ghost use Rattle.std.specs.Prelude.{◌≡◌, ◌+◌, ◌≤◌, ◌++◌, length};
 ghost use Rattle.arrayvec.specs.ArrayVec.{array_vec_len};
 ghost use Rattle.wb_text.specs.Text.{line, numbered};
-ghost use Rattle.wb_text.specs.Trace.{access_text, exception_text, fetched_text, hi_lo_text, kind_text, sent_text, shut_down_text, step_text, write_text};
+ghost use Rattle.wb_text.specs.Trace.{access_text, exception_text, fetched_text, hi_lo_text, kind_text, reach_text, sent_text, shut_down_text, step_text, write_text};
 
 use crate::text::{Text, push_byte, push_decimal, push_register, push_text, push_word};
 use cop0::ExcCode;
 use dz_serial::Sent;
-use r3k_machine::{Access, AccessKind, RegisterWrite, Traced};
+use r3k_machine::{Access, AccessKind, Reach, RegisterWrite, Traced};
 use r3k_word::arithmetic::HiLo;
 
 /// Appends the lines of steps, whose numbers go on from one.
@@ -28,7 +28,7 @@ pub(crate) fn push_steps(text: &mut Text, first: u64, steps: &[Traced])
 fn push_step(text: &mut Text, number: u64, step: Traced)
     requires { array_vec_len text.old ≤ 15000 }
     ensures items { text.new.items ≡ text.old.items ++ line (step_text number step) }
-    ensures room { array_vec_len text.new ≤ array_vec_len text.old + 210 }
+    ensures room { array_vec_len text.new ≤ array_vec_len text.old + 220 }
 {
     push_decimal(text, number);
     push_text(text, b" pc ");
@@ -43,8 +43,8 @@ fn push_step(text: &mut Text, number: u64, step: Traced)
     push_text(text, b"\n");
 }
 
-// Appends the word that was fetched.
-fn push_fetched(text: &mut Text, word: Option<u32>)
+/// Appends the word that was fetched.
+pub(crate) fn push_fetched(text: &mut Text, word: Option<u32>)
     requires { array_vec_len text.old ≤ 16000 }
     ensures items { text.new.items ≡ text.old.items ++ fetched_text word }
     ensures room { array_vec_len text.new ≤ array_vec_len text.old + 16 }
@@ -88,13 +88,14 @@ fn push_hi_lo(text: &mut Text, pair: Option<HiLo>)
 fn push_access(text: &mut Text, access: Option<Access>)
     requires { array_vec_len text.old ≤ 16000 }
     ensures items { text.new.items ≡ text.old.items ++ access_text access }
-    ensures room { array_vec_len text.new ≤ array_vec_len text.old + 28 }
+    ensures room { array_vec_len text.new ≤ array_vec_len text.old + 37 }
 {
     if let Some(access) = access {
         push_text(text, kind_name(access.kind));
         push_word(text, access.address);
         push_text(text, b" ");
         push_word(text, access.word);
+        push_text(text, reach_name(access.reach));
     }
 }
 
@@ -106,6 +107,18 @@ fn kind_name(kind: AccessKind) -> &'static [u8]
     match kind {
         AccessKind::Load => b" load ",
         AccessKind::Store => b" store ",
+    }
+}
+
+// The mark of an access by what it reaches.
+fn reach_name(reach: Reach) -> &'static [u8]
+    ensures text { result.now ≡ reach_text reach }
+    ensures short { length result.now ≤ 9 }
+{
+    match reach {
+        Reach::Bus => b"",
+        Reach::Isolated => b" isolated",
+        Reach::Ignored => b" ignored",
     }
 }
 
@@ -123,7 +136,7 @@ fn push_sent(text: &mut Text, sent: Option<Sent>)
     }
 }
 
-// Appends that TS was set.
+// Appends that TS became 1.
 fn push_shut_down(text: &mut Text, shuts_down: bool)
     requires { array_vec_len text.old ≤ 16000 }
     ensures items { text.new.items ≡ text.old.items ++ shut_down_text shuts_down }
@@ -134,8 +147,8 @@ fn push_shut_down(text: &mut Text, shuts_down: bool)
     }
 }
 
-// Appends the exception that was taken.
-fn push_exception(text: &mut Text, exception: Option<ExcCode>)
+/// Appends the exception that was taken.
+pub(crate) fn push_exception(text: &mut Text, exception: Option<ExcCode>)
     requires { array_vec_len text.old ≤ 16000 }
     ensures items { text.new.items ≡ text.old.items ++ exception_text exception }
     ensures room { array_vec_len text.new ≤ array_vec_len text.old + 31 }

@@ -7,5 +7,5 @@ use Rattle.wb_text.proofs.trace.push_steps.Given as goal
 abbrev pub invariant-loop-step : goal.invariant-loop-step
 invariant-loop-step l = record {
   items : l.text.items ++ numbered step_text l.number (drop l.step-index l.steps) ≡ l.fn.text.items ++ numbered step_text l.first l.steps;
-  room : array_vec_len l.text ≤ array_vec_len l.fn.text + 210 * l.step-index;
+  room : array_vec_len l.text ≤ array_vec_len l.fn.text + 220 * l.step-index;
 }
