@@ -3,8 +3,8 @@
 
     .ci/sessions.py
 
-The sessions are those of examples/, docs/USING.md and bench/stored, the dialogues of .ci/dialogues, and three long ones of this file: one
-far along a run, one with a long log, and one with calls from page to page. It also starts the program with command lines and inputs that it
+The sessions are those of examples/, docs/USING.md and bench/stored, the dialogues of .ci/dialogues, and four long ones of this file: one
+far along a run, two with long logs, and one with calls from page to page. It also starts the program with command lines and inputs that it
 refuses, and for help. Prints each reply, fault or status that differs. The status is 1 if one does.
 """
 import hashlib
@@ -76,6 +76,22 @@ FAR = [
     ("find 0 0", "find 4294967299"),
     ("console 0 0 8", "console 0 1 41"),
     ("mem 0x100 1", "0x00000100 0x00000041"),
+    # Numbers that take more than 32 bits are no reason to run out of memory.
+    ("reg 6", "r6 0x00000041"),
+    ("where 0xbfc0018c", "where 0x1fc0018c uncached"),
+    ("console 0 4294967296 8", "console 0 1 none"),
+    ("find 0 4294967296", "error 8 NotFound"),
+    ("finds 0 4294967296 64", "finds 0"),
+    ("finds 0 0 64", "finds 1\n0 4294967299"),
+    ("stores 0x100 32", "stores 1\n4294967298 0x00000041"),
+    ("pcs 1 2", "pcs 2\n4294967400 0xbfc0018c\n4294967401 0xbfc00190"),
+    ("trace 1", "4294967400 pc 0xbfc0018c word 0x0bf00063"),
+    ("jumps 1 1", "jumps 1 4294967401\n4294967400 pc 0xbfc0018c word 0x0bf00063 to 0xbfc0018c"),
+    ("add 4294967401 0 0x41", "event 1"),
+    ("ferr 4294967402 0 0x41", "event 2"),
+    ("wire 4294967403 1 1", "event 3"),
+    ("del 1", "log 3"),
+    ("erase 4294967401 4294967404", "log 1"),
     ("goto 4294967299", "pos 4294967299"),
     ("find 0 0", "error 8 NotFound"),
     ("mem 0x100 1", "0x00000100 0x00000041"),
@@ -216,6 +232,29 @@ LONG = [
 ]
 
 
+# A loop of two steps, to which 70,000 bytes come that nobody receives, each 2 steps after the one before: more events than 16 bits count.
+LOOP = b"hold:\n        j hold\n        sll r0, r0, 0\n"
+MANY_EVENTS = b"R3KLOG1\n" + struct.pack("<I", 70000) + b"".join(struct.pack("<IBB", 2 * it, 0, it % 256) for it in range(70000))
+MANY = [
+    ("log 65536 1", "log 70000\n65536 131072 0 0x00"),
+    ("goto 1000", "pos 1000"),
+    ("reg 0", "r0 0x00000000"),
+    ("mem 0 1", "0x00000000 0x00000000"),
+    ("writer 0", "writer never"),
+    ("console 0 0 1", "console 0 0 none"),
+    ("trace 1", "1000 pc 0xbfc00000 word 0x0bf00000"),
+    ("jumps 1 1", "jumps 1 1001\n1000 pc 0xbfc00000 word 0x0bf00000 to 0xbfc00000"),
+    ("add 200000 0 1", "event 70000"),
+    ("ferr 200001 0 1", "event 70001"),
+    ("wire 200002 0 1", "event 70002"),
+    ("set 65536 7", "event 65536"),
+    ("move 65536 200003", "event 70002"),
+    ("patch 0x100 5", "ok"),
+    ("mem 0x100 1", "0x00000100 0x00000005"),
+    ("erase 0 131072", "log 4467"),
+]
+
+
 def script_and_replies(lines):
     """The script and the replies of lines with theirs."""
     return tuple("".join(it + "\n" for it in those).encode() for those in zip(*lines))
@@ -230,6 +269,7 @@ def sessions():
     yield "bench/stored", [(*booted(it), *read(*map(it.with_suffix, (".log", ".script", ".expected")))) for it in stored]
     yield "far along a run", [("source", WAITS, b"", *script_and_replies(FAR))]
     yield "calls from page to page", [("source", PAGES, b"", *script_and_replies(CALLED))]
+    yield "a log of many events", [("source", LOOP, MANY_EVENTS, *script_and_replies(MANY))]
     yield "a long log", [(*booted(ROOT / "examples/echo/boot.s"), LONG_LOG, *script_and_replies(LONG))]
 
 
