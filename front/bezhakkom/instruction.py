@@ -56,11 +56,6 @@ def is_control_read(word: int) -> bool:
     return code(word) == COPROCESSOR_0 and rs(word) == 0
 
 
-def is_status_write(word: int) -> bool:
-    """Whether it is mtc0 to Status."""
-    return word & 0xFFE0_F800 == 0x4080_6000
-
-
 def is_late(word: int) -> bool:
     """Whether what it writes is there for the instruction after the next one: loads and mfc0."""
     return code(word) in LOADS or is_control_read(word)

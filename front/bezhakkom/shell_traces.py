@@ -53,7 +53,7 @@ def trace(session: Session, words: list[str]) -> None:
 def io(session: Session, words: list[str]) -> None:
     count, lines, found = _count(session, words, _IO_STEPS), StepLines(session), False
     for step in _next(session, count):
-        if step.access and step.access.address not in RAM and step.access.address not in ROM:
+        if step.access and step.access.mark != "isolated" and step.access.address not in RAM and step.access.address not in ROM:
             session.tell(lines.of(step))
             found = True
     if not found:

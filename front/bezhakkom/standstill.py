@@ -255,7 +255,7 @@ class Loop:
         """Notes what a store changes."""
         word = access.address
         if word not in RAM:
-            return word in ROM
+            return access.mark == "ignored"
         if word not in self._last_words:
             self._ask_at(self._here)
             self._last_words[word] = self._first_words[word] = self._driver.words(word, 1)[0]

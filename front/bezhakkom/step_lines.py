@@ -8,7 +8,7 @@ from .expressions import REGISTERS
 from .limits import RAM, ROM
 from .places import PHYSICAL, always_at
 from .session import Session
-from .tracing import Traced
+from .tracing import Access, Traced
 
 
 class StepLines:
@@ -47,7 +47,7 @@ class StepLines:
             yield f"hi = {step.hi_lo[0]:#010x}, lo = {step.hi_lo[1]:#010x}"
         if step.access:
             how = "from" if step.access.kind == "load" else "into"
-            yield f"{step.access.kind}s {step.access.word:#010x} {how} {place(session, step.access.address)}"
+            yield f"{step.access.kind}s {step.access.word:#010x} {how} {place(session, step.access.address)}{_marked(step.access)}"
         if step.sent:
             yield f"sends {chr(step.sent[1])!r} on line {step.sent[0]}"
         if step.shuts_down:
@@ -59,3 +59,12 @@ class StepLines:
 def place(session: Session, physical: int) -> str:
     """A physical address: memory by its address in kseg0 or kseg1, which may have a name, and devices by their physical one."""
     return session.address(always_at(physical)) if physical in RAM or physical in ROM else f"{PHYSICAL}{physical:#010x}"
+def _marked(access: Access) -> str:
+    """What else is said of an access that reached neither RAM nor a device."""
+    if access.mark == "isolated":
+        return ", in the isolated cache"
+    if access.mark == "ignored":
+        return f", ignored: {'that is ROM' if access.address in ROM else 'nothing is there'}"
+    return ""
+
+

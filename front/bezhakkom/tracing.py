@@ -11,11 +11,13 @@ from .replies import no_reply
 @dataclass(frozen=True)
 class Access:
     """The word at a physical address that a step loaded from or stored into: what a load got, or what a store left. A store to what is
-    no RAM has the bytes that were stored, in their places."""
+    no RAM has the bytes that were stored, in their places. The `mark` is `ignored` if a store changed nothing, as in ROM and where no
+    device is, and `isolated` if the isolated cache was accessed in place of memory."""
 
     kind: str  # load or store
     address: int
     word: int
+    mark: Optional[str] = None
 
 
 @dataclass(frozen=True)
@@ -36,7 +38,8 @@ class Traced:
 
 
 _LINE = re.compile(r"(?P<step>\d+) pc (?P<pc>0x\w{8}) word (?P<word>none|0x\w{8})(?: r(?P<register>\d+) (?P<value>0x\w{8}))?"
-                   r"(?: hi (?P<hi>0x\w{8}) lo (?P<lo>0x\w{8}))?(?: (?P<kind>load|store) (?P<address>0x\w{8}) (?P<held>0x\w{8}))?"
+                   r"(?: hi (?P<hi>0x\w{8}) lo (?P<lo>0x\w{8}))?(?: (?P<kind>load|store) (?P<address>0x\w{8}) (?P<held>0x\w{8})"
+                   r"(?: (?P<mark>ignored|isolated))?)?"
                    r"(?: sent (?P<line>\d) (?P<byte>0x\w\w))?(?P<ts> ts)?(?: exception (?P<code>\d+))?")
 
 
@@ -53,7 +56,7 @@ def read(line: str) -> Traced:
     def pair(first: str, second: str) -> Optional[tuple[int, int]]:
         return None if found[first] is None else (int(found[first], 0), int(found[second], 0))
 
-    access = Access(found["kind"], int(found["address"], 16), int(found["held"], 16)) if found["kind"] else None
+    access = Access(found["kind"], int(found["address"], 16), int(found["held"], 16), found["mark"]) if found["kind"] else None
     return Traced(int(found["step"]), int(found["pc"], 16), None if found["word"] == "none" else number("word"),
                   pair("register", "value"), pair("hi", "lo"), access, pair("line", "byte"), bool(found["ts"]), number("code"))
 
@@ -76,6 +79,8 @@ def value_of(it: Traced) -> dict[str, Any]:
         shown["hi"], shown["lo"] = it.hi_lo
     if it.access:
         shown[it.access.kind] = {"address": it.access.address, "word": it.access.word}
+        if it.access.mark:
+            shown[it.access.kind][it.access.mark] = True
     if it.sent:
         shown["sent"] = {"line": it.sent[0], "byte": it.sent[1]}
     if it.shuts_down:

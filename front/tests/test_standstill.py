@@ -197,6 +197,13 @@ class Stands(unittest.TestCase):
         counts[4] -= 1
         self.assertIsNone(self.stands(self.driver(counts), 20))
 
+    def test_stores_that_change_nothing(self) -> None:
+        """lui r1, 0xbfc0 or 0xbf00, ROM or where nothing is; sw r0, 0(r1); beq r0, r0, back; nop; and 0xbff0, the board's register."""
+        for place, still in ((0xBFC0, Quiet(GREATEST_POSITION, Standstill.STUCK)), (0xBF00, Quiet(GREATEST_POSITION, Standstill.STUCK)), (0xBFF0, None)):
+            with self.subTest(hex(place)), brute.fresh(rom([0x3C01_0000 | place, 0xAC20_0000, 0x1000_FFFE, 0]), []) as run:
+                run.goto(1)
+                self.assertEqual(standstill(run), still)
+
     def test_faults_in_empty_rom(self) -> None:
         """jr r0, and the fetch at address 0 takes an exception in step 2. The handler's 65,440 words are empty, and after the last
         one the fetch takes one again, in step 65,443: from there on a turn has 65,441 steps."""

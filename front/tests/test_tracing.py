@@ -26,6 +26,18 @@ class Lines(unittest.TestCase):
         self.assertEqual(tracing.read("0 pc 0xbfc00180 word none exception 0"), tracing.Traced(0, 0xBFC0_0180, None, exception=0))
         self.assertEqual(tracing.value("0 pc 0x00000004 word none exception 6"), {"step": 0, "pc": 4, "word": None, "exception": 6})
 
+    def test_marks_belong_to_the_access(self) -> None:
+        """Lines of the worked example: a store to ROM, and a load of the isolated cache; and a mark with what may come after it."""
+        store = tracing.read("2 pc 0xbfc00008 word 0xac220100 store 0x1fc00100 0x00000007 ignored")
+        self.assertEqual(store.access, tracing.Access("store", 0x1FC0_0100, 7, "ignored"))
+        self.assertEqual(tracing.value_of(store), {"step": 2, "pc": 0xBFC0_0008, "word": 0xAC22_0100,
+                                                   "store": {"address": 0x1FC0_0100, "word": 7, "ignored": True}})
+        load = tracing.value("10 pc 0xbfc00028 word 0x8ca70004 r7 0x00000007 load 0x00000004 0x00000007 isolated")
+        self.assertEqual(load["load"], {"address": 4, "word": 7, "isolated": True})
+        self.assertTrue(tracing.read("1 pc 0x00000004 word 0xac220100 store 0x00000004 0x00000007 isolated ts").shuts_down)
+        with self.assertRaisesRegex(bezhakkom.Problem, "is no reply of the program"):
+            tracing.read("2 pc 0xbfc00008 word 0xac220100 ignored")
+
 
 class Steps(unittest.TestCase):
     def check(self, run: Driver, first: int) -> set[str]:
@@ -132,6 +144,21 @@ class InTheShell(unittest.TestCase):
         shown = self.shown("goto 6684", "io 3").splitlines()
         self.assertRegex("\n".join(shown), r"(?m)^6,684 receive\+0x4 \(login.c:33\): lw r2, 8\(r2\)   v0 = 0x00000000; loads 0x00000000 from p:0x1fe00008$")
         self.assertIn("none of the next 2 steps does", self.shown("goto 6685", "io 2"))
+
+    def test_accesses_without_effect_are_marked(self) -> None:
+        """A store to ROM and one to where nothing is; and with the cache isolated (IsC is bit 16 of Status, register 12) a store and a load
+        through kseg0, and a store through kseg0 to the address of the serial part."""
+        lines = ("lui r1, 0xbfc0", "addiu r2, r0, 7", "sw r2, 0x100(r1)", "lui r3, 0xbf00", "sb r2, 1(r3)", "lui r4, 1", "mtc0 r4, c12",
+                 "lui r5, 0x8000", "sw r2, 4(r5)", "lw r7, 4(r5)", "lui r6, 0x9fe0", "sw r2, 24(r6)")
+        with TemporaryDirectory() as folder:
+            name = Path(folder, "boot.s")
+            name.write_text("\n".join(lines) + "\n")
+            shown = scripts.shell(str(name), lines=("trace 12", "io 12")).stdout.splitlines()
+        self.assertEqual([it.partition("   ")[2] for it in (shown[2], shown[4], shown[8], shown[9])], [
+            "stores 0x00000007 into 0xbfc00100, ignored: that is ROM", "stores 0x00000700 into p:0x1f000000, ignored: nothing is there",
+            "stores 0x00000007 into 0x80000004, in the isolated cache",
+            "a3 = 0x00000007; loads 0x00000007 from 0x80000004, in the isolated cache"])
+        self.assertEqual(shown[12:], shown[4:5])  # `io` has the store to where nothing is, and not the one that no device sees
 
     def test_stores(self) -> None:
         shown = self.shown("goto 40,025", "stores session+0x20 2").splitlines()

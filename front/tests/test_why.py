@@ -5,6 +5,8 @@ from __future__ import annotations
 import json
 import random
 import unittest
+from pathlib import Path
+from tempfile import TemporaryDirectory
 from typing import Dict, List, Optional, Sequence, Tuple
 from unittest import mock
 
@@ -218,6 +220,27 @@ class Isolated(unittest.TestCase):
             found = asked(run, Register("r", 5), 14)
             self.assertEqual((found.links[0].source, found.nodes[12].links[0].source), (12, 2))
             self.assertEqual(asked(run, Register("r", 6), 14).nodes[8].links, [Link(Role.VALUE, End(Origin.CACHE))])
+
+    def test_stores_without_effect_are_named_and_are_no_writers(self) -> None:
+        """The store to the cache, and one to ROM, from which a load gets 0 as before; and no store after the last one to memory is missed."""
+        words = [*self.WORDS[:14], immediate(0x0F, 0, 9, 0xBFC0), immediate(0x2B, 9, 2, 0x200), immediate(0x23, 9, 10, 0x200), 0, 0]
+        with brute.fresh(rom(words), []) as run:
+            self.assertEqual(list(asked(run, Word(DATA), 14).ineffective), [7])
+            self.assertEqual(list(asked(run, Word(DATA), 7).ineffective), [])
+            found = asked(run, Word(0x1FC0_0200), 18)
+            self.assertEqual((found.links, list(found.ineffective)), ([Link(Role.VALUE, End(Origin.WORD, 0x1FC0_0200))], [15]))
+            found = asked(run, Register("r", 10), 18)
+            self.assertEqual((found.nodes[16].links, list(found.ineffective)), ([Link(Role.VALUE, End(Origin.WORD, 0x1FC0_0200))], [15]))
+
+    def test_stores_without_effect_in_the_shell(self) -> None:
+        with TemporaryDirectory() as folder:
+            name = Path(folder, "boot.rom")
+            name.write_bytes(b"".join(it.to_bytes(4, "little") for it in self.WORDS))
+            shown = scripts.shell("--kind", "rom", str(name), lines=("goto 14", "why 0xa0000100", "why 0xa0000100 --json")).stdout.splitlines()
+        self.assertEqual(shown[4:6], ["1 store there changed nothing:",
+                                      "  7 0xbfc0001c: sw r4, 256(r8)   stores 0x00000007 into 0x80000100, in the isolated cache"])
+        self.assertEqual([(it["step"], it["store"]) for it in json.loads(shown[-1])["ineffective"]],
+                         [(7, {"address": DATA, "word": 7, "isolated": True})])
 
     def test_when(self) -> None:
         for apart in (0, 1 << 40):  # stores are followed back, and steps are traced

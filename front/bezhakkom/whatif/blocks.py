@@ -7,7 +7,7 @@ from typing import Dict, Iterator, List, Optional, Tuple
 
 from .. import replies, tracing
 from ..driver import Driver
-from ..instruction import ALL, Turn, immediate, is_late, is_status_write, rs, rt, turn_of
+from ..instruction import ALL, Turn, immediate, is_late, rs, turn_of
 from ..limits import GREATEST_POSITION, HI, TRACED
 from ..replies import Registers
 from ..tracing import Traced
@@ -16,27 +16,23 @@ from .needs import written
 SIZE = TRACED
 _MOST = 16  # blocks that are asked for together, where those after them were asked for
 _KEPT = 2048  # blocks, those of the latest steps are forgotten first
-_LINES = 9  # of a reply to `regs`, after which that to `cp0` has one
-
-_ISOLATED = 0x1_0000  # a bit of Status
-_UNCACHED = 5  # the highest bits of an address of kseg1
+_LINES = 9  # of a reply to `regs`
 
 
 class Block:
     """Some steps from one on, and the registers before them."""
 
-    def __init__(self, first: int, registers: Registers, status: int, lines: List[str]) -> None:
+    def __init__(self, first: int, registers: Registers, lines: List[str]) -> None:
         self.first = first
         self.registers = registers
-        self._status = status
         self.counters: List[int] = []  # the PC of each step
         self.words: List[int] = []  # that each step fetched; 0 where it fetched none
         self.exceptions: Dict[int, int] = {}  # by the steps that took them, their codes
         self._lines = lines
         self._writers: Dict[int, List[int]] = {}  # of a register, in order; those of a load count at its own step
         self._stores: Dict[int, List[int]] = {}  # into a word
+        self._ineffective: Dict[int, List[int]] = {}  # to a word, that changed nothing there
         self._turns: Optional[List[Tuple[int, Turn, int]]] = None
-        self._isolations: Optional[List[Tuple[int, bool]]] = None  # from which steps on a cache is isolated, or is not any more
         for step, line in enumerate(lines, first):
             _, _, counter, _, word, *parts = line.split(" ", 5)
             self.counters.append(int(counter, 16))
@@ -53,7 +49,8 @@ class Block:
                 self._writers.setdefault(register, []).append(step)
         if "store" in did:
             place = did.index("store") + len("store ")
-            self._stores.setdefault(int(did[place:place + len("0x00000000")], 16), []).append(step)
+            stores = self._ineffective if "ignored" in did or "isolated" in did else self._stores
+            stores.setdefault(int(did[place:place + len("0x00000000")], 16), []).append(step)
         if "exception" in did:
             self.exceptions[step] = int(did.rpartition(" ")[2])
 
@@ -89,15 +86,12 @@ class Block:
     def store(self, physical: int, end: int) -> Optional[int]:
         """The last step of these below `end` that stored into a word, if one did."""
         steps = self._stores.get(physical, [])
-        return next((it for it in reversed(steps[:bisect_left(steps, end)]) if not self.is_isolated(it)), None)
+        at = bisect_left(steps, end)
+        return steps[at - 1] if at else None
 
-    def is_isolated(self, number: int) -> bool:
-        """Whether a load or store was one of an isolated cache, which memory does not see."""
-        if self._isolations is None:
-            writes = [self.first + at for at, word in enumerate(self.words) if is_status_write(word)]
-            self._isolations = [(step + 1, bool(self.value(rt(self.word(step)), step) & _ISOLATED)) for step in writes]
-        is_on = next((is_on for step, is_on in reversed(self._isolations) if step <= number), bool(self._status & _ISOLATED))
-        return is_on and self.address(number) >> 29 != _UNCACHED
+    def ineffective(self, physical: int, begin: int, end: int) -> List[int]:
+        """The steps of these from `begin` to below `end` that stored to a word and changed nothing there, from the last one back."""
+        return [it for it in reversed(self._ineffective.get(physical, [])) if begin <= it < end]
 
     def address(self, number: int) -> int:
         """The virtual address of a load or store."""
@@ -152,11 +146,11 @@ class Blocks:
             del self._kept[number]
         self._lowest = first
         counts = [min(SIZE, GREATEST_POSITION - number * SIZE) for number in range(first, end)]
-        commands = [command for count in counts for command in ("regs", "cp0", f"trace {count}", f"step {count}")]
+        commands = [command for count in counts for command in ("regs", f"trace {count}", f"step {count}")]
         lines = self._driver.text(first * SIZE, commands).decode().split("\n")
         for number, count in zip(range(first, end), counts):
-            state, status = replies.registers(lines[:_LINES]), replies.control(lines[_LINES:])["status"]
-            lines = lines[_LINES + 1:]
-            self._kept[number] = Block(number * SIZE, state, status, lines[:count])
+            state = replies.registers(lines[:_LINES])
+            lines = lines[_LINES:]
+            self._kept[number] = Block(number * SIZE, state, lines[:count])
             lines = lines[count + 1:]
         self._driver.tell(first * SIZE)

@@ -306,6 +306,9 @@ def why(session: Session, name: str, value: str, found: Why, most: int) -> Itera
             yield f"  {same_again(turn, more)}"
     if rest:
         yield f"  and {counted(rest, 'earlier step')}: `steps N` shows more, and --json has all"
+    if found.ineffective:
+        yield f"{counted(len(found.ineffective), 'store')} there changed nothing:"
+        yield from (f"  {lines.of(it)}" for _, it in sorted(found.ineffective.items(), reverse=True)[:most])
     if found.is_stopped:
         yield f"steps before {min(found.nodes):,} were not looked at" if found.nodes else "interrupted"
     events = found.events()
@@ -380,6 +383,7 @@ def why_value(session: Session, name: str, value: int, found: Why) -> Value:
     return {"what": name, "position": found.position, "value": value, "from": _links_value(found.links),
             "steps": [{**tracing.value_of(node.step), **_named(session, node.step.pc), "bits": node.bits, "from": _links_value(node.links)}
                       for _, node in sorted(found.nodes.items(), reverse=True)],
+            "ineffective": [{**tracing.value_of(it), **_named(session, it.pc)} for _, it in sorted(found.ineffective.items(), reverse=True)],
             "events": [{"event": it, **event_value(found.log[it])} for it in found.events()], "stopped": found.is_stopped}
 
 

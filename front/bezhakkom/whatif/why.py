@@ -31,6 +31,7 @@ _MOST_TRIED = 256  # events with the byte that a step got
 _BYTE = 0xFF
 MOST_STEPS = 100_000
 _LOOKED_AT = 1 << 16  # steps back in which the branch is looked for that decided a step
+_NEAR = 512  # steps back in which stores to a word are looked for that changed nothing there
 
 
 class Role(Enum):
@@ -84,13 +85,15 @@ class Node:
 @dataclass
 class Why:
     """Where what was asked comes from, by its steps from the last one back. Where it was ended, by Ctrl-C or since there are many, chains
-    end at steps that are not among them."""
+    end at steps that are not among them. `ineffective` are stores to a word that is asked for, or loaded, which changed nothing there, since it is
+    in ROM or the cache was isolated: those of the last steps before, up to some hundreds."""
 
     position: int
     links: List[Link] = field(default_factory=list)
     nodes: Dict[int, Node] = field(default_factory=dict)
     log: List[Event] = field(default_factory=list)
     is_stopped: bool = False
+    ineffective: Dict[int, Traced] = field(default_factory=dict)  # stores, by their steps
 
     def events(self) -> List[int]:
         """The numbers of the events that it comes from."""
@@ -109,7 +112,7 @@ class Why:
         for step in sorted(self.nodes):
             leads[step] = any(map(is_kept, self.nodes[step].links))
         nodes = {step: Node(it.step, it.bits, list(filter(is_kept, it.links))) for step, it in self.nodes.items() if leads[step]}
-        return Why(self.position, list(filter(is_kept, self.links)), nodes, self.log, self.is_stopped)
+        return Why(self.position, list(filter(is_kept, self.links)), nodes, self.log, self.is_stopped, self.ineffective)
 
 
 def why(driver: Driver, symbols: Symbols, what: Question, position: int, *, control: bool = False, address: bool = False,
@@ -178,7 +181,8 @@ class _Slice:
         elif not position:
             links.append(Link(Role.VALUE, self._at_reset(what, register)))
         elif isinstance(what, Word):
-            self._blocks.of(position - 1)
+            for near in range(position - 1, max(position - _NEAR, 0) - 1, -SIZE):
+                self._blocks.of(near)
             self._want_word(_Wish(links, Role.VALUE, ALL, what.physical), position)
         elif register is None:
             self._want_step(position - 1, _Wish(links, Role.CONTROL))
@@ -226,6 +230,8 @@ class _Slice:
         low = end
         for block in self._blocks.known(end):
             step = block.store(wish.physical, end)
+            for it in block.ineffective(wish.physical, 0 if step is None else step, end):
+                self._found.ineffective[it] = block.step(it)
             if step is not None:
                 self._want_step(step, wish)
                 return
@@ -304,7 +310,7 @@ class _Slice:
         number, access = node.step.step, node.step.access
         assert access
         bits, stays = needs.loaded(word, self._byte(number), node.bits)
-        if self._blocks.of(number).is_isolated(number):
+        if access.mark == "isolated":
             node.links.append(Link(Role.VALUE, End(Origin.CACHE)))
         elif access.address in RAM or access.address in ROM:
             if bits:
