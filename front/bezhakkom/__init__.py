@@ -10,13 +10,14 @@ from typing import TYPE_CHECKING
 
 if TYPE_CHECKING:
     from .errors import Ended, Problem, Refused
+    from .jumps import Jump
     from .log import Event, Kind
     from .machine import Machine, Memory, NotReached, Step, boot, events
     from .tracing import Access, Traced
 
-__all__ = ["Access", "Ended", "Event", "Kind", "Machine", "Memory", "NotReached", "Problem", "Refused", "Step", "Traced", "boot", "events"]
+__all__ = ["Access", "Ended", "Event", "Jump", "Kind", "Machine", "Memory", "NotReached", "Problem", "Refused", "Step", "Traced", "boot", "events"]
 
-_MODULES = {"Access": "tracing", "Ended": "errors", "Event": "log", "Kind": "log", "Problem": "errors", "Refused": "errors",
+_MODULES = {"Access": "tracing", "Ended": "errors", "Event": "log", "Jump": "jumps", "Kind": "log", "Problem": "errors", "Refused": "errors",
             "Traced": "tracing"}
 
 

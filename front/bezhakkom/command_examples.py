@@ -33,6 +33,7 @@ EXAMPLES: "dict[str, str]" = {
     "hits": "hits send last 5",
     "why": "why session+0x20 to input",
     "trace": "trace 20",
+    "jumps": "jumps 20 all",
     "io": "io 1,000",
     "console": "console 0 0 64",
     "find": "find 0 5",

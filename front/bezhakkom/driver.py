@@ -12,11 +12,12 @@ from copy import deepcopy
 from dataclasses import replace
 from typing import Any, Callable, Iterator, Optional, Sequence, Tuple
 
-from . import replies, tracing
+from . import jumps, replies, tracing
 from .errors import Ended, Interrupted, Problem, Refused
 from .explain import explained
 from .image import Image
 from .initial import Boot, boot_of
+from .jumps import Jump
 from .limits import CONSOLE_BYTES, GREATEST_POSITION, READS, SPAN, STORES, TRACED, WORDS
 from .log import ADDS, Event, Kind, changes
 from .log import write as write_log
@@ -242,6 +243,12 @@ class Driver:
                 first += sum(counts)
                 size = min(2 * size, _MOST_TRACED)
                 self.tell(first)
+
+    def jumps(self, first: int, local: bool, most: int) -> tuple[list[Jump], int]:
+        """The first steps from one on that transfer control, at most so many of those within 1,048,576 steps, and the position from which to
+        ask on. If they are `local`, taken branches and `j` count too. The position stays."""
+        lines, = self.answers([(first, f"jumps {int(local)} {most}")])
+        return [jumps.read(line) for line in lines[1:]], jumps.reached(lines)
 
     def find(self, line: int, place: int) -> int:
         """The step that sent the byte at a place of a line's console."""

@@ -12,7 +12,7 @@ from typing import Callable, Iterator, Optional
 import gdb
 
 # Their words are no numbers.
-AS_THEY_ARE = ("arrive", "assert", "assert-console", "catch", "causes", "compare", "devices", "expect", "fuzz", "help", "hits", "load", "save",
+AS_THEY_ARE = ("arrive", "assert", "assert-console", "catch", "causes", "compare", "devices", "expect", "fuzz", "help", "hits", "jumps", "load", "save",
                "save-image", "save-log", "shrink", "symbols", "trace", "try", "type", "until", "wb", "when", "why")
 RUNS = ("expect", "until")  # they go on, and are run as `continue` is
 MOVES = [begin + move for move in ("continue", "step", "next", "stepi", "nexti", "finish") for begin in ("", "reverse-")]

@@ -3,16 +3,18 @@ from __future__ import annotations
 
 from enum import Enum
 from functools import lru_cache
-from typing import Optional
+from typing import TYPE_CHECKING, Optional
 
-from .driver import Driver
 from .replies import Registers
+
+if TYPE_CHECKING:
+    from .driver import Driver
 
 RA = 31
 ALL = 0xFFFF_FFFF
 
-# Major opcodes: by functions, branches by signs, coprocessor 0, loads, stores.
-SPECIAL, SIDES, COPROCESSOR_0 = 0, 1, 0x10
+# Major opcodes: by functions, branches by signs, jumps, coprocessor 0, loads, stores.
+SPECIAL, SIDES, J, JAL, COPROCESSOR_0 = 0, 1, 2, 3, 0x10
 LB, LH, LWL, LW, LBU, LHU, LWR = range(0x20, 0x27)
 SB, SH, SWL, SW, SWR = 0x28, 0x29, 0x2A, 0x2B, 0x2E
 LOADS = frozenset((LB, LH, LWL, LW, LBU, LHU, LWR))
@@ -65,11 +67,15 @@ def is_jump_by_register(word: int) -> bool:
     return code(word) == SPECIAL and function(word) == JR
 
 
-def is_call(word: int) -> bool:
-    """Whether it leaves a return address and goes elsewhere: jal, jalr, bltzal and bgezal, but to what comes after it."""
+def links(word: int) -> bool:
+    """Whether it leaves a return address: jal, jalr, bltzal and bgezal."""
     major = code(word)
-    return (major == 3 or major == SPECIAL and function(word) == JALR
-            or major == SIDES and rt(word) in (0x10, 0x11) and immediate(word) != 1)
+    return major == JAL or major == SPECIAL and function(word) == JALR or major == SIDES and rt(word) in (0x10, 0x11)
+
+
+def is_call(word: int) -> bool:
+    """Whether it leaves a return address and goes elsewhere: not bltzal and bgezal to what comes after their delay slot."""
+    return links(word) and (code(word) != SIDES or immediate(word) != 1)
 
 
 def is_branch(word: int) -> bool:
@@ -83,7 +89,7 @@ def is_branch(word: int) -> bool:
 def is_jump(word: int) -> bool:
     """Whether it always goes on elsewhere, and comes back from nowhere: j, jr, and branches that compare a register with itself."""
     major = code(word)
-    return (major == 2 or is_jump_by_register(word) or major == 4 and rs(word) == rt(word)
+    return (major == J or is_jump_by_register(word) or major == 4 and rs(word) == rt(word)
             or major == SIDES and rt(word) == 1 and not rs(word))
 
 
@@ -117,7 +123,7 @@ def has_slot(word: int) -> bool:
 
 def target(address: int, word: int) -> int:
     """Where a branch or a jump that is no jump by register leads."""
-    if code(word) in (2, 3):
+    if code(word) in (J, JAL):
         return (address + 4) & 0xF000_0000 | (word & 0x03FF_FFFF) << 2
     return (address + 4 + 4 * immediate(word)) & ALL
 

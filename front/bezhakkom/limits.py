@@ -21,6 +21,7 @@ SPAN = 65_536
 # The most that one command asks for.
 VISIT_STEPS = 1_048_576
 TRACED = 64  # steps
+JUMPS = 64
 STORES = 32
 FINDS = 64
 PCS = 64

@@ -12,6 +12,7 @@ for it.
 from __future__ import annotations
 
 import os
+import sys
 from concurrent.futures import Executor
 from contextlib import contextmanager
 from dataclasses import dataclass
@@ -29,6 +30,8 @@ from .driver import Driver
 from .errors import Problem
 from .exceptions import Catch
 from .expressions import REGISTERS, register_number, written
+from .jumping import Jumps
+from .jumps import Jump
 from .limits import GREATEST_POSITION
 from .loading import Opening
 from .log import Event, Kind
@@ -375,6 +378,25 @@ class Machine:
         if self.position + steps > GREATEST_POSITION:
             raise Problem(f"{steps:,} steps can't be followed: a position is 0 to {GREATEST_POSITION:,}")
         return list(self.driver.traced(self.position, self.position + steps))
+
+    @_alone
+    def jumps(self, local: bool = False, *, steps: Optional[int] = None, most: Optional[int] = None) -> Iterator[Jump]:
+        """The next steps that transfer control: calls, returns and other jumps by register, `rfe`, exceptions and interrupts, and with
+        `local` also taken branches and `j`. They are asked for as they are wanted, each step runs once, and the position stays.
+
+        They are those of at most so many steps, and at most so many. Without a number of steps they end where the run stands still, or
+        where none was found for long. An edit meanwhile counts for what is asked for after it.
+        """
+        here = self.position
+        steps, most = checked.whole_or_none("steps", steps, 0), checked.whole_or_none("most", most, 0)
+        end = GREATEST_POSITION if steps is None else min(here + steps, GREATEST_POSITION)
+        return self._walk(Jumps(self.driver, here, local, end, sys.maxsize if most is None else most, self.session.idle))
+
+    def _walk(self, found: Jumps) -> Iterator[Jump]:
+        while not found.is_over:
+            with self.alone():
+                more = found.more()
+            yield from more
 
     @_alone
     def hits(self, place: Place) -> list[int]:

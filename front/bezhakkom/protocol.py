@@ -4,10 +4,10 @@ from __future__ import annotations
 from dataclasses import dataclass
 from typing import Any, Callable, Optional, Sequence, Union
 
-from . import replies, tracing
+from . import jumps, replies, tracing
 from .limits import (
-    COMMAND_BYTES, CONSOLE_BYTES, EXTERNAL_LINES, FINDS, GREATEST_POSITION, GREATEST_TIME, LINES, MOST_EVENTS, PCS, STORES, TRACED,
-    VISIT_STEPS, WORDS)
+    COMMAND_BYTES, CONSOLE_BYTES, EXTERNAL_LINES, FINDS, GREATEST_POSITION, GREATEST_TIME, JUMPS, LINES, MOST_EVENTS, PCS, STORES,
+    TRACED, VISIT_STEPS, WORDS)
 from .replies import is_refusal, number_of, words_of
 
 Value = Union[None, int, str, list, dict]
@@ -114,6 +114,7 @@ _ROWS = (
     Command("devices", value=replies.devices, lines=lambda numbers, first: _DEVICES_AFTER, runs=True),
     Command("trace", "C", f"1 to {TRACED} steps are followed", lambda lines: [tracing.value(line) for line in lines],
             lambda numbers, first: numbers[0] - 1, runs=True),
+    Command("jumps", "K C", f"the first number is 0 or 1, and 1 to {JUMPS} steps are shown", jumps.value, _counted, runs=True),
     Command("log", "F C", "1 to 32 events are shown", _log, _events_after),
     Command("add", "T L B", _BYTE, edits_log=True),
     Command("ferr", "T L B", _BYTE, edits_log=True),

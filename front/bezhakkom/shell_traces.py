@@ -10,6 +10,9 @@ from .conditions import Conditions, all_hits, last_hit
 from .driver import Driver
 from .errors import STOPPED, Problem
 from .exceptions import NAMES, TEXTS, Catch
+from .jumping import Jumps
+from .jumps import Jump
+from .jumps import value_of as value_of_jump
 from .limits import GREATEST_POSITION, RAM, ROM, TRACED
 from .saving import FORCE_WORD, Form, is_forced, name_of, save
 from .session import Session, counted
@@ -18,35 +21,71 @@ from .tracing import Traced, read, value_of
 
 # How many are shown where the line has no number.
 _STEPS = 8
+_JUMPS = 16
 _IO_STEPS = 1000
 _STORES = 16
 
-_JSON = "--json"
-_BEGIN = "# what steps "
-_FORM = Form("trace", (_BEGIN.encode(),))
+_JSON, _ALL = "--json", "all"
+_BEGIN, _BEGIN_JUMPS = "# what steps ", "# jumps from step "
+_FORM = Form("trace", (_BEGIN.encode(), _BEGIN_JUMPS.encode()))
+
+
+_TRACE = "trace [C] [--json], or trace [C] to FILE"
+_JUMP_LINE = "jumps [N] [all] [--json], or jumps [N] [all] to FILE"
 
 
 @command("trace [C] [to] [FILE] [..]", "shows what the next C steps do, or writes it: trace 100000 to FILE", STEPS,
-         more="trace [C] [--json], or trace [C] to FILE; with --json each step is an object on its line")
+         more=f"{_TRACE}; with --json each step is an object on its line")
 def trace(session: Session, words: list[str]) -> None:
+    is_json, numbers, to = _listing(words, _TRACE)
+    count, first = _count(session, numbers, _STEPS), session.driver.position
+    steps, lines = _next(session, count), StepLines(session)
+    shown = (json.dumps({**value_of(it), **_named(session, it.pc)}) if is_json else lines.of(it) for it in steps)
+    _show(session, shown, to, f"{_BEGIN}{first:,} to {first + count - 1:,} do", f"trace {count}")
+
+
+@command("jumps [N] [all] [to] [FILE] [..]", f"shows the next N steps, or {_JUMPS}, that call, return or take exceptions; `all` has taken branches too",
+         STEPS, more=f"{_JUMP_LINE}; with --json each step is an object on its line")
+def jumps(session: Session, words: list[str]) -> None:
+    is_json, numbers, to = _listing([it for it in words if it != _ALL], _JUMP_LINE)
+    local, count, first = _ALL in words, _count(session, numbers, _JUMPS), session.driver.position
+    found, lines = Jumps(session.driver, first, local, GREATEST_POSITION, count, session.idle), StepLines(session)
+    shown = (_jump_value(session, it) if is_json else lines.of_jump(it) for it in _jumps(session.driver, found))
+    if _show(session, shown, to, f"{_BEGIN_JUMPS}{first:,} on", f"jumps {count}{' all' if local else ''}") < count and not is_json:
+        session.tell(f"there are no more: {found.ended or f'a position is 0 to {GREATEST_POSITION:,}'}")
+
+
+def _jumps(driver: Driver, found: Jumps) -> Iterator[Jump]:
+    with driver.long_run(driver.position):
+        while not found.is_over:
+            yield from found.more()
+
+
+def _jump_value(session: Session, it: Jump) -> str:
+    target = {f"to_{name}": value for name, value in _named(session, it.to).items()}
+    return json.dumps({**value_of_jump(it), **_named(session, it.pc), **target})
+
+
+def _listing(words: list[str], usage: str) -> Tuple[bool, List[str], Optional[List[str]]]:
+    """Whether a list is shown as JSON, the words with its number, and those after `to`, if it goes to a file."""
     is_json, words = _JSON in words, [it for it in words if it != _JSON]
     numbers, to = (words[:words.index("to")], words[words.index("to") + 1:]) if "to" in words else (words, None)
     if len(numbers) > 1 or to == [] or is_json and to is not None:
-        raise Problem("usage: trace [C] [--json], or trace [C] to FILE")
-    count = _count(session, numbers, _STEPS)
-    if is_json:
-        for step in _next(session, count):
-            session.tell(json.dumps({**value_of(step), **_named(session, step.pc)}))
-        return
-    lines = map(StepLines(session).of, _next(session, count))
+        raise Problem(f"usage: {usage}")
+    return is_json, numbers, to
+
+
+def _show(session: Session, lines: Iterator[str], to: Optional[List[str]], heading: str, line: str) -> int:
+    """Shows the lines of steps, or writes them to a file, below a heading, and gives how many there are. `line` is that of the command."""
+    count = 0
     if to is None:
-        for line in lines:
-            session.tell(line)
-        return
-    name, forced, first = name_of(to[0]), is_forced(to[1:]), session.driver.position
-    heading = f"{_BEGIN}{first:,} to {first + count - 1:,} do"
-    save(name, "\n".join([heading, *lines, ""]).encode(), _FORM, forced, f"trace {count} to {to[0]} {FORCE_WORD}", session.seen)
-    session.tell(f"{name} has {counted(count, 'step')}")
+        for count, shown in enumerate(lines, 1):
+            session.tell(shown)
+        return count
+    name, forced, written = name_of(to[0]), is_forced(to[1:]), list(lines)
+    save(name, "\n".join([heading, *written, ""]).encode(), _FORM, forced, f"{line} to {to[0]} {FORCE_WORD}", session.seen)
+    session.tell(f"{name} has {counted(len(written), 'step')}")
+    return len(written)
 
 
 @command("io [C]", f"shows which of the next C steps, or {_IO_STEPS:,}, load from devices or store into them", STEPS)

@@ -1,10 +1,11 @@
 """What steps did, as lines for people."""
 from __future__ import annotations
 
-from typing import Dict, Iterator, Optional, Tuple
+from typing import Dict, Iterator, Optional, Tuple, Union
 
 from .exceptions import TEXTS
 from .expressions import REGISTERS
+from .jumps import Jump
 from .limits import RAM, ROM
 from .places import PHYSICAL, always_at
 from .session import Session
@@ -26,7 +27,12 @@ class StepLines:
         parts = "; ".join(self._parts(step))
         return self._head(step) + (f"   {parts}" if parts else "")
 
-    def _head(self, step: Traced) -> str:
+    def of_jump(self, step: Jump) -> str:
+        """`366 main+0x6c (login.c:70): jal 0xbfc00228 <read_line>   call to read_line (login.c:37)`."""
+        what = step.kind if step.exception is None else f"exception {step.exception}: {TEXTS[step.exception]},"
+        return f"{step.step:,} {self._head(step)}   {what} to {self._session.code(step.to)}"
+
+    def _head(self, step: Union[Traced, Jump]) -> str:
         """The place of a step, and its instruction."""
         if step.word is None:
             why = "an interrupt" if step.exception == 0 else "no instruction can be fetched here"
@@ -56,9 +62,6 @@ class StepLines:
             yield f"exception {step.exception}: {TEXTS[step.exception]}"
 
 
-def place(session: Session, physical: int) -> str:
-    """A physical address: memory by its address in kseg0 or kseg1, which may have a name, and devices by their physical one."""
-    return session.address(always_at(physical)) if physical in RAM or physical in ROM else f"{PHYSICAL}{physical:#010x}"
 def _marked(access: Access) -> str:
     """What else is said of an access that reached neither RAM nor a device."""
     if access.mark == "isolated":
@@ -68,3 +71,6 @@ def _marked(access: Access) -> str:
     return ""
 
 
+def place(session: Session, physical: int) -> str:
+    """A physical address: memory by its address in kseg0 or kseg1, which may have a name, and devices by their physical one."""
+    return session.address(always_at(physical)) if physical in RAM or physical in ROM else f"{PHYSICAL}{physical:#010x}"

@@ -4,6 +4,7 @@ from __future__ import annotations
 import os
 import random
 import tempfile
+from itertools import islice
 from pathlib import Path
 from typing import Any, Callable, List, Tuple
 
@@ -15,6 +16,7 @@ from front.fuzzing.cases import NUMBERS, STRANGE, cases, check_shown, stop_after
 
 LOGIN = Path(__file__).resolve().parents[2] / "examples/login"
 LONGEST = 0.1  # seconds of a call
+_JUMPS = 100  # that are taken of a list of them, which may have no end
 VALUES: Tuple[Any, ...] = (
     None, True, 0, 1, -1, 4, 255, 256, 1 << 31, 1 << 32, 1 << 40, 1 << 64, 10 ** 30, 1.5, float("nan"), "", " ", "main", "session+0x20", "$a0", "pc", "sp",
     "login.c:44", "[sp]", "console", "sent 0 1", "pc main", "console 'Sorry'", "word session+0x20 > 3", "session+0x20 == 3", "sys", "set", "a" * 5000, b"", b"x",
@@ -29,7 +31,7 @@ NAMED = {
     "until": ("console", "pc", "word", "position", "steps", "line", "value"), "send": ("text", "line", "gap"), "arrive": ("step", "value", "line", "kind"),
     "causes": ("what", "by", "values"), "futures": ("event", "values", "without", "steps", "show", "until", "at"), "shrink": ("until", "at"),
     "fuzz": ("first", "until", "at", "seed", "tries"), "when": ("condition", "at"), "why": ("what", "control", "address"),
-    "what_if": ("without", "changed", "moved", "log")}
+    "what_if": ("without", "changed", "moved", "log"), "jumps": ("local", "steps", "most")}
 MEMORY = {"words": ("place", "count"), "read": ("place", "count"), "text": ("place", "most")}
 
 
@@ -67,6 +69,8 @@ def _call(source: random.Random, machine: Machine) -> "tuple[str, Callable[[], A
         named.setdefault("value", value())
     if name == "fuzz":
         named["tries"] = source.choice((0, 1, 20, "x"))
+    if name == "jumps":
+        return f"{name}(**{named!r})", lambda: list(islice(machine.jumps(**named), _JUMPS))
     return f"{name}(**{named!r})", lambda: _entered(machine, named) if name == "what_if" else getattr(machine, name)(**named)
 
 

@@ -27,7 +27,7 @@ class Table(unittest.TestCase):
         script = ["add 5 0 1", "add 6 0 1", "add 7 0 1", "goto 9", "log 0 2", "log 1 32", "log 3 1", "log 9 1", "log 0 99", "regs", "cp0",
                   "mem 0 3", "mem 1 3", "mem 0x1fc00000 32", "dis 0x1fc00000 2", "dis 0 0", "reg 1", "tlb 0", "where 0xbfc00000",
                   "console 0 0 9", "find 0 0", "writer 0", "visit 0 5", "step 1", "back 1", "pos", "set 0 2", "move 0 9", "ferr 1 0 1", "wire 2 0 1", "del 0",
-                  "erase 0 9", "patch 0 1", "frob 1"]
+                  "erase 0 9", "jumps 1 3", "jumps 1 0", "patch 0 1", "frob 1"]
         text = "".join(f"{line}\n?\n" for line in script)
         shown = subprocess.run([ROOT / "bin/wb", "--kind", "rom", "examples/login/login.rom"], cwd=ROOT, input=text, text=True,
                                capture_output=True).stdout.splitlines()
