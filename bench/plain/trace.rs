@@ -39,8 +39,9 @@ impl Machine {
     /// Makes the step of a number, in which these events take effect first. Returns its line of `jumps` if it transferred control. Jumps
     /// within a function count only if `local` is set.
     pub fn jump(&mut self, number: u64, events: &[Event], local: bool) -> Option<String> {
-        let Seen { pc, registers, word, .. } = self.seen(events);
+        let (pc, registers) = (self.pc, self.registers);
         let done = self.step(events);
+        let word = done.fetched;
         let to = if done.excepted { self.pc } else { self.target(word?, pc, &registers, local)? };
         let word = word.map_or("none".into(), |word| format!("{word:#010x}"));
         let exception = if done.excepted { format!(" exception {}", self.control.cause >> 2 & 31) } else { String::new() };
