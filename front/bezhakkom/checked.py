@@ -71,7 +71,7 @@ def wholes(name: str, values: Any) -> List[int]:
 
 
 def several(name: str, values: Any) -> List[Any]:
-    """Returns the items of what can be iterated, but for a text."""
+    """Returns the items of an iterable that is no text."""
     if isinstance(values, str) or not isinstance(values, Iterable):
         raise WrongType(f"`{name}` has several items, as a list has, and is not {shortened(values)}")
     return list(values)

@@ -100,5 +100,5 @@ _WORD = re.compile(r"""(?:'(?:[^'\\]|\\.)*'|"(?:[^"\\]|\\.)*"|[^\s'"])+|['"].*""
 
 
 def words_of(line: str) -> list[str]:
-    """The words of a line; what stands between quotes is one word."""
+    """Returns the words of a line. A quoted text is one word."""
     return _WORD.findall(line)

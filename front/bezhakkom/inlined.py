@@ -127,7 +127,7 @@ class _Table:
                 at += 4 + max(size, 8)
 
     def units_with(self, name: str) -> List[_Unit]:
-        """The units in which a name may stand: in itself, or as a place of .debug_str."""
+        """Returns the units that may contain a name, as text or as an offset into .debug_str."""
         text, strings = name.encode("utf-8", "surrogateescape") + b"\0", self._sections.get(_STRINGS, b"")
         if not self._units:
             return []
@@ -284,7 +284,7 @@ class _Table:
 
 
 class _Reader:
-    """Reads values from a place on."""
+    """Reads values from an offset on."""
 
     def __init__(self, content: bytes, at: int) -> None:
         self._content = content

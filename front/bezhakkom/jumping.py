@@ -6,14 +6,14 @@ from .jumps import Jump
 from .limits import GREATEST_POSITION, JUMPS, VISIT_STEPS
 from .standstill import Standstill, standstill
 
-_PIECE = VISIT_STEPS  # steps after which it is looked whether the run stands still
+_PIECE = VISIT_STEPS  # steps after which the walk checks whether the machine is stuck
 
 
 class Jumps:
-    """The steps from one on and before another one that transfer control, at most so many, and taken branches and `j` if they are `local`.
-    The driver stays at its position.
+    """A walk over the steps from `first` to `end` that transfer control, at most `most` of them. Taken branches and `j` count only if
+    `local` is set. The driver stays at its position.
 
-    Without an end they also end where the run stands still, and after `idle` steps of which none transfers control, if that is not 0 and
+    A walk up to the last position also ends when the machine is stuck, and after `idle` steps without a transfer, if `idle` is not 0 and
     the log has no more events. `ended` is then the reason.
     """
 

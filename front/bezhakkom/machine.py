@@ -156,8 +156,8 @@ class Machine:
 
     @contextmanager
     def alone(self) -> Iterator[Machine]:
-        """Lets other threads wait, so that several calls stay together, such as `goto` and what is asked there. Each call does so by
-        itself, and so do `edits` and `what_if` up to their ends."""
+        """Makes other threads wait, so that several calls stay together, such as `goto` and the queries at the new position. Each single
+        call does so by itself, and so do `edits` and `what_if` up to their ends."""
         if os.getpid() != self._process:
             raise Problem(f"this machine belongs to process {self._process}, of which this one is a fork: boot another machine here")
         with self._lock:
@@ -381,11 +381,11 @@ class Machine:
 
     @_alone
     def jumps(self, local: bool = False, *, steps: Optional[int] = None, most: Optional[int] = None) -> Iterator[Jump]:
-        """The next steps that transfer control: calls, returns and other jumps by register, `rfe`, exceptions and interrupts, and with
-        `local` also taken branches and `j`. They are asked for as they are wanted, each step runs once, and the position stays.
+        """Returns an iterator over the next steps that transfer control: calls, returns and other jumps by register, `rfe`, exceptions and
+        interrupts, and with `local` also taken branches and `j`. The iterator follows each step once, and the position stays.
 
-        They are those of at most so many steps, and at most so many. Without a number of steps they end where the run stands still, or
-        where none was found for long. An edit meanwhile counts for what is asked for after it.
+        `steps` limits the search to the next steps, and `most` the number of results. Without `steps` the iterator ends when the machine
+        is stuck, or after many steps without a result. An edit counts for the results after it.
         """
         here = self.position
         steps, most = checked.whole_or_none("steps", steps, 0), checked.whole_or_none("most", most, 0)

@@ -93,7 +93,7 @@ class Link:
         self._write(self._last)
 
     def interrupted(self) -> bool:
-        """Whether the other side wants the run to end: it has sent 0x03, also behind packets, which are kept, or has closed, or sends
+        """Returns whether the run is to end: gdb has sent 0x03, also behind packets, which are kept, or has closed the connection, or sends
         packets without end."""
         crossed, self._crossed = self._crossed, None
         if crossed is not None and time.monotonic() < crossed + SOON:

@@ -60,8 +60,8 @@ class Seen:
 
 
 def save(name: str, content: bytes, form: Form, force: bool = False, how: str = FORCE_OPTION, seen: Optional[Seen] = None) -> None:
-    """Writes a file in place of one of its form that nobody else changed, as far as `seen` tells. If that fails, the former content stays.
-    `how` names what would set `force`."""
+    """Writes a file. Replaces a file only if it has the same form and, by `seen`, nobody else changed it. If the write fails, the former
+    content stays. `how` names the way to set `force`."""
     try:
         # A link stays a link, and what is no file (a device, a pipe) is written as it is.
         path = Path(os.path.realpath(name))
@@ -108,7 +108,7 @@ def _alone_in(folder: Path) -> Iterator[None]:
 
 
 def name_of(word: str) -> str:
-    """The name of a file that a word of a line is. One with blanks stands between quotes, and `~` begins the user's folder."""
+    """Returns the name of a file that a word of a line is. A name with blanks is quoted, and `~` begins the user's folder."""
     if len(word) > 2 and word[0] == word[-1] and word[0] in "'\"":
         return word[1:-1]
     return os.path.expanduser(word)
@@ -120,9 +120,9 @@ def as_argument(name: str) -> str:
 
 
 def is_forced(words: Sequence[str]) -> bool:
-    """Whether `force` stands after the name of a file. Nothing else may stand there."""
+    """Returns whether `force` follows the name of a file. Nothing else may follow it."""
     if list(words) not in ([], [FORCE_WORD]):
-        raise Problem(f"after the name of a file may stand `{FORCE_WORD}` alone; a name with blanks stands between quotes")
+        raise Problem(f"only `{FORCE_WORD}` may follow the name of a file: put a name with blanks in quotes")
     return bool(words)
 
 

@@ -152,17 +152,17 @@ def _line_and_text(session: Session, words: list[str], usage: str) -> tuple[int,
     _refuse_text_without_quotes(words, usage)
     line = session.number(words.pop(0)) if words[0][0] not in "'\"" else 0
     if not words or not _TEXT.fullmatch(words[0]):
-        raise Problem(f"usage: {usage}; the text stands between quotes: 'help\\r'")
+        raise Problem(f"usage: {usage}; put the text in quotes: 'help\\r'")
     check_line(line)
     return line, unquoted(words[0][1:-1]), session.number(words[1]) if len(words) > 1 else 0
 
 
 def _refuse_text_without_quotes(words: list[str], usage: str) -> None:
-    """Refuses a text that stands without quotes, and shows it with them."""
+    """Refuses a text that is not quoted, and shows the quoted form."""
     first = int(len(words) > 1 and words[0].isdigit())  # after the number of a line
     if not any(it[0] in "'\"" for it in words) and not words[first].isdigit():
         begin = " ".join([usage.split()[0], *words[:first]])
-        raise Problem(f'a text stands between quotes: {begin} "{" ".join(words[first:])}"')
+        raise Problem(f'put the text in quotes: {begin} "{" ".join(words[first:])}"')
 
 
 # Files

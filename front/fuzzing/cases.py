@@ -46,7 +46,7 @@ def damaged(source: random.Random, content: bytes) -> bytes:
 
 
 def stop_after(driver: Driver, seconds: float) -> None:
-    """Ends what is asked of a driver after a time, as Ctrl-C does."""
+    """Interrupts the queries of a driver after a time, as Ctrl-C does."""
     end = time.monotonic() + seconds
     driver.wants_stop = lambda: time.monotonic() > end
 

@@ -23,7 +23,7 @@ WHOLE = 1 << 24  # bytes, of which no reply has as many
 CROWD, MOST_OPEN = 40, 20  # connections that are made at a time, and half messages that stay open
 KEY = "dGhlIHNhbXBsZSBub25jZQ=="
 
-# What stands in place of a value.
+# Replacements for a value in a message.
 HOSTILE = [None, True, False, -1, 0, 1, 2, 7, 255, 256, 65_536, 1 << 31, 1 << 32, (1 << 40) - 1, 1 << 40, (1 << 53) - 1, 1 << 53, 1 << 64, 10 ** 400,
            1.5, -0.0, 1e308, float("nan"), float("inf"), "", " ", "0", "x", "x" * 201, "\0", "\n", "\u2028", "\ud800", "\u0663", "é", "../x",
            "'", '"', "'a b'", "$v0", "pc", "session+32", "console", "sent 0 5", "sent 9 9", "word session+32 == 3", "[session+32] == [session]",

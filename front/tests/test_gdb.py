@@ -156,7 +156,7 @@ class Login(GdbTest):
                       "wb expect 'Sorry'", POSITION, "wb undo", "wb undo", "wb expect nothing")
         self.holds(lines, "at 355", "7 bytes for line 0, from step 355 to step 6,355, 1,000 steps apart", "at 6684", "at 6684",
                    "taken back: type 'sesame\\r'", "there is no edit to take back",
-                   '[a text stands between quotes: expect "nothing"]')
+                   '[put the text in quotes: expect "nothing"]')
         self.assertRegex("\n".join(lines), r"\[line 0 did not send 'Sorry': at step .* the program waits for a byte")
 
     def test_a_wrong_word_gets_one_line(self) -> None:

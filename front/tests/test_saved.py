@@ -150,7 +150,7 @@ class Saved(unittest.TestCase):
         self.assertIn("# mine", shown)
 
     def test_names_with_blanks(self) -> None:
-        """Such a name stands between quotes, and `~` begins the user's folder."""
+        """Such a name is quoted, and `~` begins the user's folder."""
         there = self.folder / "a b"
         there.mkdir()
         lines = (f"save '{there}/c d'", f'save-log "{there}/e f"', f"compare '{there}/e f'", f"trace 2 to '{there}/g h'",

@@ -82,8 +82,8 @@ class Echo(unittest.TestCase):
     def test_text_without_quotes_is_shown_with_them(self) -> None:
         for line, meant in (("type hello", 'type "hello"'), ("type 1 hello you", 'type 1 "hello you"'), ("expect password:", 'expect "password:"'),
                             ("assert-console 0 x", 'assert-console 0 "x"')):
-            self.assertEqual(self.talk(line), [f"a text stands between quotes: {meant}"])
-        self.assertRegex(self.talk("type 0 5")[0], "^usage: type .*; the text stands between quotes")
+            self.assertEqual(self.talk(line), [f"put the text in quotes: {meant}"])
+        self.assertRegex(self.talk("type 0 5")[0], "^usage: type .*; put the text in quotes")
         self.assertEqual(self.talk.driver.log, self.talk.session.saved_log)
 
     def test_the_past(self) -> None:
@@ -175,7 +175,7 @@ class Echo(unittest.TestCase):
                 ("find 0 0", "line 0 sent no byte of place 0"),
                 ("add 5 9 9", "refused: a step is 0 to 1,099,511,627,774, a line is 0 to 3"), ("reg 32", "there is no register 32"),
                 ("step nowhere", "no symbol and no register nowhere"), ("frob", "no command frob"), ("goto", "usage: goto N"),
-                ("r", "pc"), ("s 1 2", "usage: step"), ("delete x", "no symbol"), ("type hi", "between quotes"),
+                ("r", "pc"), ("s 1 2", "usage: step"), ("delete x", "no symbol"), ("type hi", "in quotes"),
                 ("type 7 'x'", "there is no line 7"), ("type '\\q'", "no escape"), ("break 2", "multiple of 4"),
                 ("watch 0xbfe00000", "no memory"), ("watch loop 0", "1 to 1,024 bytes"), ("watch loop 2000", "not 2,000"),
                 ("watch 0x807ffffc 8", "0x80800003 leads to the physical address 0x00800003, where no memory"),
@@ -202,7 +202,7 @@ class Echo(unittest.TestCase):
                 before = Path(name).read_bytes()
                 self.talk("patch loop+0x14 0x24c60002")
                 self.assertRegex(self.talk(f"{command} {name}")[0], f"{name} is there.* `{command} {name} force` overwrites it")
-                self.assertRegex(self.talk(f"{command} {name} x")[0], "may stand `force` alone")
+                self.assertRegex(self.talk(f"{command} {name} x")[0], "only `force` may follow")
                 self.assertEqual(Path(name).read_bytes(), before)
                 self.assertRegex(self.talk(f"{command} {name} force")[0], "saved in")
                 self.assertNotEqual(Path(name).read_bytes(), before)
