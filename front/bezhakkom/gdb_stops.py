@@ -1,5 +1,5 @@
-"""Stops of the shell as gdb has them: in a session each front end finds its own, and those that both can have. And which of a session's
-stops gdb may have without a question."""
+"""Translates stops of the shell to gdb and back: a session has the stops of each front end, and those that both can have. Decides which
+stops of a session gdb makes without a question."""
 from __future__ import annotations
 
 import re
@@ -43,8 +43,8 @@ _CONDITION = re.compile(r"(?:0x[0-9a-fA-F]+(?!\w)|[0-9]+(?!\w)|\$(?:%s)(?!\w)|[=
 
 
 def is_plain(line: str) -> bool:
-    """Returns whether gdb may make a stop of a session without a question. Other lines are text that gdb evaluates: it may use macros of the
-    session's ELF, and so do what whoever made these files wants."""
+    """Returns whether gdb may make a stop of a session without a question. Other lines are text that gdb evaluates with the macros of the
+    session's ELF, so that they could run commands of its author."""
     found = re.fullmatch(r"(?:disabled )?(t?h?break|watch) (.*?)(?: if (.*))?", line)
     if not found or found[3] is not None and not _CONDITION.fullmatch(found[3]):
         return False

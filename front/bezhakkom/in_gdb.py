@@ -425,8 +425,8 @@ def answer(question: str) -> str:
 
 
 def printable(text: str) -> str:
-    """A text of a file as a terminal may show it."""
-    return "".join(it if it.isprintable() else f"\\x{ord(it):02x}" for it in text)
+    """Returns a text of a file with escapes in place of what a terminal obeys, as printable.py does: gdb's Python has no package to import."""
+    return "".join(it if it.isprintable() else f"\\x{ord(it):02x}" if ord(it) < 0x100 else f"\\u{ord(it):04x}" for it in text)
 
 
 def quoted(name: str) -> str:
